@@ -4,3 +4,6 @@ pub mod ChainLemmas
 pub mod LitLaws
 pub mod OpenLemmas
 pub mod AssumeLemmas
+pub mod AskLemmas
+pub mod ClosureLemmas
+pub mod GivenLemmas

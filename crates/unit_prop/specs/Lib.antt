@@ -1,4 +1,5 @@
 pub mod Closure
+pub mod Propagation
 pub mod New
 pub mod Step
 pub mod StepCheck
