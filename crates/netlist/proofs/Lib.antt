@@ -1,1 +1,6 @@
 mod WorkedRows
+pub mod PlaceLemmas
+pub mod VariableLemmas
+pub mod TableLemmas
+pub mod SourceLemmas
+pub mod RunLemmas

@@ -13,6 +13,10 @@ pub use circuit::Circuit;
 pub use gate::And;
 pub use net::Net;
 
+mod source;
+
+mod variable_table;
+
 mod circuit;
 mod gate;
 mod net;
