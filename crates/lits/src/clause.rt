@@ -1,4 +1,4 @@
-ghost use Rattle.std.specs.Prelude.{◌≡◌, true, false, IfOk, IsErrOf, OnOk};
+ghost use Rattle.std.specs.Prelude.{◌≡◌, true, false, IfOk, IfErr, OnOk};
 ghost use Rattle.std.specs.List.{list_any};
 ghost use Rattle.lits.specs.Clause.{has, firsts, has_pair, IsClause, Adds};
 
@@ -65,9 +65,7 @@ impl<L: Literal> Clause<L> {
     pub fn of(alloc: Global, lits: &[L]) -> Result<Clause<L>, ClauseErr>
         ensures kept { IfOk result (λ c. c ≡ firsts L.PartialEq.eq lits.now) }
         ensures clause { OnOk result (has_pair L.PartialEq.eq L.Literal.opposite lits.now ≡ false) }
-        ensures tautology {
-            IsErrOf result ClauseErr.Tautology → has_pair L.PartialEq.eq L.Literal.opposite lits.now ≡ true
-        }
+        ensures tautology { IfErr result (λ e. e ≡ ClauseErr.Tautology → has_pair L.PartialEq.eq L.Literal.opposite lits.now ≡ true) }
     {
         if lits.len() <= SHORT {
             short_clause(alloc, lits)
@@ -110,9 +108,7 @@ impl<L: Literal> Clause<L> {
 /// Puts a literal last, unless it is there already.
 fn add<L: Literal>(kept: &mut SmallVec<L, 3>, lit: L) -> Result<(), ClauseErr>
     ensures ok { OnOk result (Adds L.PartialEq.eq L.Literal.opposite kept.old.items lit kept.new.items) }
-    ensures pair {
-        IsErrOf result ClauseErr.Tautology → has L.PartialEq.eq kept.old.items (L.Literal.opposite lit) ≡ true
-    }
+    ensures pair { IfErr result (λ e. e ≡ ClauseErr.Tautology → has L.PartialEq.eq kept.old.items (L.Literal.opposite lit) ≡ true) }
 {
     if kept.as_slice().contains(&lit.not()) {
         return Err(ClauseErr::Tautology);
@@ -126,9 +122,7 @@ fn add<L: Literal>(kept: &mut SmallVec<L, 3>, lit: L) -> Result<(), ClauseErr>
 /// The same for a set.
 fn add_to_set<L: Literal>(kept: &mut LiteralSet<L>, lit: L) -> Result<(), ClauseErr>
     ensures ok { OnOk result (Adds L.PartialEq.eq L.Literal.opposite kept.old lit kept.new) }
-    ensures pair {
-        IsErrOf result ClauseErr.Tautology → has L.PartialEq.eq kept.old (L.Literal.opposite lit) ≡ true
-    }
+    ensures pair { IfErr result (λ e. e ≡ ClauseErr.Tautology → has L.PartialEq.eq kept.old (L.Literal.opposite lit) ≡ true) }
 {
     if kept.has(lit.not()) {
         return Err(ClauseErr::Tautology);
@@ -142,9 +136,7 @@ fn add_to_set<L: Literal>(kept: &mut LiteralSet<L>, lit: L) -> Result<(), Clause
 fn short_clause<L: Literal>(alloc: Global, lits: &[L]) -> Result<Clause<L>, ClauseErr>
     ensures kept { IfOk result (λ c. c ≡ firsts L.PartialEq.eq lits.now) }
     ensures clause { OnOk result (has_pair L.PartialEq.eq L.Literal.opposite lits.now ≡ false) }
-    ensures tautology {
-        IsErrOf result ClauseErr.Tautology → has_pair L.PartialEq.eq L.Literal.opposite lits.now ≡ true
-    }
+    ensures tautology { IfErr result (λ e. e ≡ ClauseErr.Tautology → has_pair L.PartialEq.eq L.Literal.opposite lits.now ≡ true) }
 {
     let mut kept = SmallVec::new(alloc);
     for lit in lits {
@@ -156,9 +148,7 @@ fn short_clause<L: Literal>(alloc: Global, lits: &[L]) -> Result<Clause<L>, Clau
 fn long_clause<L: Literal>(alloc: Global, lits: &[L]) -> Result<Clause<L>, ClauseErr>
     ensures kept { IfOk result (λ c. c ≡ firsts L.PartialEq.eq lits.now) }
     ensures clause { OnOk result (has_pair L.PartialEq.eq L.Literal.opposite lits.now ≡ false) }
-    ensures tautology {
-        IsErrOf result ClauseErr.Tautology → has_pair L.PartialEq.eq L.Literal.opposite lits.now ≡ true
-    }
+    ensures tautology { IfErr result (λ e. e ≡ ClauseErr.Tautology → has_pair L.PartialEq.eq L.Literal.opposite lits.now ≡ true) }
 {
     let mut kept = LiteralSet::new(alloc);
     for lit in lits {

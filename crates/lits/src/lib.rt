@@ -17,16 +17,12 @@ pub use literal_set::LiteralSet;
 pub use node::{Node, Side};
 pub use step::{Named, Ref, Step};
 
-mod node;
-
-mod literal;
-
-mod dimacs;
-
-mod listed;
-
-mod literal_set;
-
 mod clause;
-
+mod dimacs;
+mod listed;
+mod literal;
+mod literal_set;
+mod node;
 mod step;
+#[cfg(test)]
+mod tests;
