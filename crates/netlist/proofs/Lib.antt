@@ -4,3 +4,5 @@ pub mod VariableLemmas
 pub mod TableLemmas
 pub mod SourceLemmas
 pub mod RunLemmas
+pub mod ShortLemmas
+pub mod MeaningLemmas

@@ -12,11 +12,16 @@
 pub use circuit::Circuit;
 pub use gate::And;
 pub use net::Net;
+pub use short::Short;
 
 mod source;
 
 mod variable_table;
 
 mod circuit;
+
+mod short;
+
+mod meaning;
 mod gate;
 mod net;
