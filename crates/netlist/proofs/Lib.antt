@@ -6,3 +6,5 @@ pub mod SourceLemmas
 pub mod RunLemmas
 pub mod ShortLemmas
 pub mod MeaningLemmas
+pub mod NodeLemmas
+pub mod NetLemmas

@@ -14,6 +14,8 @@ pub use gate::And;
 pub use net::Net;
 pub use short::Short;
 
+mod gate;
+
 mod source;
 
 mod variable_table;
@@ -23,5 +25,9 @@ mod circuit;
 mod short;
 
 mod meaning;
-mod gate;
+
+mod sizes;
+
+mod pair;
+
 mod net;
