@@ -11,8 +11,10 @@
 
 pub use circuit::Circuit;
 pub use gate::And;
+pub use law::{satisfiable_if_different, unsatisfiable_if_equal};
 pub use net::Net;
 
 mod circuit;
 mod gate;
+mod law;
 mod net;
