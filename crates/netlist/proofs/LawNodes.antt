@@ -1,15 +1,17 @@
 -- Nodes and literals that the program finds equal are one; what stands at the place that a test finds.
 use Rattle.std.proofs.Common.{◌≡◌, ℕ, ◌+◌, ◌<◌, ◌≤◌, Bool, true, false, Option, None, Some, List, [], ◌∷◌, ◌++◌, length, map, refl, sym, ap, ◌∙◌, subst, rules, arith, zero, suc, add-one, ◌||◌, find}
 use Rattle.std.specs.Prelude.{slice_get, ◌==◌, ⊤}
+use Rattle.std.specs.Option.{is_some}
 use Rattle.std.specs.List.{list_any, list_all, AllByRecursion, range_with_len}
 use Rattle.std.proofs.lemmas.Bool.{and_parts}
-use Rattle.std.proofs.lemmas.Option.{none-some, same_Some}
+use Rattle.std.proofs.lemmas.Option.{slice_get_within, none-some, same_Some}
 use Rattle.std.proofs.lemmas.Bool.Decides.{nat_tests}
 use Rattle.lits.specs.declared.node.Node.{Node}
 use Rattle.lits.specs.declared.literal.Lit.{Lit}
 use Rattle.netlist.specs.Place.{place_of}
 use Rattle.netlist.specs.Net.{same_node}
 use Rattle.netlist.specs.Miter.{same_lit}
+use Rattle.netlist.proofs.PlaceLemmas.{is_some-place, at_place}
 
 pub exact-node : (x y : Node) → same_node x y ≡ true → x ≡ y
 exact-node = search rules
@@ -32,46 +34,18 @@ same-number x = grind (arith, nat_tests)
 module _ {X : Type 0} (test : X → Bool) where
   -- where some element passes there is a place
   pub place_from_any : (xs : List X) → list_any test xs ≡ true → (k : ℕ) × (place_of test xs ≡ Some k)
-  place_from_any [] h = cc
-  place_from_any (x ∷ xs) h = go (test x) refl (place_from_any xs)
+  place_from_any xs h = go (place_of test xs) refl
     where
-      go : (b : Bool) → test x ≡ b → (list_any test xs ≡ true → (k : ℕ) × (place_of test xs ≡ Some k))
-          → (k : ℕ) × (place_of test (x ∷ xs) ≡ Some k)
-      go true e rest = (0, rw e refl)
-      go false e rest = let r = rest (rw e at h) in (r.0 + 1, rw (e, r.1) refl)
+      go : (o : Option ℕ) → place_of test xs ≡ o → (k : ℕ) × (place_of test xs ≡ Some k)
+      go (Some k) e = (k, e)
+      go None e = let f : false ≡ true = sym (ap is_some e) ∙ is_some-place test xs ∙ h in cc
 
-  -- where none passes there is no place
-  pub no_place : (xs : List X) → list_any test xs ≡ false → place_of test xs ≡ None
-  no_place [] h = refl
-  no_place (x ∷ xs) h = go (test x) refl (no_place xs)
-    where
-      go : (b : Bool) → test x ≡ b → (list_any test xs ≡ false → place_of test xs ≡ None)
-          → place_of test (x ∷ xs) ≡ None
-      go true e rest = let f : true ≡ false = rw e at h in cc
-      go false e rest = rw (e, rest (rw e at h)) refl
-
-  -- the element at the place passes
+  -- what holds of the place
   pub at-place : (xs : List X) (k : ℕ) → place_of test xs ≡ Some k
       → (x : X) × (slice_get xs k ≡ Some x) × (test x ≡ true) × (k < length xs) × (list_any test xs ≡ true)
-  at-place [] k h = absurd (none-some k h)
-  at-place (x ∷ xs) k h = go (test x) refl (place_of test xs) refl (at-place xs)
-    where
-      go : (b : Bool) → test x ≡ b → (o : Option ℕ) → place_of test xs ≡ o
-          → ((j : ℕ) → place_of test xs ≡ Some j
-          → (y : X) × (slice_get xs j ≡ Some y) × (test y ≡ true) × (j < length xs) × (list_any test xs ≡ true))
-          → (y : X) × (slice_get (x ∷ xs) k ≡ Some y) × (test y ≡ true) × (k < length (x ∷ xs))
-          × (list_any test (x ∷ xs) ≡ true)
-      go true e o f rest =
-          let z : 0 ≡ k = same_Some 0 k (rw e at h) in
-          subst (λ (n : ℕ). (y : X) × (slice_get (x ∷ xs) n ≡ Some y) × (test y ≡ true) × (n < length (x ∷ xs)) × (list_any test (x ∷ xs) ≡ true)) z
-          (x, refl, e, omega arith, rw e refl)
-      go false e None f rest = absurd (none-some k (rw (e, f) at h))
-      go false e (Some j) f rest =
-          let z : suc j ≡ k = sym (add-one j) ∙ same_Some (j + 1) k (rw (e, f) at h) in
-          let r = rest j f in
-          let within : j < length xs = r.3 in
-          subst (λ (n : ℕ). (y : X) × (slice_get (x ∷ xs) n ≡ Some y) × (test y ≡ true) × (n < length (x ∷ xs)) × (list_any test (x ∷ xs) ≡ true)) z
-          (r.0, r.1, r.2, omega arith, rw (e, r.4) refl)
+  at-place xs k h =
+      let r = at_place test xs k h in
+      (r.0, r.1, r.2, slice_get_within xs k r.0 r.1, sym (is_some-place test xs) ∙ ap is_some h)
 
   -- the first that passes has what all have, and passes
   pub found-one : (P : X → Type 0) (xs : List X) (x : X) → AllByRecursion P xs → find test xs ≡ Some x → P x × (test x ≡ true)

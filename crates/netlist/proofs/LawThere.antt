@@ -16,7 +16,8 @@ use Rattle.netlist.specs.Place.{place_of}
 use Rattle.netlist.specs.Circuit.{gate_vars, variables_in, is_over, Aig}
 use Rattle.netlist.specs.Net.{AigPair, IsNet, same_node, circuit_of, node_of, definition_of, definitions, nodes_of, position_of}
 use Rattle.netlist.specs.Miter.{xors_of, variables_of}
-use Rattle.netlist.proofs.LawNodes.{other-number, no_place, place_from_any, at-place, list_any-map, list_any-same, list_all-get, in-range, range-has}
+use Rattle.netlist.proofs.PlaceLemmas.{place_none}
+use Rattle.netlist.proofs.LawNodes.{other-number, place_from_any, at-place, list_any-map, list_any-same, list_all-get, in-range, range-has}
 use Rattle.netlist.proofs.LawValues.{is_circuit}
 
 list_any_false : {X : Type 0} (xs : List X) → list_any (λ x. false) xs ≡ false
@@ -192,4 +193,4 @@ module _ (net : AigPair) (is : IsNet net) where
       go false true e f g = cc
       go false false e f g =
           ap (λ (b : Bool). if b then Const else rest (place_of (λ y. y == x) c.inputs)) (other-number 0 x e)
-          ∙ ap rest (no_place (λ y. y == x) c.inputs f)
+          ∙ ap rest (place_none (λ y. y == x) c.inputs f)

@@ -16,7 +16,8 @@ use Rattle.netlist.specs.Place.{place_of}
 use Rattle.netlist.specs.Circuit.{var_of, is_negated, Aig, IsCircuit, lit_value, given, values_in, value_in, output_value}
 use Rattle.netlist.specs.Net.{AigPair, IsNet, circuit_of, node_of, lit_named, output_of, definition_of, gate_at, differs, value_of, lit_holds}
 use Rattle.netlist.specs.Miter.{axioms_of, xor_axioms, gate_clauses, xor_clauses, kept}
-use Rattle.netlist.proofs.LawNodes.{equal-number, no_place, at-place, found-one, no-facts}
+use Rattle.netlist.proofs.PlaceLemmas.{place_none}
+use Rattle.netlist.proofs.LawNodes.{equal-number, at-place, found-one, no-facts}
 use Rattle.netlist.proofs.LawRun.{Defines, lit_value-same, run-other, not-defined, run-defines}
 use Rattle.netlist.proofs.LawClauses.{meets-kept, meets-gate, meets-xor}
 
@@ -55,7 +56,7 @@ zero-no_input c is = bits (has ◌==◌ c.inputs 0) (no_repeat ◌==◌ c.inputs
 
 -- before any gate the constant is false, and an input has the truth value at its place
 pub given-zero : (c : Aig) (bits : List Bool) → IsCircuit c → given c.inputs bits 0 ≡ false
-given-zero c bits is = rw (no_place (λ y. y == 0) c.inputs (zero-no_input c is)) refl
+given-zero c bits is = rw (place_none (λ y. y == 0) c.inputs (zero-no_input c is)) refl
 
 -- the value of a gate's node is that of its variable
 pub value_of-gate : (net : AigPair) (bits : List Bool) (s : Side) (v : ℕ)

@@ -1,0 +1,5 @@
+pub mod LineLemmas
+pub mod DigitLemmas
+pub mod WordLemmas
+pub mod NineLemmas
+pub mod WordsLemmas

@@ -1,0 +1,43 @@
+use thiserror::Error;
+
+/// The first fault of an AIGER file. Places count bytes from 0, literals are the file's.
+#[derive(Clone, Copy, Debug, PartialEq, Eq, Error)]
+pub enum AigerErr {
+    #[error("bad header")]
+    BadHeader,
+    /// A number of the header.
+    #[error("{0} is above 16777216")]
+    TooLarge(u64),
+    /// How many.
+    #[error("{0} latches")]
+    HasLatches(u64),
+    /// The section's letter: `B`, `C`, `J` or `F`.
+    #[error("section {} is not supported", char::from(*.0))]
+    HasProperty(u8),
+    /// The place of the byte that stands where a number, a space or a line's end is due.
+    #[error("bad number at byte {0}")]
+    BadNumber(u64),
+    /// The literal.
+    #[error("bad literal {0}")]
+    BadLiteral(u64),
+    /// The literal.
+    #[error("literal {0} is defined twice")]
+    DefinedTwice(u64),
+    /// The literal.
+    #[error("literal {0} is undefined")]
+    Undefined(u64),
+    /// The gate's literal.
+    #[error("literal {0} is on or above a cycle")]
+    Cycle(u64),
+    /// The gate's number in the file, from 0.
+    #[error("bad delta at gate {0}")]
+    BadDelta(u64),
+    /// The length of the input.
+    #[error("ends too early at byte {0}")]
+    Truncated(u64),
+    /// The place of the line's first byte.
+    #[error("bad symbol line at byte {0}")]
+    BadSymbol(u64),
+    #[error("out of memory")]
+    NoMemory,
+}

@@ -1,0 +1,23 @@
+//! Scanning the bytes of a text: the next byte, number or line, and the header line that both AIGER
+//! formats share (A. Biere, The AIGER And-Inverter Graph Format, 2007, and AIGER 1.9).
+//!
+//! Contracts see a scan as its bytes and how many of them lie behind (`specs/Scanning.antt`), and each
+//! call says exactly what it gives and where the scan then stands. `header` answers what the line
+//! spells, or its first fault in the order of `specs/HeaderLine.antt`. No call takes memory.
+//!
+//! `AigerErr` is the error of the AIGER readers. No clause says what its `Display` writes: a test
+//! shows the texts.
+#![tactic(auto)]
+
+mod counts;
+mod errors;
+mod header_line;
+mod scan;
+
+pub use counts::Header;
+pub use errors::AigerErr;
+pub use header_line::header;
+pub use scan::Scan;
+
+#[cfg(test)]
+mod tests;
