@@ -59,6 +59,7 @@ abbrev pub output_lit : AigPair → Side → ℕ → Lit
 output_lit net s j = lit_named s (circuit_of net s) (slice_index (circuit_of net s).outputs j)
 
 module _ (net : AigPair) (is : IsNet net) where
+  -- each output has one
   pub output_of-below : (s : Side) (j : ℕ) → j < length net.a.outputs → output_of net s j ≡ Some (output_lit net s j)
   output_of-below s j below = ap (option_map (lit_named s (circuit_of net s))) (output-there net is s j below).0
 
@@ -108,6 +109,7 @@ module _ (net : AigPair) (is : IsNet net) (p a : Node → Bool) (bits : List Boo
   model-all outputs (Xor j) there q =
       model-xor j (xor-below net j there) q (λ s l found. outputs.output s j l found q)
 
+  -- so has a literal of it
   pub model-lit : HasOutputs net p → (l : Lit) → has same_node (variables_of net) l.node ≡ true → p l.node ≡ true
       → lit_holds a l ≡ lit_holds (value_of net bits) l
   model-lit outputs l there q = ap (λ (b : Bool). if l.neg then not b else b) (model-all outputs l.node there q)

@@ -149,6 +149,7 @@ module _ (net : AigPair) (is : IsNet net) (p a : Node → Bool) (bits : List Boo
       evaluation-gate s v r.0 r.1 q
   evaluation-node (Xor j) there q = let f = sym (no-xor net j) ∙ there in cc
 
+  -- so has a literal of it
   pub evaluation-lit : (l : Lit) → has same_node (nodes_of net) l.node ≡ true → p l.node ≡ true
       → lit_holds a l ≡ lit_holds (value_of net bits) l
   evaluation-lit l there q = ap (λ (b : Bool). if l.neg then not b else b) (evaluation-node l.node there q)

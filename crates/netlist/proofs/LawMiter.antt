@@ -106,6 +106,7 @@ module _ (net : AigPair) (is : IsNet net) where
       apart : v (Xor d.output) ≡ true
       apart = differs_from_apart (output_value net.a d.bits d.output) (output_value net.b d.bits d.output) d.apart
 
+  -- the law
   pub satisfiable : IsSatisfiable opposite_number (miter_of net) ↔ Differ net
   satisfiable =
       let numbers = satisfiable-numbers net (clauses_of net) (over-clauses net is) in
@@ -120,6 +121,7 @@ module _ (net : AigPair) (is : IsNet net) where
       go true false e f = absurd (none (record { bits = bits; whole = whole; output = j; within = within; apart = λ s. let h : true ≡ false = sym e ∙ s ∙ f in cc }))
       go false true e f = absurd (none (record { bits = bits; whole = whole; output = j; within = within; apart = λ s. let h : false ≡ true = sym e ∙ s ∙ f in cc }))
 
+  -- the law, the other way round
   pub unsatisfiable : (¬ IsSatisfiable opposite_number (miter_of net)) ↔ Agree net
   unsatisfiable = (
     λ none. agree_from_same (λ d. none (satisfiable.1 d)),

@@ -1,5 +1,5 @@
 -- Nodes and literals that the program finds equal are one; what stands at the place that a test finds.
-use Rattle.std.proofs.Common.{◌≡◌, ℕ, ◌+◌, ◌<◌, ◌≤◌, Bool, true, false, Option, None, Some, List, [], ◌∷◌, ◌++◌, length, map, refl, sym, ap, ◌∙◌, subst, rules, arith, zero, suc, add-one, ◌||◌, find}
+use Rattle.std.proofs.Common.{◌≡◌, ℕ, ◌+◌, ◌<◌, ◌≤◌, Bool, true, false, Option, None, Some, List, [], ◌∷◌, ◌++◌, length, map, refl, sym, ap, ◌∙◌, subst, rules, arith, zero, suc, ◌||◌, find}
 use Rattle.std.specs.Prelude.{slice_get, ◌==◌, ⊤}
 use Rattle.std.specs.Option.{is_some}
 use Rattle.std.specs.List.{list_any, list_all, AllByRecursion, range_with_len}
@@ -13,6 +13,7 @@ use Rattle.netlist.specs.Net.{same_node}
 use Rattle.netlist.specs.Miter.{same_lit}
 use Rattle.netlist.proofs.PlaceLemmas.{is_some-place, at_place}
 
+-- nodes, literals and numbers that are found equal are one, and each equals itself
 pub exact-node : (x y : Node) → same_node x y ≡ true → x ≡ y
 exact-node = search rules
 
@@ -94,10 +95,12 @@ pub no-facts : {X : Type 0} (xs : List X) → AllByRecursion (λ x. ⊤) xs
 no-facts [] = tt
 no-facts (x ∷ xs) = (tt, no-facts xs)
 
+-- what follows from the facts
 pub all-weaker : {X : Type 0} (P Q : X → Type 0) → ((x : X) → P x → Q x) → (xs : List X) → AllByRecursion P xs → AllByRecursion Q xs
 all-weaker P Q f [] p = tt
 all-weaker P Q f (x ∷ xs) p = (f x p.0, all-weaker P Q f xs p.1)
 
+-- joined lists
 pub all-append : {X : Type 0} (P : X → Type 0) (xs ys : List X) → AllByRecursion P xs → AllByRecursion P ys → AllByRecursion P (xs ++ ys)
 all-append P [] ys p q = q
 all-append P (x ∷ xs) ys p q = (p.0, all-append P xs ys p.1 q)
@@ -106,6 +109,7 @@ pub all-parts : {X : Type 0} (P : X → Type 0) (xs ys : List X) → AllByRecurs
 all-parts P [] ys all = (tt, all)
 all-parts P (x ∷ xs) ys all = let r = all-parts P xs ys all.1 in ((all.0, r.0), r.1)
 
+-- tests of a mapped list, and tests that answer alike
 pub list_any-map : {X Y : Type 0} (test : Y → Bool) (f : X → Y) (xs : List X) → list_any test (map f xs) ≡ list_any (λ x. test (f x)) xs
 list_any-map test f [] = refl
 list_any-map test f (x ∷ xs) = ap (λ (b : Bool). test (f x) || b) (list_any-map test f xs)
@@ -123,6 +127,7 @@ in-range a (suc n) k h = go (a == k) refl (in-range (a + 1) n k)
     go true e rest = let same = equal-number a k e in omega arith
     go false e rest = let l = rest (rw e at h) in omega arith
 
+-- the other way round
 pub range-has : (a n k : ℕ) → a ≤ k → k < a + n → list_any (λ x. x == k) (range_with_len a n) ≡ true
 range-has a zero k from below = absurd (omega arith)
 range-has a (suc n) k from below = go (a == k) refl (range-has (a + 1) n k)

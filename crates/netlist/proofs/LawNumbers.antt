@@ -22,6 +22,7 @@ use Rattle.netlist.proofs.LawOver.{AreOver}
 abbrev pub opposite_number : DimacsLiteral → DimacsLiteral
 opposite_number = (dim.ghosts).opposite
 
+-- DIMACS literals are compared as the program does it
 abbrev pub same_number : DimacsLiteral → DimacsLiteral → Bool
 same_number = (dim_eq.ghosts).eq
 
@@ -64,6 +65,7 @@ pub variable-some : (net : AigPair) (n : Node) → has same_node (variables_of n
 variable-some net n h =
     let r = place_from_any (λ m. same_node m n) (variables_of net) h in (r.0 + 1, ap (option_map (λ k. k + 1)) r.1)
 
+-- a node with a CNF variable is there
 pub variable-has : (net : AigPair) (n : Node) (k : ℕ) → variable_of net n ≡ Some k → has same_node (variables_of net) n ≡ true
 variable-has net n k e = go (place_of (λ m. same_node m n) (variables_of net)) refl
   where
@@ -110,6 +112,7 @@ numbered-same net x y hx hy = go (same_number (numbered net x) (numbered net y))
 abbrev pub values_of_nodes : (Lit → Bool) → Node → Bool
 values_of_nodes u n = u (positive n)
 
+-- both give each literal one value
 pub values_of_nodes-literal : (u : Lit → Bool) → IsAssignment opposite u → (l : Lit) → lit_holds (values_of_nodes u) l ≡ u l
 values_of_nodes-literal u assigns l = go l.neg l.node
   where
@@ -131,6 +134,7 @@ values_of_nodes-meet u assigns (c ∷ cs) m = (values_of_nodes-holds u assigns c
 abbrev pub values_by_number : AigPair → (DimacsLiteral → Bool) → Node → Bool
 values_by_number net u n = u (numbered net (positive n))
 
+-- a literal has the value of its number
 pub values_by_number-literal : (net : AigPair) (u : DimacsLiteral → Bool) → IsAssignment opposite_number u → (l : Lit)
     → lit_holds (values_by_number net u) l ≡ u (numbered net l)
 values_by_number-literal net u assigns l = go l.neg (unwrap_or (variable_of net l.node) 0)
@@ -146,6 +150,7 @@ value_at_number net v k = option_map_or v (slice_get (variables_of net) (k - 1))
 abbrev pub numbers_by_node : AigPair → (Node → Bool) → DimacsLiteral → Bool
 numbers_by_node net v d = if d.neg then not (value_at_number net v d.var) else value_at_number net v d.var
 
+-- they are an assignment
 pub numbers_by_node-assigns : (net : AigPair) (v : Node → Bool) → IsAssignment opposite_number (numbers_by_node net v)
 numbers_by_node-assigns net v = record { negates = λ d. go d.neg (value_at_number net v d.var) }
   where
@@ -154,6 +159,7 @@ numbers_by_node-assigns net v = record { negates = λ d. go d.neg (value_at_numb
     go true false = refl
     go false value = refl
 
+-- the number of a literal that is there has its value
 pub numbers_by_node-literal : (net : AigPair) (v : Node → Bool) (l : Lit) → has same_node (variables_of net) l.node ≡ true
     → numbers_by_node net v (numbered net l) ≡ lit_holds v l
 numbers_by_node-literal net v l there =

@@ -78,12 +78,14 @@ module _ (net : AigPair) where
       ∙ ap₂ ◌||◌ (no-inputs (Gate B v) (λ k. refl)) (has-gates net (Gate B v) (λ g. false) (λ g. g.var == v) (λ g. refl) (λ g. refl))
       ∙ ap (λ (b : Bool). b || list_any (λ g. g.var == v) net.b.gates) (list_any_false net.a.gates)
 
+  -- an input's node is there exactly where its index is below the number of inputs
   pub has-input : (k : ℕ) → has same_node (nodes_of net) (Input k) ≡ list_any (λ j. j == k) (range_with_len 0 (length net.a.inputs))
   has-input k =
       has-append (inputs_of net) (gates_of net) (Input k)
       ∙ ap₂ ◌||◌ (has-map Input (λ j. j == k) (Input k) (λ j. refl) (range_with_len 0 (length net.a.inputs))) (no-gates (Input k) (λ s v. refl))
       ∙ or_false (list_any (λ j. j == k) (range_with_len 0 (length net.a.inputs)))
 
+  -- an XOR has no position, and a CNF variable exactly where its index is below the number of outputs
   pub no-xor : (j : ℕ) → has same_node (nodes_of net) (Xor j) ≡ false
   no-xor j =
       has-append (inputs_of net) (gates_of net) (Xor j)
@@ -94,6 +96,7 @@ module _ (net : AigPair) where
       has-append (nodes_of net) (xors_of net) (Xor j)
       ∙ ap₂ ◌||◌ (no-xor j) (has-map Xor (λ i. i == j) (Xor j) (λ i. refl) (range_with_len 0 (length net.a.outputs)))
 
+  -- so an index of a node that is there is below that number
   pub input-below : (k : ℕ) → has same_node (nodes_of net) (Input k) ≡ true → k < length net.a.inputs
   input-below k h = let below = in-range 0 (length net.a.inputs) k (sym (has-input k) ∙ h) in omega arith
 
