@@ -4,3 +4,4 @@ pub mod VariableTable
 pub mod Source
 pub mod Net
 pub mod Miter
+pub mod Meaning
