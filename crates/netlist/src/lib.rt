@@ -11,6 +11,7 @@
 
 pub use circuit::Circuit;
 pub use gate::And;
+pub use law::{satisfiable_if_different, unsatisfiable_if_equal};
 pub use net::Net;
 pub use short::Short;
 
@@ -31,3 +32,5 @@ mod sizes;
 mod pair;
 
 mod net;
+
+mod law;
