@@ -1,0 +1,5 @@
+//! Reads.
+#![tactic(auto)]
+
+pub mod parts;
+mod line;
