@@ -1,0 +1,4 @@
+pub mod Clause
+pub mod Assignment
+pub mod Dimacs
+pub mod LiteralSet

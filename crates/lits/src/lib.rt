@@ -1,0 +1,28 @@
+//! Literals and clauses: the words in which circuits, miters, lemmas and proofs speak to each other.
+//!
+//! A clause is its list of literals, without repeats and without a complementary pair. Two kinds of literal share
+//! the trait `Literal`: `Lit`, a node of the two circuits with a sign, and `Dim`, a number of a DIMACS file.
+//! Code that is generic over `Literal` is proved once, by the trait's laws: negation is an involution without a
+//! fixed point, and `==` tells literals apart exactly.
+//!
+//! Definitions: `specs/Clause.antt` (what a clause is), `specs/Assignment.antt` (assignments, what a clause asks of
+//! one, satisfiable). Begin to read at `node.rt`.
+#![tactic(auto)]
+
+pub use clause::{Clause, ClauseErr};
+pub use dimacs::Dim;
+pub use listed::Listed;
+pub use literal::{Lit, Literal};
+pub use literal_set::LiteralSet;
+pub use node::{Node, Side};
+pub use step::{Named, Ref, Step};
+
+mod clause;
+mod dimacs;
+mod listed;
+mod literal;
+mod literal_set;
+mod node;
+mod step;
+#[cfg(test)]
+mod tests;

@@ -1,0 +1,29 @@
+use crate::clause::Clause;
+use crate::listed::Listed;
+use crate::literal::Lit;
+use crate::node::Node;
+
+/// The name of a clause that a proof step cites.
+#[derive(Clone, Copy, Debug, PartialEq, Eq, PartialOrd, Ord, Hash)]
+pub enum Ref {
+    /// Clause `k`, from 0, of those that define the node.
+    Axiom(Node, u8),
+    /// Clause `k`, from 0, that an entry of the lemma book shows.
+    Entry(u64, u8),
+    /// The clause of an earlier step of the same list, from 0.
+    Own(u64),
+}
+
+/// A step of a proof: a clause, and the clauses that show it by unit propagation, in order.
+#[derive(Drop)]
+pub struct Step {
+    pub clause: Clause<Lit>,
+    pub hints: Listed<Ref>,
+}
+
+/// A clause with its name.
+#[derive(Drop)]
+pub struct Named {
+    pub clause: Clause<Lit>,
+    pub by: Ref,
+}
