@@ -1,6 +1,7 @@
 -- What the reader's own functions say of where its scan stood and stands.
-use Rattle.std.specs.Prelude.{◌≡◌, ℕ, suc, ◌≤◌, List, [], ◌∷◌, length, drop}
+use Rattle.std.specs.Prelude.{◌≡◌, ℕ, suc, ◌≤◌, Bool, false, List, [], ◌∷◌, length, drop, slice_index_or}
 use Rattle.byte_scan.specs.Scanning.{Place, ahead, line_of}
+use Rattle.aiger_ascii.specs.Literals.{has}
 use Rattle.aiger_ascii.specs.Lines.{Line, lines_from, form_fault, numbers_of}
 
 -- what is left of the line that the scan stands in
@@ -23,3 +24,7 @@ pub record PassesLine (old new : Place) : Type 0 where
   pub bytes : new.bytes ≡ old.bytes
   pub lines : lines_ahead new ≡ drop 1 (lines_ahead old)
   pub within : new.at ≤ length new.bytes
+
+-- The table says of each variable whether it is one of these.
+abbrev pub IsTable : List Bool → List ℕ → Type 0
+IsTable table variables = (v : ℕ) → slice_index_or table v false ≡ has variables v

@@ -3,3 +3,4 @@
 
 pub mod parts;
 mod line;
+mod table;
