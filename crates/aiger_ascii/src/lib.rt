@@ -2,5 +2,7 @@
 #![tactic(auto)]
 
 pub mod parts;
+mod entries;
 mod line;
+mod literals;
 mod table;
