@@ -8,14 +8,14 @@ use Rattle.byte_scan.specs.Scanning.{line_of}
 use Rattle.byte_scan.specs.HeaderLine.{header_fault, header_numbers, header_of}
 use Rattle.byte_scan.specs.Faults.{◌or_else◌}
 use Rattle.aiger_ascii.specs.declared.parts.And.{And}
-use Rattle.aiger_ascii.specs.Lines.{Line, lines_from, due, form_fault, numbers_of}
-use Rattle.aiger_ascii.specs.Literals.{variable_of, uses_fault, literals_fault, undefined_among, undefined_fanin}
+use Rattle.aiger_ascii.specs.Lines.{Line, lines_from, due, form_fault, first_number, numbers_of}
+use Rattle.aiger_ascii.specs.Literals.{variable_of, variables_of, uses_fault, literals_fault, undefined_among, undefined_fanin}
 
 -- ---- the lines, one number or three each
 
 -- the variable that a line defines
 abbrev pub defined_by : Line → ℕ
-defined_by line = variable_of (slice_index (numbers_of line) 0)
+defined_by line = variable_of (first_number line)
 
 -- An input's line and a gate's: its form, then its literals from the left.
 abbrev pub definition_line_fault : ℕ → ℕ → ℕ → List ℕ → Line → Option AigerErr
@@ -70,7 +70,7 @@ abbrev pub parts_of : ℕ → Header → List Line → Parts
 parts_of total h lines = record {
   inputs = map defined_by (input_lines total h lines);
   gates = map gate_of (gate_lines total h lines);
-  outputs = map (λ line. slice_index (numbers_of line) 0) (output_lines total h lines);
+  outputs = map first_number (output_lines total h lines);
 }
 
 -- a byte behind the last gate
@@ -81,7 +81,7 @@ trailing_fault (line ∷ lines) = Some (BadSymbol line.at)
 -- After the last gate: an output may name any gate, a fanin only one of an earlier line.
 unfoldable pub parts_fault : Parts → Option AigerErr
 parts_fault parts =
-    undefined_among (parts.inputs ++ map (λ g. g.var) parts.gates) parts.outputs
+    undefined_among (parts.inputs ++ variables_of parts.gates) parts.outputs
     or_else undefined_fanin parts.inputs parts.gates
 
 -- The faults behind the header, in the order in which they are judged.

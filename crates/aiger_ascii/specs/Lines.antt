@@ -53,3 +53,7 @@ form_fault total more line = option_map (misplaced total) (misfit more false lin
 -- the numbers of a line
 abbrev pub numbers_of : Line → List ℕ
 numbers_of line = map value (words_of line.text)
+
+-- the first number of a line, where it has one
+abbrev pub first_number : Line → ℕ
+first_number line = slice_index (numbers_of line) 0

@@ -1,5 +1,5 @@
 -- The literals of a circuit: a variable twice, plus one where it is negated (A. Biere, AIGER, 2007).
-use Rattle.std.specs.Prelude.{ℕ, ◌+◌, ◌*◌, ◌/◌, ◌%◌, Bool, ◌||◌, not, List, [], ◌∷◌, ◌++◌, Option, Some, None, nat_lt, ◌==◌}
+use Rattle.std.specs.Prelude.{ℕ, ◌+◌, ◌*◌, ◌/◌, ◌%◌, Bool, ◌||◌, not, List, [], ◌∷◌, ◌++◌, map, Option, Some, None, nat_lt, ◌==◌}
 use Rattle.std.specs.List.{list_any}
 use Rattle.byte_scan.specs.declared.errors.AigerErr.{AigerErr}
 use Rattle.byte_scan.specs.declared.errors.AigerErr.TheVariants.{BadLiteral, DefinedTwice, Undefined}
@@ -8,6 +8,10 @@ use Rattle.aiger_ascii.specs.declared.parts.And.{And}
 
 abbrev pub variable_of : ℕ → ℕ
 variable_of literal = literal / 2
+
+-- the variables that gates define
+abbrev pub variables_of : List And → List ℕ
+variables_of gates = map (λ g. g.var) gates
 
 abbrev pub has : List ℕ → ℕ → Bool
 has variables v = list_any (λ w. w == v) variables

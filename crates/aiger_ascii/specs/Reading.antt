@@ -25,6 +25,12 @@ pub record PassesLine (old new : Place) : Type 0 where
   pub lines : lines_ahead new ≡ drop 1 (lines_ahead old)
   pub within : new.at ≤ length new.bytes
 
+-- behind n lines, as far as they are there
+pub record PassesLines (n : ℕ) (old new : Place) : Type 0 where
+  pub bytes : new.bytes ≡ old.bytes
+  pub lines : lines_ahead new ≡ drop n (lines_ahead old)
+  pub within : new.at ≤ length new.bytes
+
 -- The table says of each variable whether it is one of these.
 abbrev pub IsTable : List Bool → List ℕ → Type 0
 IsTable table variables = (v : ℕ) → slice_index_or table v false ≡ has variables v

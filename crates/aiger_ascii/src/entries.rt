@@ -1,6 +1,6 @@
-ghost use Rattle.std.specs.Prelude.{◌≡◌, ◌≢◌, ◌≤◌, ℕ, List, [], ◌∷◌, ◌++◌, length, slice_index, IfOk, IfErr, OnOk, Some, None};
+ghost use Rattle.std.specs.Prelude.{◌≡◌, ◌≢◌, ◌≤◌, ℕ, List, [], ◌∷◌, ◌++◌, length, IfOk, IfErr, OnOk, Some, None};
 ghost use Rattle.byte_scan.specs.declared.errors.AigerErr.TheVariants.{NoMemory};
-ghost use Rattle.aiger_ascii.specs.Lines.{numbers_of};
+ghost use Rattle.aiger_ascii.specs.Lines.{first_number};
 ghost use Rattle.aiger_ascii.specs.Ascii.{defined_by, definition_line_fault, gate_of, output_line_fault};
 ghost use Rattle.aiger_ascii.specs.Reading.{IsTable, PassesLine, line_at};
 
@@ -33,7 +33,7 @@ pub(crate) fn input(scan: &mut Scan, most: u32, defined: &mut Table) -> Result<u
 /// Reads the line of an output.
 pub(crate) fn output(scan: &mut Scan, most: u32) -> Result<u32, AigerErr>
     requires { most ≤ 16777216 }
-    ensures literal { IfOk result (λ n. n ≡ slice_index (numbers_of (line_at scan.old)) 0) }
+    ensures literal { IfOk result (λ n. n ≡ first_number (line_at scan.old)) }
     ensures sound { OnOk result
         (output_line_fault (length scan.old.bytes) most (line_at scan.old) ≡ None) }
     ensures passes { OnOk result (PassesLine scan.old scan.new) }

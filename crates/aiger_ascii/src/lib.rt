@@ -5,4 +5,6 @@ pub mod parts;
 mod entries;
 mod line;
 mod literals;
+mod sections;
 mod table;
+mod undefined;
