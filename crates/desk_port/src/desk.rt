@@ -1,6 +1,7 @@
 //! The calls by which a program reaches files, standard output and standard error.
 ghost use Rattle.std.specs.Prelude.{◌≡◌, None, IsSome};
-ghost use Rattle.desk_port.specs.Desk.{DeskState, Reads, Starts, Writes, Closes, Says, Warns, NoCountFalls};
+ghost use Rattle.desk_port.specs.Desk.{DeskState, Reads, Starts, Writes, Closes, Says, Warns};
+ghost use Rattle.desk_port.specs.Desk.{NoCountFalls, StartedIsThere};
 
 use crate::errors::{PutErr, ReadErr};
 use std::alloc::Global;
@@ -52,4 +53,7 @@ pub trait Desk {
     fn warn(&mut self, bytes: &[u8]) -> Result<(), PutErr>
         ensures answer { Warns (state self.old) (state self.new) bytes.now result }
         ensures counts { NoCountFalls (state self.old) (state self.new) };
+
+    /// A file that is started is there, as far as the desk tells.
+    ghost started_is_there: { (d : Self) → StartedIsThere (state d) };
 }

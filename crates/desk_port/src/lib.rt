@@ -13,7 +13,10 @@
 pub mod desk;
 pub mod errors;
 pub mod gate;
+mod mem_files;
+pub mod mem_desk;
 
 pub use desk::Desk;
 pub use errors::{PutErr, ReadErr};
 pub use gate::{Gate, OpenGate};
+pub use mem_desk::MemDesk;
