@@ -1,5 +1,5 @@
 -- What a change of one entry of a map of files does to the files.
-use Rattle.std.proofs.Common.{◌≡◌, ℕ, List, ◌++◌, Option, Some, None, Bool, true, false, refl, String, string_bytes, if◌then◌else◌, ap, ◌∙◌}
+use Rattle.std.proofs.Common.{◌≡◌, ℕ, List, ◌++◌, Option, Some, None, Bool, true, false, refl, String, string_bytes, if◌then◌else◌}
 use Rattle.std.proofs.Math.Path.{fun_ext}
 use Rattle.std.proofs.lemmas.Map.Text.{btree_map_updates_text}
 use Rattle.std.proofs.lemmas.Slice.Eq.{bytes_eq-Decides}
@@ -47,11 +47,11 @@ module _ (m n : BTreeMap (String Global) (Vec ℕ)) (name : List ℕ) (v before 
       (q : List ℕ) → files_of n q ≡ (if bytes_eq name q then option_map g (files_of m q) else files_of m q)
   files_of-change g changed changes q =
       rw (btree_map_updates_text name m n (Some v) changes.1 q) (at (bytes_eq name q) refl) where
-    at : (b : Bool) → bytes_eq name q ≡ b →
-        option_map (λ w. w.items) (if b then Some v else get_by_text m q)
-        ≡ (if b then option_map g (files_of m q) else files_of m q)
-    at true same = rw (changed, ← bytes_eq-true name q same, changes.0) refl
-    at false same = refl
+        at : (b : Bool) → bytes_eq name q ≡ b →
+            option_map (λ w. w.items) (if b then Some v else get_by_text m q)
+            ≡ (if b then option_map g (files_of m q) else files_of m q)
+        at true same = rw (changed, ← bytes_eq-true name q same, changes.0) refl
+        at false same = refl
 
   pub files_of-extended : (bytes : List ℕ) → v.items ≡ before.items ++ bytes → Changes →
       files_of n ≡ extended name bytes (files_of m)
@@ -60,7 +60,7 @@ module _ (m n : BTreeMap (String Global) (Vec ℕ)) (name : List ℕ) (v before 
   pub files_of-same : v.items ≡ before.items → Changes → files_of n ≡ files_of m
   files_of-same same changes =
       fun_ext (λ q. rw (files_of-change (λ old. old) same changes q) (at (bytes_eq name q) (files_of m q))) where
-    at : (b : Bool) (file : Option (List ℕ)) → (if b then option_map (λ old. old) file else file) ≡ file
-    at true None = refl
-    at true (Some bytes) = refl
-    at false file = refl
+        at : (b : Bool) (file : Option (List ℕ)) → (if b then option_map (λ old. old) file else file) ≡ file
+        at true None = refl
+        at true (Some bytes) = refl
+        at false file = refl

@@ -23,6 +23,7 @@ pub after_write-append : (s : DeskState) (a b : List ℕ) → after_write (after
 after_write-append s a b = ap (λ files. record s { files = files }) (at s.files) where
   name : List ℕ
   name = unwrap_or s.started []
+
   at : (files : Option Files) →
       option_map (extended name b) (option_map (extended name a) files) ≡ option_map (extended name (a ++ b)) files
   at None = refl
@@ -33,11 +34,13 @@ pub after_write-nil : (s : DeskState) → after_write s [] ≡ s
 after_write-nil s = ap (λ files. record s { files = files }) (at s.files) where
   name : List ℕ
   name = unwrap_or s.started []
+
   each : (same : Bool) (file : Option (List ℕ)) →
       (if same then option_map (λ old. old ++ []) file else file) ≡ file
   each true None = refl
   each true (Some old) = ap Some (append-nil old)
   each false file = refl
+
   at : (files : Option Files) → option_map (extended name []) files ≡ files
   at None = refl
   at (Some files) = ap Some (fun_ext (λ q. each (bytes_eq name q) (files q)))
@@ -78,6 +81,7 @@ pub after_piece : (old mid new : DeskState) (a b : List ℕ) (r : Result (Unit {
 after_piece old mid new a b r put h = at r h where
   joined : (part : List ℕ) → after_write mid part ≡ after_write old (a ++ part)
   joined part = ap (λ s. after_write s part) put ∙ after_write-append old a part
+
   at : (r : Result (Unit {0}) PutErr) → WritesInPieces mid new b r → WritesInPieces old new (a ++ b) r
   at (Ok _) h = h ∙ joined b
   at (Err not_put.Failed) h = prefix-after a b (λ part. subst (λ s. WriteFault s new) (joined part)) h

@@ -1,6 +1,7 @@
 -- What a desk shows, and what each of its calls makes of that, answer by answer.
-use Rattle.std.specs.Prelude.{◌≡◌, ℕ, ◌<◌, ◌≤◌, ◌⊎◌, List, [], ◌∷◌, ◌++◌, length, unwrap_or, if◌then◌else◌}
-use Rattle.std.specs.Prelude.{Option, Some, None, Result, Ok, Err, IfSome, IsSome, IsSomeAnd}
+use Rattle.std.specs.Prelude.{◌≡◌, ℕ, ◌<◌, ◌≤◌, ◌⊎◌, List, [], ◌∷◌, ◌++◌, length, if◌then◌else◌}
+use Rattle.std.specs.Prelude.{Option, Some, None, unwrap_or, IfSome, IsSome, IsSomeAnd}
+use Rattle.std.specs.Prelude.{Result, Ok, Err}
 use Rattle.std.specs.Global.{Vec}
 use Rattle.std.specs.Option.{option_map}
 use Rattle.std.specs.Str.{bytes_eq}
@@ -53,7 +54,8 @@ untouched files = record {
   asked = Some [];
   read_faults = 0;
   write_faults = 0;
-  warn_faults = 0 }
+  warn_faults = 0;
+}
 
 -- Told bytes with more bytes behind them.
 abbrev pub followed_by : Option (List ℕ) → List ℕ → Option (List ℕ)
@@ -150,8 +152,8 @@ Writes old new bytes (Err not_put.Failed) =
     OfSomePrefix bytes (λ part. WriteFault (after_write old part) new)
 Writes old new bytes (Err not_put.NoMemory) = new ≡ old
 
--- Bytes that went out by several calls of `write`: where one was refused, those of the earlier calls
--- stay, so that some first part of the whole was put.
+-- Bytes that went out by several calls of `write`. Where one was refused, those of the earlier
+-- calls stay, so that some first part of the whole was put.
 abbrev pub WritesInPieces : DeskState → DeskState → List ℕ → Result (Unit {0}) PutErr → Type 0
 WritesInPieces old new bytes (Ok _) = new ≡ after_write old bytes
 WritesInPieces old new bytes (Err not_put.Failed) =

@@ -1,6 +1,7 @@
 -- What a desk in memory shows, and at which calls it fails.
-use Rattle.std.specs.Prelude.{◌≡◌, ℕ, ◌+◌, ◌≤◌, ◌⊎◌, Bool, true, false, List, length, map, min, nat_eq}
-use Rattle.std.specs.Prelude.{Option, Some, None, Result, Ok, Err, IfSome, String, string_bytes, refl}
+use Rattle.std.specs.Prelude.{◌≡◌, ℕ, ◌+◌, ◌≤◌, ◌⊎◌, Bool, true, false, List, length, map, min}
+use Rattle.std.specs.Prelude.{nat_eq, String, string_bytes, refl}
+use Rattle.std.specs.Prelude.{Option, Some, None, IfSome, Result, Ok, Err}
 use Rattle.std.specs.Global.{Vec}
 use Rattle.std.specs.List.{list_any}
 use Rattle.std.specs.Option.{ForSome, option_map}
@@ -23,7 +24,8 @@ state_of d = record {
   asked = Some (map string_bytes d.asked.items);
   read_faults = d.read_faults;
   write_faults = d.write_faults;
-  warn_faults = d.warn_faults }
+  warn_faults = d.warn_faults;
+}
 
 -- The number of the call that comes next, and those of the calls that fail.
 abbrev pub next_call : MemDesk → ℕ
@@ -65,7 +67,8 @@ with_warn_fault s = record s { warn_faults = next_count s.warn_faults }
 abbrev pub Finds : MemDesk → List ℕ → ℕ → Result (Vec ℕ) ReadErr → Type 0
 Finds d name limit (Ok v) =
     (is_due d ≡ false) × (files_of d.files name ≡ Some v.items) × (length v.items ≤ limit)
-Finds d name limit (Err not_read.TooLong) = (is_due d ≡ false) × HasMore (files_of d.files) name limit
+Finds d name limit (Err not_read.TooLong) =
+    (is_due d ≡ false) × HasMore (files_of d.files) name limit
 Finds d name limit (Err not_read.Failed) = (is_due d ≡ true) ⊎ (files_of d.files name ≡ None)
 Finds d name limit (Err not_read.NoMemory) = Unit {0}
 

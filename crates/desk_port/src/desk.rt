@@ -9,9 +9,9 @@ use std::alloc::Global;
 /// The outside of a program.
 ///
 /// One file at most is started at a time: `start`, then `write` as often as needed, then `close`.
-/// `specs/Desk.antt` says for each call and each of its answers what the desk shows afterwards. What
-/// is not named there stays, want of memory changes nothing at all, and a desk that tells goes on
-/// telling.
+/// `specs/Desk.antt` says for each call and each of its answers what the desk shows afterwards.
+/// What is not named there stays, want of memory changes nothing at all, and a desk that tells goes
+/// on telling.
 ///
 /// Only `read` takes an allocator, since it gives the caller a new collection; the other calls take
 /// memory from the allocator that the desk keeps.

@@ -65,10 +65,8 @@ impl MemDesk {
 
     /// The bytes of the named file; `None` exactly where there is none.
     pub fn file(&self, name: &str) -> Option<&[u8]>
-        ensures {
-            option_map (λ files. files name.now) (state_of self.now).files
-            ≡ Some (option_map (λ bytes. bytes.now) result)
-        }
+        ensures { option_map (λ files. files name.now) (state_of self.now).files
+            ≡ Some (option_map (λ bytes. bytes.now) result) }
     {
         match self.files.get(name) {
             Some(bytes) => Some(bytes.as_slice()),
@@ -127,13 +125,11 @@ impl MemDesk {
 
     // Counts a call that failed to put something, and its fault.
     fn fail_to_put(&mut self)
-        ensures stays {
-            self.new
+        ensures stays { self.new
             ≡ record self.old {
-                calls = next_count self.old.calls;
-                write_faults = self.new.write_faults
-            }
-        }
+              calls = next_count self.old.calls;
+              write_faults = self.new.write_faults;
+            } }
         ensures next { self.new.write_faults ≡ next_count self.old.write_faults }
         ensures rose { Rose self.old.write_faults self.new.write_faults }
     {
@@ -171,7 +167,8 @@ impl Desk for MemDesk {
         requires { (state_of self.old).started ≡ None }
         ensures answer { Starts (state_of self.old) (state_of self.new) name.now result }
         ensures counts { NoCountFalls (state_of self.old) (state_of self.new) }
-        ensures exact { FailsWhenDue self.old self.new (with_write_fault (state_of self.old)) result }
+        ensures exact { FailsWhenDue self.old self.new
+            (with_write_fault (state_of self.old)) result }
     {
         if self.is_due() {
             self.fail_to_put();
@@ -188,7 +185,8 @@ impl Desk for MemDesk {
         requires { IsSome (state_of self.old).started }
         ensures answer { Writes (state_of self.old) (state_of self.new) bytes.now result }
         ensures counts { NoCountFalls (state_of self.old) (state_of self.new) }
-        ensures exact { FailsWhenDue self.old self.new (with_write_fault (state_of self.old)) result }
+        ensures exact { FailsWhenDue self.old self.new
+            (with_write_fault (state_of self.old)) result }
     {
         if self.is_due() {
             self.fail_to_put();
@@ -204,10 +202,8 @@ impl Desk for MemDesk {
         requires { IsSome (state_of self.old).started }
         ensures answer { Closes (state_of self.old) (state_of self.new) result }
         ensures counts { NoCountFalls (state_of self.old) (state_of self.new) }
-        ensures exact {
-            let closed = after_close (state_of self.old) in
-            FailsWhenDue self.old self.new (with_write_fault closed) result
-        }
+        ensures exact { let closed = after_close (state_of self.old) in
+            FailsWhenDue self.old self.new (with_write_fault closed) result }
     {
         self.started = None;
         if self.is_due() {
@@ -221,7 +217,8 @@ impl Desk for MemDesk {
     fn say(&mut self, bytes: &[u8]) -> Result<(), PutErr>
         ensures answer { Says (state_of self.old) (state_of self.new) bytes.now result }
         ensures counts { NoCountFalls (state_of self.old) (state_of self.new) }
-        ensures exact { FailsWhenDue self.old self.new (with_write_fault (state_of self.old)) result }
+        ensures exact { FailsWhenDue self.old self.new
+            (with_write_fault (state_of self.old)) result }
     {
         if self.is_due() {
             self.fail_to_put();
@@ -235,7 +232,8 @@ impl Desk for MemDesk {
     fn warn(&mut self, bytes: &[u8]) -> Result<(), PutErr>
         ensures answer { Warns (state_of self.old) (state_of self.new) bytes.now result }
         ensures counts { NoCountFalls (state_of self.old) (state_of self.new) }
-        ensures exact { FailsWhenDue self.old self.new (with_warn_fault (state_of self.old)) result }
+        ensures exact { FailsWhenDue self.old self.new
+            (with_warn_fault (state_of self.old)) result }
     {
         if self.is_due() {
             self.count_call();

@@ -28,7 +28,8 @@ pub fn extend(
     bytes: &[u8],
 ) -> Result<(), AllocError>
     requires { IsSome (files_of files.old name.now) }
-    ensures ok { OnOk result (files_of files.new ≡ extended name.now bytes.now (files_of files.old)) }
+    ensures ok { OnOk result
+        (files_of files.new ≡ extended name.now bytes.now (files_of files.old)) }
     ensures there { IsSome (files_of files.new name.now) }
     ensures no_memory { OnErr result (files_of files.new ≡ files_of files.old) }
 {

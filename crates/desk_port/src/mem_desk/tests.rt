@@ -12,7 +12,10 @@ use std::test::Fail;
 fn faulty_reads(rt: HostRuntime) -> Result<(), Fail> {
     let alloc = rt.alloc();
     let mut files = BTreeMap::new(alloc);
-    files.insert(String::from_str(alloc, "x")?, Vec::from_slice(alloc, b"ab")?)?;
+    files.insert(
+        String::from_str(alloc, "x")?,
+        Vec::from_slice(alloc, b"ab")?,
+    )?;
     let mut desk = MemDesk::new(alloc, files, vec![in alloc; 1]?)?;
     let cases = [
         ("x", 5, Ok(2), 0),
@@ -25,7 +28,11 @@ fn faulty_reads(rt: HostRuntime) -> Result<(), Fail> {
         if let Ok(bytes) = &read {
             assert_eq!(rt; bytes.as_slice(), &b"ab"[..]);
         }
-        assert_eq!(rt; read.map(|bytes| bytes.len()), answer, "{name} within {limit}");
+        assert_eq!(rt;
+            read.map(|bytes| bytes.len()),
+            answer,
+            "{name} within {limit}"
+        );
         assert_eq!(rt; desk.read_faults, faults, "{name} within {limit}");
     }
     assert_eq!(rt; desk.asked().len(), 4);
