@@ -10,7 +10,8 @@ use Rattle.lits.specs.declared.step.Named.{Named}
 use Rattle.netlist.specs.Circuit.{output_value}
 use Rattle.netlist.specs.Net.{AigPair}
 use Rattle.netlist.specs.Miter.{axiom_of, negative, positive, variable_of}
-use Rattle.unit_prop.specs.Refuter.{IsChain, IsBudgetLog, IsUndecided, InTurn}
+use Rattle.unit_prop.specs.Refuter.{IsUndecided}
+use Rattle.unit_prop.specs.Log.{IsChain, IsBudgetLog, InTurn}
 use Rattle.lemma_book.specs.declared.entry.Entry.{Entry}
 use Rattle.lemma_book.specs.declared.entry.Entry.TheVariants.{Out, OutApart, OutSpent}
 use Rattle.lemma_book.specs.Cone.{IsCone}
