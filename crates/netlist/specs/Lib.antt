@@ -1,4 +1,7 @@
 pub mod Place
 pub mod Circuit
+pub mod VariableTable
+pub mod Source
 pub mod Net
 pub mod Miter
+pub mod Meaning

@@ -11,8 +11,19 @@
 
 pub use circuit::Circuit;
 pub use gate::And;
+pub use law::{satisfiable_if_different, unsatisfiable_if_equal};
 pub use net::Net;
+pub use short::Short;
+
+mod source;
+
+mod variable_table;
 
 mod circuit;
+
+mod short;
+
+mod meaning;
 mod gate;
+mod law;
 mod net;
