@@ -2,3 +2,8 @@ pub mod LiteralLemmas
 pub mod StepLemmas
 pub mod ChainLemmas
 pub mod LitLaws
+pub mod OpenLemmas
+pub mod AssumeLemmas
+pub mod AskLemmas
+pub mod ClosureLemmas
+pub mod GivenLemmas
