@@ -1,0 +1,4 @@
+pub mod RepeatLemmas
+pub mod ThereLemmas
+pub mod FaninLemmas
+pub mod RisingLemmas
