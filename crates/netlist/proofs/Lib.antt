@@ -16,3 +16,5 @@ pub mod SourceLemmas
 pub mod RunLemmas
 pub mod ShortLemmas
 pub mod MeaningLemmas
+pub mod NodeLemmas
+pub mod NetLemmas

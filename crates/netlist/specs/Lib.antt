@@ -5,3 +5,4 @@ pub mod Source
 pub mod Net
 pub mod Miter
 pub mod Meaning
+pub mod Pair

@@ -12,6 +12,7 @@ use Rattle.netlist.specs.declared.source.Source.{Source}
 use Rattle.netlist.specs.declared.source.Source.TheVariants as source
 use Rattle.netlist.specs.declared.meaning.Meaning.{Meaning}
 use Rattle.netlist.specs.declared.meaning.Meaning.TheVariants as meaning
+use Rattle.netlist.specs.Circuit.{Aig}
 use Rattle.netlist.specs.Net.{AigPair, Definition, circuit_of, lit_named, gate_at, output_of}
 use Rattle.netlist.specs.Miter.{same_lit, opposite, positive, gate_clauses, xor_clauses}
 
@@ -29,12 +30,15 @@ abbrev pub difference : ℕ → Option Lit → Option Lit → Option Meaning
 difference j (Some a) (Some b) = Some (meaning.Difference (Xor j) a b)
 difference j _ _ = None
 
+-- what the clauses of a gate say
+abbrev pub conjunction_of : Side → Aig → And → Meaning
+conjunction_of side c g = meaning.Conjunction (Gate side g.var) (lit_named side c g.left) (lit_named side c g.right)
+
 -- what the clauses of a node say; none where it has no clauses
 abbrev pub meaning_of : AigPair → Node → Option Meaning
 meaning_of net Const = Some meaning.True
 meaning_of net (Input k) = None
-meaning_of net (Gate side v) =
-    option_map (λ g. meaning.Conjunction (Gate side g.var) (lit_named side (circuit_of net side) g.left) (lit_named side (circuit_of net side) g.right)) (gate_at net side v)
+meaning_of net (Gate side v) = option_map (conjunction_of side (circuit_of net side)) (gate_at net side v)
 meaning_of net (Xor j) = difference j (output_of net A j) (output_of net B j)
 
 -- the literal of a variable with this source

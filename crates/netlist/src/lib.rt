@@ -15,6 +15,8 @@ pub use law::{satisfiable_if_different, unsatisfiable_if_equal};
 pub use net::Net;
 pub use short::Short;
 
+mod gate;
+
 mod source;
 
 mod variable_table;
@@ -24,6 +26,11 @@ mod circuit;
 mod short;
 
 mod meaning;
-mod gate;
-mod law;
+
+mod sizes;
+
+mod pair;
+
 mod net;
+
+mod law;
