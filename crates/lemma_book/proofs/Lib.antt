@@ -2,3 +2,4 @@ pub mod RepeatLemmas
 pub mod ThereLemmas
 pub mod FaninLemmas
 pub mod RisingLemmas
+pub mod ConeLemmas
