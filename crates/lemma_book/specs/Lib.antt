@@ -1,0 +1,3 @@
+pub mod Cone
+pub mod Entry
+pub mod Book

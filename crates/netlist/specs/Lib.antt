@@ -1,0 +1,4 @@
+pub mod Place
+pub mod Circuit
+pub mod Net
+pub mod Miter

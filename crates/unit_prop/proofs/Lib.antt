@@ -1,0 +1,4 @@
+pub mod LiteralLemmas
+pub mod StepLemmas
+pub mod ChainLemmas
+pub mod LitLaws

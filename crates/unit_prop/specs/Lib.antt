@@ -1,0 +1,5 @@
+pub mod Closure
+pub mod New
+pub mod Step
+pub mod Log
+pub mod Refuter
