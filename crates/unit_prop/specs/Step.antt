@@ -7,6 +7,8 @@ use Rattle.lits.specs.Clause.{has, has_pair, firsts}
 use Rattle.unit_prop.specs.declared.why.Why.{Why}
 use Rattle.unit_prop.specs.declared.why.Why.TheVariants.{Tautology, NoClause, Satisfied, TwoFree, AfterFalse, NotFalse}
 use Rattle.unit_prop.specs.declared.why.BadStep.{BadStep}
+use Rattle.unit_prop.specs.declared.why.StepErr.{StepErr}
+use Rattle.unit_prop.specs.declared.why.StepErr.TheVariants.{Bad, NoMemory}
 
 -- where a step stands: the literals that are true, and whether a hint was wholly false
 pub record State (L : Type 0) : Type 0 where
@@ -63,3 +65,8 @@ first_fault eq opposite find clause hints =
 -- the hints show the clause from the clauses that `find` gives
 abbrev pub IsStep : {N L : Type 0} → (L → L → Bool) → (L → L) → (N → Option (List L)) → List L → List N → Type 0
 IsStep eq opposite find clause hints = first_fault eq opposite find clause hints ≡ None
+
+-- P holds of the fault, where it is one of the step
+abbrev pub IfBad : StepErr → (Why → Type 0) → Type 0
+IfBad (Bad why) P = P why
+IfBad NoMemory P = Unit {0}

@@ -10,8 +10,10 @@
 #![tactic(auto)]
 
 pub use refuter::{Refuted, Refuter};
+pub use step_check::StepCheck;
 pub use why::{BadStep, StepErr, Why};
 
 pub mod laws;
 mod refuter;
+mod step_check;
 mod why;

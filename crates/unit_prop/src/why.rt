@@ -1,3 +1,7 @@
+ghost use Rattle.std.specs.Prelude.{◌≡◌};
+
+use std::alloc::AllocError;
+
 /// Why a list of hints shows no clause, in the order in which a step is judged.
 #[derive(Clone, Copy, Debug, PartialEq, Eq)]
 pub enum Why {
@@ -5,12 +9,12 @@ pub enum Why {
     Tautology,
     /// A hint names no clause that stands.
     NoClause,
+    /// A hint comes after one whose clause was wholly false.
+    AfterFalse,
     /// A hint's clause has a true literal.
     Satisfied,
     /// A hint's clause has two literals that aren't false.
     TwoFree,
-    /// A hint comes after one whose clause was wholly false.
-    AfterFalse,
     /// No hint's clause was wholly false.
     NotFalse,
 }
@@ -27,4 +31,14 @@ pub struct BadStep {
 pub enum StepErr {
     Bad(Why),
     NoMemory,
+}
+
+impl From<AllocError> for StepErr {
+    ghost use Rattle.unit_prop.specs.declared.why.StepErr.TheVariants.{NoMemory};
+
+    ghost from_gives = { λ _ e. e ≡ NoMemory };
+
+    fn from(_error: AllocError) -> StepErr {
+        StepErr::NoMemory
+    }
 }

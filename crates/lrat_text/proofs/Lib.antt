@@ -1,0 +1,5 @@
+mod GrowingLemmas
+mod NumberLemmas
+mod PartLemmas
+mod SplitLemmas
+mod TextLemmas

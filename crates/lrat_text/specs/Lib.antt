@@ -1,0 +1,5 @@
+pub mod Numbers
+pub mod Steps
+pub mod Reading
+pub mod Writing
+pub mod Growing
