@@ -11,8 +11,14 @@
 
 pub use circuit::Circuit;
 pub use gate::And;
+pub use law::{satisfiable_if_different, unsatisfiable_if_equal};
 pub use net::Net;
+
+mod source;
+
+mod variable_table;
 
 mod circuit;
 mod gate;
+mod law;
 mod net;
