@@ -3,3 +3,4 @@ mod NumberLemmas
 mod PartLemmas
 mod SplitLemmas
 mod TextLemmas
+mod DerivationLemmas

@@ -1,5 +1,5 @@
 use Rattle.lrat_text.proofs.TextLemmas.{written_nothing, written_line, written_spells, written_all}
-use Rattle.lrat_text.proofs.law.written_text.Goals as goal
+use Rattle.lrat_text.proofs.laws.written_text.Goals as goal
 
 pub returns : goal.returns
 returns c = record {
