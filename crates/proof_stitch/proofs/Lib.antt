@@ -1,0 +1,3 @@
+pub mod AxiomLemmas
+pub mod GrowLemmas
+pub mod StepLemmas
