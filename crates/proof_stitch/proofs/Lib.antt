@@ -1,3 +1,5 @@
 pub mod AxiomLemmas
 pub mod GrowLemmas
 pub mod StepLemmas
+pub mod EmptyLemmas
+pub mod XorLemmas
