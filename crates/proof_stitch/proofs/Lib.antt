@@ -3,3 +3,4 @@ pub mod GrowLemmas
 pub mod StepLemmas
 pub mod EmptyLemmas
 pub mod XorLemmas
+pub mod BookLemmas
