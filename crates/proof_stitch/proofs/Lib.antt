@@ -4,3 +4,4 @@ pub mod StepLemmas
 pub mod EmptyLemmas
 pub mod XorLemmas
 pub mod BookLemmas
+pub mod RefutationLemmas

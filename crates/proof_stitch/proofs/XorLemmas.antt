@@ -39,7 +39,7 @@ none-in test a zero m none le = refl
 none-in test a (suc n) m none le = rw (none a (omega arith), none-in test (a + 1) n m none (omega arith)) refl
 
 -- a fact of all numbers below a bound holds of a range below it
-all-in : (P : ℕ → Type 0) (a n m : ℕ) → ((i : ℕ) → i < m → P i) → a + n ≤ m → AllByRecursion P (range_with_len a n)
+pub all-in : (P : ℕ → Type 0) (a n m : ℕ) → ((i : ℕ) → i < m → P i) → a + n ≤ m → AllByRecursion P (range_with_len a n)
 all-in P a zero m all le = tt
 all-in P a (suc n) m all le = (all a (omega arith), all-in P (a + 1) n m all (omega arith))
 
