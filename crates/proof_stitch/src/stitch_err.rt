@@ -1,10 +1,10 @@
 use desk_port::PutErr;
-use std::alloc::{AllocError, AllocFailed};
+use std::alloc::AllocError;
 
 /// Why a proof wasn't written.
 #[derive(Clone, Copy, Debug, PartialEq, Eq)]
 pub enum StitchErr {
-    /// The desk failed to write it; the count of write faults rose.
+    /// The desk failed to write it.
     Write,
     NoMemory,
 }
