@@ -5,3 +5,4 @@ pub mod EmptyLemmas
 pub mod XorLemmas
 pub mod BookLemmas
 pub mod RefutationLemmas
+pub mod WriterLemmas
