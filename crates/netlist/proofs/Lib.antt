@@ -1,9 +1,4 @@
 mod WorkedRows
-pub mod PlaceLemmas
-pub mod VariableLemmas
-pub mod TableLemmas
-pub mod SourceLemmas
-pub mod RunLemmas
 pub mod LawNodes
 pub mod LawRun
 pub mod LawClauses
@@ -14,3 +9,13 @@ pub mod LawCones
 pub mod LawOver
 pub mod LawNumbers
 pub mod LawMiter
+pub mod PlaceLemmas
+pub mod VariableLemmas
+pub mod TableLemmas
+pub mod SourceLemmas
+pub mod RunLemmas
+pub mod ShortLemmas
+pub mod MeaningLemmas
+pub mod NodeLemmas
+pub mod NetLemmas
+pub mod StartLemmas

@@ -126,3 +126,7 @@ pub slice_get-right : {X : Type 0} (xs ys : List X) (k : ℕ) → slice_get (xs 
 slice_get-right [] ys k = ap (slice_get ys) (zero-add k)
 slice_get-right (x ∷ xs) ys k =
     let e : length (x ∷ xs) + k ≡ suc (length xs + k) = omega arith in ap (slice_get (x ∷ (xs ++ ys))) e ∙ slice_get-right xs ys k
+
+pub place_none-all : {X : Type 0} (test : X → Bool) (xs : List X) → ((x : X) → test x ≡ false) → place_of test xs ≡ None
+place_none-all test [] none = refl
+place_none-all test (x ∷ xs) none = rw (none x, place_none-all test xs none) refl

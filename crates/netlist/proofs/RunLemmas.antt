@@ -6,7 +6,7 @@ use Rattle.std.specs.Option.{option_map, option_map_or, is_some}
 use Rattle.std.proofs.Common.{get_or-set_same, get_or-set_other}
 use Rattle.std.proofs.Math.Seq.{split_at, take-length}
 use Rattle.std.proofs.lemmas.Option.{none-some, get_or_from_slice_get}
-use Rattle.std.proofs.lemmas.List.{append_assoc, append-nil, map-append, take_more}
+use Rattle.std.proofs.lemmas.List.{append_assoc, append-nil, map-append, take_more, take-append-drop}
 use Rattle.std.proofs.lemmas.List.Folds.{list_any-append}
 use Rattle.std.proofs.lemmas.Bool.Decides.{nat_tests}
 use Rattle.lits.specs.Clause.{has, no_repeat}
@@ -14,10 +14,10 @@ use Rattle.netlist.specs.declared.gate.And.{And}
 use Rattle.netlist.specs.declared.source.Source.{Source}
 use Rattle.netlist.specs.declared.source.Source.TheVariants.{Constant, Input, Gate}
 use Rattle.netlist.specs.Place.{place_of}
-use Rattle.netlist.specs.Circuit.{Aig, IsCircuit, IsNext, AreOrdered, variables_in, gate_vars, var_of, lit_value, put, run, given, value_in}
+use Rattle.netlist.specs.Circuit.{Aig, IsCircuit, IsNext, AreOrdered, variables_in, gate_vars, var_of, is_over, lit_value, put, run, given, value_in}
 use Rattle.netlist.specs.Source.{input_or, source_of, value_at, read_in, IsComputed}
 use Rattle.netlist.proofs.PlaceLemmas.{or_place, place_of-append, place_of-map, place_none, is_some-place, at_place}
-use Rattle.netlist.proofs.VariableLemmas.{variables, new_gate, vars_more}
+use Rattle.netlist.proofs.VariableLemmas.{variables, new_gate, vars_more, list_any-vars}
 
 pub run-append : (xs ys : List And) (v : ℕ → Bool) → run (xs ++ ys) v ≡ run ys (run xs v)
 run-append [] ys v = refl
@@ -70,13 +70,26 @@ fanins_known c i d circuit l =
     let over = λ (v : ℕ). sym (has-known c i v) ∙ sym (found.2 v) in
     (over (var_of (get_or c.gates i d).left) ∙ found.1.left, over (var_of (get_or c.gates i d).right) ∙ found.1.right)
 
+-- what is known before a gate is known
+known_all : (c : Aig) (i v : ℕ) → has ◌==◌ (0 ∷ (c.inputs ++ gate_vars (take i c.gates))) v ≡ true → has ◌==◌ (variables_in c) v ≡ true
+known_all c i v e =
+    let whole : gate_vars (take i c.gates) ++ gate_vars (drop i c.gates) ≡ gate_vars c.gates =
+        sym (map-append (λ g. g.var) (take i c.gates) (drop i c.gates)) ∙ ap gate_vars (take-append-drop i c.gates) in
+    let all : (0 ∷ (c.inputs ++ gate_vars (take i c.gates))) ++ gate_vars (drop i c.gates) ≡ variables_in c =
+        ap (λ (vs : List ℕ). 0 ∷ vs) (append_assoc c.inputs (gate_vars (take i c.gates)) (gate_vars (drop i c.gates)) ∙ ap (λ (vs : List ℕ). c.inputs ++ vs) whole) in
+    subst (λ (vs : List ℕ). has ◌==◌ vs v ≡ true) all
+      (list_any-append (λ x. x == v) (0 ∷ (c.inputs ++ gate_vars (take i c.gates))) (gate_vars (drop i c.gates)) ∙ rw e refl)
+
+-- a gate's fanins are variables of the circuit
+pub fanins_over : (c : Aig) (i : ℕ) (d : And) → IsCircuit c → i < length c.gates
+  → (is_over (variables_in c) (get_or c.gates i d).left ≡ true) × (is_over (variables_in c) (get_or c.gates i d).right ≡ true)
+fanins_over c i d circuit l =
+    let known = fanins_known c i d circuit l in
+    (known_all c i (var_of (get_or c.gates i d).left) known.0, known_all c i (var_of (get_or c.gates i d).right) known.1)
+
 or_false : (a b : Bool) → (a || b) ≡ false → (a ≡ false) × (b ≡ false)
 or_false true b e = cc
 or_false false b e = (refl, e)
-
-list_any-vars : (gates : List And) (v : ℕ) → has ◌==◌ (gate_vars gates) v ≡ list_any (λ g. g.var == v) gates
-list_any-vars [] v = refl
-list_any-vars (g ∷ gs) v = ap (λ (b : Bool). (g.var == v) || b) (list_any-vars gs v)
 
 -- the place of a gate by its variable
 pub place-gate : (c : Aig) (i : ℕ) (d : And) → IsCircuit c → i < length c.gates

@@ -1,17 +1,24 @@
 -- The source of a variable, found by its place.
-use Rattle.std.proofs.Common.{◌≡◌, ◌≢◌, ℕ, ◌+◌, ◌-◌, ◌<◌, ◌≤◌, Bool, true, false, cond, Option, None, Some, List, [], ◌∷◌, ◌++◌, length, map, refl, sym, ap, ◌∙◌, subst, arith}
-use Rattle.std.specs.Prelude.{◌==◌, nat_le, ⊤, IfSome, slice_get}
-use Rattle.std.specs.Option.{option_map}
+use Rattle.std.proofs.Common.{◌≡◌, ◌≢◌, ℕ, ◌+◌, ◌-◌, ◌<◌, ◌≤◌, Bool, true, false, not, cond, Option, None, Some, List, [], ◌∷◌, ◌++◌, length, map, refl, sym, ap, ◌∙◌, subst, arith}
+use Rattle.std.specs.Prelude.{◌==◌, ◌||◌, nat_le, ⊤, IfSome, slice_get}
+use Rattle.std.specs.Option.{option_map, option_map_or, is_some}
 use Rattle.std.proofs.lemmas.Option.{none-some, same_Some, slice_get_within}
 use Rattle.std.proofs.lemmas.Bool.Decides.{nat_tests}
 use Rattle.netlist.specs.declared.gate.And.{And}
 use Rattle.netlist.specs.declared.source.Source.{Source}
 use Rattle.netlist.specs.declared.source.Source.TheVariants.{Constant, Input, Gate}
 use Rattle.netlist.specs.Place.{place_of}
-use Rattle.netlist.specs.Circuit.{Aig, variables_in, gate_vars}
+use Rattle.lits.specs.Clause.{has}
+use Rattle.lits.specs.declared.node.Side.{Side}
+use Rattle.lits.specs.declared.node.Node.TheVariants as node
+use Rattle.netlist.specs.Circuit.{Aig, IsCircuit, variables_in, gate_vars, var_of, is_negated, is_over}
+use Rattle.netlist.specs.Net.{AigPair, circuit_of, lit_named, lit_of}
+use Rattle.netlist.specs.Meaning.{lit_from}
+use Rattle.netlist.specs.Pair.{gate_from}
 use Rattle.netlist.specs.VariableTable.{Places, place_in, IsTable}
 use Rattle.netlist.specs.Source.{input_or, source_of, source_at, IsWithin}
-use Rattle.netlist.proofs.PlaceLemmas.{or_place, place_of-append, place_of-map, at_place}
+use Rattle.netlist.proofs.PlaceLemmas.{or_place, place_of-append, place_of-map, place_none, is_some-place, at_place}
+use Rattle.netlist.proofs.VariableLemmas.{variables, no_repeat-apart, list_any-vars}
 
 -- a place is below the length
 pub place_within : {X : Type 0} (test : X → Bool) (xs : List X) (k : ℕ) → place_of test xs ≡ Some k → k < length xs
@@ -77,3 +84,57 @@ source_missing c t v table e = ap (option_map (source_at (length c.inputs))) (sy
 
 pub within_found : (c : Aig) (v : ℕ) (s : Source) → Some s ≡ source_of c v → IsWithin c s
 within_found c v s e = subst (λ (o : Option Source). IfSome o (IsWithin c)) (sym e) (source_within c v)
+
+pub is_over-source : (c : Aig) (lit : ℕ) → is_over (variables_in c) lit ≡ is_some (source_of c (var_of lit))
+is_over-source c lit =
+    sym (is_some-place (λ x. x == var_of lit) (variables_in c))
+    ∙ sym (is_some-map (place_of (λ x. x == var_of lit) (variables_in c)))
+    ∙ ap is_some (source_of-place c (var_of lit))
+  where
+    is_some-map : (o : Option ℕ) → is_some (option_map (source_at (length c.inputs)) o) ≡ is_some o
+    is_some-map None = refl
+    is_some-map (Some k) = refl
+
+-- the literal by the variable's source
+pub lit_of-source : (net : AigPair) (side : Side) (lit : ℕ)
+  → lit_from side (var_of lit) (is_negated lit) (source_of (circuit_of net side) (var_of lit)) ≡ lit_of net side lit
+lit_of-source net side lit =
+    go (var_of lit == 0) (place_of (λ x. x == var_of lit) c.inputs) (place_of (λ g. g.var == var_of lit) c.gates)
+    ∙ ap (λ (b : Bool). cond b (Some (lit_named side c lit)) None) (sym (is_over-source c lit))
+  where
+    c : Aig
+    c = circuit_of net side
+    go : (b : Bool) (inputs gates : Option ℕ)
+      → lit_from side (var_of lit) (is_negated lit) (cond b (Some Constant) (input_or inputs gates))
+        ≡ cond (is_some (cond b (Some Constant) (input_or inputs gates)))
+            (Some (record {
+              node = cond b node.Const (option_map_or node.Input inputs (node.Gate side (var_of lit)));
+              neg = cond b (not (is_negated lit)) (is_negated lit)
+            })) None
+    go true inputs gates = refl
+    go false (Some k) gates = refl
+    go false None (Some g) = refl
+    go false None None = refl
+
+-- a gate's place by its variable's source
+pub gate_from-source : (c : Aig) (v : ℕ) → IsCircuit c → gate_from (source_of c v) ≡ place_of (λ g. g.var == v) c.gates
+gate_from-source c v circuit = go (v == 0) refl (place_of (λ x. x == v) c.inputs) refl
+  where
+    none : has ◌==◌ (0 ∷ c.inputs) v ≡ true → place_of (λ g. g.var == v) c.gates ≡ None
+    none e = place_none (λ g. g.var == v) c.gates (sym (list_any-vars c.gates v)
+      ∙ no_repeat-apart (0 ∷ c.inputs) (gate_vars c.gates) v (variables c circuit).distinct e)
+    go : (b : Bool) → (v == 0) ≡ b → (o : Option ℕ) → place_of (λ x. x == v) c.inputs ≡ o
+      → gate_from (cond b (Some Constant) (input_or o (place_of (λ g. g.var == v) c.gates))) ≡ place_of (λ g. g.var == v) c.gates
+    go true t o e = let z : (0 == v) ≡ true = grind (arith, nat_tests, t) in sym (none (ap (λ (b : Bool). b || has ◌==◌ c.inputs v) z))
+    go false f (Some k) e =
+        let some : has ◌==◌ c.inputs v ≡ true = sym (is_some-place (λ x. x == v) c.inputs) ∙ ap is_some e in
+        sym (none (or_true (0 == v) (has ◌==◌ c.inputs v) some))
+      where
+        or_true : (a b : Bool) → b ≡ true → (a || b) ≡ true
+        or_true true b e = refl
+        or_true false b e = e
+    go false f None e = same (place_of (λ g. g.var == v) c.gates)
+      where
+        same : (o : Option ℕ) → gate_from (option_map Gate o) ≡ o
+        same None = refl
+        same (Some g) = refl

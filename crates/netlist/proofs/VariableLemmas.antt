@@ -157,3 +157,21 @@ few_inputs_of c circuit = omega (arith, few (variables c circuit), length-append
 pub few_gates_of : (c : Aig) → IsCircuit c → length c.inputs + length c.gates ≤ most
 few_gates_of c circuit =
     omega (arith, few (variables c circuit), length-append c.inputs (gate_vars c.gates), length-map c.gates (λ g. g.var))
+
+-- what stands in one part of a list without repeats isn't in the other
+pub no_repeat-apart : (xs ys : List ℕ) (v : ℕ) → no_repeat ◌==◌ (xs ++ ys) ≡ true → has ◌==◌ xs v ≡ true → has ◌==◌ ys v ≡ false
+no_repeat-apart [] ys v e in_xs = cc
+no_repeat-apart (x ∷ xs) ys v e in_xs =
+    go (x == v) refl in_xs (no_repeat-apart xs ys v (and_right (not (has ◌==◌ (xs ++ ys) x)) _ e))
+  where
+    first : has ◌==◌ (xs ++ ys) x ≡ false
+    first = not_true (has ◌==◌ (xs ++ ys) x) (and_left _ (no_repeat ◌==◌ (xs ++ ys)) e)
+    out : has ◌==◌ ys x ≡ false
+    out = (or_false (has ◌==◌ xs x) (has ◌==◌ ys x) (sym (list_any-append (λ z. z == x) xs ys) ∙ first)).1
+    go : (b : Bool) → (x == v) ≡ b → (b || has ◌==◌ xs v) ≡ true → (has ◌==◌ xs v ≡ true → has ◌==◌ ys v ≡ false) → has ◌==◌ ys v ≡ false
+    go true t h rest = let same : x ≡ v = grind (arith, nat_tests, t) in subst (λ (n : ℕ). has ◌==◌ ys n ≡ false) same out
+    go false t h rest = rest h
+
+pub list_any-vars : (gates : List And) (v : ℕ) → has ◌==◌ (gate_vars gates) v ≡ list_any (λ g. g.var == v) gates
+list_any-vars [] v = refl
+list_any-vars (g ∷ gs) v = ap (λ (b : Bool). (g.var == v) || b) (list_any-vars gs v)

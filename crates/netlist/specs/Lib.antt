@@ -4,3 +4,7 @@ pub mod VariableTable
 pub mod Source
 pub mod Net
 pub mod Miter
+pub mod Meaning
+pub mod Pair
+pub mod Starts
+pub mod Unlike

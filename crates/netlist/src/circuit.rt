@@ -1,5 +1,7 @@
-ghost use Rattle.std.specs.Prelude.{◌≡◌, ◌≤◌, ◌<◌, ◌&&◌, true, IfOk, IfSome, length};
+ghost use Rattle.std.specs.Prelude.{◌≡◌, ◌≤◌, ◌<◌, ◌&&◌, ◌==◌, true, IfOk, IfSome, length};
 ghost use Rattle.netlist.specs.Circuit.{IsCircuit, is_over, variables_in, value_in, lit_value};
+ghost use Rattle.netlist.specs.Place.{place_of};
+ghost use Rattle.netlist.specs.Pair.{gate_from};
 ghost use Rattle.netlist.specs.Source.{source_of, source_at, read_in, IsWithin};
 
 use crate::gate::And;
@@ -93,6 +95,15 @@ impl Circuit {
         }
     }
 
+    /// The index of the gate that defines a variable.
+    pub(crate) fn gate(&self, var: u32) -> Option<u32>
+        ensures gate { result ≡ place_of (λ g. g.var == var) self.now.gates }
+        ensures within { IfSome result (λ g. g < length self.now.gates) }
+    {
+        let _circuit = &self.gates;
+        gate_from(self.source(var))
+    }
+
     /// The value of a literal for the inputs' truth values; `buf` has room for those of the gates.
     pub fn value(&self, inputs: &[bool], lit: u32, buf: &mut [bool]) -> bool
         requires inputs { length inputs.now ≡ length self.now.inputs }
@@ -130,6 +141,16 @@ impl Circuit {
             Some(Source::Constant) | None => false,
         };
         value != (lit % 2 == 1)
+    }
+}
+
+/// The gate's index, where the source is a gate.
+fn gate_from(source: Option<Source>) -> Option<u32>
+    ensures { result ≡ gate_from source }
+{
+    match source {
+        Some(Source::Gate(index)) => Some(index),
+        Some(Source::Constant | Source::Input(_)) | None => None,
     }
 }
 

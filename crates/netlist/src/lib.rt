@@ -13,12 +13,29 @@ pub use circuit::Circuit;
 pub use gate::And;
 pub use law::{satisfiable_if_different, unsatisfiable_if_equal};
 pub use net::Net;
+pub use short::Short;
+pub use unlike::Unlike;
+
+mod gate;
 
 mod source;
 
 mod variable_table;
 
 mod circuit;
-mod gate;
-mod law;
+
+mod short;
+
+mod meaning;
+
+mod sizes;
+
+mod pair;
+
+mod starts;
+
+mod unlike;
+
 mod net;
+
+mod law;
