@@ -5,3 +5,7 @@ pub mod RenameLemmas
 pub mod LitLaws
 pub mod OpenLemmas
 pub mod AssumeLemmas
+pub mod AskLemmas
+pub mod ClosureLemmas
+pub mod GivenLemmas
+pub mod LawLemmas
