@@ -4,3 +4,7 @@ mod PartLemmas
 mod SplitLemmas
 mod TextLemmas
 mod DerivationLemmas
+mod WordLemmas
+mod PlaceLemmas
+mod ReadLemmas
+mod LoopLemmas

@@ -4,3 +4,4 @@ pub mod Reading
 pub mod Writing
 pub mod Growing
 pub mod Derivation
+pub mod Parts

@@ -4,7 +4,7 @@
 use Rattle.std.specs.Prelude.{◌≡◌, ℕ, ◌+◌, Bool, false, not, ◌&&◌, List, [], ◌∷◌, filter, map, Option, Some, None, Result, Ok, Err, nat_lt, ◌==◌, if◌then◌else◌}
 use Rattle.std.specs.List.{slice_split, list_any, list_all}
 use Rattle.lrat_text.specs.declared.error.LratErr.{LratErr}
-use Rattle.lrat_text.specs.declared.error.LratErr.TheVariants.{BadNumber, Truncated, Order, Rat}
+use Rattle.lrat_text.specs.declared.error.LratErr.TheVariants.{BadNumber, Truncated, Order, Rat, NoMemory}
 use Rattle.lrat_text.specs.declared.line.Line.{Line}
 use Rattle.lrat_text.specs.declared.number.Number.{Number}
 use Rattle.lrat_text.specs.declared.step.LratStep.{LratStep}
@@ -32,23 +32,31 @@ abbrev pub ◌>>=◌ : {A B : Type 0} → Result A LratErr → (A → Result B L
 (Ok x) >>= f = f x
 (Err e) >>= f = Err e
 
+-- the error is the first fault of what is read, or memory ran out
+abbrev pub IsFault : {A : Type 0} → LratErr → Result A LratErr → Type 0
+IsFault NoMemory read = Unit {0}
+IsFault error read = read ≡ Err error
+
 -- a word that should be a number is one
 abbrev pub numeric : {A : Type 0} → ℕ → Option A → Result A LratErr
 numeric at None = Err (BadNumber at)
 numeric at (Some n) = Ok n
 
+-- each number fits its place: literals, 0, hints, 0 and nothing behind
+abbrev pub in_place : List Number → Bool
+in_place ns =
+    list_all is_literal (up_to_zero ns)
+    && (list_all is_hint (up_to_zero (past_zero ns)) && is_empty (past_zero (past_zero ns)))
+
 -- the addition of line `at` with this id, of the numbers behind it; the additions so far have ids up to `last`
 abbrev pub addition : ℕ → ℕ → Number → List Number → Result LratStep LratErr
 addition at last id ns =
-    let literals = up_to_zero ns in
     let hints = up_to_zero (past_zero ns) in
-    let beyond = past_zero (past_zero ns) in
-    if not (is_id id && (list_all is_literal literals && (list_all is_hint hints && is_empty beyond)))
-    then Err (BadNumber at)
+    if not (is_id id && in_place ns) then Err (BadNumber at)
     else if not (list_any is_zero ns && list_any is_zero (past_zero ns)) then Err (Truncated at)
     else if not (nat_lt last id.size) then Err (Order at)
     else if list_any (λ n. n.minus) hints then Err (Rat at)
-    else Ok (Add id.size (map literal_of literals) (map (λ n. n.size) hints))
+    else Ok (Add id.size (map literal_of (up_to_zero ns)) (map (λ n. n.size) hints))
 
 -- the deletion of line `at`, of the numbers behind its `d`
 abbrev pub deletion : ℕ → List Number → Result LratStep LratErr
@@ -57,19 +65,29 @@ deletion at ns =
     else if not (list_any is_zero ns) then Err (Truncated at)
     else Ok (Del (map (λ n. n.size) (up_to_zero ns)))
 
+-- the addition with this id that the words behind it spell
+abbrev pub addition_behind : ℕ → ℕ → Number → List (List ℕ) → Result LratStep LratErr
+addition_behind at last id words = do
+  ns ← numeric at (numbers_in words)
+  addition at last id ns
+
+-- the deletion that the words behind its `d` spell
+abbrev pub deletion_behind : ℕ → List (List ℕ) → Result LratStep LratErr
+deletion_behind at words = do
+  ns ← numeric at (numbers_in words)
+  deletion at ns
+
 -- the addition that the words spell, the first of them apart
 abbrev pub addition_in : ℕ → ℕ → List ℕ → List (List ℕ) → Result LratStep LratErr
 addition_in at last first words = do
   id ← numeric at (number_in first)
-  ns ← numeric at (numbers_in words)
-  addition at last id ns
+  addition_behind at last id words
 
 -- the deletion that the words behind `d` spell; any number may be the line's first
 abbrev pub deletion_in : ℕ → List ℕ → List (List ℕ) → Result LratStep LratErr
 deletion_in at first words = do
   number ← numeric at (number_in first)
-  ns ← numeric at (numbers_in words)
-  deletion at ns
+  deletion_behind at words
 
 -- the step that the words of line `at` spell, the first of them apart
 abbrev pub step_in : ℕ → ℕ → List ℕ → List (List ℕ) → Result LratStep LratErr

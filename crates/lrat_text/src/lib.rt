@@ -12,6 +12,7 @@
 pub use error::LratErr;
 pub use laws::{derived_lines, written_text};
 pub use line::Line;
+pub use reading::read;
 pub use step::LratStep;
 pub use writing::push_line;
 
@@ -19,5 +20,8 @@ mod error;
 mod laws;
 mod line;
 mod number;
+mod parts;
+mod reading;
 mod step;
+mod words;
 mod writing;
