@@ -1,0 +1,20 @@
+use Rattle.std.proofs.Common.{arith}
+use Rattle.std.proofs.lemmas.Result.{err_from_is_err_and}
+use Rattle.lits.proofs.ClauseLemmas.{IsLiteral, is_literal}
+use Rattle.unit_prop.proofs.AssumeLemmas.{assumed-next, assumed-pair, if_bad-map}
+use Rattle.unit_prop.proofs.step_check.StepCheck.begin.Goals as goal
+
+pub loop-lit-preserved : goal.loop-lit-preserved
+loop-lit-preserved g c =
+    let laws : IsLiteral g.L.PartialEq.eq g.L.Literal.opposite = is_literal g.met.L.Eq.laws g.met.L.Literal.exact g.met.L.Literal.twice in
+    record {
+      quiet = c.loop-lit.invariant.quiet;
+      assumed = assumed-next laws _ _ _ _ _ (omega arith) c.lit-item.is c.loop-lit.invariant.assumed c.in_ok-assume.ensures.ok;
+    }
+
+pub returns-in_err-assume-clause-tautology : goal.returns-in_err-assume-clause-tautology
+returns-in_err-assume-clause-tautology g c =
+    let laws : IsLiteral g.L.PartialEq.eq g.L.Literal.opposite = is_literal g.met.L.Eq.laws g.met.L.Literal.exact g.met.L.Literal.twice in
+    let p = err_from_is_err_and c.from_residual.result c.from_residual.ensures.1 in
+    rw (p.1, p.2)
+    (if_bad-map _ (λ w h. assumed-pair laws _ _ _ _ (omega arith) c.lit-item.is c.loop-lit.invariant.assumed h) c.in_err-assume.ensures.pair)

@@ -1,0 +1,23 @@
+//! Unit propagation: what a step of a proof shows, and what a solver that writes such steps promises.
+//!
+//! A step adds a clause: the negations of its literals are assumed, and its hints name clauses that propagate until
+//! one of them is wholly false (LRAT; Cruz-Filipe, Heule, Hunt, Kaufmann and Schneider-Kamp 2017). Steps are read
+//! strictly. The trait `Refuter` has the contract of every solver, whatever its method.
+//!
+//! Definitions: `specs/Closure.antt` (what clauses force), `specs/Step.antt` (a step and its first fault),
+//! `specs/New.antt` (clauses that propagation hasn't already), `specs/Log.antt` (lists of steps, learned steps),
+//! `specs/Refuter.antt` (answers). Begin to read at `refuter.rt`.
+#![tactic(auto)]
+
+pub use propagation::{Closure, close_under};
+pub use refuter::{Refuted, Refuter};
+pub use step_check::StepCheck;
+pub use why::{BadStep, StepErr, Why};
+
+pub mod laws;
+mod propagation;
+mod refuter;
+mod step_check;
+#[cfg(test)]
+mod tests;
+mod why;

@@ -1,0 +1,58 @@
+ghost use Rattle.std.specs.Prelude.{◌≡◌, ◌≤◌, List, [], Bool, true, OnOk, OnErr, IfOk};
+ghost use Rattle.lits.specs.declared.step.Named.{Named};
+ghost use Rattle.lits.specs.declared.step.Step.{Step};
+ghost use Rattle.unit_prop.specs.Log.{IsBase};
+ghost use Rattle.unit_prop.specs.Refuter.{IsOver, Answers};
+
+use lits::{Clause, Listed, Lit, Named, Ref, Step};
+use std::alloc::{AllocError, Global};
+
+/// What a query says of its target.
+#[derive(Debug, Drop)]
+pub enum Refuted {
+    /// The base implies the target: these hints make it a step over base and log.
+    Yes(Listed<Ref>),
+    /// The base doesn't imply it: an assignment that meets the base and makes the target false.
+    No(Listed<Lit>),
+    /// Each unit of the budget was spent for a learned clause.
+    Spent,
+}
+
+/// A solver that asks whether its base implies a clause, one clause after another.
+///
+/// What it learns stays in its log, whose steps stand beside the base in later queries. After a refusal for want of
+/// memory the next call is `start`.
+pub trait Refuter: Drop {
+    ghost base_of: { Self → List Named };
+
+    ghost log_of: { Self → List Step };
+
+    ghost is_ready: { Self → Bool };
+
+    /// Takes a base and forgets all that was learned.
+    fn start(&mut self, alloc: Global, base: &[Named]) -> Result<(), AllocError>
+        requires { IsBase base.now }
+        ensures ready { OnOk result (is_ready self.new ≡ true) }
+        ensures base { OnOk result (base_of self.new ≡ base.now) }
+        ensures empty { OnOk result (log_of self.new ≡ []) };
+
+    /// Asks whether the base implies the target, for at most `left` learned clauses.
+    fn refute(
+        &mut self,
+        alloc: Global,
+        target: &Clause<Lit>,
+        left: &mut u64,
+    ) -> Result<Refuted, AllocError>
+        requires ready { is_ready self.old ≡ true }
+        requires budget { 1 ≤ left.old }
+        requires target { IsOver (base_of self.old) target.now }
+        ensures answer { IfOk result
+            (Answers (base_of self.old) target.now (log_of self.old) left.old (log_of self.new) left.new) }
+        ensures base { OnOk result (base_of self.new ≡ base_of self.old) }
+        ensures ready { OnOk result (is_ready self.new ≡ true) }
+        ensures refused { OnErr result (left.new ≡ left.old) };
+
+    /// The steps learned since the start, in order.
+    fn log(&self) -> &[Step]
+        ensures { result.now ≡ log_of self.now };
+}

@@ -1,0 +1,143 @@
+ghost use Rattle.std.specs.Prelude.{◌≡◌, Bool, true, false, not, ◌++◌, [], ◌∷◌, Ok, Err, OnOk, OnErr, IfOk, IfErr, ◌&&◌};
+ghost use Rattle.std.specs.List.{list_any, find};
+ghost use Rattle.lits.specs.Clause.{has, has_pair};
+ghost use Rattle.unit_prop.specs.Step.{IfBad, start_of, open_in, is_satisfied, after_hint};
+ghost use Rattle.unit_prop.specs.StepCheck.{Assumes, IsOpenPart};
+
+use crate::why::{StepErr, Why};
+use lits::{Literal, LiteralSet};
+use std::alloc::Global;
+use std::marker::Model;
+
+/// Judges the hints of a step one by one, each in the time of its clause's literals.
+#[derive(Drop)]
+pub struct StepCheck<L: Literal> {
+    set: LiteralSet<L>,
+    clashed: bool,
+}
+
+impl<L: Literal> Model for StepCheck<L> {
+    ghost use Rattle.unit_prop.specs.Step.{State};
+
+    ghost Value = { State L };
+
+    ghost view = { λ c. record { set = c.set; clashed = c.clashed } };
+}
+
+impl<L: Literal> StepCheck<L> {
+    /// A check that has begun no step.
+    pub fn new(alloc: Global) -> StepCheck<L>
+        ensures { result ≡ record { set = []; clashed = false } }
+    {
+        StepCheck {
+            set: LiteralSet::new(alloc),
+            clashed: false,
+        }
+    }
+
+    /// Begins the step that adds the clause, and forgets the one before. After a refusal begin again.
+    pub fn begin(&mut self, clause: &[L]) -> Result<(), StepErr>
+        ensures state { OnOk result (self.new ≡ start_of L.PartialEq.eq L.Literal.opposite clause.now) }
+        ensures clause { OnOk result (has_pair L.PartialEq.eq L.Literal.opposite clause.now ≡ false) }
+        ensures bad { IfErr result (λ e. IfBad e (λ w. w ≡ Why.Tautology)) }
+        ensures tautology { IfErr result (λ e. IfBad e (λ _.
+            has_pair L.PartialEq.eq L.Literal.opposite clause.now ≡ true)) }
+    {
+        self.set.clear();
+        self.clashed = false;
+        for lit in clause {
+            assume(&mut self.set, *lit)?;
+        }
+        Ok(())
+    }
+
+    /// Takes the clause of the step's next hint. After a refusal begin again.
+    pub fn hint(&mut self, clause: &[L]) -> Result<(), StepErr>
+        ensures ok { OnOk result (after_hint L.PartialEq.eq L.Literal.opposite self.old clause.now ≡ Ok self.new) }
+        ensures bad { IfErr result (λ e. IfBad e (λ w.
+            after_hint L.PartialEq.eq L.Literal.opposite self.old clause.now ≡ Err w)) }
+        ensures refused { OnErr result (self.new ≡ self.old) }
+    {
+        if self.clashed {
+            return Err(StepErr::Bad(Why::AfterFalse));
+        }
+        if has_true(&self.set, clause) {
+            return Err(StepErr::Bad(Why::Satisfied));
+        }
+        match open_part(&self.set, clause) {
+            OpenPart::Nothing => self.clashed = true,
+            OpenPart::One(lit) => self.set.push(lit)?,
+            OpenPart::More => return Err(StepErr::Bad(Why::TwoFree)),
+        }
+        Ok(())
+    }
+
+    /// Ends the step: it shows its clause if a hint's clause was wholly false.
+    pub fn end(&mut self) -> Result<(), Why>
+        ensures ok { OnOk result (self.old.clashed ≡ true) }
+        ensures bad { IfErr result (λ w. w ≡ Why.NotFalse) }
+        ensures not_false { OnErr result (self.old.clashed ≡ false) }
+    {
+        let clashed = self.clashed;
+        self.set.clear();
+        self.clashed = false;
+        if clashed { Ok(()) } else { Err(Why::NotFalse) }
+    }
+}
+
+/// Puts the negation of a literal into the set, unless it is there already.
+fn assume<L: Literal>(set: &mut LiteralSet<L>, lit: L) -> Result<(), StepErr>
+    ensures ok { OnOk result (Assumes L.PartialEq.eq L.Literal.opposite set.old lit set.new) }
+    ensures bad { IfErr result (λ e. IfBad e (λ w. w ≡ Why.Tautology)) }
+    ensures pair { IfErr result (λ e. IfBad e (λ _. has L.PartialEq.eq set.old lit ≡ true)) }
+{
+    if set.has(lit) {
+        return Err(StepErr::Bad(Why::Tautology));
+    }
+    let negation = lit.not();
+    if !set.has(negation) {
+        set.push(negation)?;
+    }
+    Ok(())
+}
+
+fn has_true<L: Literal>(set: &LiteralSet<L>, clause: &[L]) -> bool
+    ensures { result ≡ is_satisfied L.PartialEq.eq set.now clause.now }
+{
+    clause.iter().any(|lit| set.has(*lit))
+}
+
+/// The literals of a clause that a set leaves open.
+pub(crate) enum OpenPart<L> {
+    Nothing,
+    One(L),
+    More,
+}
+
+/// The literals of the clause whose negations aren't in the set.
+pub(crate) fn open_part<L: Literal>(set: &LiteralSet<L>, clause: &[L]) -> OpenPart<L>
+    ensures { IsOpenPart (open_in L.PartialEq.eq L.Literal.opposite set.now clause.now) result }
+{
+    let Some(first) = first_open(set, clause) else {
+        return OpenPart::Nothing;
+    };
+    if has_other_open(set, clause, first) {
+        return OpenPart::More;
+    }
+    OpenPart::One(first)
+}
+
+fn first_open<L: Literal>(set: &LiteralSet<L>, clause: &[L]) -> Option<L>
+    ensures { result ≡ find (λ l. not (has L.PartialEq.eq set.now (L.Literal.opposite l))) clause.now }
+{
+    clause.iter().copied().find(|lit| !set.has(lit.not()))
+}
+
+fn has_other_open<L: Literal>(set: &LiteralSet<L>, clause: &[L], first: L) -> bool
+    ensures { result ≡ list_any
+        (λ l. not (L.PartialEq.eq first l) && not (has L.PartialEq.eq set.now (L.Literal.opposite l))) clause.now }
+{
+    clause
+        .iter()
+        .any(|lit| first != *lit && !set.has(lit.not()))
+}
