@@ -6,8 +6,8 @@
 //! bytes, `specs/Literals.antt` the faults of literals, and `specs/Ascii.antt` what a whole file spells
 //! and the order in which its faults are judged. `specs/Reading.antt` is for the crate's own functions.
 //!
-//! For now a fanin names a constant, an input or a gate of an earlier line, and no byte follows the
-//! last gate. The reader goes over the bytes once and copies no line.
+//! A fanin names a constant, an input or a gate of an earlier line, and no byte follows the last gate:
+//! symbols and comments are refused. The reader goes over the bytes once and copies no line.
 #![tactic(auto)]
 
 mod body;
