@@ -15,6 +15,11 @@ map-append : {X Y : Type 0} (f : X → Y) (xs ys : List X) → map f (xs ++ ys) 
 map-append f [] ys = refl
 map-append f (x ∷ xs) ys = ap (λ (l : List _). f x ∷ l) (map-append f xs ys)
 
+-- one more element of a list
+pub seen-more : {X : Type 0} (xs : List X) (i : ℕ) (x : X) → i < length xs → x ≡ get_or xs i x
+    → take (i + 1) xs ≡ take i xs ++ x ∷ []
+seen-more xs i x below at = take_more xs i x below ∙ ap (λ (y : _). take i xs ++ y ∷ []) (sym at)
+
 -- the set has the negations of the literals seen so far, among which no two are complementary
 pub record IsAssumed {L : Type 0} (eq : L → L → Bool) (opposite : L → L) (seen set : List L) : Type 0 where
   pub negations : set ≡ map opposite (firsts eq seen)
@@ -45,10 +50,6 @@ module _ {L : Type 0} {eq : L → L → Bool} {opposite : L → L} (laws : IsLit
             ∙ (sym (map-append opposite (firsts eq seen) (x ∷ [])) ∙ ap (map opposite) (sym (firsts-push laws seen x ∙ rw e refl))));
         apart = apart;
       }
-
-  seen-more : (lits : List L) (i : ℕ) (x : L) → i < length lits → x ≡ get_or lits i x
-      → take (i + 1) lits ≡ take i lits ++ x ∷ []
-  seen-more lits i x below at = take_more lits i x below ∙ ap (λ (y : L). take i lits ++ y ∷ []) (sym at)
 
   -- the next literal's negation joins the set
   pub assumed-next : (lits : List L) (i : ℕ) (x : L) (set new : List L) → i < length lits → x ≡ get_or lits i x

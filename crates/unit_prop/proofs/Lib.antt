@@ -1,6 +1,11 @@
 pub mod LiteralLemmas
 pub mod StepLemmas
 pub mod ChainLemmas
+pub mod RenameLemmas
 pub mod LitLaws
 pub mod OpenLemmas
 pub mod AssumeLemmas
+pub mod AskLemmas
+pub mod ClosureLemmas
+pub mod GivenLemmas
+pub mod LawLemmas

@@ -1,7 +1,7 @@
 -- What tests of literals find in lists of literals.
 use Rattle.std.proofs.Common.{◌≡◌, Bool, true, false, not, ◌&&◌, ◌||◌, List, [], ◌∷◌, ◌++◌, refl, sym, ap, ◌∙◌, subst, ◌⊎◌, inl, inr}
 use Rattle.std.specs.Prelude.{filter, map}
-use Rattle.std.specs.List.{list_any}
+use Rattle.std.specs.List.{list_any, list_all}
 use Rattle.lits.specs.Clause.{has, firsts}
 use Rattle.lits.proofs.ClauseLemmas.{IsLiteral, has-firsts}
 
@@ -24,6 +24,17 @@ or_right false b e = e
 pub and_both : (a b : Bool) → (a && b) ≡ true → (a ≡ true) × (b ≡ true)
 and_both true b e = (refl, e)
 and_both false b e = cc
+
+pub both : (a b : Bool) → a ≡ true → b ≡ true → (a && b) ≡ true
+both a b e f = rw (e, f) refl
+
+pub alone : (b : Bool) → (b || false) ≡ true → b ≡ true
+alone true e = refl
+alone false e = e
+
+-- a test isn't both true and false
+pub contrary : {A : Type 0} (b : Bool) → b ≡ true → b ≡ false → A
+contrary b e f = let g : true ≡ false = sym e ∙ f in cc
 
 module _ {L : Type 0} {eq : L → L → Bool} {opposite : L → L} (laws : IsLiteral eq opposite) where
   pub has-head : (x : L) (xs : List L) → has eq (x ∷ xs) x ≡ true
@@ -81,3 +92,19 @@ module _ {L : Type 0} {eq : L → L → Bool} {opposite : L → L} (laws : IsLit
           go false true e f =
               let same = ap opposite (laws.exact _ _ f) ∙ laws.twice b in
               let g = subst (λ (z : L). eq (opposite a) z ≡ true) same (laws.equivalence.refl (opposite a)) in cc
+
+  -- a test that passes all in the list
+  pub all-true : (p : L → Bool) (xs : List L) → ((m : L) → has eq xs m ≡ true → p m ≡ true) → list_all p xs ≡ true
+  all-true p [] each = refl
+  all-true p (x ∷ xs) each =
+      rw (each x (has-head x xs), all-true p xs (λ m h. each m (or_right (eq x m) _ h))) refl
+
+  -- the converse
+  pub all-at : (p : L → Bool) (xs : List L) (m : L) → list_all p xs ≡ true → has eq xs m ≡ true → p m ≡ true
+  all-at p [] m all inside = cc
+  all-at p (x ∷ xs) m all inside =
+      let parts = and_both (p x) (list_all p xs) all in
+      elim (or_cases (eq x m) (has eq xs m) inside) [
+        | inl e ↦ sym (ap p (laws.exact x m e)) ∙ parts.0
+        | inr e ↦ all-at p xs m parts.1 e
+      ]

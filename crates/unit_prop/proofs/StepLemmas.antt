@@ -9,7 +9,7 @@ use Rattle.unit_prop.specs.declared.why.Why.{Why}
 use Rattle.unit_prop.specs.declared.why.Why.TheVariants.{Satisfied}
 use Rattle.unit_prop.specs.declared.why.BadStep.{BadStep}
 use Rattle.unit_prop.specs.Step.{State, start_of, open_in, is_satisfied, after_open, after_hint, after_found, go_on, fault_from, first_fault, IsStep}
-use Rattle.unit_prop.proofs.LiteralLemmas.{decided, or_cases, witness, passes, has-filter, has-map-opposite, and_both}
+use Rattle.unit_prop.proofs.LiteralLemmas.{alone, decided, or_cases, witness, passes, has-filter, has-map-opposite, and_both}
 
 not_true : (b : Bool) → not b ≡ true → b ≡ false
 not_true true e = cc
@@ -18,10 +18,6 @@ not_true false e = refl
 -- every literal of the set is true under v
 pub record AreTrue {L : Type 0} (eq : L → L → Bool) (v : L → Bool) (set : List L) : Type 0 where
   pub are_true : (l : L) → has eq set l ≡ true → v l ≡ true
-
-alone : (b : Bool) → (b || false) ≡ true → b ≡ true
-alone true e = refl
-alone false e = e
 
 module _ {L : Type 0} {eq : L → L → Bool} {opposite : L → L} (laws : IsLiteral eq opposite) where
   -- a literal is open in a clause where it is in it and its negation isn't in the set

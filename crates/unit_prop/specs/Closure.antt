@@ -4,6 +4,8 @@
 use Rattle.std.specs.Prelude.{◌≡◌, Bool, true, false, ◌||◌, ◌⊎◌, List}
 use Rattle.std.specs.List.{list_any, list_all, AllByRecursion}
 use Rattle.lits.specs.Clause.{has}
+use Rattle.unit_prop.specs.declared.propagation.Closure.{Closure}
+use Rattle.unit_prop.specs.declared.propagation.Closure.TheVariants.{Clash, Free}
 
 -- each other literal of the clause is negated in the set
 abbrev pub forces : {L : Type 0} → (L → L → Bool) → (L → L) → (L → Bool) → List L → L → Bool
@@ -38,3 +40,13 @@ pub record IsOpen {L : Type 0} (eq : L → L → Bool) (opposite : L → L) (cla
   pub set : L → Bool
   pub closed : IsClosed eq opposite clauses given set
   pub apart : ¬ Clashes opposite clauses set
+
+-- unit propagation from the given literals comes to this
+abbrev pub ClosesTo : {L : Type 0} → (L → L → Bool) → (L → L) → List (List L) → List L → Closure L → Type 0
+ClosesTo eq opposite clauses given Clash = ClosureClashes eq opposite clauses given
+ClosesTo eq opposite clauses given (Free lits) =
+    IsClosure eq opposite clauses given lits × ¬ Clashes opposite clauses (has eq lits)
+
+-- each literal of the list is true
+abbrev pub AllTrue : {L : Type 0} → (L → Bool) → List L → Type 0
+AllTrue v lits = AllByRecursion (λ l. v l ≡ true) lits

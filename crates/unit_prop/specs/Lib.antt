@@ -1,6 +1,8 @@
 pub mod Closure
+pub mod Propagation
 pub mod New
 pub mod Step
 pub mod StepCheck
+pub mod Proof
 pub mod Log
 pub mod Refuter

@@ -9,11 +9,15 @@
 //! `specs/Refuter.antt` (answers). Begin to read at `refuter.rt`.
 #![tactic(auto)]
 
+pub use propagation::{Closure, close_under};
 pub use refuter::{Refuted, Refuter};
 pub use step_check::StepCheck;
 pub use why::{BadStep, StepErr, Why};
 
 pub mod laws;
+mod propagation;
 mod refuter;
 mod step_check;
+#[cfg(test)]
+mod tests;
 mod why;

@@ -1,0 +1,5 @@
+pub mod RepeatLemmas
+pub mod ThereLemmas
+pub mod FaninLemmas
+pub mod RisingLemmas
+pub mod ConeLemmas

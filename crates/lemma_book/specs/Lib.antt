@@ -1,0 +1,4 @@
+pub mod Cone
+pub mod Walk
+pub mod Entry
+pub mod Book

@@ -1,0 +1,21 @@
+mod WorkedRows
+pub mod LawNodes
+pub mod LawRun
+pub mod LawClauses
+pub mod LawValues
+pub mod LawThere
+pub mod LawEvaluations
+pub mod LawCones
+pub mod LawOver
+pub mod LawNumbers
+pub mod LawMiter
+pub mod PlaceLemmas
+pub mod VariableLemmas
+pub mod TableLemmas
+pub mod SourceLemmas
+pub mod RunLemmas
+pub mod ShortLemmas
+pub mod MeaningLemmas
+pub mod NodeLemmas
+pub mod NetLemmas
+pub mod StartLemmas

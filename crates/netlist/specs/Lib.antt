@@ -1,0 +1,10 @@
+pub mod Place
+pub mod Circuit
+pub mod VariableTable
+pub mod Source
+pub mod Net
+pub mod Miter
+pub mod Meaning
+pub mod Pair
+pub mod Starts
+pub mod Unlike

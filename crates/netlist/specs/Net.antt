@@ -1,0 +1,112 @@
+-- A pair of circuits over the same inputs, its nodes, their order and their values.
+use Rattle.std.specs.Prelude.{◌≡◌, ◌≢◌, ℕ, ◌<◌, ◌==◌, Bool, true, false, not, Option, None, Some, List, ◌∷◌, ◌++◌, length, map, slice_get, if◌then◌else◌}
+use Rattle.std.specs.List.{find, range_with_len, slice_index_or}
+use Rattle.std.specs.Option.{option_map, option_map_or}
+use Rattle.lits.specs.declared.node.Side.{Side}
+use Rattle.lits.specs.declared.node.Side.TheVariants.{A, B}
+use Rattle.lits.specs.declared.node.Node.{Node}
+use Rattle.lits.specs.declared.node.Node.TheVariants.{Const, Input, Gate, Xor}
+use Rattle.lits.specs.declared.literal.Lit.{Lit}
+use Rattle.lits.specs.contracts.node.NodePartialEq.TheImpl as node_eq
+use Rattle.netlist.specs.declared.gate.And.{And}
+use Rattle.netlist.specs.Place.{place_of}
+use Rattle.netlist.specs.Circuit.{var_of, is_negated, is_over, Aig, IsCircuit, variables_in, values_in, output_value}
+
+-- the two circuits
+pub record AigPair : Type 0 where
+  pub a : Aig
+  pub b : Aig
+
+-- they are circuits with equal numbers of inputs and of outputs
+pub record IsNet (net : AigPair) : Type 0 where
+  pub a : IsCircuit net.a
+  pub b : IsCircuit net.b
+  pub inputs : length net.a.inputs ≡ length net.b.inputs
+  pub outputs : length net.a.outputs ≡ length net.b.outputs
+
+abbrev pub circuit_of : AigPair → Side → Aig
+circuit_of net A = net.a
+circuit_of net B = net.b
+
+-- nodes are compared as the program compares them
+abbrev pub same_node : Node → Node → Bool
+same_node = (node_eq.ghosts).eq
+
+-- the node of a variable: input k of both circuits is one node, and a gate is named by its side
+abbrev pub node_of : Side → Aig → ℕ → Node
+node_of side c v = if v == 0 then Const else option_map_or Input (place_of (λ x. x == v) c.inputs) (Gate side v)
+
+-- the node's literal that an AIGER literal means; variable 0 is the constant false, the negation of `Const`
+abbrev pub lit_named : Side → Aig → ℕ → Lit
+lit_named side c lit = record {
+  node = node_of side c (var_of lit);
+  neg = if var_of lit == 0 then not (is_negated lit) else is_negated lit;
+}
+
+-- the same, where the circuit has the variable
+abbrev pub lit_of : AigPair → Side → ℕ → Option Lit
+lit_of net side lit =
+    if is_over (variables_in (circuit_of net side)) lit then Some (lit_named side (circuit_of net side) lit) else None
+
+-- the literal of output j of one side
+abbrev pub output_of : AigPair → Side → ℕ → Option Lit
+output_of net side j = option_map (lit_named side (circuit_of net side)) (slice_get (circuit_of net side).outputs j)
+
+-- a gate with its fanins as literals: node is the AND of left and right
+pub record Definition : Type 0 where
+  pub node : Node
+  pub left : Lit
+  pub right : Lit
+
+abbrev pub definition_of : Side → Aig → And → Definition
+definition_of side c g = record {
+  node = Gate side g.var;
+  left = lit_named side c g.left;
+  right = lit_named side c g.right;
+}
+
+-- the gates of A in order, then those of B
+abbrev pub definitions : AigPair → List Definition
+definitions net = map (definition_of A net.a) net.a.gates ++ map (definition_of B net.b) net.b.gates
+
+-- the gate that defines a node
+abbrev pub gate_at : AigPair → Side → ℕ → Option And
+gate_at net side v = find (λ g. g.var == v) (circuit_of net side).gates
+
+-- the nodes in order of position: the constant, the inputs, the gates of A, the gates of B
+abbrev pub nodes_of : AigPair → List Node
+nodes_of net =
+    Const ∷ (map Input (range_with_len 0 (length net.a.inputs)) ++ map (λ d. d.node) (definitions net))
+
+-- the place of a node in that order; none for an XOR and for a node that isn't there
+abbrev pub position_of : AigPair → Node → Option ℕ
+position_of net node = place_of (λ n. same_node n node) (nodes_of net)
+
+abbrev pub differs : Bool → Bool → Bool
+differs x y = if x then not y else y
+
+-- the nodes' values for the inputs' truth values: a gate has its value in its own circuit, and an XOR is true exactly
+-- where its two outputs differ
+abbrev pub value_of : AigPair → List Bool → Node → Bool
+value_of net bits Const = true
+value_of net bits (Input k) = slice_index_or bits k false
+value_of net bits (Gate A v) = values_in net.a bits v
+value_of net bits (Gate B v) = values_in net.b bits v
+value_of net bits (Xor j) = differs (output_value net.a bits j) (output_value net.b bits j)
+
+-- the value of a literal, where v gives each node's value
+abbrev pub lit_holds : (Node → Bool) → Lit → Bool
+lit_holds v l = if l.neg then not (v l.node) else v l.node
+
+-- for each list of the inputs' truth values, both outputs j have one value
+abbrev pub Agree : AigPair → Type 0
+Agree net = (bits : List Bool) → length bits ≡ length net.a.inputs → (j : ℕ) → j < length net.a.outputs
+    → output_value net.a bits j ≡ output_value net.b bits j
+
+-- some truth values of the inputs give some pair of outputs two values
+pub record Differ (net : AigPair) : Type 0 where
+  pub bits : List Bool
+  pub whole : length bits ≡ length net.a.inputs
+  pub output : ℕ
+  pub within : output < length net.a.outputs
+  pub apart : output_value net.a bits output ≢ output_value net.b bits output

@@ -1,0 +1,36 @@
+-- Sizes of a pair of circuits, and the place of a gate.
+use Rattle.std.specs.Prelude.{◌≡◌, ℕ, ◌+◌, ◌≤◌, Option, None, Some, length, slice_index}
+use Rattle.lits.specs.declared.node.Side.{Side}
+use Rattle.lits.specs.declared.node.Side.TheVariants.{A, B}
+use Rattle.lits.specs.declared.node.Node.{Node}
+use Rattle.lits.specs.declared.node.Node.TheVariants.{Gate}
+use Rattle.netlist.specs.declared.source.Source.{Source}
+use Rattle.netlist.specs.declared.source.Source.TheVariants as source
+use Rattle.netlist.specs.declared.sizes.Sizes.{Sizes}
+use Rattle.netlist.specs.Circuit.{gate_vars, most}
+use Rattle.netlist.specs.Net.{AigPair, circuit_of}
+
+-- the numbers of inputs, gates and outputs, and their limits
+pub record AreSizes (net : AigPair) (s : Sizes) : Type 0 where
+  pub inputs : s.inputs ≡ length net.a.inputs
+  pub gates_a : s.gates_a ≡ length net.a.gates
+  pub gates_b : s.gates_b ≡ length net.b.gates
+  pub outputs : s.outputs ≡ length net.a.outputs
+  pub other_outputs : s.outputs ≡ length net.b.outputs
+  pub few_a : s.inputs + s.gates_a ≤ most
+  pub few_b : s.inputs + s.gates_b ≤ most
+  pub few_outputs : s.outputs ≤ most
+
+-- the gate's index, where the source is a gate
+abbrev pub gate_from : Option Source → Option ℕ
+gate_from (Some (source.Gate g)) = Some g
+gate_from _ = None
+
+-- the node of the gate with an index
+abbrev pub gate_node : AigPair → Side → ℕ → Node
+gate_node net side index = Gate side (slice_index (gate_vars (circuit_of net side).gates) index)
+
+-- the position of a side's first gate
+abbrev pub first_gate : AigPair → Side → ℕ
+first_gate net A = 1 + length net.a.inputs
+first_gate net B = 1 + length net.a.inputs + length net.a.gates

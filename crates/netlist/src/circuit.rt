@@ -1,0 +1,168 @@
+ghost use Rattle.std.specs.Prelude.{◌≡◌, ◌≤◌, ◌<◌, ◌&&◌, ◌==◌, true, IfOk, IfSome, length};
+ghost use Rattle.netlist.specs.Circuit.{IsCircuit, is_over, variables_in, value_in, lit_value};
+ghost use Rattle.netlist.specs.Place.{place_of};
+ghost use Rattle.netlist.specs.Pair.{gate_from};
+ghost use Rattle.netlist.specs.Source.{source_of, source_at, read_in, IsWithin};
+
+use crate::gate::And;
+use crate::source::Source;
+use crate::variable_table::VariableTable;
+use std::alloc::{AllocError, Global};
+use std::marker::Model;
+
+/// A combinational circuit: input variables, AND gates and output literals, each in order.
+///
+/// Variables are those of AIGER, from 1 to 16,777,216, each defined once, as an input or by a gate. A gate's fanins
+/// are constants, inputs or earlier gates.
+#[derive(Drop)]
+pub struct Circuit {
+    inputs: Vec<u32>,
+    gates: Vec<And>,
+    outputs: Vec<u32>,
+    table: VariableTable,
+}
+
+impl Model for Circuit {
+    ghost use Rattle.netlist.specs.Circuit.{Aig};
+    ghost use Rattle.netlist.specs.Source.{IsIndexed};
+
+    ghost Value = { Aig };
+
+    ghost view = { λ c. record { inputs = c.inputs.items; gates = c.gates.items; outputs = c.outputs.items } };
+
+    ghost invariant = {
+        λ c. IsIndexed (record { inputs = c.inputs.items; gates = c.gates.items; outputs = c.outputs.items }) c.table
+    };
+}
+
+impl Circuit {
+    /// The circuit of these inputs (variables), gates and outputs (literals).
+    pub fn of(
+        alloc: Global,
+        inputs: Vec<u32>,
+        gates: Vec<And>,
+        outputs: Vec<u32>,
+    ) -> Result<Circuit, AllocError>
+        requires {
+            IsCircuit (record { inputs = inputs.items; gates = gates.items; outputs = outputs.items })
+        }
+        ensures {
+            IfOk result (λ c. c ≡ record { inputs = inputs.items; gates = gates.items; outputs = outputs.items })
+        }
+    {
+        let table = VariableTable::of(alloc, inputs.as_slice(), gates.as_slice())?;
+        Ok(Circuit {
+            inputs,
+            gates,
+            outputs,
+            table,
+        })
+    }
+
+    /// The inputs' variables, in order.
+    pub fn inputs(&self) -> &[u32]
+        ensures inputs { result.now ≡ self.now.inputs }
+        ensures circuit { IsCircuit self.now }
+    {
+        self.inputs.as_slice()
+    }
+
+    /// The gates, in order.
+    pub fn gates(&self) -> &[And]
+        ensures gates { result.now ≡ self.now.gates }
+        ensures circuit { IsCircuit self.now }
+    {
+        self.gates.as_slice()
+    }
+
+    /// The outputs' literals, in order.
+    pub fn outputs(&self) -> &[u32]
+        ensures outputs { result.now ≡ self.now.outputs }
+        ensures circuit { IsCircuit self.now }
+    {
+        self.outputs.as_slice()
+    }
+
+    /// What gives a variable its value; none where the circuit hasn't the variable.
+    pub(crate) fn source(&self, var: u32) -> Option<Source>
+        ensures source { result ≡ source_of self.now var }
+        ensures within { IfSome result (IsWithin self.now) }
+    {
+        let inputs = self.inputs.len() as u32;
+        match self.table.place(var) {
+            Some(place) => Some(source_at(place, inputs)),
+            None => None,
+        }
+    }
+
+    /// The index of the gate that defines a variable.
+    pub(crate) fn gate(&self, var: u32) -> Option<u32>
+        ensures gate { result ≡ place_of (λ g. g.var == var) self.now.gates }
+        ensures within { IfSome result (λ g. g < length self.now.gates) }
+    {
+        let _circuit = &self.gates;
+        gate_from(self.source(var))
+    }
+
+    /// The value of a literal for the inputs' truth values; `buf` has room for those of the gates.
+    pub fn value(&self, inputs: &[bool], lit: u32, buf: &mut [bool]) -> bool
+        requires inputs { length inputs.now ≡ length self.now.inputs }
+        requires lit { is_over (variables_in self.now) lit ≡ true }
+        requires room { length self.now.gates ≤ length buf.old }
+        ensures { result ≡ value_in self.now inputs.now lit }
+    {
+        for (i, gate) in self.gates.iter().enumerate() {
+            buf[i] = self.both(inputs, buf, gate.left, gate.right);
+        }
+        self.read(inputs, buf, lit)
+    }
+
+    /// Whether both literals are true, where the inputs and the gates have these values.
+    fn both(&self, inputs: &[bool], gates: &[bool], left: u32, right: u32) -> bool
+        requires inputs { length inputs.now ≡ length self.now.inputs }
+        requires gates { length self.now.gates ≤ length gates.now }
+        ensures {
+            let v = read_in self.now inputs.now gates.now in
+            result ≡ (lit_value v left && lit_value v right)
+        }
+    {
+        self.read(inputs, gates, left) && self.read(inputs, gates, right)
+    }
+
+    /// The value of a literal where the inputs and the gates have these values.
+    fn read(&self, inputs: &[bool], gates: &[bool], lit: u32) -> bool
+        requires inputs { length inputs.now ≡ length self.now.inputs }
+        requires gates { length self.now.gates ≤ length gates.now }
+        ensures { result ≡ lit_value (read_in self.now inputs.now gates.now) lit }
+    {
+        let value = match self.source(lit / 2) {
+            Some(Source::Input(k)) => inputs[k as usize],
+            Some(Source::Gate(g)) => gates[g as usize],
+            Some(Source::Constant) | None => false,
+        };
+        value != (lit % 2 == 1)
+    }
+}
+
+/// The gate's index, where the source is a gate.
+fn gate_from(source: Option<Source>) -> Option<u32>
+    ensures { result ≡ gate_from source }
+{
+    match source {
+        Some(Source::Gate(index)) => Some(index),
+        Some(Source::Constant | Source::Input(_)) | None => None,
+    }
+}
+
+/// The source at a place among the variables of a circuit with so many inputs.
+fn source_at(place: u32, inputs: u32) -> Source
+    ensures { result ≡ source_at inputs place }
+{
+    if place == 0 {
+        Source::Constant
+    } else if place <= inputs {
+        Source::Input(place - 1)
+    } else {
+        Source::Gate(place - 1 - inputs)
+    }
+}

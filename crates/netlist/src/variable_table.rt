@@ -1,0 +1,93 @@
+ghost use Rattle.std.specs.Prelude.{◌≡◌, ℕ, ◌+◌, ◌<◌, ◌≤◌, ◌^◌, false, List, [], ◌∷◌, ◌++◌, length, IfOk, All};
+ghost use Rattle.std.specs.Prelude.{◌==◌};
+ghost use Rattle.lits.specs.Clause.{has};
+ghost use Rattle.netlist.specs.Circuit.{gate_vars, most};
+ghost use Rattle.netlist.specs.VariableTable.{place_in, IsTable, AreVariables};
+
+use crate::gate::And;
+use std::alloc::{AllocError, Global};
+use std::marker::Model;
+
+/// Finds a variable's place among the variables of a circuit, in constant time.
+#[derive(Drop)]
+pub struct VariableTable {
+    places: Vec<u32>,
+    count: u32,
+}
+
+impl Model for VariableTable {
+    ghost use Rattle.netlist.specs.VariableTable.{Places};
+
+    ghost Value = { Places };
+
+    ghost view = { λ t. record { by_variable = t.places.items; count = t.count } };
+}
+
+impl VariableTable {
+    /// The table of the constant alone, with room for the variables up to the greatest.
+    fn new(alloc: Global, greatest: u32) -> Result<VariableTable, AllocError>
+        ensures table { IfOk result (λ t. IsTable t (0 ∷ [])) }
+        ensures room { IfOk result (λ t. length t.by_variable ≡ greatest + 1) }
+    {
+        let places = vec![in alloc; 0; greatest as usize + 1]?;
+        Ok(VariableTable { places, count: 1 })
+    }
+
+    /// Puts a new variable last.
+    fn push(&mut self, var: u32)
+        requires room { var < length self.old.by_variable }
+        requires few { self.old.count < 2 ^ 31 }
+        ensures table {
+            (vars : List ℕ) → IsTable self.old vars → has ◌==◌ vars var ≡ false
+                → IsTable self.new (vars ++ var ∷ [])
+        }
+        ensures room { length self.new.by_variable ≡ length self.old.by_variable }
+        ensures count { self.new.count ≡ self.old.count + 1 }
+    {
+        self.places[var as usize] = self.count;
+        self.count += 1;
+    }
+
+    /// The place of a variable.
+    pub fn place(&self, var: u32) -> Option<u32>
+        ensures { result ≡ place_in self.now var }
+    {
+        if var == 0 {
+            return Some(0);
+        }
+        match self.places.get(var as usize).copied().unwrap_or(0) {
+            0 => None,
+            place => Some(place),
+        }
+    }
+
+    /// The table of a circuit's variables: the constant, then the inputs, then the gates.
+    pub fn of(alloc: Global, inputs: &[u32], gates: &[And]) -> Result<VariableTable, AllocError>
+        requires { AreVariables inputs.now gates.now }
+        ensures { IfOk result (λ t. IsTable t (0 ∷ (inputs.now ++ gate_vars gates.now))) }
+    {
+        let mut table = VariableTable::new(alloc, greatest(inputs, gates))?;
+        for var in inputs {
+            table.push(*var);
+        }
+        for gate in gates {
+            table.push(gate.var);
+        }
+        Ok(table)
+    }
+}
+
+/// The greatest variable, or 0.
+fn greatest(inputs: &[u32], gates: &[And]) -> u32
+    ensures inputs { All (λ v. v ≤ result) inputs.now }
+    ensures gates { All (λ g. g.var ≤ result) gates.now }
+{
+    let mut greatest = 0;
+    for var in inputs {
+        greatest = greatest.max(*var);
+    }
+    for gate in gates {
+        greatest = greatest.max(gate.var);
+    }
+    greatest
+}
