@@ -5,5 +5,4 @@ pub use stitch_err::StitchErr;
 
 mod addition;
 mod proof_text;
-mod standin;
 mod stitch_err;
