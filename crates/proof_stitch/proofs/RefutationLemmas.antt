@@ -28,7 +28,7 @@ use Rattle.lrat_text.specs.Writing.{text_from, AreWritable, numbered as lines_fr
 use Rattle.lrat_text.specs.Reading.{SpellsLrat}
 use Rattle.lrat_text.specs.Derivation.{same_literal, opposite_literal, formula_live, adds_empty, Refutes}
 use Rattle.proof_stitch.specs.Steps.{additions_from, additions}
-use Rattle.proof_stitch.specs.Refutation.{is_out, HasOut, out_steps, unit_id, out_additions, empty_addition, refutation_of, IsRefutation, WritesRefutation}
+use Rattle.proof_stitch.specs.Stitch.{is_out, HasOut, out_steps, unit_id, out_additions, empty_addition, refutation_of, IsRefutation, WritesRefutation}
 use Rattle.proof_stitch.specs.Refused.{refusal_of}
 use Rattle.desk_port.specs.Desk.{DeskState, Writes}
 use Rattle.desk_port.specs.declared.errors.PutErr.{PutErr}
@@ -251,19 +251,8 @@ module _ (net : AigPair) (budget : ℕ) (entries : List Entry) (proved : IsProve
     count_is = sym (length-lines_from 1 (refutation_of net entries));
   }
 
--- what is written and counted is the refutation
-pub refuted : (net : AigPair) (budget : ℕ) (entries : List Entry) → IsProved net budget entries → Spelling
-    → (text : List ℕ) (last clauses : ℕ) → clauses ≡ length (miter_of net) → clauses < 2 ^ 32
-    → text ≡ text_from (length (miter_of net)) (refutation_of net entries)
-    → last ≡ length (miter_of net) + length (refutation_of net entries) → IsRefutation net text (last - clauses)
-refuted net budget entries proved spelling text last clauses e few f g =
-    let m = length (miter_of net) in
-    let low : m < 2 ^ 32 = omega arith in
-    let count : last - clauses ≡ length (refutation_of net entries) = omega arith in
-    rw (f, count) (refutation-refutes net budget entries proved spelling low)
-
 -- a refutation that the desk refused
-pub refuted-refused : (net : AigPair) (old new : DeskState) (text : List ℕ) (count : ℕ) (p : PutErr) → IsRefutation net text count
+pub refused : (net : AigPair) (old new : DeskState) (text : List ℕ) (count : ℕ) (p : PutErr) → IsRefutation net text count
     → Writes old new text (Err p) → WritesRefutation net old new (Err (refusal_of p))
-refuted-refused net old new text count not_put.Failed is writes = (text, (count, is), writes)
-refuted-refused net old new text count not_put.NoMemory is writes = writes
+refused net old new text count not_put.Failed is writes = (text, writes, (count, is))
+refused net old new text count not_put.NoMemory is writes = writes

@@ -26,7 +26,7 @@ use Rattle.lrat_text.specs.declared.step.LratStep.TheVariants.{Add}
 use Rattle.lrat_text.specs.Writing.{line_text, text_from}
 use Rattle.proof_stitch.specs.Steps.{addition, additions_from, additions}
 use Rattle.proof_stitch.specs.Ids.{HasId, HasIds, with_unit}
-use Rattle.proof_stitch.specs.Refutation.{is_out, out_steps, unit_id, out_additions, empty_addition, refutation_of}
+use Rattle.proof_stitch.specs.Stitch.{is_out, out_steps, unit_id, out_additions, empty_addition, refutation_of}
 use Rattle.proof_stitch.proofs.AxiomLemmas.{axiom-numbered}
 use Rattle.proof_stitch.proofs.GrowLemmas.{IsFound, step-found}
 use Rattle.proof_stitch.proofs.StepLemmas.{IsDerived}

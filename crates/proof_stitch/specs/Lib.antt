@@ -1,4 +1,4 @@
 pub mod Steps
 pub mod Ids
 pub mod Refused
-pub mod Refutation
+pub mod Stitch

@@ -5,7 +5,7 @@ ghost use Rattle.lemma_book.specs.Entry.{output_of};
 ghost use Rattle.lemma_book.specs.Book.{IsLegal};
 ghost use Rattle.proof_stitch.specs.Steps.{additions_from, additions};
 ghost use Rattle.proof_stitch.specs.Ids.{HasIds, with_unit};
-ghost use Rattle.proof_stitch.specs.Refutation.{out_steps, unit_id};
+ghost use Rattle.proof_stitch.specs.Stitch.{out_steps, unit_id};
 
 use crate::proof_text::ProofText;
 use lemma_book::{Book, Entry};

@@ -1,9 +1,9 @@
-ghost use Rattle.std.specs.Prelude.{◌≡◌, ◌+◌, ◌<◌, ◌^◌, ℕ, IfOk, IsSome, OnOk, length, true};
+ghost use Rattle.std.specs.Prelude.{◌≡◌, ◌-◌, ◌<◌, ℕ, IfOk, IsSome, OnOk, length, true};
 ghost use Rattle.desk_port.specs.Desk.{NoCountFalls, after_write};
 ghost use Rattle.netlist.specs.Miter.{miter_of};
 ghost use Rattle.lrat_text.specs.Writing.{text_from};
 ghost use Rattle.lemma_book.specs.Book.{IsLegal};
-ghost use Rattle.proof_stitch.specs.Refutation.{HasOut, refutation_of, WritesRefutation};
+ghost use Rattle.proof_stitch.specs.Stitch.{HasOut, refutation_of, IsRefutation, WritesRefutation};
 
 use crate::outs::push_outs;
 use crate::proof_text::ProofText;
@@ -28,9 +28,6 @@ pub fn refutation<D: Desk>(alloc: Global, net: &Net, book: &Book, desk: &mut D) 
     ensures lines { OnOk result (D.state desk.new ≡ after_write (D.state desk.old)
         (text_from (length (miter_of net.now)) (refutation_of net.now book.now.entries))) }
 {
-    net.known();
-    book.out_budget();
-    written_text();
     let clauses = u64::from(net.clauses());
     let proof = whole_proof(alloc, net, book)?;
     desk.write(proof.text.as_slice())?;
@@ -39,12 +36,15 @@ pub fn refutation<D: Desk>(alloc: Global, net: &Net, book: &Book, desk: &mut D) 
 
 /// The text of the whole proof.
 fn whole_proof(alloc: Global, net: &Net, book: &Book) -> Result<ProofText, AllocError>
-    requires { IsLegal net.now book.now }
+    requires legal { IsLegal net.now book.now }
+    requires outs { (j : ℕ) → j < length net.now.a.outputs → HasOut book.now.entries j ≡ true }
     ensures text { IfOk result (λ p. p.text.items
         ≡ text_from (length (miter_of net.now)) (refutation_of net.now book.now.entries)) }
-    ensures last { IfOk result (λ p. p.last
-        ≡ length (miter_of net.now) + length (refutation_of net.now book.now.entries)) }
+    ensures refutes { IfOk result (λ p. IsRefutation net.now p.text.items (p.last - length (miter_of net.now))) }
 {
+    net.known();
+    book.out_budget();
+    written_text();
     let clauses = u64::from(net.clauses());
     let mut proof = ProofText::new(alloc, clauses);
     let mut hints = push_outs(alloc, net, book, &mut proof)?;

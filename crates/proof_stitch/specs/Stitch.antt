@@ -68,5 +68,5 @@ pub record IsRefutation (net : AigPair) (proof : List ℕ) (count : ℕ) : Type 
 abbrev pub WritesRefutation : AigPair → DeskState → DeskState → Result ℕ StitchErr → Type 0
 WritesRefutation net old new (Ok n) = (proof : List ℕ) × IsRefutation net proof n × (new ≡ after_write old proof)
 WritesRefutation net old new (Err Write) =
-    (proof : List ℕ) × ((n : ℕ) × IsRefutation net proof n) × OfSomePrefix proof (λ part. WriteFault (after_write old part) new)
+    (proof : List ℕ) × OfSomePrefix proof (λ part. WriteFault (after_write old part) new) × ((n : ℕ) × IsRefutation net proof n)
 WritesRefutation net old new (Err NoMemory) = new ≡ old
