@@ -12,7 +12,7 @@ use Rattle.lrat_text.specs.Writing.{numbered}
 use Rattle.lrat_text.specs.Derivation.{Refutes}
 use Rattle.lemma_book.specs.declared.entry.Entry.{Entry}
 use Rattle.lemma_book.specs.declared.entry.Entry.TheVariants.{Out, OutApart, OutSpent}
-use Rattle.desk_port.specs.Desk.{DeskState, after_write, WriteFault}
+use Rattle.desk_port.specs.Desk.{DeskState, after_write, WriteFault, OfSomePrefix}
 use Rattle.proof_stitch.specs.Steps.{additions}
 use Rattle.proof_stitch.specs.declared.stitch_err.StitchErr.{StitchErr}
 use Rattle.proof_stitch.specs.declared.stitch_err.StitchErr.TheVariants.{Write, NoMemory}
@@ -62,3 +62,11 @@ pub record IsRefutation (net : AigPair) (proof : List ℕ) (count : ℕ) : Type 
   pub spells : SpellsLrat (length (miter_of net)) proof lines
   pub refutes : Refutes (miter_of net) lines
   pub count_is : count ≡ length lines
+
+-- What the call makes of the desk: the whole proof in one write; where that failed, a first part of such a proof; and
+-- nothing where memory was refused.
+abbrev pub WritesRefutation : AigPair → DeskState → DeskState → Result ℕ StitchErr → Type 0
+WritesRefutation net old new (Ok n) = (proof : List ℕ) × IsRefutation net proof n × (new ≡ after_write old proof)
+WritesRefutation net old new (Err Write) =
+    (proof : List ℕ) × OfSomePrefix proof (λ part. WriteFault (after_write old part) new) × ((n : ℕ) × IsRefutation net proof n)
+WritesRefutation net old new (Err NoMemory) = new ≡ old
