@@ -14,3 +14,5 @@ pub use entry::Entry;
 mod entry;
 
 mod book;
+
+mod walk;
