@@ -18,3 +18,4 @@ pub mod ShortLemmas
 pub mod MeaningLemmas
 pub mod NodeLemmas
 pub mod NetLemmas
+pub mod StartLemmas

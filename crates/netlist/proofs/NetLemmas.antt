@@ -4,7 +4,7 @@ use Rattle.std.specs.Prelude.{◌==◌, ◌&&◌, nat_lt, slice_get, option_and_
 use Rattle.std.specs.Option.{option_map, option_map_or, is_some}
 use Rattle.std.specs.List.{range_with_len, list_all}
 use Rattle.std.proofs.lemmas.List.{length-map}
-use Rattle.std.proofs.lemmas.Option.{slice_get-map, slice_get_within, slice_get-get_or, none-some, same_Some}
+use Rattle.std.proofs.lemmas.Option.{slice_get-map, slice_get_within, slice_get-get_or, slice_get_past, none-some, same_Some}
 use Rattle.netlist.specs.declared.sizes.Sizes.{Sizes}
 use Rattle.netlist.specs.Pair.{AreSizes, gate_node, first_gate}
 use Rattle.std.proofs.lemmas.Bool.Decides.{nat_tests}
@@ -15,8 +15,9 @@ use Rattle.lits.specs.declared.node.Node.TheVariants.{Const, Input, Gate, Xor}
 use Rattle.netlist.specs.declared.gate.And.{And}
 use Rattle.netlist.specs.Place.{place_of}
 use Rattle.netlist.specs.Circuit.{Aig, IsCircuit, is_over, variables_in, gate_vars}
-use Rattle.netlist.specs.Net.{AigPair, IsNet, circuit_of, same_node, Definition, definition_of, definitions, nodes_of, position_of, lit_of, output_of, gate_at}
+use Rattle.netlist.specs.Net.{AigPair, IsNet, circuit_of, same_node, Definition, definition_of, definitions, nodes_of, position_of, lit_of, lit_named, output_of, gate_at}
 use Rattle.netlist.specs.Miter.{xors_of, variables_of, variable_of, kept, axioms_of, xor_axioms, gate_clauses}
+use Rattle.netlist.specs.declared.meaning.Meaning.{Meaning}
 use Rattle.netlist.specs.Meaning.{meaning_of, conjunction_of, difference, clauses_that_say}
 use Rattle.lits.specs.declared.literal.Lit.{Lit}
 use Rattle.netlist.proofs.PlaceLemmas.{find-place, or_place, place_of-append, place_of-map, place_none-all, place-range_in, place-range_out, length-range, slice_get-left, slice_get-right, slice_get-range}
@@ -330,3 +331,26 @@ axioms_of-meaning net (Xor j) = go (output_of net A j) (output_of net B j)
     go (Some a) (Some b) = refl
     go (Some a) None = refl
     go None b = refl
+
+pub axioms_of-some : (net : AigPair) (node : Node) (m : Meaning) → meaning_of net node ≡ Some m → kept (clauses_that_say m) ≡ axioms_of net node
+axioms_of-some net node m e =
+    ap (λ (o : Option Meaning). option_map_or (λ m. kept (clauses_that_say m)) o []) (sym e) ∙ axioms_of-meaning net node
+
+-- a node that isn't there has no clause
+pub axioms_of-none : (net : AigPair) (node : Node) → variable_of net node ≡ None → axioms_of net node ≡ []
+axioms_of-none net Const e = absurd (none-some 1 (sym e))
+axioms_of-none net (Input k) e = refl
+axioms_of-none net (Gate side v) e = go (place_of (λ g. g.var == v) (circuit_of net side).gates) refl
+  where
+    known : option_map (λ k. k + 1) (option_map (λ g. first_gate net side + g) (place_of (λ g. g.var == v) (circuit_of net side).gates)) ≡ None
+    known = ap (option_map (λ k. k + 1)) (position-gate net side v) ∙ sym (variable_of-node net (Gate side v) (λ j. refl)) ∙ e
+    go : (o : Option ℕ) → place_of (λ g. g.var == v) (circuit_of net side).gates ≡ o → axioms_of net (Gate side v) ≡ []
+    go None f = sym (axioms_of-meaning net (Gate side v)) ∙ ap (λ (m : Option Meaning). option_map_or (λ m. kept (clauses_that_say m)) m []) (meaning_of-no_gate net side v f)
+    go (Some k) f = absurd (none-some (first_gate net side + k + 1) (sym known ∙ ap (λ (o : Option ℕ). option_map (λ k. k + 1) (option_map (λ g. first_gate net side + g) o)) f))
+axioms_of-none net (Xor j) e = go (nat_lt j (length net.a.outputs)) refl
+  where
+    go : (b : Bool) → nat_lt j (length net.a.outputs) ≡ b → axioms_of net (Xor j) ≡ []
+    go true t = absurd (none-some (length (nodes_of net) + j + 1) (sym e ∙ variable_of-xor net j ∙ rw t refl))
+    go false f =
+        let l : length net.a.outputs ≤ j = grind (arith, nat_tests, f) in
+        ap (λ (o : Option Lit). xor_axioms j o (output_of net B j)) (ap (option_map (lit_named A net.a)) (slice_get_past net.a.outputs j l))

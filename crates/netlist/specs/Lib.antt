@@ -6,3 +6,5 @@ pub mod Net
 pub mod Miter
 pub mod Meaning
 pub mod Pair
+pub mod Starts
+pub mod Unlike

@@ -14,6 +14,7 @@ pub use gate::And;
 pub use law::{satisfiable_if_different, unsatisfiable_if_equal};
 pub use net::Net;
 pub use short::Short;
+pub use unlike::Unlike;
 
 mod gate;
 
@@ -30,6 +31,10 @@ mod meaning;
 mod sizes;
 
 mod pair;
+
+mod starts;
+
+mod unlike;
 
 mod net;
 

@@ -1,32 +1,162 @@
+ghost use Rattle.std.specs.Prelude.{◌≡◌, IfSome, IfNone, MatchResult, length};
+ghost use Rattle.netlist.specs.Net.{IsNet, circuit_of, lit_of, nodes_of, output_of, position_of};
+ghost use Rattle.netlist.specs.Miter.{axiom_of, clause_number_of, cnf_number_of, miter_of, variables_of};
+ghost use Rattle.netlist.specs.Unlike.{unlike_of};
+
 use crate::circuit::Circuit;
+use crate::pair::CircuitPair;
+use crate::short::Short;
+use crate::starts::ClauseStarts;
+use crate::unlike::Unlike;
+use lits::{Dim, Lit, Node, Side};
+use std::alloc::Global;
 use std::marker::Model;
 
-/// Two circuits with equal numbers of inputs and of outputs.
+/// Two circuits with equal numbers of inputs and of outputs. Input k of both is one node.
+///
+/// The nodes are numbered twice. Positions count from 0: the constant, the inputs, the gates of A in order, the gates
+/// of B in order. CNF variables count from 1 in the same order, and behind them come the XORs, one per output.
 #[derive(Drop)]
 pub struct Net {
-    a: Circuit,
-    b: Circuit,
+    pair: CircuitPair,
+    starts: ClauseStarts,
 }
 
 impl Model for Net {
-    ghost use Rattle.netlist.specs.Net.{AigPair, IsNet};
+    ghost use Rattle.netlist.specs.Net.{AigPair};
+    ghost use Rattle.netlist.specs.Starts.{AreStarts};
 
     ghost Value = { AigPair };
 
-    ghost view = { λ n. record { a = n.a; b = n.b } };
+    ghost view = { λ n. n.pair };
 
-    ghost invariant = { λ n. IsNet (record { a = n.a; b = n.b }) };
+    ghost invariant = { λ n. AreStarts n.pair n.starts };
 }
 
 impl Net {
-    ghost use Rattle.netlist.specs.Net.{IsNet};
+    /// The net of two circuits. The circuits are given up where there is none.
+    pub fn of(alloc: Global, a: Circuit, b: Circuit) -> Result<Net, Unlike>
+        ensures unlike { IfSome (unlike_of a b) (λ u. result ≡ Err u) }
+        ensures like {
+            IfNone (unlike_of a b)
+                (MatchResult result (λ n. n ≡ record { a = a; b = b }) (λ e. e ≡ Unlike.NoMemory))
+        }
+    {
+        if let Some(unlike) = unlike_of(&a, &b) {
+            return Err(unlike);
+        }
+        let pair = CircuitPair::of(a, b);
+        let starts = ClauseStarts::of(alloc, &pair)?;
+        Ok(Net { pair, starts })
+    }
 
-    /// What holds of every net: its parts are circuits with equal numbers of inputs and of outputs.
-    ///
-    /// It does nothing when it runs.
+    /// The circuit of one side.
+    pub fn circuit(&self, side: Side) -> &Circuit
+        ensures circuit { result.now ≡ circuit_of self.now side }
+        ensures net { IsNet self.now }
+    {
+        self.pair.circuit(side)
+    }
+
+    /// The literal that an AIGER literal of one side means; none exactly where its variable is undefined.
+    pub fn lit(&self, side: Side, aiger: u32) -> Option<Lit>
+        ensures { result ≡ lit_of self.now side aiger }
+    {
+        self.pair.lit(side, aiger)
+    }
+
+    /// How many nodes have a position.
+    pub fn positions(&self) -> u32
+        ensures { result ≡ length (nodes_of self.now) }
+    {
+        self.pair.positions()
+    }
+
+    /// The node's position; none exactly for an XOR and for a node that isn't there.
+    pub fn position(&self, node: Node) -> Option<u32>
+        ensures { result ≡ position_of self.now node }
+    {
+        self.pair.position(node)
+    }
+
+    /// Clause k, from 0, of those that define the node; none exactly where there is no such clause.
+    pub fn axiom(&self, node: Node, k: u8) -> Option<Short>
+        ensures { result ≡ axiom_of self.now node k }
+    {
+        self.pair.axiom(node, k)
+    }
+
+    /// The number in the miter, from 1, of clause k of those that define the node; none exactly where there is no
+    /// such clause.
+    pub fn clause_number(&self, node: Node, k: u8) -> Option<u32>
+        ensures { result ≡ clause_number_of self.now node k }
+    {
+        match self.pair.variable(node) {
+            Some(variable) if u32::from(k) < self.pair.clauses(node) => {
+                Some(self.starts.first(variable - 1) + u32::from(k))
+            }
+            _ => None,
+        }
+    }
+
+    /// The literal's number in the miter; none exactly where its node isn't there.
+    pub fn cnf_number(&self, lit: Lit) -> Option<Dim>
+        ensures { result ≡ cnf_number_of self.now lit }
+    {
+        match self.pair.variable(lit.node) {
+            Some(variable) => Some(Dim::new(variable, lit.neg)),
+            None => None,
+        }
+    }
+
+    /// How many variables the miter has.
+    pub fn variables(&self) -> u32
+        ensures { result ≡ length (variables_of self.now) }
+    {
+        self.pair.variables()
+    }
+
+    /// How many clauses the miter has.
+    pub fn clauses(&self) -> u32
+        ensures { result ≡ length (miter_of self.now) }
+    {
+        self.starts.first(self.pair.variables())
+    }
+
+    /// How many outputs each circuit has.
+    pub fn outputs(&self) -> u32
+        ensures { result ≡ length self.now.a.outputs }
+    {
+        self.pair.sizes().outputs
+    }
+
+    /// The literal of output j of one side; none exactly where there is no such output.
+    pub fn output(&self, side: Side, j: u32) -> Option<Lit>
+        ensures { result ≡ output_of self.now side j }
+    {
+        self.pair.output(side, j)
+    }
+
+    /// What holds of every net. It does nothing when it runs.
     pub fn known(&self)
         ensures { IsNet self.now }
     {
-        let _circuit = &self.a;
+        let _circuit = self.pair.circuit(Side::A);
     }
+}
+
+/// Why two circuits are no net, if they aren't one.
+fn unlike_of(a: &Circuit, b: &Circuit) -> Option<Unlike>
+    ensures unlike { result ≡ unlike_of a.now b.now }
+    ensures net { IfNone result (IsNet (record { a = a.now; b = b.now })) }
+{
+    let inputs = (a.inputs().len() as u32, b.inputs().len() as u32);
+    let outputs = (a.outputs().len() as u32, b.outputs().len() as u32);
+    if inputs.0 != inputs.1 {
+        return Some(Unlike::Inputs(inputs.0, inputs.1));
+    }
+    if outputs.0 != outputs.1 {
+        return Some(Unlike::Outputs(outputs.0, outputs.1));
+    }
+    None
 }

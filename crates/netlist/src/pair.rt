@@ -1,12 +1,14 @@
-ghost use Rattle.std.specs.Prelude.{◌≡◌, ◌+◌, ◌*◌, ◌<◌, ◌≤◌, true, Some, length, slice_get};
+ghost use Rattle.std.specs.Prelude.{◌≡◌, ◌+◌, ◌*◌, ◌<◌, ◌≤◌, true, Some, IfSome, length, slice_get};
 ghost use Rattle.netlist.specs.Circuit.{most, is_over, variables_in};
-ghost use Rattle.netlist.specs.Net.{IsNet, circuit_of, lit_named, lit_of, output_of, position_of};
-ghost use Rattle.netlist.specs.Miter.{variable_of, variables_of};
+ghost use Rattle.netlist.specs.Net.{IsNet, circuit_of, lit_named, lit_of, nodes_of, output_of, position_of};
+ghost use Rattle.netlist.specs.Miter.{axiom_of, axioms_of, variable_of, variables_of};
 ghost use Rattle.netlist.specs.Meaning.{lit_from, meaning_of, difference};
+ghost use Rattle.netlist.specs.Starts.{first_clause};
 ghost use Rattle.netlist.specs.Pair.{AreSizes, gate_node, first_gate};
 
 use crate::circuit::Circuit;
 use crate::meaning::Meaning;
+use crate::short::Short;
 use crate::sizes::Sizes;
 use crate::source::Source;
 use lits::{Lit, Node, Side};
@@ -153,7 +155,8 @@ impl CircuitPair {
 
     /// The node's variable in the CNF, from 1.
     pub fn variable(&self, node: Node) -> Option<u32>
-        ensures { result ≡ variable_of self.now node }
+        ensures variable { result ≡ variable_of self.now node }
+        ensures range { IfSome result (λ v. (1 ≤ v) × (v ≤ 3 * most + 1)) }
     {
         let sizes = self.sizes();
         let positions = 1 + sizes.inputs + sizes.gates_a + sizes.gates_b;
@@ -164,6 +167,53 @@ impl CircuitPair {
                 None => None,
             },
         }
+    }
+
+    /// How many nodes have a position.
+    pub fn positions(&self) -> u32
+        ensures { result ≡ length (nodes_of self.now) }
+    {
+        let sizes = self.sizes();
+        1 + sizes.inputs + sizes.gates_a + sizes.gates_b
+    }
+
+    /// How many CNF variables there are.
+    pub fn variables(&self) -> u32
+        ensures count { result ≡ length (variables_of self.now) }
+        ensures few { result ≤ 3 * most + 1 }
+    {
+        let sizes = self.sizes();
+        1 + sizes.inputs + sizes.gates_a + sizes.gates_b + sizes.outputs
+    }
+
+    /// Clause k of those that define a node, from 0.
+    pub fn axiom(&self, node: Node, k: u8) -> Option<Short>
+        ensures { result ≡ axiom_of self.now node k }
+    {
+        match self.meaning(node) {
+            Some(meaning) => meaning.axiom(k),
+            None => None,
+        }
+    }
+
+    /// How many clauses define a node.
+    pub fn clauses(&self, node: Node) -> u32
+        ensures count { result ≡ length (axioms_of self.now node) }
+        ensures few { result ≤ 4 }
+    {
+        match self.meaning(node) {
+            Some(meaning) => meaning.count(),
+            None => 0,
+        }
+    }
+
+    /// How many clauses define the node with a CNF variable, here counted from 0.
+    pub fn clauses_at(&self, place: u32) -> u32
+        requires { place < length (variables_of self.now) }
+        ensures next { first_clause self.now (place + 1) ≡ first_clause self.now place + result }
+        ensures few { result ≤ 4 }
+    {
+        self.clauses(self.node(place))
     }
 
     /// The node with a CNF variable, here counted from 0.

@@ -1,0 +1,155 @@
+-- The numbers of the first clauses, node by node.
+use Rattle.std.proofs.Common.{◌≡◌, ℕ, ◌+◌, ◌-◌, ◌<◌, ◌≤◌, Bool, true, false, cond, Option, Some, None, List, [], ◌∷◌, ◌++◌, length, take, get_or, map, refl, sym, ap, ◌∙◌, subst, arith, length-append, ⊎_elim}
+use Rattle.std.specs.Prelude.{slice_get, slice_index, nat_lt, ◌*◌}
+use Rattle.std.specs.List.{flat_map}
+use Rattle.std.proofs.Math.Seq.{take-length, get_or-append_seam}
+use Rattle.std.proofs.Math.ListN.{get_or-append}
+use Rattle.std.proofs.Math.Nat.{eq-or-lt_of_le}
+use Rattle.std.specs.Option.{option_map}
+use Rattle.std.proofs.lemmas.List.{length-map, take_more, append-nil}
+use Rattle.std.proofs.lemmas.Grind.{flat_map-append}
+use Rattle.std.proofs.lemmas.Option.{slice_get_within, get_or_from_slice_get, none-some, same_Some}
+use Rattle.lits.specs.declared.node.Node.{Node}
+use Rattle.lits.specs.declared.literal.Lit.{Lit}
+use Rattle.netlist.specs.Place.{place_of, before}
+use Rattle.netlist.specs.Net.{AigPair, same_node}
+use Rattle.netlist.specs.Miter.{positive, axioms_of, xors_of, variables_of, variable_of, numbered, clauses_of, miter_of, clause_number_of}
+use Rattle.netlist.specs.Starts.{first_clause, AreStarts}
+use Rattle.std.proofs.lemmas.Bool.Decides.{nat_tests}
+use Rattle.netlist.proofs.PlaceLemmas.{before-take}
+use Rattle.netlist.proofs.SourceLemmas.{place_within}
+
+-- one element more of a list
+pub take_next : {X : Type 0} (xs : List X) (i : ℕ) (x : X) → slice_get xs i ≡ Some x → take (i + 1) xs ≡ take i xs ++ x ∷ []
+take_next xs i x e =
+    take_more xs i x (slice_get_within xs i x e) ∙ ap (λ y. take i xs ++ y ∷ []) (get_or_from_slice_get xs i x x e)
+
+pub flat_next : {X Y : Type 0} (f : X → List Y) (xs : List X) (i : ℕ) (x : X) → slice_get xs i ≡ Some x
+  → flat_map f (take (i + 1) xs) ≡ flat_map f (take i xs) ++ f x
+flat_next f xs i x e =
+    ap (flat_map f) (take_next xs i x e) ∙ flat_map-append f (take i xs) (x ∷ [])
+    ∙ ap (λ ys. flat_map f (take i xs) ++ ys) (append-nil (f x))
+
+pub first_clause-none : (net : AigPair) → first_clause net 0 ≡ 1
+unfolding first_clause
+first_clause-none net = refl
+
+length-next : {X Y : Type 0} (f : X → List Y) (xs : List X) (i : ℕ) (x : X) → slice_get xs i ≡ Some x
+  → length (flat_map f (take (i + 1) xs)) + 1 ≡ length (flat_map f (take i xs)) + 1 + length (f x)
+length-next f xs i x e = omega (arith, ap length (flat_next f xs i x e), length-append (flat_map f (take i xs)) (f x))
+
+pub first_clause-more : (net : AigPair) (place : ℕ) (node : Node) → slice_get (variables_of net) place ≡ Some node
+  → first_clause net (place + 1) ≡ first_clause net place + length (axioms_of net node)
+unfolding first_clause
+first_clause-more net place node e = length-next (axioms_of net) (variables_of net) place node e
+
+length-whole : {X Y Z : Type 0} (f : X → List Y) (g : Y → Z) (xs : List X) (y : Y)
+  → length (flat_map f (take (length xs) xs)) + 1 ≡ length (map g (flat_map f xs ++ y ∷ []))
+length-whole f g xs y =
+    let same : length (flat_map f (take (length xs) xs)) ≡ length (flat_map f xs) = ap (λ ys. length (flat_map f ys)) (take-length xs) in
+    omega (arith, same, length-map (flat_map f xs ++ y ∷ []) g, length-append (flat_map f xs) (y ∷ []))
+
+pub first_clause-all : (net : AigPair) → first_clause net (length (variables_of net)) ≡ length (miter_of net)
+unfolding first_clause
+first_clause-all net =
+    length-whole (axioms_of net) (λ c. map (numbered net) c) (variables_of net) (map positive (xors_of net))
+
+number_at : (b : Bool) (m n k : ℕ) → m ≡ n → cond b (Some (m + k + 1)) None ≡ cond b (Some ((n + 1) + k)) None
+number_at true m n k e = let f : m + k + 1 ≡ (n + 1) + k = omega (arith, e) in ap Some f
+number_at false m n k e = refl
+
+pub clause_number_of-place : (net : AigPair) (node : Node) (k place : ℕ) → place_of (λ n. same_node n node) (variables_of net) ≡ Some place
+  → clause_number_of net node k ≡ cond (nat_lt k (length (axioms_of net node))) (Some (first_clause net place + k)) None
+unfolding first_clause
+clause_number_of-place net node k place e =
+    number_at (nat_lt k (length (axioms_of net node)))
+      (length (flat_map (axioms_of net) (before (λ n. same_node n node) (variables_of net))))
+      (length (flat_map (axioms_of net) (take place (variables_of net)))) k
+      (ap (λ (ns : List Node). length (flat_map (axioms_of net) ns)) (before-take (λ n. same_node n node) (variables_of net) place e))
+
+-- the same for a node that isn't there
+pub clause_number_of-none : (net : AigPair) (node : Node) (k : ℕ) → axioms_of net node ≡ [] → clause_number_of net node k ≡ None
+clause_number_of-none net node k e =
+    let f : nat_lt k 0 ≡ false = grind (arith, nat_tests) in
+    ap (λ (cs : List (List Lit)). cond (nat_lt k (length cs)) (Some (length (flat_map (axioms_of net) (before (λ n. same_node n node) (variables_of net))) + k + 1)) None) e
+    ∙ rw f refl
+
+-- what a net's table of numbers says
+module _ (net : AigPair) (starts : List ℕ) (table : AreStarts net starts) where
+  pub count_of : (n : ℕ) → n ≡ length (variables_of net) → slice_index starts n ≡ length (miter_of net)
+  count_of n e =
+      let here = table.each n (omega arith) in
+      here ∙ ap (first_clause net) e ∙ first_clause-all net
+
+  -- the place of a variable
+  place_at : (node : Node) (v : ℕ) → variable_of net node ≡ Some v
+    → (place_of (λ n. same_node n node) (variables_of net) ≡ Some (v - 1)) × (v - 1 < length (variables_of net))
+  place_at node v e = go (place_of (λ n. same_node n node) (variables_of net)) refl e
+    where
+      go : (o : Option ℕ) → place_of (λ n. same_node n node) (variables_of net) ≡ o → option_map (λ k. k + 1) o ≡ Some v
+        → (place_of (λ n. same_node n node) (variables_of net) ≡ Some (v - 1)) × (v - 1 < length (variables_of net))
+      go None f e = absurd (none-some v e)
+      go (Some k) f e =
+          let same : k ≡ v - 1 = (let h = same_Some (k + 1) v e in omega arith) in
+          (f ∙ ap Some same, subst (λ (n : ℕ). n < length (variables_of net)) same (place_within (λ n. same_node n node) (variables_of net) k f))
+
+  pub place_inside : (node : Node) (v : ℕ) → variable_of net node ≡ Some v → v - 1 < length starts
+  place_inside node v e = omega (arith, (place_at node v e).1, table.count)
+
+  pub number_few : (node : Node) (v : ℕ) → variable_of net node ≡ Some v → slice_index starts (v - 1) ≤ 4 * v + 1
+  number_few node v e =
+      let below = (place_at node v e).1 in
+      let few = table.few (v - 1) (omega arith) in
+      omega arith
+
+  pub number_in : (node : Node) (k v : ℕ) → variable_of net node ≡ Some v → k < length (axioms_of net node)
+    → Some (slice_index starts (v - 1) + k) ≡ clause_number_of net node k
+  number_in node k v e l =
+      let place = place_at node v e in
+      let t : nat_lt k (length (axioms_of net node)) ≡ true = grind (arith, nat_tests, l) in
+      let here = table.each (v - 1) (let below = place.1 in omega arith) in
+      ap (λ (n : ℕ). Some (n + k)) here ∙ sym (clause_number_of-place net node k (v - 1) place.0 ∙ rw t refl)
+
+-- the numbers of the first clauses up to a node, and the next number
+pub record AreFirst (net : AigPair) (numbers : List ℕ) (place next : ℕ) : Type 0 where
+  pub count : length numbers ≡ place
+  pub next_is : next ≡ first_clause net place
+  pub few_next : next ≤ 4 * place + 1
+  pub each : (k : ℕ) → k < place → slice_index numbers k ≡ first_clause net k
+  pub few : (k : ℕ) → k < place → slice_index numbers k ≤ 4 * k + 1
+
+pub first_none : (net : AigPair) → AreFirst net [] 0 1
+first_none net = record {
+  count = refl;
+  next_is = sym (first_clause-none net);
+  few_next = omega arith;
+  each = λ k l. absurd (omega arith);
+  few = λ k l. absurd (omega arith)
+}
+
+-- what holds of the numbers and of the next one holds of all of them
+read_push : (P : ℕ → ℕ → Type 0) (numbers : List ℕ) (place next : ℕ) → length numbers ≡ place
+  → ((k : ℕ) → k < place → P k (slice_index numbers k)) → P place next → (k : ℕ) → k ≤ place → P k (slice_index (numbers ++ next ∷ []) k)
+read_push P numbers place next e each last k l = ⊎_elim
+    (λ (same : k ≡ place). subst (λ (n : ℕ). P n (slice_index (numbers ++ next ∷ []) n)) (e ∙ sym same)
+      (subst (λ (n : ℕ). P (length numbers) n) (sym (get_or-append_seam numbers next [] 0)) (subst (λ (n : ℕ). P n next) (sym e) last)))
+    (λ (below : k < place). subst (λ (n : ℕ). P k n) (sym (get_or-append numbers (next ∷ []) 0 k (omega arith))) (each k below))
+    (eq-or-lt_of_le l)
+
+pub first_more : (net : AigPair) (numbers : List ℕ) (place next count : ℕ) → AreFirst net numbers place next
+  → first_clause net (place + 1) ≡ first_clause net place + count → count ≤ 4 → AreFirst net (numbers ++ next ∷ []) (place + 1) (next + count)
+first_more net numbers place next count old step few = record {
+  count = omega (arith, length-append numbers (next ∷ []), old.count);
+  next_is = omega (arith, old.next_is, step);
+  few_next = omega (arith, old.few_next);
+  each = λ k l. read_push (λ k n. n ≡ first_clause net k) numbers place next old.count old.each old.next_is k (omega arith);
+  few = λ k l. read_push (λ k n. n ≤ 4 * k + 1) numbers place next old.count old.few old.few_next k (omega arith)
+}
+
+pub first_all : (net : AigPair) (numbers : List ℕ) (place next : ℕ) → AreFirst net numbers place next → place ≡ length (variables_of net)
+  → AreStarts net (numbers ++ next ∷ [])
+first_all net numbers place next old e = record {
+  count = omega (arith, length-append numbers (next ∷ []), old.count);
+  each = λ k l. read_push (λ k n. n ≡ first_clause net k) numbers place next old.count old.each old.next_is k (omega arith);
+  few = λ k l. read_push (λ k n. n ≤ 4 * k + 1) numbers place next old.count old.few old.few_next k (omega arith)
+}

@@ -1,0 +1,7 @@
+use Rattle.std.proofs.Common.{◌≡◌, ◌∙◌, ℕ, List, [], ap, sym, subst, arith}
+use Rattle.netlist.proofs.StartLemmas.{AreFirst, first_none}
+use Rattle.netlist.proofs.starts.ClauseStarts.of.Goals as goal
+
+pub loop-place-init : goal.loop-place-init
+loop-place-init c =
+    subst (λ (ns : List ℕ). AreFirst c.args.pair.now ns 0 1) (sym c.in_ok-numbers.ensures.items) (first_none c.args.pair.now)

@@ -1,0 +1,8 @@
+use Rattle.std.proofs.Common.{◌≡◌, ◌+◌, ◌*◌, ◌≤◌, ◌<◌, ℕ, length}
+use Rattle.std.specs.Prelude.{slice_index}
+use Rattle.netlist.specs.Starts.{first_clause}
+use Rattle.netlist.proofs.StartLemmas.{AreFirst}
+use Rattle.netlist.proofs.starts.ClauseStarts.of.Given as goal
+
+abbrev pub invariant-loop-place : goal.invariant-loop-place
+invariant-loop-place l = AreFirst l.pair l.numbers.items l.place l.next
