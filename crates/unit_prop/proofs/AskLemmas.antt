@@ -34,8 +34,8 @@ module _ {L : Type 0} {eq : L → L → Bool} {opposite : L → L} (laws : IsLit
   forced-is : (l m : L) → has eq (open_in eq opposite set clause) m ≡ true → forces eq opposite (has eq set) clause l ≡ true → eq m l ≡ true
   forced-is l m h f =
       elim (or_cases (eq m l) (has eq set (opposite m)) (all-at laws (λ k. eq k l || has eq set (opposite k)) clause m f (inside m h))) [
-        inl e ↦ e
-      | inr e ↦ contrary _ e (not_negated m h)
+        | inl e ↦ e
+        | inr e ↦ contrary _ e (not_negated m h)
       ]
 
   not_all_negated : (m : L) → has eq (open_in eq opposite set clause) m ≡ true → is_negated opposite (has eq set) clause ≡ false

@@ -1,16 +1,18 @@
 -- What a chain of steps shows: each of its clauses holds wherever the clauses that it stands on hold.
-use Rattle.std.proofs.Common.{◌≡◌, ℕ, Bool, true, false, List, [], ◌∷◌, ◌++◌, Option, Some, None, refl, sym, ap, ◌∙◌, subst, append_assoc, zero, suc}
+use Rattle.std.proofs.Common.{◌≡◌, ℕ, Bool, true, false, List, [], ◌∷◌, ◌++◌, Option, Some, None, refl, sym, ap, ◌∙◌, subst, append_assoc, zero, suc, inl, inr}
 use Rattle.std.specs.Prelude.{map, option_map, if◌then◌else◌}
 use Rattle.std.proofs.lemmas.List.{append-nil}
 use Rattle.std.specs.List.{list_any, slice_get, AllByRecursion}
-use Rattle.lits.specs.Assignment.{IsAssignment, Holds, Meets, Follows}
+use Rattle.lits.specs.Assignment.{IsAssignment, Holds, Meets, Follows, IsSatisfiable}
 use Rattle.lits.specs.declared.literal.Lit.{Lit}
 use Rattle.lits.specs.declared.step.Named.{Named}
 use Rattle.lits.specs.declared.step.Step.{Step}
 use Rattle.lits.specs.declared.step.Ref.{Ref}
 use Rattle.lits.specs.declared.step.Ref.TheVariants.{Axiom, Entry, Own}
 use Rattle.lits.proofs.ClauseLemmas.{IsLiteral}
-use Rattle.unit_prop.specs.Step.{IsStep}
+use Rattle.unit_prop.specs.Step.{IsStep, AllHold}
+use Rattle.unit_prop.specs.Proof.{is_empty}
+use Rattle.unit_prop.proofs.LiteralLemmas.{or_cases}
 use Rattle.unit_prop.specs.Log.{same_lit, opposite, same_name, base_clause, base_clauses, with_own, InTurn, IsStepAfter, IsChain, IsLearned, IsLog}
 use Rattle.unit_prop.specs.Refuter.{Answers}
 use Rattle.unit_prop.specs.declared.refuter.Refuted.{Refuted}
@@ -37,6 +39,10 @@ pub in_turn-append : {X : Type 0} (P : List X → X → Type 0) (before xs ys : 
 in_turn-append P before [] ys p q = subst (λ (b : List _). InTurn P b ys) (append-nil before) q
 in_turn-append P before (x ∷ xs) ys p q =
     (p.0, in_turn-append P (before ++ x ∷ []) xs ys p.1 (subst (λ (b : List _). InTurn P b ys) (sym (append_assoc before (x ∷ []) xs)) q))
+
+pub all-base : (v : Lit → Bool) (base : List Named) → Meets v (base_clauses base) → AllByRecursion (λ n. Holds v n.clause) base
+all-base v [] meets = tt
+all-base v (n ∷ ns) meets = (meets.0, all-base v ns meets.1)
 
 pub base_clause-holds : (v : Lit → Bool) (base : List Named) → AllByRecursion (λ n. Holds v n.clause) base
     → (name : Ref) (c : List Lit) → base_clause base name ≡ Some c → Holds v c
@@ -76,19 +82,41 @@ module _ (laws : IsLiteral same_lit opposite) where
       → IsLog base log → IsStep same_lit opposite (with_own (base_clause base) log) clause hints
       → Follows opposite (base_clauses base) clause
   base-implies base log clause hints learned step v assigns meets =
-      let all : AllByRecursion (λ n. Holds v n.clause) base = all-map base meets in
+      let all : AllByRecursion (λ n. Holds v n.clause) base = all-base v base meets in
       let found = base_clause-holds v base all in
       let chain = in_turn-map (IsLearned base) (IsStepAfter (base_clause base)) [] log (λ b x p. p.step) learned in
       step-holds laws v assigns (with_own (base_clause base) log)
       (with_own-holds laws v assigns (base_clause base) found log (chain-holds laws v assigns (base_clause base) found [] log tt chain))
       clause hints step
-    where
-      all-map : (ns : List Named) → AllByRecursion (Holds v) (map (λ n. n.clause) ns) → AllByRecursion (λ n. Holds v n.clause) ns
-      all-map [] m = tt
-      all-map (n ∷ ns) m = (m.0, all-map ns m.1)
 
 -- what a query makes of a log is a log again
 pub log-grows : (base : List Named) (target : List Lit) (log : List Step) (left : ℕ) (log' : List Step) (left' : ℕ) (r : Refuted)
     → IsLog base log → Answers base target log left log' left' r → IsLog base log'
 log-grows base target log left log' left' r learned a =
     subst (λ (l : List Step). IsLog base l) (sym a.grows) (in_turn-append (IsLearned base) [] log a.steps learned a.learned)
+
+module _ (laws : IsLiteral same_lit opposite) where
+  -- the clauses of a chain hold where those hold that it stands on
+  pub steps-hold : (find : Ref → Option (List Lit)) (steps : List Step) (v : Lit → Bool) → IsAssignment opposite v → AllHold v find
+      → IsChain find steps → AllByRecursion (λ s. Holds v s.clause) steps
+  steps-hold find steps v assigns holds chain = chain-holds laws v assigns find holds [] steps tt chain
+
+  -- a base over which a chain shows the empty clause isn't satisfiable
+  pub chain-refutes : (base : List Named) (steps : List Step) → IsChain (base_clause base) steps
+      → list_any (λ s. is_empty s.clause) steps ≡ true → ¬ IsSatisfiable opposite (base_clauses base)
+  chain-refutes base steps chain e s = none steps (steps-hold (base_clause base) steps s.values s.assigns found chain) e
+    where
+      found : AllHold s.values (base_clause base)
+      found = base_clause-holds s.values base (all-base s.values base s.meets)
+
+      filled : (c : List Lit) → Holds s.values c → is_empty c ≡ true → ⊥
+      filled [] h f = cc
+      filled (x ∷ xs) h f = cc
+
+      none : (ss : List Step) → AllByRecursion (λ t. Holds s.values t.clause) ss → list_any (λ t. is_empty t.clause) ss ≡ true → ⊥
+      none [] all f = cc
+      none (t ∷ ts) all f =
+          elim (or_cases (is_empty t.clause) (list_any (λ u. is_empty u.clause) ts) f) [
+            | inl g ↦ filled t.clause all.0 g
+            | inr g ↦ none ts all.1 g
+          ]

@@ -15,8 +15,8 @@ pub list_any-more : {X : Type 0} (p q : X → Bool) (xs : List X) → ((x : X) �
 list_any-more p q [] f e = e
 list_any-more p q (x ∷ xs) f e =
     elim (or_cases (p x) (list_any p xs) e) [
-      inl h ↦ or_left _ _ (f x h)
-    | inr h ↦ or_right (q x) _ (list_any-more p q xs f h)
+      | inl h ↦ or_left _ _ (f x h)
+      | inr h ↦ or_right (q x) _ (list_any-more p q xs f h)
     ]
 
 pub list_all-more : {X : Type 0} (p q : X → Bool) (xs : List X) → ((x : X) → p x ≡ true → q x ≡ true) → list_all p xs ≡ true
@@ -36,8 +36,8 @@ pub forces-more : {L : Type 0} (eq : L → L → Bool) (opposite : L → L) (p q
     → ((m : L) → p m ≡ true → q m ≡ true) → forces eq opposite p clause l ≡ true → forces eq opposite q clause l ≡ true
 forces-more eq opposite p q clause l f =
     list_all-more _ _ clause (λ m h. elim (or_cases (eq m l) (p (opposite m)) h) [
-      inl e ↦ or_left _ _ e
-    | inr e ↦ or_right (eq m l) _ (f (opposite m) e)
+      | inl e ↦ or_left _ _ e
+      | inr e ↦ or_right (eq m l) _ (f (opposite m) e)
     ])
 
 pub is_negated-more : {L : Type 0} (opposite : L → L) (p q : L → Bool) (clause : List L)
@@ -83,7 +83,7 @@ module _ {L : Type 0} {eq : L → L → Bool} {opposite : L → L} (laws : IsLit
           either true e =
               let same : q ≡ opposite l = laws.exact _ _ (sym (eq-opposite laws l q) ∙ e) in
               contrary _ (ap (has eq set) (sym same) ∙ h) free.apart
-      go q (inr h) = 
+      go q (inr h) =
           let same : l ≡ q = laws.exact l q (alone _ h) in
           rw (sym same) (rw (free.apart, differs l) refl)
 
@@ -92,8 +92,8 @@ module _ {L : Type 0} {eq : L → L → Bool} {opposite : L → L} (laws : IsLit
   round-next set l round free e = record {
     starts = λ q h. has-append laws set (l ∷ []) q ∙ or_left _ _ (round.starts q h);
     least = λ p closed q h. elim (or_cases _ _ (sym (has-append laws set (l ∷ []) q) ∙ h)) [
-      inl f ↦ round.least p closed q f
-    | inr f ↦ subst (λ (z : L). p z ≡ true) (laws.exact l q (alone _ f)) (forced p closed)
+      | inl f ↦ round.least p closed q f
+      | inr f ↦ subst (λ (z : L). p z ≡ true) (laws.exact l q (alone _ f)) (forced p closed)
     ];
     consistent = consistent-push set l round.consistent free;
   }
@@ -158,10 +158,10 @@ module _ {L : Type 0} {eq : L → L → Bool} {opposite : L → L} (laws : IsLit
   missing_places-falls [] h = cc
   missing_places-falls (c ∷ cs) h =
       elim (or_cases (is_forced_by eq opposite set l c) (list_any (is_forced_by eq opposite set l) cs) h) [
-        inl e ↦
-          let here = missing_in-falls c (and_both (has eq c l) (forces eq opposite (has eq set) c l) e).0 in
-          let rest = missing_places-push cs in omega arith
-      | inr e ↦ let here = missing_in-push c in let rest = missing_places-falls cs e in omega arith
+        | inl e ↦
+            let here = missing_in-falls c (and_both (has eq c l) (forces eq opposite (has eq set) c l) e).0 in
+            let rest = missing_places-push cs in omega arith
+        | inr e ↦ let here = missing_in-push c in let rest = missing_places-falls cs e in omega arith
       ]
 
 -- what has been scanned so far neither clashes nor forces anything new

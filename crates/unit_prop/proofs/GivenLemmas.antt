@@ -65,7 +65,10 @@ pub given-last : {L : Type 0} {eq : L → L → Bool} {opposite : L → L} (clau
     → StandsFor eq opposite given set → ClosesTo eq opposite clauses set result → ClosesTo eq opposite clauses given result
 given-last clauses given set Clash s h =
     λ p closed. h p (record { starts = λ l e. closed.starts l (sym (s.same l) ∙ e); units = closed.units })
-given-last clauses given set (Free lits) s h = (record {
-  closed = record { starts = λ l e. h.0.closed.starts l (s.same l ∙ e); units = h.0.closed.units };
-  least = λ p closed. h.0.least p (record { starts = λ l e. closed.starts l (sym (s.same l) ∙ e); units = closed.units });
-}, h.1)
+given-last clauses given set (Free lits) s h = (
+  record {
+    closed = record { starts = λ l e. h.0.closed.starts l (s.same l ∙ e); units = h.0.closed.units };
+    least = λ p closed. h.0.least p (record { starts = λ l e. closed.starts l (sym (s.same l) ∙ e); units = closed.units });
+  },
+  h.1,
+)

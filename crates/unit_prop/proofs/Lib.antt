@@ -8,3 +8,4 @@ pub mod AssumeLemmas
 pub mod AskLemmas
 pub mod ClosureLemmas
 pub mod GivenLemmas
+pub mod LawLemmas

@@ -105,6 +105,6 @@ module _ {L : Type 0} {eq : L → L → Bool} {opposite : L → L} (laws : IsLit
   all-at p (x ∷ xs) m all inside =
       let parts = and_both (p x) (list_all p xs) all in
       elim (or_cases (eq x m) (has eq xs m) inside) [
-        inl e ↦ sym (ap p (laws.exact x m e)) ∙ parts.0
-      | inr e ↦ all-at p xs m parts.1 e
+        | inl e ↦ sym (ap p (laws.exact x m e)) ∙ parts.0
+        | inr e ↦ all-at p xs m parts.1 e
       ]

@@ -72,10 +72,10 @@ module _ {L : Type 0} {eq : L → L → Bool} {opposite : L → L} (laws : IsLit
           let kept : has eq (l ∷ first.0) w.0 ≡ true =
           sym (ap (λ (o : List L). has eq o w.0) first.1) ∙ (has-filter laws p xs w.0 ∙ rw (w.1, parts.1) refl) in
           elim (or_cases (eq l w.0) (has eq first.0 w.0) kept) [
-            inl a ↦ let b : not (eq l w.0) ≡ false = ap not a in let d : not (eq l w.0) ≡ true = parts.0 in cc
-          | inr a ↦
-            let here : has eq (others l first.0) w.0 ≡ true = has-others l first.0 w.0 ∙ rw (a, parts.0) refl in
-            let none : has eq (others l first.0) w.0 ≡ false = ap (λ (o : List L). has eq o w.0) f in cc
+            | inl a ↦ let b : not (eq l w.0) ≡ false = ap not a in let d : not (eq l w.0) ≡ true = parts.0 in cc
+            | inr a ↦
+                let here : has eq (others l first.0) w.0 ≡ true = has-others l first.0 w.0 ∙ rw (a, parts.0) refl in
+                let none : has eq (others l first.0) w.0 ≡ false = ap (λ (o : List L). has eq o w.0) f in cc
           ]
       go (y ∷ ys) f = (l, y, ys, ap (firsts eq) first.1 ∙ rw f refl)
 

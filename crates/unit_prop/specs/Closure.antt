@@ -45,4 +45,8 @@ pub record IsOpen {L : Type 0} (eq : L → L → Bool) (opposite : L → L) (cla
 abbrev pub ClosesTo : {L : Type 0} → (L → L → Bool) → (L → L) → List (List L) → List L → Closure L → Type 0
 ClosesTo eq opposite clauses given Clash = ClosureClashes eq opposite clauses given
 ClosesTo eq opposite clauses given (Free lits) =
-  IsClosure eq opposite clauses given lits × ¬ Clashes opposite clauses (has eq lits)
+    IsClosure eq opposite clauses given lits × ¬ Clashes opposite clauses (has eq lits)
+
+-- each literal of the list is true
+abbrev pub AllTrue : {L : Type 0} → (L → Bool) → List L → Type 0
+AllTrue v lits = AllByRecursion (λ l. v l ≡ true) lits

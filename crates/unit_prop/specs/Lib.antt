@@ -3,5 +3,6 @@ pub mod Propagation
 pub mod New
 pub mod Step
 pub mod StepCheck
+pub mod Proof
 pub mod Log
 pub mod Refuter

@@ -26,3 +26,7 @@ pub record IsNew {L : Type 0} (eq : L → L → Bool) (opposite : L → L) (clau
   pub lit : L
   pub inside : has eq clause lit ≡ true
   pub missed : Lacks eq opposite clauses (others_negated eq opposite clause lit) lit
+
+-- the two clauses have the same literals
+abbrev pub SameLiterals : {L : Type 0} → (L → L → Bool) → List L → List L → Type 0
+SameLiterals {L} eq first second = (l : L) → has eq first l ≡ has eq second l

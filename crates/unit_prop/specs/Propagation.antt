@@ -22,20 +22,20 @@ is_forced_by eq opposite set lit clause = has eq clause lit && forces eq opposit
 -- the clause forces nothing that isn't in the list
 abbrev pub IsSettled : {L : Type 0} → (L → L → Bool) → (L → L) → List L → List L → Type 0
 IsSettled {L} eq opposite set clause =
-  (l : L) → has eq clause l ≡ true → forces eq opposite (has eq set) clause l ≡ true → has eq set l ≡ true
+    (l : L) → has eq clause l ≡ true → forces eq opposite (has eq set) clause l ≡ true → has eq set l ≡ true
 
 -- what one clause asks for
 abbrev pub AsksFor : {L : Type 0} → (L → L → Bool) → (L → L) → List L → List L → Found L → Type 0
 AsksFor eq opposite set clause Clash = is_negated opposite (has eq set) clause ≡ true
 AsksFor eq opposite set clause (Forced l) =
-  IsFree eq opposite set l × (is_forced_by eq opposite set l clause ≡ true)
+    IsFree eq opposite set l × (is_forced_by eq opposite set l clause ≡ true)
 AsksFor eq opposite set clause Nothing =
-  (is_negated opposite (has eq set) clause ≡ false) × IsSettled eq opposite set clause
+    (is_negated opposite (has eq set) clause ≡ false) × IsSettled eq opposite set clause
 
 -- what some clause asks for
 abbrev pub IsFound : {L : Type 0} → (L → L → Bool) → (L → L) → List L → List (List L) → Found L → Type 0
 IsFound eq opposite set clauses Clash = list_any (is_negated opposite (has eq set)) clauses ≡ true
 IsFound eq opposite set clauses (Forced l) =
-  IsFree eq opposite set l × (list_any (is_forced_by eq opposite set l) clauses ≡ true)
+    IsFree eq opposite set l × (list_any (is_forced_by eq opposite set l) clauses ≡ true)
 IsFound eq opposite set clauses Nothing =
-  (list_any (is_negated opposite (has eq set)) clauses ≡ false) × AllByRecursion (IsSettled eq opposite set) clauses
+    (list_any (is_negated opposite (has eq set)) clauses ≡ false) × AllByRecursion (IsSettled eq opposite set) clauses

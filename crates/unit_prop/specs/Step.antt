@@ -4,6 +4,7 @@
 use Rattle.std.specs.Prelude.{◌≡◌, ℕ, ◌+◌, Bool, true, false, List, [], ◌∷◌, ◌++◌, map, filter, not, Option, Some, None, Result, Ok, Err, if◌then◌else◌}
 use Rattle.std.specs.List.{list_any}
 use Rattle.lits.specs.Clause.{has, has_pair, firsts}
+use Rattle.lits.specs.Assignment.{Holds}
 use Rattle.unit_prop.specs.declared.why.Why.{Why}
 use Rattle.unit_prop.specs.declared.why.Why.TheVariants.{Tautology, NoClause, Satisfied, TwoFree, AfterFalse, NotFalse}
 use Rattle.unit_prop.specs.declared.why.BadStep.{BadStep}
@@ -65,6 +66,10 @@ first_fault eq opposite find clause hints =
 -- the hints show the clause from the clauses that `find` gives
 abbrev pub IsStep : {N L : Type 0} → (L → L → Bool) → (L → L) → (N → Option (List L)) → List L → List N → Type 0
 IsStep eq opposite find clause hints = first_fault eq opposite find clause hints ≡ None
+
+-- each clause that `find` gives holds under v
+abbrev pub AllHold : {N L : Type 0} → (L → Bool) → (N → Option (List L)) → Type 0
+AllHold {N} {L} v find = (n : N) (c : List L) → find n ≡ Some c → Holds v c
 
 -- P holds of the fault, where it is one of the step
 abbrev pub IfBad : StepErr → (Why → Type 0) → Type 0

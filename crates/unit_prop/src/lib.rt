@@ -18,4 +18,6 @@ pub mod laws;
 mod propagation;
 mod refuter;
 mod step_check;
+#[cfg(test)]
+mod tests;
 mod why;

@@ -6,5 +6,5 @@ use Rattle.unit_prop.proofs.step_check.StepCheck.begin.Given as goal
 abbrev pub invariant-loop-lit : goal.invariant-loop-lit
 invariant-loop-lit g l = record {
   quiet : l.self-inside.clashed ≡ false;
-  assumed : IsAssumed g.L.PartialEq.eq g.L.Literal.opposite (take l.lit-index l.clause) l.self-inside.set
+  assumed : IsAssumed g.L.PartialEq.eq g.L.Literal.opposite (take l.lit-index l.clause) l.self-inside.set;
 }

@@ -1,5 +1,5 @@
 use Rattle.unit_prop.proofs.ChainLemmas.{log-grows}
-use Rattle.unit_prop.proofs.laws.log_stays_log.Goals as goal
+use Rattle.unit_prop.proofs.laws.lit.log_stays_log.Goals as goal
 
 pub returns : goal.returns
 returns c = log-grows

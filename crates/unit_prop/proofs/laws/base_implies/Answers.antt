@@ -1,6 +1,0 @@
-use Rattle.unit_prop.proofs.ChainLemmas.{base-implies}
-use Rattle.unit_prop.proofs.LitLaws.{lit_laws}
-use Rattle.unit_prop.proofs.laws.base_implies.Goals as goal
-
-pub returns : goal.returns
-returns c = base-implies lit_laws

@@ -1,0 +1,6 @@
+use Rattle.unit_prop.proofs.LitLaws.{dim_laws}
+use Rattle.unit_prop.proofs.LawLemmas.{clash-false}
+use Rattle.unit_prop.proofs.laws.dimacs.clash_refutes.Goals as goal
+
+pub returns : goal.returns
+returns c = λ clauses given v clash. clash-false dim_laws clauses given clash v

@@ -1,0 +1,6 @@
+use Rattle.unit_prop.proofs.LitLaws.{dim_laws}
+use Rattle.unit_prop.proofs.LawLemmas.{closure-true}
+use Rattle.unit_prop.proofs.laws.dimacs.closure_holds.Goals as goal
+
+pub returns : goal.returns
+returns c = λ clauses given lits v closure. closure-true dim_laws clauses given lits closure v

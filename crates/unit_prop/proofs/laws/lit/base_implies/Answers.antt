@@ -1,0 +1,6 @@
+use Rattle.unit_prop.proofs.LitLaws.{lit_laws}
+use Rattle.unit_prop.proofs.ChainLemmas.{base-implies}
+use Rattle.unit_prop.proofs.laws.lit.base_implies.Goals as goal
+
+pub returns : goal.returns
+returns c = base-implies lit_laws

@@ -1,0 +1,6 @@
+use Rattle.unit_prop.proofs.LitLaws.{lit_laws}
+use Rattle.unit_prop.proofs.LawLemmas.{clash-false}
+use Rattle.unit_prop.proofs.laws.lit.clash_refutes.Goals as goal
+
+pub returns : goal.returns
+returns c = λ clauses given v clash. clash-false lit_laws clauses given clash v

@@ -1,0 +1,6 @@
+use Rattle.unit_prop.proofs.LitLaws.{lit_laws}
+use Rattle.unit_prop.proofs.LawLemmas.{new-differs}
+use Rattle.unit_prop.proofs.laws.lit.new_differs.Goals as goal
+
+pub returns : goal.returns
+returns c = new-differs lit_laws

@@ -1,0 +1,6 @@
+use Rattle.unit_prop.proofs.LitLaws.{lit_laws}
+use Rattle.unit_prop.proofs.ChainLemmas.{steps-hold}
+use Rattle.unit_prop.proofs.laws.lit.steps_hold.Goals as goal
+
+pub returns : goal.returns
+returns c = steps-hold lit_laws

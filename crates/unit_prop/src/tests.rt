@@ -1,0 +1,135 @@
+use crate::{BadStep, Closure, StepCheck, StepErr, Why};
+use lits::{Clause, Dim, Lit, Literal, Node, Side};
+use std::alloc::Global;
+use std::process::Abort;
+use std::test::Fail;
+
+fn dims(rt: &impl Abort, alloc: Global, numbers: &[i32]) -> Result<Vec<Dim>, Fail> {
+    let mut dims = Vec::new(alloc);
+    for number in numbers {
+        let dim = Dim::of(*number);
+        assert!(rt; dim.is_some(), "{number} is no literal");
+        if let Some(dim) = dim {
+            dims.push(dim)?;
+        }
+    }
+    Ok(dims)
+}
+
+fn clauses(rt: &impl Abort, alloc: Global, lists: &[&[i32]]) -> Result<Vec<Clause<Dim>>, Fail> {
+    let mut clauses = Vec::new(alloc);
+    for list in lists {
+        let lits = dims(rt, alloc, list)?;
+        clauses.push(Clause::of(alloc, lits.as_slice()).map_err(|_| "a clause")?)?;
+    }
+    Ok(clauses)
+}
+
+#[test]
+fn close_under(rt: HostRuntime) -> Result<(), Fail> {
+    let alloc = rt.alloc();
+    let chain = clauses(&rt, alloc, &[&[1, -2], &[2]])?;
+    let pair = clauses(&rt, alloc, &[&[1], &[-1]])?;
+    let wide = clauses(&rt, alloc, &[&[-1, -2, 3], &[4, 5]])?;
+    let cases: [(&[Clause<Dim>], &[i32], Option<&[i32]>); 6] = [
+        (chain.as_slice(), &[], Some(&[2, 1])),
+        (pair.as_slice(), &[], None),
+        (chain.as_slice(), &[-1], None),
+        (chain.as_slice(), &[3, -3], None),
+        (wide.as_slice(), &[1, 2, 1], Some(&[1, 2, 3])),
+        (wide.as_slice(), &[], Some(&[])),
+    ];
+    for (clauses, given, want) in cases {
+        let given = dims(&rt, alloc, given)?;
+        match crate::close_under(alloc, clauses, given.as_slice())? {
+            Closure::Clash => assert!(rt; want.is_none()),
+            Closure::Free(lits) => {
+                let want = dims(&rt, alloc, want.ok_or("a clash")?)?;
+                assert_eq!(rt; lits.as_slice(), want.as_slice());
+            }
+        }
+    }
+    Ok(())
+}
+
+fn fault_at(hint: u64, error: StepErr) -> Result<Option<BadStep>, Fail> {
+    match error {
+        StepErr::Bad(why) => Ok(Some(BadStep { hint, why })),
+        StepErr::NoMemory => Err("out of memory".into()),
+    }
+}
+
+/// The first fault of a step, by its clause and the clauses of its hints.
+fn fault_of<L: Literal>(
+    check: &mut StepCheck<L>,
+    clause: &[L],
+    hints: &[Clause<L>],
+) -> Result<Option<BadStep>, Fail> {
+    if let Err(error) = check.begin(clause) {
+        return fault_at(0, error);
+    }
+    for (place, hint) in (1..).zip(hints) {
+        if let Err(error) = check.hint(hint.lits()) {
+            return fault_at(place, error);
+        }
+    }
+    Ok(check.end().err().map(|why| BadStep { hint: 0, why }))
+}
+
+#[test]
+fn step_check(rt: HostRuntime) -> Result<(), Fail> {
+    let alloc = rt.alloc();
+    let mut check = StepCheck::new(alloc);
+    let cases: [(&[i32], &[&[i32]], Option<(u64, Why)>); 10] = [
+        (&[], &[&[]], None),
+        (&[1], &[], Some((0, Why::NotFalse))),
+        // Two gates that compute the same: the first step of their proof, and the same without its last hint.
+        (&[-5, 4], &[&[-5, 3], &[4, -2, -3], &[-5, 2]], None),
+        (
+            &[-5, 4],
+            &[&[-5, 3], &[4, -2, -3]],
+            Some((0, Why::NotFalse)),
+        ),
+        (&[-5, 4, 4], &[&[-5, 3], &[4, -2, -3], &[-5, 2]], None),
+        (&[1, -1], &[&[]], Some((0, Why::Tautology))),
+        (&[1], &[&[2], &[2, 3]], Some((2, Why::Satisfied))),
+        (&[1], &[&[2, 3]], Some((1, Why::TwoFree))),
+        (&[1], &[&[1], &[2]], Some((2, Why::AfterFalse))),
+        (&[1], &[&[2, 1], &[-2, 3]], Some((0, Why::NotFalse))),
+    ];
+    for (clause, hints, want) in cases {
+        let clause = dims(&rt, alloc, clause)?;
+        let hints = clauses(&rt, alloc, hints)?;
+        let fault = fault_of(&mut check, clause.as_slice(), hints.as_slice())?;
+        let want = want.map(|(hint, why)| BadStep { hint, why });
+        assert_eq!(rt; fault, want);
+    }
+    Ok(())
+}
+
+#[test]
+fn steps_over_nodes(rt: HostRuntime) -> Result<(), Fail> {
+    let alloc = rt.alloc();
+    let lit = |node: Node| Lit { node, neg: false };
+    let (x, y) = (lit(Node::Input(0)), lit(Node::Input(1)));
+    let (a, b) = (lit(Node::Gate(Side::A, 3)), lit(Node::Gate(Side::B, 3)));
+    let mut axioms = Vec::new(alloc);
+    for lits in [
+        [b.not(), y].as_slice(),
+        &[b.not(), x],
+        &[a, x.not(), y.not()],
+    ] {
+        axioms.push(Clause::of(alloc, lits).map_err(|_| "a clause")?)?;
+    }
+    let mut check = StepCheck::new(alloc);
+    assert_eq!(rt;
+        fault_of(&mut check, &[b.not(), a], axioms.as_slice())?,
+        None
+    );
+    let found = match crate::close_under(alloc, axioms.as_slice(), &[b])? {
+        Closure::Clash => return Err("a clash".into()),
+        Closure::Free(lits) => lits.into_vec(),
+    };
+    assert_eq!(rt; found.as_slice(), [b, y, x, a].as_slice());
+    Ok(())
+}
