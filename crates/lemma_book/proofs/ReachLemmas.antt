@@ -1,5 +1,5 @@
 -- A walk that goes on until nothing is left to be visited finds what its seeds reach.
-use Rattle.std.proofs.Common.{◌≡◌, ℕ, ◌+◌, ◌-◌, ◌<◌, ◌≤◌, Bool, true, false, not, ◌&&◌, ◌||◌, Option, Some, None, List, [], ◌∷◌, ◌++◌, map, length, flat_map, refl, sym, ap, ◌∙◌, subst, arith}
+use Rattle.std.proofs.Common.{◌≡◌, ℕ, ◌+◌, ◌-◌, ◌<◌, ◌≤◌, Bool, true, false, not, ◌&&◌, ◌||◌, Option, Some, None, List, [], ◌∷◌, ◌++◌, map, length, flat_map, refl, sym, ap, ◌∙◌, subst, arith, length-append}
 use Rattle.std.specs.Ordering.{nat_cmp}
 use Rattle.std.specs.Option.{option_map, is_some, IsSome}
 use Rattle.std.specs.Map.{keys_of, values_of}
@@ -201,3 +201,21 @@ walk-few net w walk =
         each : (fs : List (ℕ × Node)) → AreNumbered net fs → AllByRecursion (λ x. x < length (variables_of net) + 1) (keys_of fs)
         each [] all = tt
         each (f ∷ fs) all = (within f.1 f.0 all.0, each fs all.1)
+
+module _ (net : AigPair) (seeds : List Node) (w mid new : Walk) (node : Node) (u : IsUnderway net seeds w)
+    (popped : w.pending.items ≡ mid.pending.items ++ node ∷ []) where
+  -- a node that is still to be visited has a variable
+  pub underway-there : IsSome (variable_of net node)
+  underway-there = found-there net w.found.entries node u.walk.numbered (u.known node pending)
+    where
+      pending : is_pending w node ≡ true
+      pending =
+          ap (λ (l : List Node). has same_node l node) popped ∙ list_any-append (λ y. same_node y node) mid.pending.items (node ∷ [])
+          ∙ or_right (is_pending mid node) (same_node node node || false) (or_left (same_node node node) false (same-node_self node))
+
+  -- one node less is left that can still be visited
+  pub visit-smaller : mid.found.entries ≡ w.found.entries → (nodes : List Node) → Finds net mid nodes new
+      → (length (variables_of net) + 1 + length new.pending.items) - length new.found.entries
+      < (length (variables_of net) + 1 + length w.pending.items) - length w.found.entries
+  visit-smaller same nodes finds =
+      omega (arith, walk-few net w u.walk, walk-few net new finds.walk, finds.count, ap length same, ap length popped, length-append mid.pending.items (node ∷ []))

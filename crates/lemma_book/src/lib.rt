@@ -9,6 +9,7 @@
 #![tactic(auto)]
 
 pub use book::Book;
+pub use cones::cone;
 pub use entry::Entry;
 
 mod entry;
@@ -16,3 +17,5 @@ mod entry;
 mod book;
 
 mod walk;
+
+mod cones;

@@ -18,6 +18,24 @@ pub struct Walk {
 }
 
 impl Walk {
+    /// Walks from the literals' nodes through all that they reach.
+    pub fn of(alloc: Global, net: &Net, lits: &[Lit]) -> Result<Walk, AllocError>
+        requires net { IsNet net.now }
+        requires there { AreThere net.now lits.now }
+        ensures walk { IfOk result (IsWalk net.now) }
+        ensures reach { IfOk result (λ w. IsReach net.now (nodes_in lits.now) (is_found w)) }
+    {
+        let mut walk = Walk {
+            found: BTreeMap::new(alloc),
+            pending: Vec::new(alloc),
+        };
+        walk.find_all(net, lits)?;
+        while let Some(node) = walk.pending.pop() {
+            walk.visit(net, node)?;
+        }
+        Ok(walk)
+    }
+
     /// Finds one more node.
     fn find(&mut self, net: &Net, node: Node) -> Result<(), AllocError>
         requires walk { IsWalk net.now self.old }
