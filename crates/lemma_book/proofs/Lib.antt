@@ -6,3 +6,4 @@ pub mod ConeLemmas
 pub mod AxiomLemmas
 pub mod WalkLemmas
 pub mod ReachLemmas
+pub mod FaultLemmas
