@@ -7,3 +7,5 @@ pub mod AxiomLemmas
 pub mod WalkLemmas
 pub mod ReachLemmas
 pub mod FaultLemmas
+pub mod LogLemmas
+pub mod MeetLemmas

@@ -7,7 +7,6 @@ ghost use Rattle.lemma_book.specs.Fault.{Fault, FirstFault};
 /// A law of entries: a good one has no fault, and any other has one first fault at most.
 ///
 /// It does nothing when it runs.
-#[tactic(auto, using(crate::proofs::FaultLemmas::laws))]
 pub fn first_fault()
     ensures good {
         (net : AigPair) (book : Entries) (entry : Entry) (fault : Fault)

@@ -19,3 +19,5 @@ mod book;
 mod walk;
 
 mod cones;
+
+pub mod laws;
