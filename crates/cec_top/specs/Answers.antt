@@ -12,7 +12,7 @@ use Rattle.cec_top.specs.declared.stop.Stop.TheVariants.{CannotRead, TooLong, Ba
 use Rattle.cec_top.specs.Command.{CheckCommand, command_of, cnf_name, proof_name}
 use Rattle.cec_top.specs.Stops.{status_of}
 use Rattle.cec_top.specs.Lines.{stop_line, fault_line}
-use Rattle.cec_top.specs.Causes.{HasCircuit, ReadsPair, after_reads, TouchesOnly, Finishes}
+use Rattle.cec_top.specs.Causes.{HasCircuit, ReadsPair, after_reads, TouchesOnly, Finishes, IsDecided}
 use Rattle.cec_top.specs.Settled.{AreOuts, EndsAt}
 
 -- the book that is handed back: it is legal, and it shows each output to be equal, in order
@@ -32,7 +32,7 @@ pub record KeepsOpen (net : AigPair) (j : ℕ) (kept : List Kept) : Type 0 where
 
 -- the pair is settled, and where each output is shown equal the files are written and the verdict is said
 abbrev pub ChecksPair : List ℕ → List ℕ → AigPair → DeskState → DeskState → List Kept → Result (Unit {0}) Stop → Type 0
-ChecksPair cnf proof net old new kept (Ok u) = KeepsOuts net kept × Finishes cnf proof net old new (Ok u)
+ChecksPair cnf proof net old new kept (Ok u) = IsDecided net × KeepsOuts net kept × Finishes cnf proof net old new (Ok u)
 ChecksPair cnf proof net old new kept (Err (NotEqual j)) = KeepsOpen net j kept × (new ≡ old)
 ChecksPair cnf proof net old new kept (Err CannotWrite) = KeepsOuts net kept × Finishes cnf proof net old new (Err CannotWrite)
 ChecksPair cnf proof net old new kept (Err OutOfMemory) = TouchesOnly (cnf ∷ proof ∷ []) old new

@@ -1,5 +1,5 @@
 -- How a check goes, step by step: what each part of it makes of the desk, and the cause of each end without a verdict.
-use Rattle.std.specs.Prelude.{◌≡◌, ◌≢◌, ◌⊎◌, ℕ, ◌+◌, ◌<◌, List, [], ◌∷◌, ◌++◌, length, Option, Some, None, IfSome, IsSomeAnd, Result, Ok, Err, false, codes}
+use Rattle.std.specs.Prelude.{◌≡◌, ◌↔◌, ◌⊎◌, ℕ, ◌+◌, ◌<◌, List, [], ◌∷◌, ◌++◌, length, Option, Some, None, IfSome, IsSomeAnd, Result, Ok, Err, false, codes}
 use Rattle.std.specs.List.{list_any}
 use Rattle.std.specs.Option.{option_map}
 use Rattle.std.specs.Str.{bytes_eq}
@@ -7,12 +7,14 @@ use Rattle.lits.specs.declared.node.Side.{Side}
 use Rattle.lits.specs.declared.node.Side.TheVariants.{A, B}
 use Rattle.desk_port.specs.Desk.{DeskState, Files, HasMore, ReadFault, WriteFault, OfSomePrefix, Rose, put, after_read, after_write, after_say}
 use Rattle.netlist.specs.Circuit.{Aig}
-use Rattle.netlist.specs.Net.{AigPair}
+use Rattle.lits.specs.Assignment.{IsSatisfiable}
+use Rattle.lrat_text.specs.Derivation.{opposite_literal}
+use Rattle.netlist.specs.Net.{AigPair, Agree, Differ}
 use Rattle.netlist.specs.Miter.{miter_of, variables_of}
 use Rattle.dimacs_text.specs.CnfText.{cnf_text}
 use Rattle.netlist.specs.Unlike.{unlike_of}
 use Rattle.byte_scan.specs.declared.errors.AigerErr.{AigerErr}
-use Rattle.aiger_ascii.specs.Ascii.{SpellsAscii, ascii_fault}
+use Rattle.aiger_ascii.specs.Ascii.{SpellsAscii, first_fault}
 use Rattle.proof_stitch.specs.Stitch.{IsRefutation}
 use Rattle.cec_top.specs.declared.stop.Stop.{Stop}
 use Rattle.cec_top.specs.declared.stop.Stop.TheVariants.{CannotRead, TooLong, BadFile, Unlike, NotEqual, CannotWrite, OutOfMemory}
@@ -28,7 +30,7 @@ HasCircuit s name c = IfSome s.files (λ files. IsSomeAnd (files name) (λ bytes
 
 -- the named file has this first fault, where the desk tells its files
 abbrev pub HasFault : DeskState → List ℕ → AigerErr → Type 0
-HasFault s name e = IfSome s.files (λ files. IsSomeAnd (files name) (λ bytes. ascii_fault bytes ≡ Some e))
+HasFault s name e = IfSome s.files (λ files. IsSomeAnd (files name) (λ bytes. first_fault bytes ≡ Some e))
 
 -- the named file is longer than the limit, where the desk tells its files
 abbrev pub IsLong : DeskState → List ℕ → Type 0
@@ -134,3 +136,8 @@ Finishes cnf proof net old new (Err CannotWrite) =
     ⊎ ((bytes : List ℕ) × IsProof net bytes × SaysVerdict (after_files old cnf proof net bytes) new (Err CannotWrite))
 Finishes cnf proof net old new (Err OutOfMemory) = TouchesOnly (cnf ∷ proof ∷ []) old new
 Finishes cnf proof net old new (Err _) = ⊥
+
+-- the circuits agree on every input, and the pair's miter is satisfiable exactly if they differ
+pub record IsDecided (net : AigPair) : Type 0 where
+  pub agree : Agree net
+  pub exact : IsSatisfiable opposite_literal (miter_of net) ↔ Differ net
