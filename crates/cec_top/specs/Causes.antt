@@ -1,5 +1,5 @@
 -- How a check goes, step by step: what each part of it makes of the desk, and the cause of each end without a verdict.
-use Rattle.std.specs.Prelude.{◌≡◌, ◌↔◌, ◌⊎◌, ℕ, ◌+◌, ◌<◌, List, [], ◌∷◌, ◌++◌, length, Option, Some, None, IfSome, IsSomeAnd, Result, Ok, Err, false, codes}
+use Rattle.std.specs.Prelude.{◌≡◌, ◌↔◌, ◌⊎◌, ℕ, ◌≤◌, List, [], ◌∷◌, ◌++◌, length, Option, Some, None, IfSome, IsSomeAnd, Result, Ok, Err, false, codes}
 use Rattle.std.specs.List.{list_any}
 use Rattle.std.specs.Option.{option_map}
 use Rattle.std.specs.Str.{bytes_eq}
@@ -24,13 +24,13 @@ use Rattle.cec_top.specs.Command.{CheckCommand, cnf_name, proof_name}
 abbrev pub limit : ℕ
 limit = 1073741824
 
--- the named file spells the circuit, where the desk tells its files
+-- the named file has at most that many bytes and spells the circuit, where the desk tells its files
 abbrev pub HasCircuit : DeskState → List ℕ → Aig → Type 0
-HasCircuit s name c = IfSome s.files (λ files. IsSomeAnd (files name) (λ bytes. SpellsAscii bytes c))
+HasCircuit s name c = IfSome s.files (λ files. IsSomeAnd (files name) (λ bytes. (length bytes ≤ limit) × SpellsAscii bytes c))
 
--- the named file has this first fault, where the desk tells its files
+-- the named file has at most that many bytes and this first fault, where the desk tells its files
 abbrev pub HasFault : DeskState → List ℕ → AigerErr → Type 0
-HasFault s name e = IfSome s.files (λ files. IsSomeAnd (files name) (λ bytes. first_fault bytes ≡ Some e))
+HasFault s name e = IfSome s.files (λ files. IsSomeAnd (files name) (λ bytes. (length bytes ≤ limit) × (first_fault bytes ≡ Some e)))
 
 -- the named file is longer than the limit, where the desk tells its files
 abbrev pub IsLong : DeskState → List ℕ → Type 0
@@ -51,7 +51,8 @@ after_reads s c = after_read (after_read s c.a) c.b
 
 -- both circuits are read, A first, and paired
 abbrev pub ReadsPair : CheckCommand → DeskState → DeskState → Result AigPair Stop → Type 0
-ReadsPair c old new (Ok net) = HasCircuit old c.a net.a × HasCircuit old c.b net.b × (new ≡ after_reads old c)
+ReadsPair c old new (Ok net) =
+    HasCircuit old c.a net.a × HasCircuit old c.b net.b × (unlike_of net.a net.b ≡ None) × (new ≡ after_reads old c)
 ReadsPair c old new (Err (CannotRead A)) = ReadFault (after_read old c.a) new
 ReadsPair c old new (Err (CannotRead B)) = (a : Aig) × HasCircuit old c.a a × ReadFault (after_reads old c) new
 ReadsPair c old new (Err (TooLong A)) = IsLong old c.a × (new ≡ after_read old c.a)
