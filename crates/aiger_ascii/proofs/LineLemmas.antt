@@ -1,6 +1,6 @@
 -- Lines of numbers, as a reader goes over them: digits, a space or the end.
-use Rattle.std.proofs.Common.{◌≡◌, ℕ, zero, suc, ◌+◌, ◌-◌, ◌<◌, ◌≤◌, Bool, true, false, cond, eqb, ltb, List, [], ◌∷◌, ◌++◌, length, map, get_or, drop, Option, Some, None, refl, sym, ap, ◌∙◌, ◌⊎◌, inl, inr, add-zero, add-one, append-nil, arith}
-use Rattle.std.specs.Prelude.{option_map, slice_get}
+use Rattle.std.proofs.Common.{◌≡◌, ℕ, zero, suc, ◌+◌, ◌<◌, ◌≤◌, Bool, true, false, eqb, List, [], ◌∷◌, ◌++◌, length, map, drop, Some, None, refl, sym, ap, ◌∙◌, ◌⊎◌, inl, inr, add-zero, arith}
+use Rattle.std.specs.Prelude.{slice_get}
 use Rattle.std.specs.Char.{is_ascii_digit}
 use Rattle.std.proofs.Math.Dec.{eqb-suc-zero}
 use Rattle.std.proofs.lemmas.Bool.{eqb-true, ne_eqb, true≢false}
@@ -123,6 +123,7 @@ misfit-no_space more at (b ∷ bs) none other = go (eqb b 10) refl
   where
     no_space : eqb b 32 ≡ false
     no_space = ne_eqb b 32 (λ e. other (ap (λ (x : ℕ). Some x) e))
+
     go : (t : Bool) → eqb b 10 ≡ t → misfit (suc more) true at (line_of (b ∷ bs)) ≡ Some at
     go true e = rw e refl
     go false e = rw (e, no_digit b bs none, no_space) refl

@@ -1,14 +1,13 @@
 -- The same of a scan that moves on.
-use Rattle.std.proofs.Common.{◌≡◌, ◌≢◌, ℕ, zero, suc, ◌+◌, ◌-◌, ◌<◌, ◌≤◌, min, List, [], ◌∷◌, length, drop, Option, Some, None, ◌⊎◌, inl, inr, refl, sym, ap, ◌∙◌, length-drop, arith}
-use Rattle.std.specs.Prelude.{option_map, slice_get}
+use Rattle.std.proofs.Common.{◌≡◌, ℕ, suc, ◌+◌, ◌<◌, ◌≤◌, min, List, [], ◌∷◌, length, drop, Some, None, ◌⊎◌, inl, inr, refl, sym, ◌∙◌, length-drop, arith}
+use Rattle.std.specs.Prelude.{slice_get}
 use Rattle.std.proofs.lemmas.List.{drop-drop}
 use Rattle.std.proofs.lemmas.Option.{none-some, slice_get_within}
-use Rattle.std.proofs.Math.Seq.{drop-nil}
 use Rattle.std.proofs.Math.ListN.{drop_of_length-le}
-use Rattle.byte_scan.specs.Scanning.{Place, ahead, moved, digits, number_of, line_of}
-use Rattle.aiger_ascii.specs.Lines.{misplaced, form_fault, lines_from}
+use Rattle.byte_scan.specs.Scanning.{Place, ahead, moved, digits, number_of}
+use Rattle.aiger_ascii.specs.Lines.{misplaced, form_fault}
 use Rattle.aiger_ascii.specs.Reading.{line_at, lines_ahead, PassesNumber, PassesLine}
-use Rattle.aiger_ascii.proofs.LineLemmas.{misfit-none, misfit-number, misfit-space, misfit-no_space, misfit-end, misfit-no_end, digits-le, digits-some, digits-end, numbers-space, numbers-end, later-digits, later-space, later-feed}
+use Rattle.aiger_ascii.proofs.LineLemmas.{misfit-none, misfit-number, misfit-space, misfit-no_space, misfit-end, misfit-no_end, digits-le, digits-some, digits-end, numbers-space, later-digits, later-space, later-feed}
 
 -- q is k bytes behind p
 pub record Behind (p q : Place) (k : ℕ) : Type 0 where
@@ -59,7 +58,6 @@ PassesNumber-from p q r n some first space second = record {
   numbers = numbers-space (ahead p) (ahead q) n some first.rest space ∙ rw second.rest refl;
   later = sym (later-digits p.at (ahead p) ∙ rw (← first.at, ← first.rest) (later-space q.at (ahead q) space ∙ rw (← second.at, ← second.rest) refl));
 }
-
 
 pub whole_line : (p q : Place) (n : ℕ) → number_of (ahead p) ≡ Some n → Behind p q (length (digits (ahead p))) → (slice_get (ahead q) 0 ≡ None) ⊎ (slice_get (ahead q) 0 ≡ Some 10) → form_fault (length p.bytes) 0 (line_at p) ≡ None
 whole_line p q n some first end =

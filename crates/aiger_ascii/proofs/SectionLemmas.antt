@@ -1,12 +1,14 @@
 -- Lines that are read one after the other: what was read of the lines that are due, and what is left.
-use Rattle.std.proofs.Common.{◌≡◌, ℕ, zero, suc, ◌+◌, ◌-◌, ◌<◌, ◌≤◌, List, [], ◌∷◌, ◌++◌, length, map, drop, Option, Some, None, refl, sym, ap, ◌∙◌, append_assoc, append-nil, length-drop, arith}
+use Rattle.std.proofs.Common.{◌≡◌, ℕ, suc, ◌+◌, ◌-◌, ◌<◌, ◌≤◌, List, [], ◌∷◌, ◌++◌, length, map, drop, Some, None, refl, sym, ap, ◌∙◌, append_assoc, append-nil, length-drop, arith}
 use Rattle.std.proofs.Math.Nat.{sub-zero}
 use Rattle.std.proofs.lemmas.List.{drop-drop}
-use Rattle.std.proofs.Math.ListN.{drop_of_length-le}
 use Rattle.byte_scan.specs.declared.errors.AigerErr.{AigerErr}
-use Rattle.byte_scan.specs.Scanning.{Place, ahead, line_of}
+use Rattle.byte_scan.specs.Scanning.{Place, ahead}
 use Rattle.aiger_ascii.specs.Lines.{Line, due, lines_from}
-use Rattle.aiger_ascii.specs.Ascii.{defined_by, definition_line_fault, definitions_fault, output_line_fault, outputs_fault}
+use Rattle.std.specs.Prelude.{slice_get}
+use Rattle.std.proofs.lemmas.Option.{none-some, slice_get_within}
+use Rattle.byte_scan.specs.declared.errors.AigerErr.TheVariants.{BadSymbol}
+use Rattle.aiger_ascii.specs.Ascii.{trailing_fault, defined_by, definition_line_fault, definitions_fault, output_line_fault, outputs_fault}
 use Rattle.aiger_ascii.specs.Reading.{line_at, lines_ahead, PassesLine, PassesLines}
 use Rattle.aiger_ascii.proofs.LineLemmas.{first_line}
 
@@ -112,3 +114,15 @@ HasOutputs-fault most start p count k e has passed lt fault =
 
 pub HasOutputs-all : (most : ℕ) (start p : Place) (count k : ℕ) → HasOutputs most start p count k → count ≤ k → outputs_fault (length start.bytes) most (due (length start.bytes) count (lines_ahead start)) ≡ None
 HasOutputs-all most start p count k has le = has.fault ∙ rw (left-none p count k le) refl
+
+-- ---- what follows the last line
+
+pub trailing_fault-none : (p : Place) → slice_get (ahead p) 0 ≡ None → trailing_fault (lines_ahead p) ≡ None
+trailing_fault-none p none = go (ahead p) none
+  where
+    go : (bs : List ℕ) → slice_get bs 0 ≡ None → trailing_fault (lines_from p.at bs) ≡ None
+    go [] e = refl
+    go (b ∷ bs) e = absurd (none-some b (sym e))
+
+pub trailing_fault-byte : (p : Place) (b : ℕ) → slice_get (ahead p) 0 ≡ Some b → trailing_fault (lines_ahead p) ≡ Some (BadSymbol p.at)
+trailing_fault-byte p b some = rw (first_line p.at (ahead p) (slice_get_within (ahead p) 0 b some)) refl

@@ -1,21 +1,22 @@
 -- What an ASCII AIGER file spells, and its first fault (A. Biere, The AIGER And-Inverter Graph Format,
 -- 2007; AIGER 1.9).
-use Rattle.std.specs.Prelude.{◌≡◌, ℕ, ◌+◌, ◌/◌, List, [], ◌∷◌, ◌++◌, length, map, drop, Option, Some, None, unwrap_or, slice_index}
+use Rattle.std.specs.Prelude.{◌≡◌, ℕ, ◌+◌, List, [], ◌∷◌, ◌++◌, length, map, drop, Option, Some, None, unwrap_or, slice_index}
 use Rattle.byte_scan.specs.declared.errors.AigerErr.{AigerErr}
 use Rattle.byte_scan.specs.declared.errors.AigerErr.TheVariants.{BadSymbol}
 use Rattle.byte_scan.specs.declared.counts.Header.{Header}
 use Rattle.byte_scan.specs.Scanning.{line_of}
 use Rattle.byte_scan.specs.HeaderLine.{header_fault, header_numbers, header_of}
 use Rattle.byte_scan.specs.Faults.{◌or_else◌}
-use Rattle.aiger_ascii.specs.declared.parts.And.{And}
+use Rattle.netlist.specs.declared.gate.And.{And}
+use Rattle.netlist.specs.Circuit.{Aig, var_of, variables_in}
 use Rattle.aiger_ascii.specs.Lines.{Line, lines_from, due, form_fault, first_number, numbers_of}
-use Rattle.aiger_ascii.specs.Literals.{variable_of, variables_of, uses_fault, literals_fault, undefined_among, undefined_fanin}
+use Rattle.aiger_ascii.specs.Literals.{uses_fault, literals_fault, undefined_among, undefined_fanin}
 
 -- ---- the lines, one number or three each
 
 -- the variable that a line defines
 abbrev pub defined_by : Line → ℕ
-defined_by line = variable_of (first_number line)
+defined_by line = var_of (first_number line)
 
 -- An input's line and a gate's: its form, then its literals from the left.
 abbrev pub definition_line_fault : ℕ → ℕ → ℕ → List ℕ → Line → Option AigerErr
@@ -60,14 +61,9 @@ gate_lines total h lines = due total h.a (drop (h.i + h.o) lines)
 abbrev pub gate_of : Line → And
 gate_of line = record { var = defined_by line; left = slice_index (numbers_of line) 1; right = slice_index (numbers_of line) 2 }
 
--- a circuit's inputs and gates by their variables, and its outputs
-pub record Parts : Type 0 where
-  pub inputs : List ℕ
-  pub gates : List And
-  pub outputs : List ℕ
-
-abbrev pub parts_of : ℕ → Header → List Line → Parts
-parts_of total h lines = record {
+-- the circuit that the lines say
+abbrev pub circuit_of : ℕ → Header → List Line → Aig
+circuit_of total h lines = record {
   inputs = map defined_by (input_lines total h lines);
   gates = map gate_of (gate_lines total h lines);
   outputs = map first_number (output_lines total h lines);
@@ -78,19 +74,24 @@ abbrev pub trailing_fault : List Line → Option AigerErr
 trailing_fault [] = None
 trailing_fault (line ∷ lines) = Some (BadSymbol line.at)
 
--- After the last gate: an output may name any gate, a fanin only one of an earlier line.
-unfoldable pub parts_fault : Parts → Option AigerErr
-parts_fault parts =
-    undefined_among (parts.inputs ++ variables_of parts.gates) parts.outputs
-    or_else undefined_fanin parts.inputs parts.gates
+-- After the last gate: an output may name the constants, inputs and all gates, a fanin only gates of
+-- earlier lines.
+unfoldable pub circuit_fault : Aig → Option AigerErr
+circuit_fault c =
+    undefined_among (variables_in c) c.outputs or_else undefined_fanin (0 ∷ c.inputs) c.gates
 
--- The faults behind the header, in the order in which they are judged.
-unfoldable pub body_fault : ℕ → Header → List Line → Option AigerErr
-body_fault total h lines =
+-- The faults of the lines, in their order.
+unfoldable pub lines_fault : ℕ → Header → List Line → Option AigerErr
+lines_fault total h lines =
     definitions_fault total h.m 0 [] (input_lines total h lines)
     or_else outputs_fault total h.m (output_lines total h lines)
     or_else definitions_fault total h.m 2 (map defined_by (input_lines total h lines)) (gate_lines total h lines)
-    or_else parts_fault (parts_of total h lines)
+
+-- The faults behind the header: of the lines, then of what they say, then of what follows them.
+unfoldable pub body_fault : ℕ → Header → List Line → Option AigerErr
+body_fault total h lines =
+    lines_fault total h lines
+    or_else circuit_fault (circuit_of total h lines)
     or_else trailing_fault (drop (h.i + h.o + h.a) lines)
 
 -- the first fault of a file
@@ -98,7 +99,7 @@ unfoldable pub first_fault : List ℕ → Option AigerErr
 first_fault bytes =
     header_fault 97 (line_of bytes) or_else body_fault (length bytes) (header_in bytes) (body_lines bytes)
 
--- the bytes spell these parts, without a fault
-pub record SpellsAscii (bytes : List ℕ) (parts : Parts) : Type 0 where
+-- The bytes spell this circuit, and have no fault.
+pub record SpellsAscii (bytes : List ℕ) (c : Aig) : Type 0 where
   pub sound : first_fault bytes ≡ None
-  pub spelt : parts ≡ parts_of (length bytes) (header_in bytes) (body_lines bytes)
+  pub spelt : c ≡ circuit_of (length bytes) (header_in bytes) (body_lines bytes)

@@ -1,5 +1,5 @@
 -- The lines of an ASCII AIGER file, and where the first of them departs from its form.
-use Rattle.std.specs.Prelude.{ℕ, zero, suc, ◌+◌, ◌-◌, Bool, true, false, ◌&&◌, List, [], ◌∷◌, length, map, Option, Some, None, option_map, nat_lt, ◌==◌, if◌then◌else◌, slice_index}
+use Rattle.std.specs.Prelude.{ℕ, zero, suc, ◌+◌, Bool, true, false, ◌&&◌, List, [], ◌∷◌, map, Option, Some, None, option_map, nat_lt, ◌==◌, if◌then◌else◌, slice_index}
 use Rattle.std.specs.Char.{is_ascii_digit}
 use Rattle.byte_scan.specs.declared.errors.AigerErr.{AigerErr}
 use Rattle.byte_scan.specs.declared.errors.AigerErr.TheVariants.{BadNumber, Truncated}

@@ -1,7 +1,9 @@
 -- What the reader's own functions say of where its scan stood and stands.
-use Rattle.std.specs.Prelude.{◌≡◌, ℕ, suc, ◌≤◌, Bool, false, List, [], ◌∷◌, length, drop, slice_index_or}
+use Rattle.std.specs.Prelude.{◌≡◌, ℕ, suc, ◌≤◌, ◌==◌, Bool, false, List, ◌∷◌, length, drop, slice_index_or}
 use Rattle.byte_scan.specs.Scanning.{Place, ahead, line_of}
-use Rattle.aiger_ascii.specs.Literals.{has}
+use Rattle.lits.specs.Clause.{has}
+use Rattle.aiger_ascii.specs.declared.parts.Parts.{Parts}
+use Rattle.netlist.specs.Circuit.{Aig}
 use Rattle.aiger_ascii.specs.Lines.{Line, lines_from, form_fault, numbers_of}
 
 -- what is left of the line that the scan stands in
@@ -33,4 +35,8 @@ pub record PassesLines (n : ℕ) (old new : Place) : Type 0 where
 
 -- The table says of each variable whether it is one of these.
 abbrev pub IsTable : List Bool → List ℕ → Type 0
-IsTable table variables = (v : ℕ) → slice_index_or table v false ≡ has variables v
+IsTable table variables = (v : ℕ) → slice_index_or table v false ≡ has ◌==◌ variables v
+
+-- the circuit of the parts that were read
+abbrev pub circuit_in : Parts → Aig
+circuit_in parts = record { inputs = parts.inputs.items; gates = parts.gates.items; outputs = parts.outputs.items }

@@ -6,9 +6,9 @@ ghost use Rattle.aiger_ascii.specs.Reading.{IsTable, PassesLine, line_at};
 
 use crate::line::{one_number, three_numbers};
 use crate::literals::{defined_variable, used_literal};
-use crate::parts::And;
 use crate::table::Table;
 use byte_scan::{AigerErr, Scan};
+use netlist::And;
 
 /// Reads the line of an input, and answers its variable.
 pub(crate) fn input(scan: &mut Scan, most: u32, defined: &mut Table) -> Result<u32, AigerErr>

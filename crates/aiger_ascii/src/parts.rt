@@ -1,17 +1,9 @@
-use std::alloc::Global;
+use netlist::And;
 
-/// A gate.
-#[derive(Clone, Copy, Debug, PartialEq, Eq)]
-pub struct And {
-    pub var: u32,
-    pub left: u32,
-    pub right: u32,
-}
-
-/// What a file spells.
-#[derive(Debug, Drop)]
-pub struct Parts {
-    pub inputs: Vec<u32>,
-    pub gates: Vec<And>,
-    pub outputs: Vec<u32>,
+/// What the lines of a file say, in their order: the inputs' variables, the gates, the outputs' literals.
+#[derive(Drop)]
+pub(crate) struct Parts {
+    pub(crate) inputs: Vec<u32>,
+    pub(crate) gates: Vec<And>,
+    pub(crate) outputs: Vec<u32>,
 }

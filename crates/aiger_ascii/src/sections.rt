@@ -1,14 +1,14 @@
 ghost use Rattle.std.specs.Prelude.{◌≡◌, ◌≢◌, ◌≤◌, ℕ, List, [], ◌++◌, length, map, IfOk, IfErr, OnOk, Some, None};
 ghost use Rattle.byte_scan.specs.declared.errors.AigerErr.TheVariants.{NoMemory};
 ghost use Rattle.aiger_ascii.specs.Lines.{due, first_number};
-ghost use Rattle.aiger_ascii.specs.Literals.{variables_of};
+ghost use Rattle.netlist.specs.Circuit.{gate_vars};
 ghost use Rattle.aiger_ascii.specs.Ascii.{defined_by, definitions_fault, gate_of, outputs_fault};
 ghost use Rattle.aiger_ascii.specs.Reading.{IsTable, PassesLines, lines_ahead};
 
 use crate::entries::{gate, input, output};
-use crate::parts::And;
 use crate::table::Table;
 use byte_scan::{AigerErr, Scan};
+use netlist::And;
 use std::alloc::Global;
 
 /// Reads the lines of the inputs, and answers their variables.
@@ -30,7 +30,7 @@ pub(crate) fn inputs(
     ensures passes { OnOk result (PassesLines count scan.old scan.new) }
     ensures fault { IfErr result (λ e. e ≢ NoMemory →
         definitions_fault (length scan.old.bytes) most 0 []
-            (due (length scan.old.bytes) count (lines_ahead scan.old)) ≡ Some e) }
+        (due (length scan.old.bytes) count (lines_ahead scan.old)) ≡ Some e) }
 {
     let mut inputs = Vec::new(alloc);
     for _ in 0..count {
@@ -55,7 +55,7 @@ pub(crate) fn outputs(
     ensures passes { OnOk result (PassesLines count scan.old scan.new) }
     ensures fault { IfErr result (λ e. e ≢ NoMemory →
         outputs_fault (length scan.old.bytes) most
-            (due (length scan.old.bytes) count (lines_ahead scan.old)) ≡ Some e) }
+        (due (length scan.old.bytes) count (lines_ahead scan.old)) ≡ Some e) }
 {
     let mut outputs = Vec::new(alloc);
     for _ in 0..count {
@@ -78,15 +78,15 @@ pub(crate) fn gates(
         v.items ≡ map gate_of (due (length scan.old.bytes) count (lines_ahead scan.old))) }
     ensures table { IfOk result (λ v. (inputs : List ℕ) →
         IsTable defined.old.marks.items inputs →
-        IsTable defined.new.marks.items (inputs ++ variables_of v.items)) }
+        IsTable defined.new.marks.items (inputs ++ gate_vars v.items)) }
     ensures sound { OnOk result ((inputs : List ℕ) → IsTable defined.old.marks.items inputs →
         definitions_fault (length scan.old.bytes) most 2 inputs
-            (due (length scan.old.bytes) count (lines_ahead scan.old)) ≡ None) }
+        (due (length scan.old.bytes) count (lines_ahead scan.old)) ≡ None) }
     ensures passes { OnOk result (PassesLines count scan.old scan.new) }
     ensures fault { IfErr result (λ e. e ≢ NoMemory → (inputs : List ℕ) →
         IsTable defined.old.marks.items inputs →
         definitions_fault (length scan.old.bytes) most 2 inputs
-            (due (length scan.old.bytes) count (lines_ahead scan.old)) ≡ Some e) }
+        (due (length scan.old.bytes) count (lines_ahead scan.old)) ≡ Some e) }
 {
     let mut gates = Vec::new(alloc);
     for _ in 0..count {

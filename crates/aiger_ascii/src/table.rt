@@ -21,10 +21,7 @@ impl Table {
     pub(crate) fn has(&self, variable: u32) -> bool
         ensures { result ≡ slice_index_or self.now.marks.items variable false }
     {
-        self.marks
-            .get(variable as usize)
-            .copied()
-            .unwrap_or(false)
+        self.marks.get(variable as usize).copied().unwrap_or(false)
     }
 
     /// An `Err` may leave the table longer, with no other variable in it.

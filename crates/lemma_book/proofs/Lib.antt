@@ -3,3 +3,9 @@ pub mod ThereLemmas
 pub mod FaninLemmas
 pub mod RisingLemmas
 pub mod ConeLemmas
+pub mod AxiomLemmas
+pub mod WalkLemmas
+pub mod ReachLemmas
+pub mod FaultLemmas
+pub mod LogLemmas
+pub mod MeetLemmas

@@ -67,7 +67,7 @@ module _ {X : Type 0} (eq : X → X → Bool) where
       go false e rest = rw e rest
 
   -- a clause without repeats is what stays of it
-  pub firsts-once : (xs : List X) → no_repeat eq xs ≡ true → ((x y : X) → eq x y ≡ true → eq y x ≡ true) → firsts eq xs ≡ xs
+  pub firsts-once : (xs : List X) → no_repeat eq xs ≡ true → ((x y : X) → eq x y ≡ eq y x) → firsts eq xs ≡ xs
   firsts-once [] p flips = refl
   firsts-once (x ∷ xs) p flips =
       let parts = and_both (not (has eq xs x)) (no_repeat eq xs) p in
@@ -81,7 +81,7 @@ module _ {X : Type 0} (eq : X → X → Bool) where
           split = or_none (eq y x) (has eq ys x) none
 
           go : (b : Bool) → eq x y ≡ b → filter (λ z. not (eq x z)) ys ≡ ys → filter (λ z. not (eq x z)) (y ∷ ys) ≡ y ∷ ys
-          go true e rest = contrary (eq y x) (flips x y e) split.0
+          go true e rest = contrary (eq y x) (flips y x ∙ e) split.0
           go false e rest = rw e (ap (λ (l : List X). y ∷ l) rest)
 
 -- a function that tells elements apart as `other` does makes no repeats

@@ -16,7 +16,7 @@ use Rattle.lemma_book.specs.declared.entry.Entry.{Entry}
 use Rattle.lemma_book.specs.declared.entry.Entry.TheVariants.{Out, OutApart, OutSpent}
 use Rattle.lemma_book.specs.Entry.{Entries, output_of, has_output, axiom_named, EndsEqual, IsGood}
 use Rattle.lemma_book.specs.Book.{IsLegal}
-use Rattle.proof_stitch.specs.Refutation.{is_out, out_steps}
+use Rattle.proof_stitch.specs.Stitch.{is_out, out_steps}
 use Rattle.proof_stitch.proofs.StepLemmas.{IsDerived}
 
 -- what a good entry says without the entries before it

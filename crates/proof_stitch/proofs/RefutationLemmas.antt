@@ -1,5 +1,5 @@
 -- The entries of a legal book that has an Out entry for each output refute the miter.
-use Rattle.std.proofs.Common.{◌≡◌, ℕ, suc, ◌+◌, ◌*◌, ◌-◌, ◌<◌, ◌≤◌, ◌^◌, Bool, true, false, ◌||◌, Option, Some, None, List, [], ◌∷◌, ◌++◌, length, map, refl, sym, ap, ◌∙◌, subst, arith, length-append, append_assoc}
+use Rattle.std.proofs.Common.{◌≡◌, ℕ, suc, ◌+◌, ◌*◌, ◌-◌, ◌<◌, ◌≤◌, ◌^◌, Bool, true, false, ◌||◌, Option, Some, None, Err, List, [], ◌∷◌, ◌++◌, length, map, refl, sym, ap, ◌∙◌, subst, arith, length-append, append_assoc}
 use Rattle.std.specs.Prelude.{slice_get, option_map, unwrap_or}
 use Rattle.std.specs.List.{list_any, range_with_len, AllByRecursion}
 use Rattle.std.proofs.lemmas.List.{length-map, append-nil}
@@ -28,7 +28,11 @@ use Rattle.lrat_text.specs.Writing.{text_from, AreWritable, numbered as lines_fr
 use Rattle.lrat_text.specs.Reading.{SpellsLrat}
 use Rattle.lrat_text.specs.Derivation.{same_literal, opposite_literal, formula_live, adds_empty, Refutes}
 use Rattle.proof_stitch.specs.Steps.{additions_from, additions}
-use Rattle.proof_stitch.specs.Refutation.{is_out, HasOut, out_steps, unit_id, out_additions, empty_addition, refutation_of, IsRefutation}
+use Rattle.proof_stitch.specs.Stitch.{is_out, HasOut, out_steps, unit_id, out_additions, empty_addition, refutation_of, IsRefutation, WritesRefutation}
+use Rattle.proof_stitch.specs.Refused.{refusal_of}
+use Rattle.desk_port.specs.Desk.{DeskState, Writes}
+use Rattle.desk_port.specs.declared.errors.PutErr.{PutErr}
+use Rattle.desk_port.specs.declared.errors.PutErr.TheVariants as not_put
 use Rattle.proof_stitch.proofs.AxiomLemmas.{there}
 use Rattle.proof_stitch.proofs.GrowLemmas.{Formula, live-is, Grows, grows-derives, grows-writable}
 use Rattle.proof_stitch.proofs.StepLemmas.{IsThere, clause_of, clauses_in, HasMiter, IsDerived, FitsDimacs, grows-lists}
@@ -120,7 +124,7 @@ unit-live net budget (x ∷ es) base id e sound j has_out =
         (append_assoc base (map (clause_of net) (out_steps x)) rest_of) (rest (rw f at has_out)))
 
 -- as many clauses as additions
-length-additions_from : (net : AigPair) (first id : ℕ) (steps : List Step) → length (additions_from net first id steps) ≡ length steps
+pub length-additions_from : (net : AigPair) (first id : ℕ) (steps : List Step) → length (additions_from net first id steps) ≡ length steps
 length-additions_from net first id [] = refl
 length-additions_from net first id (s ∷ ss) = ap suc (length-additions_from net first (id + 1) ss)
 
@@ -246,3 +250,9 @@ module _ (net : AigPair) (budget : ℕ) (entries : List Entry) (proved : IsProve
     };
     count_is = sym (length-lines_from 1 (refutation_of net entries));
   }
+
+-- a refutation that the desk refused
+pub refused : (net : AigPair) (old new : DeskState) (text : List ℕ) (count : ℕ) (p : PutErr) → IsRefutation net text count
+    → Writes old new text (Err p) → WritesRefutation net old new (Err (refusal_of p))
+refused net old new text count not_put.Failed is writes = (text, writes, (count, is))
+refused net old new text count not_put.NoMemory is writes = writes

@@ -1,3 +1,4 @@
 pub mod Steps
 pub mod Ids
-pub mod Refutation
+pub mod Refused
+pub mod Stitch

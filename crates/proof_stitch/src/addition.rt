@@ -4,7 +4,6 @@ ghost use Rattle.netlist.specs.Miter.{numbered, cnf_number_of};
 ghost use Rattle.proof_stitch.specs.Steps.{id_of, addition};
 ghost use Rattle.proof_stitch.specs.Ids.{HasId, HasIds};
 
-use crate::standin::{clause_number, cnf_number};
 use lits::{Dim, Listed, Lit, Ref, Step};
 use lrat_text::LratStep;
 use netlist::Net;
@@ -39,7 +38,7 @@ fn number(net: &Net, lit: Lit) -> Dim
     requires { IsSome (cnf_number_of net.now lit) }
     ensures { result ≡ numbered net.now lit }
 {
-    cnf_number(net, lit).unwrap()
+    net.cnf_number(lit).unwrap()
 }
 
 fn ids(alloc: Global, net: &Net, first: u64, hints: &[Ref]) -> Result<Vec<u64>, AllocError>
@@ -58,7 +57,7 @@ fn id(net: &Net, first: u64, name: Ref) -> u64
     ensures { result ≡ id_of net.now first name }
 {
     match name {
-        Ref::Axiom(node, k) => u64::from(clause_number(net, node, k).unwrap()),
+        Ref::Axiom(node, k) => u64::from(net.clause_number(node, k).unwrap()),
         Ref::Entry(_, _) => 0,
         Ref::Own(k) => first + k,
     }

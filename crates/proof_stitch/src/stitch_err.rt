@@ -19,3 +19,17 @@ impl From<AllocError> for StitchErr {
         StitchErr::NoMemory
     }
 }
+
+impl From<PutErr> for StitchErr {
+    ghost use Rattle.std.specs.Prelude.{◌≡◌};
+    ghost use Rattle.proof_stitch.specs.Refused.{refusal_of};
+
+    ghost from_gives = { λ p e. e ≡ refusal_of p };
+
+    fn from(error: PutErr) -> StitchErr {
+        match error {
+            PutErr::Failed => StitchErr::Write,
+            PutErr::NoMemory => StitchErr::NoMemory,
+        }
+    }
+}
