@@ -6,3 +6,4 @@ pub mod XorLemmas
 pub mod BookLemmas
 pub mod RefutationLemmas
 pub mod WriterLemmas
+pub mod PlaceLemmas

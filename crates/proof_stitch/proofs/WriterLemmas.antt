@@ -267,9 +267,9 @@ at-done {net} {budget} {text0} {last0} {entries} {given} {text} {last} {units} i
     (subst (λ (l : List Entry). IsAt net budget text0 last0 l (drop i l) text last units) same at)
 
 -- a list that was lent whole, as it comes back
-pub written_back : (xs ys : List ℕ) (n : ℕ) → n ≡ length ys → length xs ≡ length ys → take n (xs ++ drop (length xs) ys) ≡ xs
+pub written_back : {X : Type 0} (xs ys : List X) (n : ℕ) → n ≡ length ys → length xs ≡ length ys → take n (xs ++ drop (length xs) ys) ≡ xs
 written_back xs ys n e f =
-    ap₂ (λ (k : ℕ) (zs : List ℕ). take k (xs ++ zs)) (e ∙ sym f) (drop_of_length-le ys (omega arith))
+    ap₂ (λ (k : ℕ) (zs : List _). take k (xs ++ zs)) (e ∙ sym f) (drop_of_length-le ys (omega arith))
     ∙ ap (take (length xs)) (append-nil xs) ∙ take-length xs
 
 -- the text of some lists, and of what stands behind them

@@ -10,13 +10,16 @@
 #![tactic(auto)]
 
 pub use refuting::refutation;
+pub use span::Span;
 pub use stitch_err::StitchErr;
 
 mod refuting;
 
 mod outs;
+mod places;
 
 mod proof_text;
 
 mod addition;
+mod span;
 mod stitch_err;
