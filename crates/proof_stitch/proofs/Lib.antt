@@ -7,3 +7,4 @@ pub mod BookLemmas
 pub mod RefutationLemmas
 pub mod WriterLemmas
 pub mod PlaceLemmas
+pub mod LogLemmas

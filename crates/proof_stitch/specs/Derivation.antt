@@ -48,13 +48,15 @@ abbrev pub derivation_of : AigPair → List Entry → List LratStep
 derivation_of net entries =
     additions net (length (miter_of net) + 1) (map out_steps entries ++ map (spent_log entries) (outputs_of net))
 
--- the ids of the logs of the outputs with one, where the first of these logs has the ids from that one on
+-- the ids of an output's log that begins under that id, if the output has one
+abbrev pub span_of : List Entry → ℕ → ℕ → List Span
+span_of entries id j =
+    if has_spent entries j then record { output = j; first = id; last = id + length (spent_log entries j) - 1 } ∷ [] else []
+
+-- those of some outputs' logs, one behind the other
 abbrev pub spans_from : List Entry → ℕ → List ℕ → List Span
 spans_from entries id [] = []
-spans_from entries id (j ∷ js) =
-    let next = id + length (spent_log entries j) in
-    if has_spent entries j then record { output = j; first = id; last = next - 1 } ∷ spans_from entries next js
-    else spans_from entries next js
+spans_from entries id (j ∷ js) = span_of entries id j ++ spans_from entries (id + length (spent_log entries j)) js
 
 -- those of a book's derivation
 abbrev pub spans_of : AigPair → List Entry → List Span

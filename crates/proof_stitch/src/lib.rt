@@ -15,6 +15,7 @@ pub use stitch_err::StitchErr;
 
 mod refuting;
 
+mod logs;
 mod outs;
 mod places;
 
