@@ -27,7 +27,7 @@ use Rattle.lemma_book.specs.declared.entry.Entry.TheVariants.{Out, OutApart, Out
 use Rattle.lemma_book.specs.Entry.{Entries, output_of, has_output, axiom_named, EndsEqual, IsGood}
 use Rattle.lemma_book.specs.Book.{IsLegal}
 use Rattle.proof_stitch.specs.Stitch.{is_out, out_steps}
-use Rattle.proof_stitch.specs.Derivation.{log_of}
+use Rattle.proof_stitch.specs.Derivation.{is_spent, log_of}
 use Rattle.proof_stitch.proofs.StepLemmas.{IsDerived}
 
 -- what a good entry says without the entries before it
@@ -38,6 +38,7 @@ pub record IsSound (net : AigPair) (budget : ℕ) (entry : Entry) : Type 0 where
   pub unit : (j : ℕ) → is_out j entry ≡ true → EndsEqual j (out_steps entry)
   pub logged : IsDerived net (log_of entry)
   pub log_short : length (log_of entry) ≤ budget
+  pub log_whole : (j : ℕ) → is_spent j entry ≡ true → length (log_of entry) ≡ budget
 
 -- the entry is good over those before it
 abbrev pub IsGoodAfter : AigPair → ℕ → List Entry → Entry → Type 0
@@ -93,6 +94,7 @@ good-sound net budget before (Out k steps) good = record {
   unit = λ j e. subst (λ (i : ℕ). EndsEqual i steps) (equal-number k j e) good.shown.shape;
   logged = nothing net;
   log_short = omega arith;
+  log_whole = λ j e. cc;
 }
 good-sound net budget before (OutApart k input) good = record {
   output = good.output;
@@ -101,6 +103,7 @@ good-sound net budget before (OutApart k input) good = record {
   unit = λ j e. cc;
   logged = nothing net;
   log_short = omega arith;
+  log_whole = λ j e. cc;
 }
 good-sound net budget before (OutSpent k seen log) good = record {
   output = good.output;
@@ -114,6 +117,7 @@ good-sound net budget before (OutSpent k seen log) good = record {
     chain = in_turn-map (IsLearned good.shown.cone) (IsStepAfter (base_clause good.shown.cone)) [] log (λ b x p. p.step) good.shown.spent.learned;
   };
   log_short = omega (arith, good.shown.spent.whole);
+  log_whole = λ j e. good.shown.spent.whole;
 }
 
 pub legal-sound : (net : AigPair) (budget : ℕ) (before entries : List Entry) → InTurn (IsGoodAfter net budget) before entries

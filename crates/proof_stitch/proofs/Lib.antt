@@ -8,3 +8,4 @@ pub mod RefutationLemmas
 pub mod WriterLemmas
 pub mod PlaceLemmas
 pub mod LogLemmas
+pub mod DerivationLemmas

@@ -126,6 +126,38 @@ log-short net budget (x ∷ xs) j sound = go (is_spent j x) refl (log-short net 
     go true f rest = rw f sound.0.log_short
     go false f rest = rw f rest
 
+-- the log of a query that spent its budget is as long as that
+log-whole : (net : AigPair) (budget : ℕ) (entries : List Entry) (j : ℕ) → AllByRecursion (IsSound net budget) entries
+    → has_spent entries j ≡ true → length (spent_log entries j) ≡ budget
+log-whole net budget [] j sound e = cc
+log-whole net budget (x ∷ xs) j sound e = go (is_spent j x) refl (log-whole net budget xs j sound.1)
+  where
+    go : (b : Bool) → is_spent j x ≡ b → (has_spent xs j ≡ true → length (spent_log xs j) ≡ budget) → length (spent_log (x ∷ xs) j) ≡ budget
+    go true f rest = rw f (sound.0.log_whole j f)
+    go false f rest = rw f (rest (rw f at e))
+
+-- and so are the spans
+spans-from-whole : (net : AigPair) (budget : ℕ) (entries : List Entry) (id : ℕ) (js : List ℕ) → 1 ≤ budget → AllByRecursion (IsSound net budget) entries
+    → AllByRecursion (λ s. s.last + 1 ≡ s.first + budget) (spans_from entries id js)
+spans-from-whole net budget entries id [] some sound = tt
+spans-from-whole net budget entries id (j ∷ js) some sound =
+    go (has_spent entries j) refl (spans-from-whole net budget entries (id + length (spent_log entries j)) js some sound)
+  where
+    Rest : Type 0
+    Rest = AllByRecursion (λ s. s.last + 1 ≡ s.first + budget) (spans_from entries (id + length (spent_log entries j)) js)
+
+    go : (b : Bool) → has_spent entries j ≡ b → Rest → AllByRecursion (λ s. s.last + 1 ≡ s.first + budget) (spans_from entries id (j ∷ js))
+    go true f rest =
+        let whole : id + length (spent_log entries j) - 1 + 1 ≡ id + budget = omega (arith, log-whole net budget entries j sound f) in
+        rw f (whole, rest)
+    go false f rest = rw f rest
+
+pub spans-whole : (net : AigPair) (budget : ℕ) (entries : List Entry) (id : ℕ) (js : List ℕ) → 1 ≤ budget
+    → InTurn (IsGoodAfter net budget) [] entries → All (λ s. s.last + 1 ≡ s.first + budget) (spans_from entries id js)
+spans-whole net budget entries id js some legal =
+    All-from_recursion (λ s. s.last + 1 ≡ s.first + budget) (spans_from entries id js)
+    (spans-from-whole net budget entries id js some (legal-sound net budget [] entries legal))
+
 logs-most : (net : AigPair) (budget : ℕ) (entries : List Entry) (n a : ℕ) → budget ≤ 1000000000 → AllByRecursion (IsSound net budget) entries
     → total (map (spent_log entries) (range_with_len a n)) ≤ n * 1000000000
 logs-most net budget entries zero a low sound = omega arith
