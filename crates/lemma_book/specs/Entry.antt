@@ -1,5 +1,5 @@
 -- When an entry is good over the entries before it, and the first fault of one that isn't.
-use Rattle.std.specs.Prelude.{◌≡◌, ◌≢◌, ℕ, ◌+◌, ◌<◌, ◌≤◌, ◌==◌, Bool, true, false, Option, Some, None, IsSome, List, [], ◌∷◌, ◌++◌, length, map}
+use Rattle.std.specs.Prelude.{◌≡◌, ◌≢◌, ℕ, ◌+◌, ◌<◌, ◌≤◌, ◌==◌, Bool, false, Option, None, List, [], ◌∷◌, ◌++◌, length}
 use Rattle.std.specs.List.{list_any, AllByRecursion}
 use Rattle.lits.specs.declared.node.Node.TheVariants.{Xor}
 use Rattle.lits.specs.declared.literal.Lit.{Lit}
@@ -9,12 +9,12 @@ use Rattle.lits.specs.declared.step.Step.{Step}
 use Rattle.lits.specs.declared.step.Named.{Named}
 use Rattle.netlist.specs.Circuit.{output_value}
 use Rattle.netlist.specs.Net.{AigPair}
-use Rattle.netlist.specs.Miter.{axiom_of, negative, positive, variable_of}
+use Rattle.netlist.specs.Miter.{axiom_of, negative}
 use Rattle.unit_prop.specs.Refuter.{IsUndecided}
 use Rattle.unit_prop.specs.Log.{IsChain, IsBudgetLog, InTurn}
 use Rattle.lemma_book.specs.declared.entry.Entry.{Entry}
 use Rattle.lemma_book.specs.declared.entry.Entry.TheVariants.{Out, OutApart, OutSpent}
-use Rattle.lemma_book.specs.Cone.{IsCone}
+use Rattle.lemma_book.specs.Cone.{AreThere, IsCone}
 
 -- a book: the budget of an output's query, and the entries in order
 pub record Entries : Type 0 where
@@ -41,9 +41,9 @@ axiom_named net (Axiom node k) = axiom_of net node k
 axiom_named net (Shown entry k) = None
 axiom_named net (Own k) = None
 
--- each literal of the steps' clauses is over a node of the pair
+-- each literal of the steps' clauses is over a node that the miter has a variable for
 abbrev pub AreOver : AigPair → List Step → Type 0
-AreOver net steps = AllByRecursion (λ s. AllByRecursion (λ l. IsSome (variable_of net l.node)) s.clause) steps
+AreOver net steps = AllByRecursion (λ s. AreThere net s.clause) steps
 
 -- the last clause says that the output is equal
 pub record EndsEqual (j : ℕ) (steps : List Step) : Type 0 where

@@ -1,7 +1,7 @@
-ghost use Rattle.std.specs.Prelude.{◌≡◌, ◌≤◌, [], length};
+ghost use Rattle.std.specs.Prelude.{◌≡◌, ◌≤◌, [], ◌∷◌, ◌++◌, length, OnOk, OnErr};
 
 use crate::entry::Entry;
-use std::alloc::Global;
+use std::alloc::{AllocError, Global};
 use std::marker::Model;
 
 /// Entries in the order in which they came, and the budget of an output's query in learned clauses.
@@ -47,5 +47,17 @@ impl Book {
         ensures { result.now ≡ self.now.entries }
     {
         self.entries.as_slice()
+    }
+
+    /// Puts an entry last. Where memory is refused the book stays as it is.
+    pub fn push(&mut self, entry: Entry) -> Result<(), AllocError>
+        ensures ok {
+            OnOk result
+                (self.new ≡ record { out_budget = self.old.out_budget; entries = self.old.entries ++ entry ∷ [] })
+        }
+        ensures err { OnErr result (self.new ≡ self.old) }
+    {
+        self.entries.push(entry)?;
+        Ok(())
     }
 }

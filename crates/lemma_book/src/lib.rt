@@ -9,8 +9,15 @@
 #![tactic(auto)]
 
 pub use book::Book;
+pub use cones::cone;
 pub use entry::Entry;
 
 mod entry;
 
 mod book;
+
+mod walk;
+
+mod cones;
+
+pub mod laws;

@@ -1,7 +1,5 @@
 -- How a text is read line by line.
-use Rattle.std.proofs.Common.{◌≡◌, ℕ, suc, ◌+◌, ◌<◌, ◌≤◌, Bool, true, false, eqb, min, List, [], ◌∷◌, ◌++◌, Option, Some, None, Result, Ok, Err, length, drop, refl, sym, ap, ◌∙◌, subst, inl, inr, ◌⊎◌, append-nil, append_assoc, ne_eqb, length-drop, arith}
-use Rattle.std.specs.Prelude.{if◌then◌else◌}
-use Rattle.std.specs.List.{slice_split, onto_first}
+use Rattle.std.proofs.Common.{◌≡◌, ℕ, suc, ◌+◌, ◌<◌, ◌≤◌, Bool, true, false, eqb, min, List, [], ◌∷◌, ◌++◌, Option, Some, None, Result, Ok, Err, length, drop, refl, sym, ap, ◌∙◌, inl, inr, ◌⊎◌, append_assoc, ne_eqb, length-drop, arith}
 use Rattle.std.proofs.Math.ListN.{drop_of_length-le}
 use Rattle.std.proofs.lemmas.Bool.{cases_lt}
 use Rattle.std.proofs.lemmas.List.{drop-drop}
@@ -31,17 +29,17 @@ split_line (b ∷ bs) = go (eqb b 10) refl (split_line bs)
         let more : line_of (b ∷ bs) ≡ b ∷ line_of bs = rw e refl in
         let k : length (b ∷ line_of bs) + 1 ≡ suc (length (line_of bs) + 1) = omega arith in
         elim rest [
-          inl (last, end) ↦ inl (rw (more, e, last) refl, rw (more, k) end)
-        | inr others ↦ inr (rw (more, k) (rw (e, others) refl))
+          | inl (last, end) ↦ inl (rw (more, e, last) refl, rw (more, k) end)
+          | inr others ↦ inr (rw (more, k) (rw (e, others) refl))
         ]
 
 -- the steps of a text are those of its first line and of what stands behind that
 steps-split : (at last : ℕ) (text : List ℕ)
     → steps_from at last (lines_in text) ≡ line_and at last (words_in (line_of text)) (λ l. steps_from (at + 1) l (lines_in (drop (length (line_of text) + 1) text)))
 steps-split at last text = elim (split_line text) [
-    inl (only, end) ↦ rw (only, end) refl
+  | inl (only, end) ↦ rw (only, end) refl
   | inr others ↦ ap (steps_from at last) others
-  ]
+]
 
 -- steps that were read before
 abbrev pub with_front : List Line → Result (List Line) LratErr → Result (List Line) LratErr
@@ -50,16 +48,6 @@ with_front lines read = read >>= λ more. Ok (lines ++ more)
 -- the text has these steps, and then those of what is left, whose first line is line `at`
 abbrev pub ReadTo : ℕ → List ℕ → List Line → ℕ → ℕ → List ℕ → Type 0
 ReadTo m text lines at last left = steps_in m text ≡ with_front lines (steps_from at last (lines_in left))
-
-pub ReadTo-start : (m : ℕ) (text : List ℕ) → ReadTo m text [] 1 m text
-ReadTo-start m text = go (steps_in m text)
-  where
-    go : (r : Result (List Line) LratErr) → r ≡ with_front [] r
-    go (Ok lines) = refl
-    go (Err e) = refl
-
-pub ReadTo-end : (m : ℕ) (text : List ℕ) (lines : List Line) (at last : ℕ) (left : List ℕ) → left ≡ [] → ReadTo m text lines at last left → steps_in m text ≡ Ok lines
-ReadTo-end m text lines at last left end r = r ∙ rw end (ap (λ (l : List Line). Ok l) (append-nil lines))
 
 step_of-none : (at last : ℕ) (words : List (List ℕ)) → step_of at last words ≡ Ok None → words ≡ []
 step_of-none at last [] e = refl

@@ -15,9 +15,6 @@ use Rattle.lrat_text.specs.Writing.{literal_text, IsInRange}
 abbrev pub plain : ℕ → Number
 plain size = record { minus = false; size = size }
 
-abbrev pub zero_number : Number
-zero_number = plain 0
-
 -- the number that a literal is written by
 abbrev pub number_of : DimacsLiteral → Number
 number_of literal = record { minus = literal.neg; size = literal.var }

@@ -11,7 +11,8 @@ use Rattle.lrat_text.specs.declared.step.LratStep.TheVariants.{Add, Del}
 use Rattle.lrat_text.specs.Numbers.{number_in, numbers_in, is_zero, is_id, is_literal, is_hint, literal_of, up_to_zero, past_zero}
 use Rattle.lrat_text.specs.Reading.{addition, deletion}
 use Rattle.lrat_text.specs.Writing.{literal_text, IsId, IsInRange, IsWritable}
-use Rattle.lrat_text.proofs.NumberLemmas.{plain, zero_number, number_of, number_in-decimal, number_in-literal}
+use Rattle.lrat_text.specs.Parts.{zero_number}
+use Rattle.lrat_text.proofs.NumberLemmas.{plain, number_of, number_in-decimal, number_in-literal}
 
 pub up_to_zero-append : (xs ys : List Number) → up_to_zero (xs ++ ys) ≡ (if list_any is_zero xs then up_to_zero xs else xs ++ up_to_zero ys)
 up_to_zero-append [] ys = refl

@@ -1,6 +1,6 @@
 -- What one number more makes of the parts of a line.
-use Rattle.std.proofs.Common.{◌≡◌, ℕ, Bool, true, false, not, ◌&&◌, ◌||◌, List, [], ◌∷◌, ◌++◌, map, Option, Some, None, refl, sym, ap, ◌∙◌, subst, append-nil, append_assoc}
-use Rattle.std.specs.Prelude.{option_map, IfSome, IsSomeAnd}
+use Rattle.std.proofs.Common.{◌≡◌, ℕ, Bool, true, false, ◌&&◌, ◌||◌, List, [], ◌∷◌, ◌++◌, Option, Some, None, refl, sym, ap, ◌∙◌, append-nil, append_assoc}
+use Rattle.std.specs.Prelude.{option_map, IfSome}
 use Rattle.std.specs.List.{list_any, list_all}
 use Rattle.std.proofs.lemmas.Bool.{and_parts}
 use Rattle.std.proofs.lemmas.List.{map_push}
@@ -153,13 +153,6 @@ pub record ReadSoFar (front : List Number) (words left : List (List ℕ)) (parts
   pub found : numbers_in words ≡ option_map (λ ns. seen ++ ns) (numbers_in left)
   pub so_far : IsParts (front ++ seen) parts
 
-pub read-nothing : (front : List Number) (words : List (List ℕ)) (parts : Parts) → IsParts front parts → ReadSoFar front words words parts
-read-nothing front words parts is = record { seen = []; found = same (numbers_in words); so_far = rw (append-nil front) is }
-  where
-    same : (o : Option (List Number)) → o ≡ option_map (λ ns. [] ++ ns) o
-    same None = refl
-    same (Some ns) = refl
-
 -- a word that writes a number
 found-more : (seen : List Number) (word : List ℕ) (n : Number) (left : List (List ℕ)) → number_in word ≡ Some n
     → option_map (λ ns. seen ++ ns) (numbers_in (word ∷ left)) ≡ option_map (λ ns. (seen ++ n ∷ []) ++ ns) (numbers_in left)
@@ -168,20 +161,6 @@ found-more seen word n left e = rw e (go (numbers_in left))
     go : (o : Option (List Number)) → option_map (λ ns. seen ++ ns) (option_map (λ ns. n ∷ ns) o) ≡ option_map (λ ns. (seen ++ n ∷ []) ++ ns) o
     go None = refl
     go (Some ns) = ap (λ (l : List Number). Some l) (sym (append_assoc seen (n ∷ []) ns))
-
-pub read-more : (front : List Number) (words : List (List ℕ)) (word : List ℕ) (left : List (List ℕ)) (n : Number) (old new : Parts)
-    → number_in word ≡ Some n → ((ns : List Number) → IsParts ns old → IsParts (ns ++ n ∷ []) new)
-    → ReadSoFar front words (word ∷ left) old → ReadSoFar front words left new
-read-more front words word left n old new e adds r = record {
-  seen = r.seen ++ n ∷ [];
-  found = r.found ∙ found-more r.seen word n left e;
-  so_far = subst (λ (l : List Number). IsParts l new) (append_assoc front r.seen (n ∷ [])) (adds (front ++ r.seen) r.so_far);
-}
-
--- a word that writes none
-pub read-no_number : (front : List Number) (words : List (List ℕ)) (word : List ℕ) (left : List (List ℕ)) (parts : Parts)
-    → ◌≡◌ {A = Option Number} (number_in word) None → ReadSoFar front words (word ∷ left) parts → numbers_in words ≡ None
-read-no_number front words word left parts e r = r.found ∙ rw e refl
 
 -- a number that doesn't fit
 pub read-misfit : (front : List Number) (words : List (List ℕ)) (word : List ℕ) (left : List (List ℕ)) (n : Number) (parts : Parts)
@@ -192,9 +171,6 @@ read-misfit front words word left n parts e wrong r = rw (r.found ∙ found-more
     go : (o : Option (List Number)) → IfSome (option_map (λ ns. (r.seen ++ n ∷ []) ++ ns) o) (λ ns. in_place (front ++ ns) ≡ false)
     go None = tt
     go (Some ns) = rw (append_assoc r.seen (n ∷ []) ns, sym (append_assoc front r.seen (n ∷ ns))) (wrong (front ++ r.seen) ns r.so_far)
-
-pub read-all : (front : List Number) (words : List (List ℕ)) (parts : Parts) → ReadSoFar front words [] parts → IsSomeAnd (numbers_in words) (λ ns. IsParts (front ++ ns) parts)
-read-all front words parts r = rw (r.found) (rw (append-nil r.seen) r.so_far)
 
 pub IsBadNumber-weaker : (at : ℕ) (e : LratErr) {P Q : Type 0} → (P → Q) → IsBadNumber at e P → IsBadNumber at e Q
 IsBadNumber-weaker at NoMemory f p = tt

@@ -1,5 +1,5 @@
 -- Lines that are read, and the text that they come from.
-use Rattle.std.proofs.Common.{◌≡◌, ℕ, ◌<◌, Bool, true, false, not, ◌&&◌, ◌||◌, eqb, ltb, List, [], ◌∷◌, ◌++◌, Option, Some, None, Result, Ok, Err, refl, sym, ap, ◌∙◌, lt-ltb, arith}
+use Rattle.std.proofs.Common.{◌≡◌, ℕ, Bool, true, false, not, ◌&&◌, ◌||◌, ltb, List, [], ◌∷◌, Option, Some, None, Result, Ok, Err, refl, sym, ap, ◌∙◌, lt-ltb, arith}
 use Rattle.std.specs.Prelude.{IfSome, IsSomeAnd, if◌then◌else◌, map}
 use Rattle.std.specs.List.{list_any, list_all}
 use Rattle.std.proofs.lemmas.Bool.{and_parts, eqb-false}
@@ -8,7 +8,7 @@ use Rattle.lrat_text.specs.declared.error.LratErr.TheVariants.{BadNumber, Trunca
 use Rattle.lrat_text.specs.declared.number.Number.{Number}
 use Rattle.lrat_text.specs.declared.parts.Parts.{Parts}
 use Rattle.lrat_text.specs.declared.step.LratStep.{LratStep}
-use Rattle.lrat_text.specs.declared.step.LratStep.TheVariants.{Add, Del}
+use Rattle.lrat_text.specs.declared.step.LratStep.TheVariants.{Del}
 use Rattle.lrat_text.specs.Numbers.{is_empty, is_zero, is_id, is_hint, up_to_zero, past_zero}
 use Rattle.lrat_text.specs.Reading.{◌>>=◌, IsFault, numeric, in_place, deletion}
 use Rattle.lrat_text.specs.Parts.{zero_number, IsParts, deletion_of, IsBadNumber, Gives}

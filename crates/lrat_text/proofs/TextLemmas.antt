@@ -13,7 +13,8 @@ use Rattle.lrat_text.specs.Numbers.{number_in, numbers_in}
 use Rattle.lrat_text.specs.Steps.{id_after, last_id}
 use Rattle.lrat_text.specs.Reading.{lines_in, words_in, is_d, ◌>>=◌, step_in, addition_in, line_and, steps_from, SpellsLrat}
 use Rattle.lrat_text.specs.Writing.{literal_text, words_of, first_of, step_text, ended, line_text, text_from, numbered, IsWritable, AreWritable, IsWritten}
-use Rattle.lrat_text.proofs.NumberLemmas.{plain, zero_number, number_of, number_in-decimal, number_in-any}
+use Rattle.lrat_text.specs.Parts.{zero_number}
+use Rattle.lrat_text.proofs.NumberLemmas.{plain, number_of, number_in-decimal, number_in-any}
 use Rattle.lrat_text.proofs.PartLemmas.{numbers_in-both, numbers_in-zero, are_literals, are_ids, addition-written, deletion-written}
 use Rattle.lrat_text.proofs.SplitLemmas.{lines_in-ended, words_in-step, step_text-one_line}
 

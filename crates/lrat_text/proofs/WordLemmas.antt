@@ -1,11 +1,11 @@
 -- The first word of a line, by the places of a letter and of a space, and the size that a word writes.
-use Rattle.std.proofs.Common.{◌≡◌, ℕ, suc, ◌+◌, ◌<◌, ◌≤◌, Bool, true, false, not, ◌&&◌, cond, eqb, ltb, min, List, [], ◌∷◌, ◌++◌, Option, Some, None, filter, length, take, drop, refl, sym, ap, ◌∙◌, arith}
+use Rattle.std.proofs.Common.{◌≡◌, ℕ, suc, ◌+◌, ◌<◌, ◌≤◌, Bool, true, false, not, cond, eqb, ltb, List, [], ◌∷◌, Option, Some, None, filter, length, take, drop, refl, sym, ap, ◌∙◌, arith}
 use Rattle.std.specs.Prelude.{unwrap_or, position, if◌then◌else◌}
 use Rattle.std.specs.Char.{is_ascii_digit}
-use Rattle.std.specs.List.{slice_split, onto_first, position_or_len, prefix_len}
+use Rattle.std.specs.List.{slice_split, position_or_len}
 use Rattle.std.specs.Str.{all_ascii_digits}
 use Rattle.std.proofs.Math.ListN.{drop_of_length-le}
-use Rattle.std.proofs.lemmas.Bool.{ltb-true, ltb-false, eqb-true, eqb-false}
+use Rattle.std.proofs.lemmas.Bool.{ltb-true, ltb-false, eqb-false}
 use Rattle.std.proofs.lemmas.List.Sums.{prefix_len-le-length}
 use Rattle.byte_scan.specs.Scanning.{digits, value, number_of}
 use Rattle.lrat_text.specs.Numbers.{is_empty, size_in}
@@ -135,10 +135,6 @@ some_digit : (word : List ℕ) → 0 < length (digits word) → is_empty word �
 some_digit [] lt = absurd (omega arith)
 some_digit (b ∷ bs) lt = refl
 
-no_digit : (word : List ℕ) → length (digits word) ≡ 0 → size_in word ≡ None
-no_digit [] e = refl
-no_digit (b ∷ bs) e = rw (digits-part (b ∷ bs) (omega arith)) refl
-
 pub size_in-number : (word : List ℕ) (size : ℕ) → number_of word ≡ Some size → length word ≤ length (digits word) → size_in word ≡ Some size
 size_in-number word size e le = go (eqb (length (digits word)) 0) refl e
   where
@@ -152,10 +148,3 @@ size_in-number word size e le = go (eqb (length (digits word)) 0) refl e
 
 pub size_in-part : (word : List ℕ) → length (digits word) < length word → size_in word ≡ None
 size_in-part word lt = rw (digits-part word lt) refl
-
-pub size_in-none : (word : List ℕ) → ◌≡◌ {A = Option ℕ} (number_of word) None → size_in word ≡ None
-size_in-none word e = go (eqb (length (digits word)) 0) refl e
-  where
-    go : (t : Bool) → eqb (length (digits word)) 0 ≡ t → ◌≡◌ {A = Option ℕ} (if t then None else Some (value (digits word))) None → size_in word ≡ None
-    go true f g = no_digit word (eqb-true _ _ f)
-    go false f g = cc

@@ -15,8 +15,9 @@ use lits::{Dim, Literal};
 pub fn derived_lines()
     ensures unsatisfiable { (formula : List (List DimacsLiteral)) (lines : List Line) →
         Refutes formula lines → ¬ IsSatisfiable ⟦<Dim as Literal>⟧.opposite formula }
-    ensures follows { (formula : List (List DimacsLiteral)) (lines : List Line) (id : ℕ) (clause : List DimacsLiteral) →
-        Derives formula lines → live_after (formula_live formula) lines id ≡ Some clause →
+    ensures follows { (formula : List (List DimacsLiteral)) (lines : List Line) (id : ℕ)
+        (clause : List DimacsLiteral) → Derives formula lines →
+        live_after (formula_live formula) lines id ≡ Some clause →
         Follows ⟦<Dim as Literal>⟧.opposite formula clause }
 
     // One line more.

@@ -23,5 +23,7 @@ mod number;
 mod parts;
 mod reading;
 mod step;
+#[cfg(test)]
+mod tests;
 mod words;
 mod writing;

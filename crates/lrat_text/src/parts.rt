@@ -31,7 +31,7 @@ pub(crate) struct Parts {
 
 impl Parts {
     ghost use Rattle.lrat_text.specs.declared.number.Number.{Number};
-    ghost use Rattle.lrat_text.specs.Parts.{zeros_before, IsParts, IsBadNumber};
+    ghost use Rattle.lrat_text.specs.Parts.{zeros_before, is_past_hints, IsParts, IsBadNumber};
 
     /// Nothing but that the line is read from this place on.
     fn new(alloc: Global, place: Place) -> Parts
@@ -60,9 +60,17 @@ impl Parts {
         Ok(parts)
     }
 
+    /// Whether the 0 behind the hints is read.
+    pub(crate) fn is_ended(&self) -> bool
+        ensures { result ≡ is_past_hints self.now.place }
+    {
+        matches!(self.place, Place::End)
+    }
+
     /// Puts the next number of line `at` into its part.
     fn add(&mut self, at: u64, number: Number) -> Result<(), LratErr>
-        ensures ok { OnOk result ((ns : List Number) → IsParts ns self.old → IsParts (ns ++ number ∷ []) self.new) }
+        ensures ok { OnOk result ((ns : List Number) →
+            IsParts ns self.old → IsParts (ns ++ number ∷ []) self.new) }
         ensures err { IfErr result (λ e. IsBadNumber at e ((ns more : List Number) →
             IsParts ns self.old → in_place (ns ++ number ∷ more) ≡ false)) }
     {

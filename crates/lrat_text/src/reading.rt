@@ -50,13 +50,7 @@ fn step_of(alloc: Global, at: u64, last: u64, line: &[u8]) -> Result<Option<Lrat
 }
 
 /// The addition with this id, of the rest of its line.
-fn addition(
-    alloc: Global,
-    at: u64,
-    last: u64,
-    id: Number,
-    rest: &[u8],
-) -> Result<LratStep, LratErr>
+fn addition(alloc: Global, at: u64, last: u64, id: Number, rest: &[u8]) -> Result<LratStep, LratErr>
     ensures { Gives result (addition_behind at last id (words_in rest.now)) }
 {
     if id.minus || id.size == 0 || id.size >= TOO_LARGE {
@@ -69,7 +63,7 @@ fn addition(
 fn addition_of(at: u64, last: u64, id: u64, parts: Parts) -> Result<LratStep, LratErr>
     ensures { result ≡ addition_of at last id parts }
 {
-    if !matches!(parts.place, Place::End) {
+    if !parts.is_ended() {
         return Err(LratErr::Truncated(at));
     }
     if id <= last {
@@ -79,7 +73,9 @@ fn addition_of(at: u64, last: u64, id: u64, parts: Parts) -> Result<LratStep, Lr
         return Err(LratErr::Rat(at));
     }
     let Parts {
-        literals, hints, ..
+        literals,
+        hints,
+        ..
     } = parts;
     let clause = Listed::of(literals);
     let hints = Listed::of(hints);
@@ -100,7 +96,7 @@ fn deletion_of(at: u64, parts: Parts) -> Result<LratStep, LratErr>
     if parts.has_minus {
         return Err(LratErr::BadNumber(at));
     }
-    if !matches!(parts.place, Place::End) {
+    if !parts.is_ended() {
         return Err(LratErr::Truncated(at));
     }
     let ids = Listed::of(parts.hints);

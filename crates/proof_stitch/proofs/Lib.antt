@@ -1,3 +1,4 @@
+pub mod RenameLemmas
 pub mod AxiomLemmas
 pub mod GrowLemmas
 pub mod StepLemmas

@@ -17,7 +17,7 @@ use Rattle.netlist.proofs.LawNumbers.{variable-has, numbered-same}
 use Rattle.unit_prop.specs.Step.{IsStep}
 use Rattle.unit_prop.specs.Log.{with_own, InTurn, IsStepAfter, IsChain}
 use Rattle.unit_prop.proofs.ChainLemmas.{all-slice_get, all-append}
-use Rattle.unit_prop.proofs.RenameLemmas.{IsRenaming, step-renamed}
+use Rattle.proof_stitch.proofs.RenameLemmas.{IsRenaming, step-renamed}
 use Rattle.lemma_book.specs.Entry.{axiom_named, AreOver}
 use Rattle.lrat_text.specs.declared.step.LratStep.{LratStep}
 use Rattle.lrat_text.specs.Writing.{IsInRange}

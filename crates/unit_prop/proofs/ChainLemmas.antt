@@ -1,6 +1,5 @@
 -- What a chain of steps shows: each of its clauses holds wherever the clauses that it stands on hold.
-use Rattle.std.proofs.Common.{◌≡◌, ℕ, Bool, true, false, List, [], ◌∷◌, ◌++◌, Option, Some, None, refl, sym, ap, ◌∙◌, subst, append_assoc, zero, suc, inl, inr}
-use Rattle.std.specs.Prelude.{map, option_map, if◌then◌else◌}
+use Rattle.std.proofs.Common.{◌≡◌, ℕ, Bool, true, false, List, [], ◌∷◌, ◌++◌, Option, Some, None, refl, sym, subst, append_assoc, zero, suc, inl, inr}
 use Rattle.std.proofs.lemmas.List.{append-nil}
 use Rattle.std.specs.List.{list_any, slice_get, AllByRecursion}
 use Rattle.lits.specs.Assignment.{IsAssignment, Holds, Meets, Follows, IsSatisfiable}

@@ -1,12 +1,10 @@
 -- How a set of literals grows into the closure.
-use Rattle.std.proofs.Common.{◌≡◌, ℕ, ◌+◌, ◌<◌, ◌≤◌, Bool, true, false, not, ◌&&◌, ◌||◌, List, [], ◌∷◌, ◌++◌, length, take, get_or, refl, sym, ap, ◌∙◌, subst, ◌⊎◌, inl, inr, arith}
+use Rattle.std.proofs.Common.{◌≡◌, ℕ, ◌+◌, ◌<◌, ◌≤◌, Bool, true, false, not, ◌||◌, List, [], ◌∷◌, ◌++◌, length, refl, sym, ap, ◌∙◌, subst, ◌⊎◌, inl, inr, arith}
 use Rattle.std.specs.Prelude.{filter}
-use Rattle.std.proofs.lemmas.List.Folds.{list_any-append, list_any_at}
-use Rattle.unit_prop.proofs.AssumeLemmas.{seen-more}
 use Rattle.std.specs.List.{list_any, list_all, AllByRecursion}
 use Rattle.lits.specs.Clause.{has}
 use Rattle.lits.proofs.ClauseLemmas.{IsLiteral, has-append, eq-opposite}
-use Rattle.unit_prop.specs.Closure.{forces, is_negated, IsClosed, Clashes, IsClosure, ClosureClashes, ClosesTo}
+use Rattle.unit_prop.specs.Closure.{forces, is_negated, IsClosed, Clashes, IsClosure, ClosureClashes}
 use Rattle.unit_prop.specs.Propagation.{IsConsistent, IsFree, IsSettled, is_forced_by}
 use Rattle.unit_prop.proofs.LiteralLemmas.{contrary, alone, both, and_both, or_cases, or_left, or_right}
 
@@ -51,9 +49,6 @@ pub record IsRound {L : Type 0} (eq : L → L → Bool) (opposite : L → L) (cl
   pub consistent : IsConsistent eq opposite set
 
 module _ {L : Type 0} {eq : L → L → Bool} {opposite : L → L} (clauses : List (List L)) (given : List L) where
-  pub round-first : IsConsistent eq opposite given → IsRound eq opposite clauses given given
-  round-first consistent = record { starts = λ l h. h; least = λ p closed. closed.starts; consistent = consistent }
-
   pub round-clash : (set : List L) → IsRound eq opposite clauses given set → list_any (is_negated opposite (has eq set)) clauses ≡ true
       → ClosureClashes eq opposite clauses given
   round-clash set round e p closed =
@@ -168,22 +163,3 @@ module _ {L : Type 0} {eq : L → L → Bool} {opposite : L → L} (laws : IsLit
 pub record IsScanned {L : Type 0} (eq : L → L → Bool) (opposite : L → L) (set : List L) (clauses : List (List L)) : Type 0 where
   pub quiet : list_any (is_negated opposite (has eq set)) clauses ≡ false
   pub settled : AllByRecursion (IsSettled eq opposite set) clauses
-
-all-push : {X : Type 0} (P : X → Type 0) (xs : List X) (x : X) → AllByRecursion P xs → P x → AllByRecursion P (xs ++ x ∷ [])
-all-push P [] x all p = (p, tt)
-all-push P (y ∷ ys) x all p = (all.0, all-push P ys x all.1 p)
-
-pub scanned-next : {L : Type 0} {eq : L → L → Bool} {opposite : L → L} {set : List L} (clauses : List (List L)) (i : ℕ) (clause : List L)
-    → i < length clauses → clause ≡ get_or clauses i clause → IsScanned eq opposite set (take i clauses)
-    → (is_negated opposite (has eq set) clause ≡ false) × IsSettled eq opposite set clause
-    → IsScanned eq opposite set (take (i + 1) clauses)
-scanned-next {eq} {opposite} {set} clauses i clause below at s here =
-    rw (seen-more clauses i clause below at) (record {
-      quiet = list_any-append (is_negated opposite (has eq set)) (take i clauses) (clause ∷ []) ∙ rw (s.quiet, here.0) refl;
-      settled = all-push (IsSettled eq opposite set) (take i clauses) clause s.settled here.1;
-    })
-
--- what one of the clauses asks for
-pub any-at : {X : Type 0} (p : X → Bool) (xs : List X) (i : ℕ) (x : X) → i < length xs → x ≡ get_or xs i x → p x ≡ true
-    → list_any p xs ≡ true
-any-at p xs i x below at e = list_any_at p xs i x below (ap p (sym at) ∙ e)

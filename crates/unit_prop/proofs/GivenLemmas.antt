@@ -1,15 +1,14 @@
 -- How the set that propagation starts from stands for the list that is given.
-use Rattle.std.proofs.Common.{◌≡◌, ℕ, ◌+◌, ◌<◌, Bool, true, false, ◌||◌, List, [], ◌∷◌, ◌++◌, length, take, drop, get_or, refl, sym, ap, ◌∙◌, subst, inl, inr}
+use Rattle.std.proofs.Common.{◌≡◌, ℕ, ◌+◌, ◌<◌, Bool, true, false, ◌||◌, List, [], ◌∷◌, ◌++◌, length, take, drop, get_or, refl, sym, ap, ◌∙◌, subst, inr}
 use Rattle.std.specs.Prelude.{if◌then◌else◌}
-use Rattle.std.specs.List.{list_any}
 use Rattle.std.proofs.lemmas.List.Folds.{list_any_at}
 use Rattle.std.proofs.lemmas.List.{take-append-drop}
 use Rattle.lits.specs.Clause.{has}
 use Rattle.lits.proofs.ClauseLemmas.{IsLiteral, has-append}
 use Rattle.unit_prop.specs.declared.propagation.Closure.{Closure}
 use Rattle.unit_prop.specs.declared.propagation.Closure.TheVariants.{Clash, Free}
-use Rattle.unit_prop.specs.Closure.{IsClosed, Clashes, IsClosure, ClosureClashes, ClosesTo}
-use Rattle.unit_prop.specs.Propagation.{IsConsistent, IsFree}
+use Rattle.unit_prop.specs.Closure.{ClosureClashes, ClosesTo}
+use Rattle.unit_prop.specs.Propagation.{IsConsistent}
 use Rattle.unit_prop.proofs.AssumeLemmas.{seen-more}
 use Rattle.unit_prop.proofs.ClosureLemmas.{consistent-push}
 use Rattle.unit_prop.proofs.LiteralLemmas.{or_left}

@@ -1,7 +1,7 @@
 -- What proofs, closures and new clauses come to under assignments.
-use Rattle.std.proofs.Common.{◌≡◌, ℕ, ◌+◌, Bool, true, false, not, ◌&&◌, ◌||◌, List, [], ◌∷◌, ◌++◌, Option, Some, None, Result, Ok, Err, refl, sym, ap, ◌∙◌, subst, ◌⊎◌, inl, inr, zero, suc}
-use Rattle.std.specs.Prelude.{filter, map, if◌then◌else◌}
-use Rattle.std.specs.List.{list_any, list_all, slice_get, AllByRecursion}
+use Rattle.std.proofs.Common.{◌≡◌, ℕ, ◌+◌, Bool, true, false, not, ◌||◌, List, [], ◌∷◌, Option, Some, None, Result, Ok, Err, refl, sym, ap, ◌∙◌, subst, inl, inr, zero, suc}
+use Rattle.std.specs.Prelude.{filter}
+use Rattle.std.specs.List.{AllByRecursion}
 use Rattle.lits.specs.Clause.{has, has_pair}
 use Rattle.lits.specs.Assignment.{IsAssignment, Holds, Meets, IsSatisfiable}
 use Rattle.lits.proofs.ClauseLemmas.{IsLiteral}
@@ -9,7 +9,6 @@ use Rattle.unit_prop.specs.Closure.{forces, is_negated, IsClosed, Clashes, IsClo
 use Rattle.unit_prop.specs.New.{IsNew, others_negated, SameLiterals}
 use Rattle.unit_prop.specs.declared.why.Why.{Why}
 use Rattle.unit_prop.specs.declared.why.Why.TheVariants.{Tautology, NoClause}
-use Rattle.unit_prop.specs.declared.why.BadStep.{BadStep}
 use Rattle.unit_prop.specs.Step.{State, IsStep, AllHold, start_of, after_hint, fault_from}
 use Rattle.unit_prop.specs.Proof.{Added, extended, IsProof, is_empty, adds_empty, clause_numbered}
 use Rattle.unit_prop.proofs.LiteralLemmas.{contrary, both, or_cases, or_left, or_right, has-head, has-filter, has-map-opposite, witness, all-at, all-true}

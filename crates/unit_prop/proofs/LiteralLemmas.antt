@@ -1,14 +1,9 @@
 -- What tests of literals find in lists of literals.
-use Rattle.std.proofs.Common.{◌≡◌, Bool, true, false, not, ◌&&◌, ◌||◌, List, [], ◌∷◌, ◌++◌, refl, sym, ap, ◌∙◌, subst, ◌⊎◌, inl, inr}
+use Rattle.std.proofs.Common.{◌≡◌, Bool, true, false, ◌&&◌, ◌||◌, List, [], ◌∷◌, refl, sym, ap, ◌∙◌, subst, ◌⊎◌, inl, inr}
 use Rattle.std.specs.Prelude.{filter, map}
 use Rattle.std.specs.List.{list_any, list_all}
-use Rattle.lits.specs.Clause.{has, firsts}
-use Rattle.lits.proofs.ClauseLemmas.{IsLiteral, has-firsts}
-
--- a test is true or false
-pub decided : (b : Bool) → (b ≡ true) ⊎ (b ≡ false)
-decided true = inl refl
-decided false = inr refl
+use Rattle.lits.specs.Clause.{has}
+use Rattle.lits.proofs.ClauseLemmas.{IsLiteral}
 
 pub or_cases : (a b : Bool) → (a || b) ≡ true → (a ≡ true) ⊎ (b ≡ true)
 or_cases true b e = inl refl

@@ -1,10 +1,9 @@
 -- Which literals of a clause a step leaves open, and what its next state is.
-use Rattle.std.proofs.Common.{◌≡◌, Bool, true, false, not, ◌&&◌, ◌||◌, List, [], ◌∷◌, ◌++◌, Option, Some, None, Result, Ok, Err, refl, sym, ap, ◌∙◌, subst, inl, inr}
-use Rattle.std.specs.Prelude.{filter, if◌then◌else◌}
+use Rattle.std.proofs.Common.{◌≡◌, Bool, true, false, not, ◌&&◌, List, [], ◌∷◌, ◌++◌, Some, None, Ok, Err, refl, sym, ap, ◌∙◌, inl, inr}
+use Rattle.std.specs.Prelude.{filter}
 use Rattle.std.specs.List.{list_any, find}
 use Rattle.lits.specs.Clause.{has, firsts}
 use Rattle.lits.proofs.ClauseLemmas.{IsLiteral, has-firsts}
-use Rattle.unit_prop.specs.declared.why.Why.{Why}
 use Rattle.unit_prop.specs.declared.why.Why.TheVariants.{TwoFree}
 use Rattle.unit_prop.specs.Step.{State, open_in, is_satisfied, after_open, after_hint}
 use Rattle.unit_prop.proofs.LiteralLemmas.{has-head, has-filter, witness, passes, and_both, or_cases, or_right}

@@ -1,19 +1,14 @@
 -- What a step shows: its clause holds wherever the clauses that its hints name hold.
-use Rattle.std.proofs.Common.{◌≡◌, ℕ, ◌+◌, Bool, true, false, not, ◌&&◌, ◌||◌, List, [], ◌∷◌, ◌++◌, Option, Some, None, Result, Ok, Err, refl, sym, ap, ◌∙◌, subst, ◌⊎◌, inl, inr}
-use Rattle.std.specs.Prelude.{filter, map, if◌then◌else◌}
+use Rattle.std.proofs.Common.{◌≡◌, ℕ, ◌+◌, Bool, true, false, not, ◌&&◌, ◌||◌, List, [], ◌∷◌, ◌++◌, Option, Some, None, Result, Ok, Err, refl, sym, ap, ◌∙◌, subst, inl, inr}
+use Rattle.std.specs.Prelude.{filter, map}
 use Rattle.std.specs.List.{list_any}
 use Rattle.lits.specs.Clause.{has, has_pair, firsts}
 use Rattle.lits.specs.Assignment.{IsAssignment, Holds}
 use Rattle.lits.proofs.ClauseLemmas.{IsLiteral, has-firsts, has-append}
 use Rattle.unit_prop.specs.declared.why.Why.{Why}
 use Rattle.unit_prop.specs.declared.why.Why.TheVariants.{Satisfied}
-use Rattle.unit_prop.specs.declared.why.BadStep.{BadStep}
-use Rattle.unit_prop.specs.Step.{State, start_of, open_in, is_satisfied, after_open, after_hint, after_found, go_on, fault_from, first_fault, IsStep}
-use Rattle.unit_prop.proofs.LiteralLemmas.{alone, decided, or_cases, witness, passes, has-filter, has-map-opposite, and_both}
-
-not_true : (b : Bool) → not b ≡ true → b ≡ false
-not_true true e = cc
-not_true false e = refl
+use Rattle.unit_prop.specs.Step.{State, start_of, open_in, is_satisfied, after_open, after_hint, fault_from, IsStep}
+use Rattle.unit_prop.proofs.LiteralLemmas.{alone, or_cases, witness, passes, has-filter, has-map-opposite}
 
 -- every literal of the set is true under v
 pub record AreTrue {L : Type 0} (eq : L → L → Bool) (v : L → Bool) (set : List L) : Type 0 where

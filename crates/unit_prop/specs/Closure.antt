@@ -1,7 +1,7 @@
 -- Unit propagation as a set: what clauses force once some literals are given. `eq` is the literals' `==`, `opposite`
 -- their negation; a set of literals is a test. Sources: reverse unit propagation (Goldberg and Novikov 2003, Van
 -- Gelder 2008).
-use Rattle.std.specs.Prelude.{◌≡◌, Bool, true, false, ◌||◌, ◌⊎◌, List}
+use Rattle.std.specs.Prelude.{◌≡◌, Bool, true, ◌||◌, ◌⊎◌, List}
 use Rattle.std.specs.List.{list_any, list_all, AllByRecursion}
 use Rattle.lits.specs.Clause.{has}
 use Rattle.unit_prop.specs.declared.propagation.Closure.{Closure}
@@ -15,7 +15,8 @@ forces eq opposite set clause lit = list_all (λ m. eq m lit || set (opposite m)
 abbrev pub is_negated : {L : Type 0} → (L → L) → (L → Bool) → List L → Bool
 is_negated opposite set clause = list_all (λ m. set (opposite m)) clause
 
--- the set holds what is given and, of each clause whose other literals are negated in it, the one left
+-- the set holds what is given and, of each clause whose other literals are negated in it, the one left; of a clause
+-- that is wholly negated, which clashes anyhow, it holds each
 pub record IsClosed {L : Type 0} (eq : L → L → Bool) (opposite : L → L) (clauses : List (List L)) (given : List L) (set : L → Bool) : Type 0 where
   pub starts : (l : L) → has eq given l ≡ true → set l ≡ true
   pub units : AllByRecursion (λ c. (l : L) → has eq c l ≡ true → forces eq opposite set c l ≡ true → set l ≡ true) clauses

@@ -1,5 +1,5 @@
 -- What the parts of a step check do.
-use Rattle.std.specs.Prelude.{◌≡◌, Bool, true, false, List, [], ◌∷◌, ◌++◌, if◌then◌else◌}
+use Rattle.std.specs.Prelude.{◌≡◌, Bool, false, List, [], ◌∷◌, ◌++◌, if◌then◌else◌}
 use Rattle.lits.specs.Clause.{has}
 use Rattle.unit_prop.specs.declared.step_check.OpenPart.{OpenPart}
 use Rattle.unit_prop.specs.declared.step_check.OpenPart.TheVariants.{Nothing, One, More}

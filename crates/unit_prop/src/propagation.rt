@@ -36,7 +36,8 @@ pub fn close_under<L: Literal>(
 
 /// Puts a literal last, unless it is there already.
 fn put<L: Literal>(set: &mut LiteralSet<L>, lit: L) -> Result<(), AllocError>
-    ensures { OnOk result (set.new ≡ (if has L.PartialEq.eq set.old lit then set.old else set.old ++ lit ∷ [])) }
+    ensures { OnOk result
+        (set.new ≡ (if has L.PartialEq.eq set.old lit then set.old else set.old ++ lit ∷ [])) }
 {
     if !set.has(lit) {
         set.push(lit)?;

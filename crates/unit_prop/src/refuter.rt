@@ -47,7 +47,8 @@ pub trait Refuter: Drop {
         requires budget { 1 ≤ left.old }
         requires target { IsOver (base_of self.old) target.now }
         ensures answer { IfOk result
-            (Answers (base_of self.old) target.now (log_of self.old) left.old (log_of self.new) left.new) }
+            (Answers (base_of self.old) target.now (log_of self.old) left.old
+            (log_of self.new) left.new) }
         ensures base { OnOk result (base_of self.new ≡ base_of self.old) }
         ensures ready { OnOk result (is_ready self.new ≡ true) }
         ensures refused { OnErr result (left.new ≡ left.old) };

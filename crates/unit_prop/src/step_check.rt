@@ -35,10 +35,13 @@ impl<L: Literal> StepCheck<L> {
         }
     }
 
-    /// Begins the step that adds the clause, and forgets the one before. After a refusal begin again.
+    /// Begins the step that adds the clause, and forgets the one before. The negations of the clause's literals are
+    /// assumed. After a refusal the next call is `begin`.
     pub fn begin(&mut self, clause: &[L]) -> Result<(), StepErr>
-        ensures state { OnOk result (self.new ≡ start_of L.PartialEq.eq L.Literal.opposite clause.now) }
-        ensures clause { OnOk result (has_pair L.PartialEq.eq L.Literal.opposite clause.now ≡ false) }
+        ensures state { OnOk result
+            (self.new ≡ start_of L.PartialEq.eq L.Literal.opposite clause.now) }
+        ensures clause { OnOk result
+            (has_pair L.PartialEq.eq L.Literal.opposite clause.now ≡ false) }
         ensures bad { IfErr result (λ e. IfBad e (λ w. w ≡ Why.Tautology)) }
         ensures tautology { IfErr result (λ e. IfBad e (λ _.
             has_pair L.PartialEq.eq L.Literal.opposite clause.now ≡ true)) }
@@ -51,9 +54,10 @@ impl<L: Literal> StepCheck<L> {
         Ok(())
     }
 
-    /// Takes the clause of the step's next hint. After a refusal begin again.
+    /// Takes the clause of the step's next hint. After a refusal the next call is `begin`.
     pub fn hint(&mut self, clause: &[L]) -> Result<(), StepErr>
-        ensures ok { OnOk result (after_hint L.PartialEq.eq L.Literal.opposite self.old clause.now ≡ Ok self.new) }
+        ensures ok { OnOk result
+            (after_hint L.PartialEq.eq L.Literal.opposite self.old clause.now ≡ Ok self.new) }
         ensures bad { IfErr result (λ e. IfBad e (λ w.
             after_hint L.PartialEq.eq L.Literal.opposite self.old clause.now ≡ Err w)) }
         ensures refused { OnErr result (self.new ≡ self.old) }
@@ -72,11 +76,12 @@ impl<L: Literal> StepCheck<L> {
         Ok(())
     }
 
-    /// Ends the step: it shows its clause if a hint's clause was wholly false.
+    /// Ends the step, which shows its clause exactly if a hint's clause was wholly false. The next call is `begin`.
     pub fn end(&mut self) -> Result<(), Why>
         ensures ok { OnOk result (self.old.clashed ≡ true) }
         ensures bad { IfErr result (λ w. w ≡ Why.NotFalse) }
         ensures not_false { OnErr result (self.old.clashed ≡ false) }
+        ensures ended { self.new ≡ record { set = []; clashed = false } }
     {
         let clashed = self.clashed;
         self.set.clear();
@@ -128,14 +133,16 @@ pub(crate) fn open_part<L: Literal>(set: &LiteralSet<L>, clause: &[L]) -> OpenPa
 }
 
 fn first_open<L: Literal>(set: &LiteralSet<L>, clause: &[L]) -> Option<L>
-    ensures { result ≡ find (λ l. not (has L.PartialEq.eq set.now (L.Literal.opposite l))) clause.now }
+    ensures { result ≡ find
+        (λ l. not (has L.PartialEq.eq set.now (L.Literal.opposite l))) clause.now }
 {
     clause.iter().copied().find(|lit| !set.has(lit.not()))
 }
 
 fn has_other_open<L: Literal>(set: &LiteralSet<L>, clause: &[L], first: L) -> bool
     ensures { result ≡ list_any
-        (λ l. not (L.PartialEq.eq first l) && not (has L.PartialEq.eq set.now (L.Literal.opposite l))) clause.now }
+        (λ l. not (L.PartialEq.eq first l)
+        && not (has L.PartialEq.eq set.now (L.Literal.opposite l))) clause.now }
 {
     clause
         .iter()

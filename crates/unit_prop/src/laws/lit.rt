@@ -15,7 +15,8 @@ ghost use Rattle.unit_prop.specs.declared.refuter.Refuted.{Refuted};
 
 /// A step's clause holds under each assignment under which the clauses hold that it is a step over.
 pub fn step_holds()
-    ensures { (find : Ref → Option (List Lit)) (clause : List Lit) (hints : List Ref) (v : Lit → Bool)
+    ensures { (find : Ref → Option (List Lit)) (clause : List Lit)
+        (hints : List Ref) (v : Lit → Bool)
         → IsAssignment opposite v → AllHold v find
         → IsStep same_lit opposite find clause hints → Holds v clause }
 {}
@@ -27,7 +28,8 @@ pub fn step_over_more()
         → IsStep same_lit opposite find clause hints → IsStep same_lit opposite more clause hints }
 {}
 
-/// The clauses of a chain of steps hold under each assignment under which those hold that it stands on.
+/// The clauses of a chain of steps hold under each assignment under which those hold that it
+/// stands on.
 pub fn steps_hold()
     ensures { (find : Ref → Option (List Lit)) (steps : List Step) (v : Lit → Bool)
         → IsAssignment opposite v → AllHold v find
@@ -37,7 +39,8 @@ pub fn steps_hold()
 /// A base over which a chain of steps comes to the empty clause isn't satisfiable.
 pub fn empty_step_refutes()
     ensures { (base : List Named) (steps : List Step) → IsChain (base_clause base) steps
-        → list_any (λ s. is_empty s.clause) steps ≡ true → ¬ IsSatisfiable opposite (base_clauses base) }
+        → list_any (λ s. is_empty s.clause) steps ≡ true
+        → ¬ IsSatisfiable opposite (base_clauses base) }
 {}
 
 /// What is a step over a base and a log that was learned over it follows from the base.
@@ -50,8 +53,9 @@ pub fn base_implies()
 
 /// What a query makes of a log is a log again.
 pub fn log_stays_log()
-    ensures { (base : List Named) (target : List Lit) (log : List Step) (left : ℕ) (log' : List Step) (left' : ℕ)
-        (result : Refuted) → IsLog base log → Answers base target log left log' left' result → IsLog base log' }
+    ensures { (base : List Named) (target : List Lit) (log : List Step) (left : ℕ)
+        (log' : List Step) (left' : ℕ) (result : Refuted)
+        → IsLog base log → Answers base target log left log' left' result → IsLog base log' }
 {}
 
 /// What the closure adds is true wherever the clauses hold and what is given is true.
@@ -70,6 +74,7 @@ pub fn clash_refutes()
 
 /// A new clause has the literals of no clause among those that it is new over.
 pub fn new_differs()
-    ensures { (clauses : List (List Lit)) (clause : List Lit) → IsNew same_lit opposite clauses clause
+    ensures { (clauses : List (List Lit)) (clause : List Lit)
+        → IsNew same_lit opposite clauses clause
         → AllByRecursion (λ c. ¬ SameLiterals same_lit c clause) clauses }
 {}

@@ -1,4 +1,3 @@
-use Rattle.std.proofs.Common.{sym}
 use Rattle.std.proofs.lemmas.Result.{err_from_is_err_and}
 use Rattle.lrat_text.specs.Numbers.{numbers_in}
 use Rattle.lrat_text.specs.Reading.{words_in, deletion_behind}

@@ -1,6 +1,5 @@
-use Rattle.std.proofs.Common.{refl}
 use Rattle.lits.proofs.ClauseLemmas.{IsLiteral, is_literal}
-use Rattle.unit_prop.proofs.ClosureLemmas.{round-first, round-clash, round-next, round-last, missing_places-falls}
+use Rattle.unit_prop.proofs.ClosureLemmas.{round-clash, round-next, round-last, missing_places-falls}
 use Rattle.unit_prop.proofs.propagation.close.Goals as goal
 
 pub returns-in-Clash : goal.returns-in-Clash

@@ -1,4 +1,4 @@
-use Rattle.std.proofs.Common.{◌≡◌, Bool, true, false, refl, sym, ap, ◌∙◌, ltb, lt-ltb, le-ltb, eq-eqb, ne_eqb, arith}
+use Rattle.std.proofs.Common.{◌≡◌, true, false, refl, lt-ltb, le-ltb, eq-eqb, ne_eqb, arith}
 use Rattle.std.proofs.lemmas.Result.{err_from_is_err_and}
 use Rattle.lrat_text.specs.Numbers.{is_zero, is_literal, is_hint}
 use Rattle.lrat_text.proofs.PlaceLemmas.{read-zero, read-literal, read-last_zero, read-hint, misread-literal, misread-hint, misread-end}

@@ -1,5 +1,4 @@
 use Rattle.lrat_text.proofs.PlaceLemmas.{ReadSoFar}
-use Rattle.lrat_text.specs.Numbers.{numbers_in}
 use Rattle.lrat_text.specs.Reading.{words_in}
 use Rattle.lrat_text.specs.Parts.{zeros_before}
 use Rattle.lrat_text.proofs.parts.Parts.read.Given as goal

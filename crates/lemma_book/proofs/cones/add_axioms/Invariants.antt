@@ -1,0 +1,8 @@
+-- The clauses so far are put last.
+use Rattle.std.proofs.Common.{◌≡◌, ◌++◌, take}
+use Rattle.netlist.specs.Miter.{axioms_of}
+use Rattle.lemma_book.specs.Cone.{named_from}
+use Rattle.lemma_book.proofs.cones.add_axioms.Given as goal
+
+abbrev pub invariant-loop-k : goal.invariant-loop-k
+invariant-loop-k l = l.cone.items ≡ l.fn.cone.items ++ named_from l.node 0 (take l.k (axioms_of l.net l.node))

@@ -1,0 +1,12 @@
+-- The literals make a clause already.
+use Rattle.std.proofs.Common.{◌≡◌, List, ap, sym, ◌∙◌}
+use Rattle.lits.specs.Clause.{firsts}
+use Rattle.lits.specs.declared.literal.Lit.{Lit}
+use Rattle.netlist.specs.Miter.{same_lit}
+use Rattle.lemma_book.proofs.AxiomLemmas.{clause-once}
+use Rattle.lemma_book.proofs.cones.clause_of.Goals as goal
+
+pub returns-in-Ok : goal.returns-in-Ok
+returns-in-Ok c =
+    c.in-Ok.ensures.kept ∙ ap (firsts same_lit) c.lits.ensures.lits
+    ∙ clause-once c.args.short.now c.lits.ensures.short.clause

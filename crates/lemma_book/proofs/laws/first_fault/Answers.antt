@@ -1,0 +1,8 @@
+use Rattle.lemma_book.proofs.FaultLemmas.{good-no_fault, first-one}
+use Rattle.lemma_book.proofs.laws.first_fault.Goals as goal
+
+pub returns : goal.returns
+returns c = record {
+  good = λ net book entry fault good first. good-no_fault net book entry fault good first.stands;
+  one = λ net book entry f g a b. first-one net book entry f g a b;
+}

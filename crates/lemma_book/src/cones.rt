@@ -1,0 +1,49 @@
+ghost use Rattle.std.specs.Prelude.{◌≡◌, ◌++◌, IfOk, OnOk};
+ghost use Rattle.lemma_book.specs.Cone.{AreThere, nodes_in, named_axioms, IsCone};
+
+use crate::walk::Walk;
+use lits::{Clause, Lit, Named, Node, Ref};
+use netlist::{Net, Short};
+use std::alloc::{AllocError, Global};
+
+/// The cone of the literals' nodes: the named clauses that define these nodes, their fanins, the fanins of those, and
+/// so on, in the order of the miter.
+///
+/// The work is that of the cone, not of the whole net.
+pub fn cone(alloc: Global, net: &Net, lits: &[Lit]) -> Result<Vec<Named>, AllocError>
+    requires { AreThere net.now lits.now }
+    ensures { IfOk result (λ v. IsCone net.now (nodes_in lits.now) v.items) }
+{
+    net.known();
+    let walk = Walk::of(alloc, net, lits)?;
+    let mut cone = Vec::new(alloc);
+    for node in walk.found.values() {
+        add_axioms(alloc, net, *node, &mut cone)?;
+    }
+    Ok(cone)
+}
+
+/// Puts the clauses that define a node last.
+fn add_axioms(alloc: Global, net: &Net, node: Node, cone: &mut Vec<Named>) -> Result<(), AllocError>
+    ensures { OnOk result (cone.new.items ≡ cone.old.items ++ named_axioms net.now node) }
+{
+    for k in 0..4 {
+        if let Some(short) = net.axiom(node, k) {
+            let clause = clause_of(alloc, &short)?;
+            let by = Ref::Axiom(node, k);
+            cone.push(Named { clause, by })?;
+        }
+    }
+    Ok(())
+}
+
+/// The same clause on its own.
+fn clause_of(alloc: Global, short: &Short) -> Result<Clause<Lit>, AllocError>
+    ensures { IfOk result (λ c. c ≡ short.now) }
+{
+    match Clause::of(alloc, short.lits()) {
+        Ok(clause) => Ok(clause),
+        // Only memory can be wanting, since the literals make a clause already.
+        Err(_) => Err(AllocError),
+    }
+}

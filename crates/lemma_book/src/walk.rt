@@ -1,0 +1,79 @@
+ghost use Rattle.std.specs.Prelude.{◌≡◌, ◌∷◌, [], IfOk, OnOk};
+ghost use Rattle.std.specs.Option.{IsSome};
+ghost use Rattle.netlist.specs.Net.{IsNet};
+ghost use Rattle.netlist.specs.Miter.{variable_of};
+ghost use Rattle.lemma_book.specs.Cone.{AreThere, nodes_in, IsReach};
+ghost use Rattle.lemma_book.specs.Walk.{is_found, nodes_named, IsWalk, Finds};
+
+use lits::{Lit, Node};
+use netlist::Net;
+use std::alloc::{AllocError, Global};
+use std::collections::BTreeMap;
+
+/// The nodes of a cone that are found so far, by their CNF variables, and those of them that are still to be visited.
+#[derive(Drop)]
+pub struct Walk {
+    pub found: BTreeMap<u32, Node>,
+    pending: Vec<Node>,
+}
+
+impl Walk {
+    /// Walks from the literals' nodes through all that they reach.
+    pub fn of(alloc: Global, net: &Net, lits: &[Lit]) -> Result<Walk, AllocError>
+        requires net { IsNet net.now }
+        requires there { AreThere net.now lits.now }
+        ensures walk { IfOk result (IsWalk net.now) }
+        ensures reach { IfOk result (λ w. IsReach net.now (nodes_in lits.now) (is_found w)) }
+    {
+        let mut walk = Walk {
+            found: BTreeMap::new(alloc),
+            pending: Vec::new(alloc),
+        };
+        walk.find_all(net, lits)?;
+        while let Some(node) = walk.pending.pop() {
+            walk.visit(net, node)?;
+        }
+        Ok(walk)
+    }
+
+    /// Finds one more node.
+    fn find(&mut self, net: &Net, node: Node) -> Result<(), AllocError>
+        requires walk { IsWalk net.now self.old }
+        requires there { IsSome (variable_of net.now node) }
+        ensures { OnOk result (Finds net.now self.old (node ∷ []) self.new) }
+    {
+        if let Some(number) = net.cnf_number(Lit { node, neg: false }) {
+            if self.found.insert(number.var(), node)?.is_none() {
+                self.pending.push(node)?;
+            }
+        }
+        Ok(())
+    }
+
+    /// Finds the nodes of the literals.
+    fn find_all(&mut self, net: &Net, lits: &[Lit]) -> Result<(), AllocError>
+        requires walk { IsWalk net.now self.old }
+        requires there { AreThere net.now lits.now }
+        ensures { OnOk result (Finds net.now self.old (nodes_in lits.now) self.new) }
+    {
+        for lit in lits {
+            self.find(net, lit.node)?;
+        }
+        Ok(())
+    }
+
+    /// Finds the nodes that the clauses of a node name.
+    fn visit(&mut self, net: &Net, node: Node) -> Result<(), AllocError>
+        requires net { IsNet net.now }
+        requires walk { IsWalk net.now self.old }
+        requires there { IsSome (variable_of net.now node) }
+        ensures { OnOk result (Finds net.now self.old (nodes_named net.now node) self.new) }
+    {
+        for k in 0..4 {
+            if let Some(clause) = net.axiom(node, k) {
+                self.find_all(net, clause.lits())?;
+            }
+        }
+        Ok(())
+    }
+}
