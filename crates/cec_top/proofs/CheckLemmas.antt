@@ -33,9 +33,9 @@ pub checks-pair : (c : CheckCommand) (old mid new : DeskState) (kept : List Kept
     (cnf proof : List ℕ) → cnf ≡ cnf_name c → proof ≡ proof_name c
     → HasPair c old net → mid ≡ after_reads old c → ChecksPair cnf proof net mid new kept r → Checks c old new kept r
 checks-pair c old mid new kept net r cnf proof cnf_is proof_is pair read p =
-  go r (subst (λ (s : DeskState). ChecksPair (cnf_name c) (proof_name c) net s new kept r) read
+    go r (subst (λ (s : DeskState). ChecksPair (cnf_name c) (proof_name c) net s new kept r) read
     (subst (λ (n : List ℕ). ChecksPair (cnf_name c) n net mid new kept r) proof_is
-      (subst (λ (n : List ℕ). ChecksPair n proof net mid new kept r) cnf_is p)))
+    (subst (λ (n : List ℕ). ChecksPair n proof net mid new kept r) cnf_is p)))
   where
     go : (q : Result (Unit {0}) Stop) → ChecksPair (cnf_name c) (proof_name c) net (after_reads old c) new kept q → Checks c old new kept q
     go (Ok u) f = record { net = net; pair = pair; checks = f }

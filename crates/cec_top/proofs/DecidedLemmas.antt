@@ -16,5 +16,5 @@ pub decided : (net : AigPair) (proof : List ℕ) (r : Result (Unit {0}) Stop) �
     → ((formula : List (List DimacsLiteral)) (lines : List Line) → Refutes formula lines → ¬ IsSatisfiable opposite_literal formula)
     → OnOk r (IsDecided net)
 decided net proof (Ok u) p exact agree refuted =
-  record { agree = agree.0 (refuted (miter_of net) p.1.lines p.1.refutes); exact = exact }
+    record { agree = agree.0 (refuted (miter_of net) p.1.lines p.1.refutes); exact = exact }
 decided net proof (Err stop) p exact agree refuted = tt

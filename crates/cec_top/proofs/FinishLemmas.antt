@@ -38,17 +38,17 @@ touches-file names s name bytes apart = touches-change names s (after_file s nam
 module _ (cnf proof : List ℕ) (net : AigPair) (old mid : DeskState) where
   pub finishes-cnf : (stop : Stop) → StopsPut (cnf ∷ []) old mid stop → Finishes cnf proof net old mid (Err stop)
   finishes-cnf stop p = finishes-stop cnf proof net old mid stop
-    (stops-more (cnf ∷ []) (cnf ∷ proof ∷ []) old mid stop
+      (stops-more (cnf ∷ []) (cnf ∷ proof ∷ []) old mid stop
       (λ q e. ap (λ (b : Bool). b || false) (left_false (bytes_eq cnf q) _ e)) p)
 
   touches-cnf : mid ≡ after_file old cnf (cnf_text_of net) → TouchesOnly (cnf ∷ proof ∷ []) old mid
   touches-cnf wrote = subst (λ (s : DeskState). TouchesOnly (cnf ∷ proof ∷ []) old s) (sym wrote)
-    (touches-file (cnf ∷ proof ∷ []) old cnf (cnf_text_of net) (λ q e. left_false (bytes_eq cnf q) _ e))
+      (touches-file (cnf ∷ proof ∷ []) old cnf (cnf_text_of net) (λ q e. left_false (bytes_eq cnf q) _ e))
 
   pub finishes-proof : (new : DeskState) (stop : Stop) → mid ≡ after_file old cnf (cnf_text_of net) → old.write_faults ≤ mid.write_faults
       → StopsPut (proof ∷ []) mid new stop → Finishes cnf proof net old new (Err stop)
   finishes-proof new stop wrote le p = finishes-stop cnf proof net old new stop
-    (stops-after (cnf ∷ proof ∷ []) old mid new stop (touches-cnf wrote) le
+      (stops-after (cnf ∷ proof ∷ []) old mid new stop (touches-cnf wrote) le
       (stops-more (proof ∷ []) (cnf ∷ proof ∷ []) mid new stop (λ q e. right_false (bytes_eq cnf q) _ e) p))
 
   written : (done : DeskState) → mid ≡ after_file old cnf (cnf_text_of net) → (p : WritesProof net mid done proof)
@@ -58,14 +58,14 @@ module _ (cnf proof : List ℕ) (net : AigPair) (old mid : DeskState) where
   pub finishes-said : (done new : DeskState) (r : Result (Unit {0}) Stop) → mid ≡ after_file old cnf (cnf_text_of net)
       → WritesProof net mid done proof → SaysVerdict done new r → Finishes cnf proof net old new r
   finishes-said done new (Ok u) wrote p said =
-    (p.proof, p.is_proof, said ∙ ap (λ (s : DeskState). after_say s verdict_line) (written done wrote p))
+      (p.proof, p.is_proof, said ∙ ap (λ (s : DeskState). after_say s verdict_line) (written done wrote p))
   finishes-said done new (Err CannotWrite) wrote p said =
-    inr (p.proof, p.is_proof, subst (λ (s : DeskState). SaysVerdict s new (Err CannotWrite)) (written done wrote p) said)
+      inr (p.proof, p.is_proof, subst (λ (s : DeskState). SaysVerdict s new (Err CannotWrite)) (written done wrote p) said)
   finishes-said done new (Err OutOfMemory) wrote p said =
-    touches-then (cnf ∷ proof ∷ []) old mid new (touches-cnf wrote)
+      touches-then (cnf ∷ proof ∷ []) old mid new (touches-cnf wrote)
       (subst (λ (s : DeskState). TouchesOnly (cnf ∷ proof ∷ []) mid s) (sym (said ∙ p.writes))
-        (touches-file (cnf ∷ proof ∷ []) mid proof p.proof
-          (λ q e. left_false (bytes_eq proof q) _ (right_false (bytes_eq cnf q) _ e))))
+      (touches-file (cnf ∷ proof ∷ []) mid proof p.proof
+      (λ q e. left_false (bytes_eq proof q) _ (right_false (bytes_eq cnf q) _ e))))
   finishes-said done new (Err (CannotRead side)) wrote p said = said
   finishes-said done new (Err (TooLong side)) wrote p said = said
   finishes-said done new (Err (BadFile side e)) wrote p said = said

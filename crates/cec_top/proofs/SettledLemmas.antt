@@ -21,8 +21,8 @@ not_eq a b ne = grind (arith, nat_tests)
 pub has_output-past : (i k : ℕ) (es : List Entry) → AreOuts i es → i + length es ≤ k → has_output es k ≡ false
 has_output-past i k [] outs past = refl
 has_output-past i k (e ∷ es) outs past =
-  let other : output_of e ≢ k = λ same. absurd (omega (arith, outs.0, same)) in
-  rw (not_eq (output_of e) k other) (has_output-past (i + 1) k es outs.2 (omega arith))
+    let other : output_of e ≢ k = λ same. absurd (omega (arith, outs.0, same)) in
+    rw (not_eq (output_of e) k other) (has_output-past (i + 1) k es outs.2 (omega arith))
 
 -- the next one goes last
 pub AreOuts-push : (i : ℕ) (es : List Entry) (e : Entry) → AreOuts i es → output_of e ≡ i + length es → shows_equal e ≡ true
@@ -49,7 +49,7 @@ or_true false = refl
 pub HasOut-within : (i k : ℕ) (es : List Entry) → AreOuts i es → i ≤ k → k < i + length es → HasOut es k ≡ true
 HasOut-within i k [] outs from below = absurd (omega arith)
 HasOut-within i k (e ∷ es) outs from below =
-  elim (eq-or-lt_of_le from) [
-    inl here ↦ let own : is_out k e ≡ true = ap (λ (j : ℕ). is_out j e) (sym here ∙ sym outs.0) ∙ is_out-own e outs.1 in rw own refl
-  | inr past ↦ rw (HasOut-within (i + 1) k es outs.2 (omega arith) (omega arith)) (or_true (is_out k e))
-  ]
+    elim (eq-or-lt_of_le from) [
+      | inl here ↦ let own : is_out k e ≡ true = ap (λ (j : ℕ). is_out j e) (sym here ∙ sym outs.0) ∙ is_out-own e outs.1 in rw own refl
+      | inr past ↦ rw (HasOut-within (i + 1) k es outs.2 (omega arith) (omega arith)) (or_true (is_out k e))
+    ]

@@ -18,8 +18,14 @@ use Rattle.cec_top.specs.Causes.{TouchesOnly, StopsPut}
 
 pub touches-same : (names : List (List ℕ)) (s : DeskState) → TouchesOnly names s s
 touches-same names s = record {
-  change = λ f. f; files = same s.files; others = λ f q apart. refl; said = refl; warned = refl; asked = refl;
-  read_faults = refl; warn_faults = refl;
+  change = λ f. f;
+  files = same s.files;
+  others = λ f q apart. refl;
+  said = refl;
+  warned = refl;
+  asked = refl;
+  read_faults = refl;
+  warn_faults = refl;
 }
   where
     same : (o : Option Files) → o ≡ option_map (λ f. f) o
@@ -31,8 +37,11 @@ touches-then names a b c p q = record {
   change = λ f. q.change (p.change f);
   files = q.files ∙ ap (option_map q.change) p.files ∙ both a.files;
   others = λ f n apart. q.others (p.change f) n apart ∙ p.others f n apart;
-  said = q.said ∙ p.said; warned = q.warned ∙ p.warned; asked = q.asked ∙ p.asked;
-  read_faults = q.read_faults ∙ p.read_faults; warn_faults = q.warn_faults ∙ p.warn_faults;
+  said = q.said ∙ p.said;
+  warned = q.warned ∙ p.warned;
+  asked = q.asked ∙ p.asked;
+  read_faults = q.read_faults ∙ p.read_faults;
+  warn_faults = q.warn_faults ∙ p.warn_faults;
 }
   where
     both : (o : Option Files) → option_map q.change (option_map p.change o) ≡ option_map (λ f. q.change (p.change f)) o
@@ -48,9 +57,13 @@ pub touches-change : (names : List (List ℕ)) (s t : DeskState) (change : Files
     → ((f : Files) (q : List ℕ) → list_any (λ name. bytes_eq name q) names ≡ false → change f q ≡ f q)
     → TouchesOnly names s t
 touches-change names s t change e apart = record {
-  change = change; files = ap (λ (d : DeskState). d.files) e; others = apart;
-  said = ap (λ (d : DeskState). d.said) e; warned = ap (λ (d : DeskState). d.warned) e;
-  asked = ap (λ (d : DeskState). d.asked) e; read_faults = ap (λ (d : DeskState). d.read_faults) e;
+  change = change;
+  files = ap (λ (d : DeskState). d.files) e;
+  others = apart;
+  said = ap (λ (d : DeskState). d.said) e;
+  warned = ap (λ (d : DeskState). d.warned) e;
+  asked = ap (λ (d : DeskState). d.asked) e;
+  read_faults = ap (λ (d : DeskState). d.read_faults) e;
   warn_faults = ap (λ (d : DeskState). d.warn_faults) e;
 }
 
@@ -62,15 +75,24 @@ pub touches-more : (names more : List (List ℕ)) (a b : DeskState)
     → ((q : List ℕ) → list_any (λ n. bytes_eq n q) more ≡ false → list_any (λ n. bytes_eq n q) names ≡ false)
     → TouchesOnly names a b → TouchesOnly more a b
 touches-more names more a b sub p = record {
-  change = p.change; files = p.files; others = λ f q e. p.others f q (sub q e); said = p.said; warned = p.warned;
-  asked = p.asked; read_faults = p.read_faults; warn_faults = p.warn_faults;
+  change = p.change;
+  files = p.files;
+  others = λ f q e. p.others f q (sub q e);
+  said = p.said;
+  warned = p.warned;
+  asked = p.asked;
+  read_faults = p.read_faults;
+  warn_faults = p.warn_faults;
 }
 
 -- a write fault besides touches nothing more
 touches-fault : (names : List (List ℕ)) (s t u : DeskState) → TouchesOnly names s t → WriteFault t u → TouchesOnly names s u
 touches-fault names s t u p fault = record {
-  change = p.change; files = ap (λ (d : DeskState). d.files) fault.stays ∙ p.files; others = p.others;
-  said = ap (λ (d : DeskState). d.said) fault.stays ∙ p.said; warned = ap (λ (d : DeskState). d.warned) fault.stays ∙ p.warned;
+  change = p.change;
+  files = ap (λ (d : DeskState). d.files) fault.stays ∙ p.files;
+  others = p.others;
+  said = ap (λ (d : DeskState). d.said) fault.stays ∙ p.said;
+  warned = ap (λ (d : DeskState). d.warned) fault.stays ∙ p.warned;
   asked = ap (λ (d : DeskState). d.asked) fault.stays ∙ p.asked;
   read_faults = ap (λ (d : DeskState). d.read_faults) fault.stays ∙ p.read_faults;
   warn_faults = ap (λ (d : DeskState). d.warn_faults) fault.stays ∙ p.warn_faults;
@@ -90,8 +112,14 @@ touches-write names s bytes apart = touches-change names s (after_write s bytes)
 
 pub touches-close : (names : List (List ℕ)) (s : DeskState) → TouchesOnly names s (after_close s)
 touches-close names s = let p = touches-same names s in record {
-  change = p.change; files = p.files; others = p.others; said = refl; warned = refl; asked = refl;
-  read_faults = refl; warn_faults = refl;
+  change = p.change;
+  files = p.files;
+  others = p.others;
+  said = refl;
+  warned = refl;
+  asked = refl;
+  read_faults = refl;
+  warn_faults = refl;
 }
 
 alone : (name q : List ℕ) → list_any (λ n. bytes_eq n q) (name ∷ []) ≡ false → bytes_eq name q ≡ false
@@ -99,17 +127,21 @@ alone name q e = or_false (bytes_eq name q) e
 
 pub stops-start : (old new : DeskState) (name : List ℕ) (e : PutErr) → Starts old new name (Err e) → StopsPut (name ∷ []) old new (stop_of_put e)
 stops-start old new name put_err.Failed (inl p) = (p.rose, touches-fault (name ∷ []) old old new (touches-same (name ∷ []) old) p)
-stops-start old new name put_err.Failed (inr p) =
-    (p.rose, touches-fault (name ∷ []) old (after_emptying old name) new
+stops-start old new name put_err.Failed (inr p) = (
+  p.rose,
+  touches-fault (name ∷ []) old (after_emptying old name) new
       (touches-change (name ∷ []) old (after_emptying old name) (put name []) refl
-        (λ f q e. ap (λ (b : Bool). if b then Some [] else f q) (alone name q e))) p)
+      (λ f q e. ap (λ (b : Bool). if b then Some [] else f q) (alone name q e))) p,
+)
 stops-start old new name put_err.NoMemory p = subst (λ (s : DeskState). TouchesOnly (name ∷ []) old s) (sym p) (touches-same (name ∷ []) old)
 
 pub stops-write : (old new : DeskState) (bytes : List ℕ) (e : PutErr) → Writes old new bytes (Err e)
     → StopsPut (unwrap_or old.started [] ∷ []) old new (stop_of_put e)
-stops-write old new bytes put_err.Failed p =
-    (p.2.rose, touches-fault (unwrap_or old.started [] ∷ []) old (after_write old p.0) new
-      (touches-write (unwrap_or old.started [] ∷ []) old p.0 (alone (unwrap_or old.started []))) p.2)
+stops-write old new bytes put_err.Failed p = (
+  p.2.rose,
+  touches-fault (unwrap_or old.started [] ∷ []) old (after_write old p.0) new
+      (touches-write (unwrap_or old.started [] ∷ []) old p.0 (alone (unwrap_or old.started []))) p.2,
+)
 stops-write old new bytes put_err.NoMemory p =
     subst (λ (s : DeskState). TouchesOnly (unwrap_or old.started [] ∷ []) old s) (sym p) (touches-same (unwrap_or old.started [] ∷ []) old)
 
@@ -150,15 +182,15 @@ module _ (name : List ℕ) (a b c d : DeskState) (started : b ≡ after_start a 
 
   pub stops-second : (stop : Stop) → a.write_faults ≤ b.write_faults → StopsPut (unwrap_or b.started [] ∷ []) b c stop → StopsPut (name ∷ []) a c stop
   stops-second stop le p = stops-after (name ∷ []) a b c stop touches-started le
-    (subst (λ (n : List ℕ). StopsPut (n ∷ []) b c stop) same_name p)
+      (subst (λ (n : List ℕ). StopsPut (n ∷ []) b c stop) same_name p)
 
   pub stops-third : (bytes : List ℕ) (stop : Stop) → c ≡ after_write b bytes → a.write_faults ≤ c.write_faults → StopsPut [] c d stop
       → StopsPut (name ∷ []) a d stop
   stops-third bytes stop wrote le p = stops-after (name ∷ []) a c d stop
-    (touches-then (name ∷ []) a b c touches-started
+      (touches-then (name ∷ []) a b c touches-started
       (subst (λ (s : DeskState). TouchesOnly (name ∷ []) b s) (sym wrote)
-        (touches-write (name ∷ []) b bytes (λ q e. ap (λ (n : List ℕ). bytes_eq n q) same_name ∙ alone name q e)))) le
-    (stops-more [] (name ∷ []) c d stop (λ q e. refl) p)
+      (touches-write (name ∷ []) b bytes (λ q e. ap (λ (n : List ℕ). bytes_eq n q) same_name ∙ alone name q e)))) le
+      (stops-more [] (name ∷ []) c d stop (λ q e. refl) p)
 
 pub touches-equal : (names : List (List ℕ)) (old new : DeskState) → new ≡ old → TouchesOnly names old new
 touches-equal names old new e = subst (λ (s : DeskState). TouchesOnly names old s) (sym e) (touches-same names old)

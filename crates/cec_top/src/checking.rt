@@ -16,7 +16,6 @@ use lemma_book::Book;
 use netlist::Net;
 use std::alloc::{AllocError, Global};
 
-
 /// How many learned clauses each output's query may spend.
 const OUT_BUDGET: u64 = 100_000;
 
@@ -68,9 +67,7 @@ fn check_pair<D: Desk>(
 ) -> Result<(), Stop>
     requires started { (D.state desk.old).started ≡ None }
     requires empty { kept.old.items ≡ [] }
-    ensures answer {
-        ChecksPair cnf.now proof.now net.now (D.state desk.old) (D.state desk.new) kept.new.items result
-    }
+    ensures answer { ChecksPair cnf.now proof.now net.now (D.state desk.old) (D.state desk.new) kept.new.items result }
     ensures counts { NoCountFalls (D.state desk.old) (D.state desk.new) }
 {
     kept.reserve(1)?;
@@ -103,10 +100,8 @@ pub(crate) fn check<D: Desk>(
 ) -> Result<(), Stop>
     requires started { (D.state desk.old).started ≡ None }
     requires empty { kept.old.items ≡ [] }
-    ensures answer {
-        Checks (record { a = words.entry.a.now; b = words.entry.b.now; prefix = words.entry.prefix.now })
-            (D.state desk.old) (D.state desk.new) kept.new.items result
-    }
+    ensures answer { Checks (record { a = words.entry.a.now; b = words.entry.b.now; prefix = words.entry.prefix.now })
+        (D.state desk.old) (D.state desk.new) kept.new.items result }
     ensures counts { NoCountFalls (D.state desk.old) (D.state desk.new) }
 {
     let net = read_pair(alloc, desk, words)?;

@@ -9,17 +9,13 @@ pub use kept::Kept;
 pub use program::run;
 pub use status::Status;
 
+mod checking;
 mod command;
 mod kept;
 mod lines;
-mod reading;
-
-mod settling;
-
-mod writing;
-
-mod checking;
-
 mod program;
+mod reading;
+mod settling;
 mod status;
 mod stop;
+mod writing;

@@ -5,7 +5,7 @@ ghost use Rattle.cec_top.specs.Lines.{stop_line};
 ghost use Rattle.cec_top.specs.Stops.{status_of};
 
 use crate::checking::check;
-use crate::command::{command, CheckWords};
+use crate::command::{CheckWords, command};
 use crate::kept::Kept;
 use crate::lines::line_of_stop;
 use crate::status::Status;
@@ -27,9 +27,7 @@ pub fn run<D: Desk, G: Gate + Sync>(
     _gate: &G,
 ) -> (Status, Vec<Kept>)
     requires { (D.state desk.old).started ≡ None }
-    ensures answers {
-        Answers (map string_bytes words.now) (D.state desk.old) (D.state desk.new) result.0 result.1.items
-    }
+    ensures answers { Answers (map string_bytes words.now) (D.state desk.old) (D.state desk.new) result.0 result.1.items }
     ensures counts { NoCountFalls (D.state desk.old) (D.state desk.new) }
 {
     let mut kept = Vec::new(alloc);
@@ -55,10 +53,8 @@ fn refuse_words<D: Desk>(desk: &mut D) -> Status
 
 /// Warns of the cause why a check ended without a verdict.
 fn refuse_check<D: Desk>(alloc: Global, desk: &mut D, words: CheckWords<'_>, stop: Stop) -> Status
-    ensures answer {
-        RefusesCheck (stop_line (record { a = words.entry.a.now; b = words.entry.b.now; prefix = words.entry.prefix.now }) stop)
-            (status_of stop) (D.state desk.old) (D.state desk.new) result
-    }
+    ensures answer { RefusesCheck (stop_line (record { a = words.entry.a.now; b = words.entry.b.now; prefix = words.entry.prefix.now }) stop)
+        (status_of stop) (D.state desk.old) (D.state desk.new) result }
     ensures counts { NoCountFalls (D.state desk.old) (D.state desk.new) }
 {
     let Ok(line) = line_of_stop(alloc, words, stop) else {

@@ -46,7 +46,11 @@ fn settle_output<R: Refuter + Send>(
     if book.push(entry).is_err() {
         return Err(Stop::OutOfMemory);
     }
-    if equal { Ok(()) } else { Err(Stop::NotEqual(j)) }
+    if equal {
+        Ok(())
+    } else {
+        Err(Stop::NotEqual(j))
+    }
 }
 
 /// Whether the entry shows that its output is equal.

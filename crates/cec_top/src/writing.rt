@@ -51,12 +51,8 @@ fn close<D: Desk>(desk: &mut D) -> Result<(), Stop>
 #[tactic(auto, unfolding(crate::specs::Causes::cnf_text_of))]
 fn put_cnf<D: Desk>(alloc: Global, net: &Net, desk: &mut D) -> Result<(), Stop>
     requires { IsSome (D.state desk.old).started }
-    ensures ok {
-        OnOk result (D.state desk.new ≡ after_write (D.state desk.old) (cnf_text_of net.now))
-    }
-    ensures err {
-        IfErr result (StopsPut (unwrap_or (D.state desk.old).started [] ∷ []) (D.state desk.old) (D.state desk.new))
-    }
+    ensures ok { OnOk result (D.state desk.new ≡ after_write (D.state desk.old) (cnf_text_of net.now)) }
+    ensures err { IfErr result (StopsPut (unwrap_or (D.state desk.old).started [] ∷ []) (D.state desk.old) (D.state desk.new)) }
     ensures counts { NoCountFalls (D.state desk.old) (D.state desk.new) }
 {
     let Ok(miter) = net.miter(alloc) else {
@@ -67,7 +63,12 @@ fn put_cnf<D: Desk>(alloc: Global, net: &Net, desk: &mut D) -> Result<(), Stop>
 }
 
 /// Writes the CNF of the pair's miter.
-pub(crate) fn write_cnf<D: Desk>(alloc: Global, net: &Net, desk: &mut D, name: &str) -> Result<(), Stop>
+pub(crate) fn write_cnf<D: Desk>(
+    alloc: Global,
+    net: &Net,
+    desk: &mut D,
+    name: &str,
+) -> Result<(), Stop>
     requires { (D.state desk.old).started ≡ None }
     ensures answer { WritesFile (D.state desk.old) (D.state desk.new) name.now (cnf_text_of net.now) result }
     ensures counts { NoCountFalls (D.state desk.old) (D.state desk.new) }
@@ -84,9 +85,7 @@ fn put_proof<D: Desk>(alloc: Global, net: &Net, book: &Book, desk: &mut D) -> Re
     requires legal { IsLegal net.now book.now }
     requires outs { AreOuts 0 book.now.entries × (length book.now.entries ≡ length net.now.a.outputs) }
     ensures ok { OnOk result (PutsProof net.now (D.state desk.old) (D.state desk.new)) }
-    ensures err {
-        IfErr result (StopsPut (unwrap_or (D.state desk.old).started [] ∷ []) (D.state desk.old) (D.state desk.new))
-    }
+    ensures err { IfErr result (StopsPut (unwrap_or (D.state desk.old).started [] ∷ []) (D.state desk.old) (D.state desk.new)) }
     ensures counts { NoCountFalls (D.state desk.old) (D.state desk.new) }
 {
     match proof_stitch::refutation(alloc, net, book, desk) {

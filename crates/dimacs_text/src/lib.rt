@@ -7,7 +7,6 @@
 
 pub use write::print;
 
-mod write;
-
 #[cfg(test)]
 mod tests;
+mod write;

@@ -1,0 +1,39 @@
+//! Files that are refused, each with the one line that says why.
+use crate::desk::run_words;
+use cec_top::Status;
+use std::test::Fail;
+
+const AND: &str = "aag 3 2 0 1 1\n2\n4\n6\n6 2 4\n";
+
+#[test]
+fn ascii_faults(rt: HostRuntime) -> Result<(), Fail> {
+    let cases = [
+        ("", "bad header"),
+        ("aag 1 0 1 0 0\n2 3\n", "1 latches"),
+        ("aag 1 1 0 0 0 0 1\n2\n2\n", "section C is not supported"),
+        ("aag 3 2 0 1 0\n2\n4\n6\n", "literal 6 is undefined"),
+        ("aag 3 2 0 0 0\n2\n2\n", "literal 2 is defined twice"),
+        ("aag 1 1 0 0 0\n3\n", "bad literal 3"),
+        ("aag 1 1 0 0 0\nx\n", "bad number at byte 14"),
+        ("aag 1 1 0 0 0\n2\ni1 x\n", "bad symbol line at byte 16"),
+        ("aag 16777217 0 0 0 0\n", "16777217 is above 16777216"),
+        ("aag 3 2 0 1 1\n2\n4\n6\n6 2", "ends too early at byte 24"),
+    ];
+    for (file, text) in cases {
+        let files = [("A", file.as_bytes()), ("B", AND.as_bytes())];
+        let ran = run_words(&rt, rt.alloc(), &files, &["check", "A", "B", "--out", "p"], &[])?;
+        let line = format!(in rt.alloc(); "cec: A: {text}\n")?;
+        assert_eq!(rt; ran.desk.warned(), line.as_bytes(), "{text}");
+        assert!(rt; ran.status == Status::BadInput, "{text}");
+        assert_eq!(rt; ran.desk.asked().len(), 1, "{text}");
+    }
+    Ok(())
+}
+
+#[test]
+fn last_newline(rt: HostRuntime) -> Result<(), Fail> {
+    let files = [("A", &AND.as_bytes()[..24]), ("B", AND.as_bytes())];
+    let ran = run_words(&rt, rt.alloc(), &files, &["check", "A", "B", "--out", "p"], &[])?;
+    assert!(rt; ran.status == Status::BadInput);
+    Ok(())
+}
