@@ -20,12 +20,14 @@ use Rattle.netlist.specs.Miter.{positive, negative, axioms_of, variables_of, var
 use Rattle.netlist.proofs.LawNodes.{exact-lit, range-has, all-append}
 use Rattle.netlist.proofs.LawThere.{has-xor}
 use Rattle.netlist.proofs.LawCones.{IsModelOver, model-xor}
+use Rattle.unit_prop.specs.declared.refuter.Refuted.{Refuted}
 use Rattle.unit_prop.specs.declared.refuter.Refuted.TheVariants.{Yes, No, Spent}
 use Rattle.unit_prop.specs.Log.{same_lit, opposite, base_clauses, IsStepAfter, IsLog}
 use Rattle.unit_prop.specs.Refuter.{IsOver, IsModel, Answers, StaysUndecided}
 use Rattle.unit_prop.proofs.ChainLemmas.{in_turn-append, log-grows}
 use Rattle.lemma_book.specs.Cone.{AreThere, AreIn, IsCone}
-use Rattle.lemma_book.specs.Entry.{equal_clause, axiom_named, IsGoodOut, IsApart, IsGoodSpent}
+use Rattle.lemma_book.specs.declared.entry.Entry.TheVariants.{Out, OutApart, OutSpent}
+use Rattle.lemma_book.specs.Entry.{Entries, has_output, equal_clause, axiom_named, IsGoodOut, IsApart, IsGoodSpent, IsGood}
 use Rattle.lemma_book.proofs.RepeatLemmas.{contrary, or_none}
 use Rattle.lemma_book.proofs.ThereLemmas.{is_some-variable}
 use Rattle.lemma_book.proofs.FaninLemmas.{closed-fanins, closed-outputs}
@@ -171,3 +173,64 @@ module _ (net : AigPair) (is : IsNet net) (j : ℕ) (below : j < length net.a.ou
     -- its literals are over nodes that the miter has variables for
     pub model-there : (model : List Lit) → IsModel cone (equal_clause j) model → AreThere net model
     model-there model m = over-there net is (Xor j ∷ []) cone is_cone model m.within
+
+-- a query of output j, which the book says nothing of: the base is the cone of its XOR, and the log is empty
+pub record IsAsked (net : AigPair) (book : Entries) (j : ℕ) (cone base : List Named) (target : List Lit) (log : List Step) (budget : ℕ) : Type 0 where
+  pub net_is : IsNet net
+  pub below : j < length net.a.outputs
+  pub unsettled : has_output book.entries j ≡ false
+  pub is_cone : IsCone net (Xor j ∷ []) cone
+  pub base_is : base ≡ cone
+  pub target_is : target ≡ equal_clause j
+  pub log_is : log ≡ []
+  pub budget_is : budget ≡ book.out_budget
+
+module _ (net : AigPair) (book : Entries) (j : ℕ) (cone base : List Named) (target : List Lit) (log : List Step) (budget : ℕ)
+    (asked : IsAsked net book j cone base target log budget) where
+  pub asked-target : IsOver base target
+  asked-target =
+      subst (λ (b : List Named). IsOver b target) (sym asked.base_is)
+      (subst (IsOver cone) (sym asked.target_is) (target-over net asked.net_is j asked.below cone asked.is_cone))
+
+  module _ (grown : List Step) (left : ℕ) (result answer : Refuted) (answers : Answers base target log budget grown left result) (is : result ≡ answer) where
+    answered : Answers cone (equal_clause j) [] book.out_budget grown left answer
+    answered =
+        subst (λ (r : Refuted). Answers cone (equal_clause j) [] book.out_budget grown left r) is
+        (subst (λ (n : ℕ). Answers cone (equal_clause j) [] n grown left result) asked.budget_is
+        (subst (λ (l : List Step). Answers cone (equal_clause j) l budget grown left result) asked.log_is
+        (subst (λ (t : List Lit). Answers cone t log budget grown left result) asked.target_is
+        (subst (λ (b : List Named). Answers b target log budget grown left result) asked.base_is answers))))
+
+  pub out-good : (grown : List Step) (left : ℕ) (result : Refuted) (hints : List Ref) (steps : List Step) → Answers base target log budget grown left result
+      → result ≡ Yes hints → steps ≡ grown ++ record { clause = target; hints = hints } ∷ [] → IsGood net book (Out j steps)
+  out-good grown left result hints steps answers is made = record {
+    output = asked.below;
+    unsettled = asked.unsettled;
+    shown = subst (IsGoodOut net book.out_budget j)
+        (sym (made ∙ ap (λ (t : List Lit). grown ++ record { clause = t; hints = hints } ∷ []) asked.target_is))
+        (yes-good net asked.net_is j asked.below cone asked.is_cone book.out_budget left grown hints (answered grown left result (Yes hints) answers is));
+  }
+
+  pub model-known : (grown : List Step) (left : ℕ) (result : Refuted) (model : List Lit) → Answers base target log budget grown left result
+      → result ≡ No model → AreThere net model
+  model-known grown left result model answers is =
+      model-there net asked.net_is j asked.below cone asked.is_cone model (answered grown left result (No model) answers is).answer.1
+
+  pub apart-good : (grown : List Step) (left : ℕ) (result : Refuted) (model : List Lit) (input : List Bool) → Answers base target log budget grown left result
+      → result ≡ No model → input ≡ input_from net model → IsGood net book (OutApart j input)
+  apart-good grown left result model input answers is made = record {
+    output = asked.below;
+    unsettled = asked.unsettled;
+    shown = subst (IsApart net j) (sym made)
+        (model-apart net asked.net_is j asked.below cone asked.is_cone model (answered grown left result (No model) answers is).answer.1);
+  }
+
+  pub out_spent-good : (grown : List Step) (left : ℕ) (result : Refuted) (seen : ℕ) (kept : List Step) → Answers base target log budget grown left result
+      → result ≡ Spent → seen ≡ length book.entries → kept ≡ grown → IsGood net book (OutSpent j seen kept)
+  out_spent-good grown left result seen kept answers is whole same = record {
+    output = asked.below;
+    unsettled = asked.unsettled;
+    shown = subst (λ (n : ℕ). IsGoodSpent net book.out_budget (length book.entries) j n kept) (sym whole)
+        (subst (IsGoodSpent net book.out_budget (length book.entries) j (length book.entries)) (sym same)
+        (spent-good net asked.net_is j asked.below cone asked.is_cone book.out_budget left grown (length book.entries) (answered grown left result Spent answers is)));
+  }
