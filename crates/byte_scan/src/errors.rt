@@ -1,3 +1,7 @@
+ghost use Rattle.std.specs.Prelude.{◌≡◌};
+ghost use Rattle.byte_scan.specs.declared.errors.AigerErr.TheVariants.{NoMemory};
+
+use std::alloc::{AllocError, AllocFailed};
 use thiserror::Error;
 
 /// The first fault of an AIGER file. Places count bytes from 0, literals are the file's.
@@ -40,4 +44,20 @@ pub enum AigerErr {
     BadSymbol(u64),
     #[error("out of memory")]
     NoMemory,
+}
+
+impl From<AllocError> for AigerErr {
+    ghost from_gives = { λ _ e. e ≡ NoMemory };
+
+    fn from(_: AllocError) -> AigerErr {
+        AigerErr::NoMemory
+    }
+}
+
+impl<T: Drop> From<AllocFailed<T>> for AigerErr {
+    ghost from_gives = { λ _ e. e ≡ NoMemory };
+
+    fn from(_: AllocFailed<T>) -> AigerErr {
+        AigerErr::NoMemory
+    }
 }

@@ -16,6 +16,8 @@ const MOST: u64 = 16_777_216;
 pub fn header(scan: &mut Scan, letter: u8) -> Result<Header, AigerErr>
     ensures spells { IfOk result (SpellsHeader letter (line_of (ahead scan.old))) }
     ensures fault { IfErr result (λ e. header_fault letter (line_of (ahead scan.old)) ≡ Some e) }
+    ensures most { IfOk result (λ h. (h.m ≤ 16777216) × (h.o ≤ 16777216)) }
+    ensures counts { IfOk result (λ h. h.i + h.l + h.a ≤ h.m) }
     ensures moved { scan.new ≡ moved scan.old (length (line_of (ahead scan.old)) + 1) }
 {
     let line = scan.line().unwrap_or(&[]);
@@ -66,6 +68,8 @@ fn whole_number(word: &[u8]) -> Option<u64>
 /// The header of nine numbers, or their first fault.
 fn judged(numbers: &[u64; 9], letter: u8) -> Result<Header, AigerErr>
     ensures header { IfOk result (λ h. h ≡ header_of numbers.now) }
+    ensures most { IfOk result (λ h. (h.m ≤ 16777216) × (h.o ≤ 16777216)) }
+    ensures counts { IfOk result (λ h. h.i + h.l + h.a ≤ h.m) }
     ensures sound { IfOk result (λ h. numbers_fault letter (Some numbers.now) ≡ None) }
     ensures fault { IfErr result (λ e. numbers_fault letter (Some numbers.now) ≡ Some e) }
 {

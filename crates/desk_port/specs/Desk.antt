@@ -1,6 +1,7 @@
 -- What a desk shows, and what each of its calls makes of that, answer by answer.
-use Rattle.std.specs.Prelude.{◌≡◌, ℕ, ◌<◌, ◌≤◌, ◌⊎◌, List, [], ◌∷◌, ◌++◌, length, unwrap_or, if◌then◌else◌}
-use Rattle.std.specs.Prelude.{Option, Some, None, Result, Ok, Err, IfSome, IsSomeAnd}
+use Rattle.std.specs.Prelude.{◌≡◌, ℕ, ◌<◌, ◌≤◌, ◌⊎◌, List, [], ◌∷◌, ◌++◌, length, if◌then◌else◌}
+use Rattle.std.specs.Prelude.{Option, Some, None, unwrap_or, IfSome, IsSome, IsSomeAnd}
+use Rattle.std.specs.Prelude.{Result, Ok, Err}
 use Rattle.std.specs.Global.{Vec}
 use Rattle.std.specs.Option.{option_map}
 use Rattle.std.specs.Str.{bytes_eq}
@@ -15,12 +16,12 @@ Files = List ℕ → Option (List ℕ)
 
 -- The files with these bytes, and no others, under the name.
 abbrev pub put : List ℕ → List ℕ → Files → Files
-put name bytes files = λ q. if bytes_eq q name then Some bytes else files q
+put name bytes files = λ q. if bytes_eq name q then Some bytes else files q
 
 -- The files with these bytes at the end of the named one.
 abbrev pub extended : List ℕ → List ℕ → Files → Files
 extended name bytes files =
-    λ q. if bytes_eq q name then option_map (λ old. old ++ bytes) (files q) else files q
+    λ q. if bytes_eq name q then option_map (λ old. old ++ bytes) (files q) else files q
 
 -- What a desk shows. What it doesn't tell is None, as all content of a desk of real files.
 pub record DeskState : Type 0 where
@@ -38,6 +39,23 @@ pub record DeskState : Type 0 where
   pub read_faults : ℕ
   pub write_faults : ℕ
   pub warn_faults : ℕ
+
+-- A file that is started is there, as far as the desk tells.
+abbrev pub StartedIsThere : DeskState → Type 0
+StartedIsThere s = IfSome s.started (λ name. IfSome s.files (λ files. IsSome (files name)))
+
+-- What a new desk shows that tells all: these files, and nothing started, put or counted.
+abbrev pub untouched : Files → DeskState
+untouched files = record {
+  files = Some files;
+  started = None;
+  said = Some [];
+  warned = Some [];
+  asked = Some [];
+  read_faults = 0;
+  write_faults = 0;
+  warn_faults = 0;
+}
 
 -- Told bytes with more bytes behind them.
 abbrev pub followed_by : Option (List ℕ) → List ℕ → Option (List ℕ)
@@ -133,6 +151,15 @@ Writes old new bytes (Ok _) = new ≡ after_write old bytes
 Writes old new bytes (Err not_put.Failed) =
     OfSomePrefix bytes (λ part. WriteFault (after_write old part) new)
 Writes old new bytes (Err not_put.NoMemory) = new ≡ old
+
+-- Bytes that went out by several calls of `write`. Where one was refused, those of the earlier
+-- calls stay, so that some first part of the whole was put.
+abbrev pub WritesInPieces : DeskState → DeskState → List ℕ → Result (Unit {0}) PutErr → Type 0
+WritesInPieces old new bytes (Ok _) = new ≡ after_write old bytes
+WritesInPieces old new bytes (Err not_put.Failed) =
+    OfSomePrefix bytes (λ part. WriteFault (after_write old part) new)
+WritesInPieces old new bytes (Err not_put.NoMemory) =
+    OfSomePrefix bytes (λ part. new ≡ after_write old part)
 
 -- `close`: nothing is started after Failed either.
 abbrev pub Closes : DeskState → DeskState → Result (Unit {0}) PutErr → Type 0

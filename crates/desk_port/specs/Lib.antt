@@ -1,1 +1,3 @@
 pub mod Desk
+pub mod MemDesk
+pub mod MemFiles

@@ -1,6 +1,7 @@
 //! The calls by which a program reaches files, standard output and standard error.
 ghost use Rattle.std.specs.Prelude.{◌≡◌, None, IsSome};
-ghost use Rattle.desk_port.specs.Desk.{DeskState, Reads, Starts, Writes, Closes, Says, Warns, NoCountFalls};
+ghost use Rattle.desk_port.specs.Desk.{DeskState, Reads, Starts, Writes, Closes, Says, Warns};
+ghost use Rattle.desk_port.specs.Desk.{NoCountFalls, StartedIsThere};
 
 use crate::errors::{PutErr, ReadErr};
 use std::alloc::Global;
@@ -8,9 +9,9 @@ use std::alloc::Global;
 /// The outside of a program.
 ///
 /// One file at most is started at a time: `start`, then `write` as often as needed, then `close`.
-/// `specs/Desk.antt` says for each call and each of its answers what the desk shows afterwards. What
-/// is not named there stays, want of memory changes nothing at all, and a desk that tells goes on
-/// telling.
+/// `specs/Desk.antt` says for each call and each of its answers what the desk shows afterwards.
+/// What is not named there stays, want of memory changes nothing at all, and a desk that tells goes
+/// on telling.
 ///
 /// Only `read` takes an allocator, since it gives the caller a new collection; the other calls take
 /// memory from the allocator that the desk keeps.
@@ -52,4 +53,7 @@ pub trait Desk {
     fn warn(&mut self, bytes: &[u8]) -> Result<(), PutErr>
         ensures answer { Warns (state self.old) (state self.new) bytes.now result }
         ensures counts { NoCountFalls (state self.old) (state self.new) };
+
+    /// A file that is started is there, as far as the desk tells.
+    ghost started_is_there: { (d : Self) → StartedIsThere (state d) };
 }

@@ -1,4 +1,9 @@
 //! Why a call of a desk refused.
+ghost use Rattle.std.specs.Prelude.{◌≡◌};
+ghost use Rattle.desk_port.specs.declared.errors.PutErr.TheVariants as not_put;
+ghost use Rattle.desk_port.specs.declared.errors.ReadErr.TheVariants as not_read;
+
+use std::alloc::{AllocError, AllocFailed};
 
 /// Why a file wasn't read.
 #[derive(Clone, Copy, Debug, PartialEq, Eq)]
@@ -18,4 +23,36 @@ pub enum PutErr {
     Failed,
     /// Memory ran out.
     NoMemory,
+}
+
+impl From<AllocError> for ReadErr {
+    ghost from_gives = { λ _ e. e ≡ not_read.NoMemory };
+
+    fn from(_e: AllocError) -> ReadErr {
+        ReadErr::NoMemory
+    }
+}
+
+impl<T: Drop> From<AllocFailed<T>> for ReadErr {
+    ghost from_gives = { λ _ e. e ≡ not_read.NoMemory };
+
+    fn from(_e: AllocFailed<T>) -> ReadErr {
+        ReadErr::NoMemory
+    }
+}
+
+impl From<AllocError> for PutErr {
+    ghost from_gives = { λ _ e. e ≡ not_put.NoMemory };
+
+    fn from(_e: AllocError) -> PutErr {
+        PutErr::NoMemory
+    }
+}
+
+impl<T: Drop> From<AllocFailed<T>> for PutErr {
+    ghost from_gives = { λ _ e. e ≡ not_put.NoMemory };
+
+    fn from(_e: AllocFailed<T>) -> PutErr {
+        PutErr::NoMemory
+    }
 }

@@ -19,3 +19,4 @@ pub mod MeaningLemmas
 pub mod NodeLemmas
 pub mod NetLemmas
 pub mod StartLemmas
+pub mod MiterLemmas

@@ -154,6 +154,7 @@ variable_of-node net node no_xor =
 pub sizes_of : (net : AigPair) (s : Sizes) → IsNet net → s.inputs ≡ length net.a.inputs → s.gates_a ≡ length net.a.gates
   → s.gates_b ≡ length net.b.gates → s.outputs ≡ length net.a.outputs → AreSizes net s
 sizes_of net s is e f g h = record {
+  net_is = is;
   inputs = e;
   gates_a = f;
   gates_b = g;

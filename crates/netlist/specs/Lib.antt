@@ -7,4 +7,5 @@ pub mod Miter
 pub mod Meaning
 pub mod Pair
 pub mod Starts
+pub mod Numbered
 pub mod Unlike

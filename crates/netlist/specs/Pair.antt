@@ -8,10 +8,11 @@ use Rattle.netlist.specs.declared.source.Source.{Source}
 use Rattle.netlist.specs.declared.source.Source.TheVariants as source
 use Rattle.netlist.specs.declared.sizes.Sizes.{Sizes}
 use Rattle.netlist.specs.Circuit.{gate_vars, most}
-use Rattle.netlist.specs.Net.{AigPair, circuit_of}
+use Rattle.netlist.specs.Net.{AigPair, IsNet, circuit_of}
 
--- the numbers of inputs, gates and outputs, and their limits
+-- the numbers of inputs, gates and outputs of a net, and their limits
 pub record AreSizes (net : AigPair) (s : Sizes) : Type 0 where
+  pub net_is : IsNet net
   pub inputs : s.inputs ≡ length net.a.inputs
   pub gates_a : s.gates_a ≡ length net.a.gates
   pub gates_b : s.gates_b ≡ length net.b.gates

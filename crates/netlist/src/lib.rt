@@ -34,6 +34,8 @@ mod pair;
 
 mod starts;
 
+mod miter;
+
 mod unlike;
 
 mod net;

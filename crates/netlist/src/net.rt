@@ -1,15 +1,16 @@
-ghost use Rattle.std.specs.Prelude.{◌≡◌, IfSome, IfNone, MatchResult, length};
+ghost use Rattle.std.specs.Prelude.{◌≡◌, IfOk, IfSome, IfNone, MatchResult, length};
 ghost use Rattle.netlist.specs.Net.{IsNet, circuit_of, lit_of, nodes_of, output_of, position_of};
 ghost use Rattle.netlist.specs.Miter.{axiom_of, clause_number_of, cnf_number_of, miter_of, variables_of};
 ghost use Rattle.netlist.specs.Unlike.{unlike_of};
 
 use crate::circuit::Circuit;
+use crate::miter::miter;
 use crate::pair::CircuitPair;
 use crate::short::Short;
 use crate::starts::ClauseStarts;
 use crate::unlike::Unlike;
-use lits::{Dim, Lit, Node, Side};
-use std::alloc::Global;
+use lits::{Clause, Dim, Lit, Node, Side};
+use std::alloc::{AllocError, Global};
 use std::marker::Model;
 
 /// Two circuits with equal numbers of inputs and of outputs. Input k of both is one node.
@@ -135,6 +136,13 @@ impl Net {
         ensures { result ≡ output_of self.now side j }
     {
         self.pair.output(side, j)
+    }
+
+    /// The clauses of the miter, in order, by their numbers.
+    pub fn miter(&self, alloc: Global) -> Result<Vec<Clause<Dim>>, AllocError>
+        ensures { IfOk result (λ v. v.items ≡ miter_of self.now) }
+    {
+        miter(alloc, &self.pair)
     }
 
     /// What holds of every net. It does nothing when it runs.

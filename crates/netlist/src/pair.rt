@@ -1,9 +1,11 @@
 ghost use Rattle.std.specs.Prelude.{◌≡◌, ◌+◌, ◌*◌, ◌<◌, ◌≤◌, true, Some, IfSome, length, slice_get};
+ghost use Rattle.lits.specs.Clause.{has};
 ghost use Rattle.netlist.specs.Circuit.{most, is_over, variables_in};
-ghost use Rattle.netlist.specs.Net.{IsNet, circuit_of, lit_named, lit_of, nodes_of, output_of, position_of};
-ghost use Rattle.netlist.specs.Miter.{axiom_of, axioms_of, variable_of, variables_of};
+ghost use Rattle.netlist.specs.Net.{IsNet, circuit_of, lit_named, lit_of, nodes_of, output_of, position_of, same_node};
+ghost use Rattle.netlist.specs.Miter.{axiom_of, axioms_of, numbered, variable_of, variables_of};
 ghost use Rattle.netlist.specs.Meaning.{lit_from, meaning_of, difference};
 ghost use Rattle.netlist.specs.Starts.{first_clause};
+ghost use Rattle.netlist.specs.Numbered.{AreThere};
 ghost use Rattle.netlist.specs.Pair.{AreSizes, gate_node, first_gate};
 
 use crate::circuit::Circuit;
@@ -11,7 +13,7 @@ use crate::meaning::Meaning;
 use crate::short::Short;
 use crate::sizes::Sizes;
 use crate::source::Source;
-use lits::{Lit, Node, Side};
+use lits::{Dim, Lit, Node, Side};
 use std::marker::Model;
 
 /// The two circuits of a net, and the nodes that they make.
@@ -169,6 +171,14 @@ impl CircuitPair {
         }
     }
 
+    /// The number of a literal whose node has a CNF variable.
+    pub fn number(&self, lit: Lit) -> Dim
+        requires { has same_node (variables_of self.now) lit.node ≡ true }
+        ensures { result ≡ numbered self.now lit }
+    {
+        Dim::new(self.variable(lit.node).unwrap(), lit.neg)
+    }
+
     /// How many nodes have a position.
     pub fn positions(&self) -> u32
         ensures { result ≡ length (nodes_of self.now) }
@@ -188,8 +198,10 @@ impl CircuitPair {
 
     /// Clause k of those that define a node, from 0.
     pub fn axiom(&self, node: Node, k: u8) -> Option<Short>
-        ensures { result ≡ axiom_of self.now node k }
+        ensures clause { result ≡ axiom_of self.now node k }
+        ensures there { IfSome result (AreThere self.now) }
     {
+        let _net = &self.a;
         match self.meaning(node) {
             Some(meaning) => meaning.axiom(k),
             None => None,

@@ -1,0 +1,79 @@
+#!/usr/bin/env python3
+"""Measures the built program.
+
+Usage: run.py PROGRAM [--sizes N ..] [--folder DIR]
+
+big pairs:    two circuits of N gates a side and no output: seconds, bytes of the files a second, peak memory a gate,
+              beside the seconds of `wc -l` on the same file as a yardstick of the machine
+solved pairs: small circuits with outputs that the solver decides: verdict, seconds, clauses and proof lines
+"""
+import argparse
+import os
+import subprocess
+import sys
+import tempfile
+import time
+from pathlib import Path
+
+sys.path.insert(0, str(Path(__file__).resolve().parent))
+from aiger import make_pair
+
+SEED = 20261126
+
+
+def measured(command, folder):
+    """(status, standard output, seconds, peak memory in bytes) of a command."""
+    out = open(os.path.join(folder, "said"), "w+b")
+    begin = time.perf_counter()
+    process = subprocess.Popen(command, cwd=folder, stdout=out, stderr=subprocess.STDOUT)
+    _, status, usage = os.wait4(process.pid, 0)
+    seconds = time.perf_counter() - begin
+    process.returncode = os.waitstatus_to_exitcode(status)
+    out.seek(0)
+    said = out.read().decode(errors="replace")
+    out.close()
+    return process.returncode, said, seconds, usage.ru_maxrss * 1024
+
+
+def big_pairs(program, sizes, folder):
+    print(f"{'gates a side':>12} {'bytes':>12} {'seconds':>8} {'MB/s':>7} {'wc -l s':>8} {'peak B/gate':>12}  verdict")
+    for size in sizes:
+        a, b = make_pair(SEED, 64, size, 0)
+        Path(folder, "A").write_text(a)
+        Path(folder, "B").write_text(b)
+        status, said, seconds, peak = measured([program, "check", "A", "B", "--out", "p"], folder)
+        _, _, yard, _ = measured(["wc", "-l", "A", "B"], folder)
+        total = len(a) + len(b)
+        verdict = said.split("\n")[0]
+        print(f"{size:>12} {total:>12} {seconds:>8.2f} {total / seconds / 1e6:>7.1f} {yard:>8.3f} "
+              f"{peak / (2 * size):>12.0f}  {status} {verdict}")
+
+
+def solved_pairs(program, folder):
+    print(f"{'inputs':>6} {'gates':>6} {'outputs':>7} {'seconds':>8} {'clauses':>8} {'lines':>7}  verdict")
+    for inputs, gates, outputs in [(2, 4, 1), (3, 8, 2), (4, 12, 2), (5, 16, 4), (6, 24, 4), (8, 40, 8)]:
+        a, b = make_pair(SEED + gates, inputs, gates, outputs)
+        Path(folder, "A").write_text(a)
+        Path(folder, "B").write_text(b)
+        status, said, seconds, _ = measured([program, "check", "A", "B", "--out", "p"], folder)
+        header = Path(folder, "p.0.cnf").read_text().split("\n")[0].split()
+        lines = Path(folder, "p.0.lrat").read_text().count("\n")
+        print(f"{inputs:>6} {gates:>6} {outputs:>7} {seconds:>8.3f} {header[3]:>8} {lines:>7}  {status} "
+              f"{said.split(chr(10))[0]}")
+
+
+def main():
+    parser = argparse.ArgumentParser(description=__doc__, formatter_class=argparse.RawDescriptionHelpFormatter)
+    parser.add_argument("program", help="the built program")
+    parser.add_argument("--sizes", type=int, nargs="*", default=[10_000, 100_000, 1_000_000])
+    parser.add_argument("--folder", help="where the files are made (else a folder that is removed)")
+    words = parser.parse_args()
+    program = str(Path(words.program).resolve())
+    with tempfile.TemporaryDirectory() as made:
+        folder = words.folder or made
+        big_pairs(program, words.sizes, folder)
+        solved_pairs(program, folder)
+
+
+if __name__ == "__main__":
+    main()

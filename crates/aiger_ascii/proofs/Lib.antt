@@ -1,0 +1,6 @@
+pub mod LineLemmas
+pub mod PlaceLemmas
+pub mod SectionLemmas
+pub mod FaninLemmas
+pub mod HeaderLemmas
+pub mod CircuitLemmas

@@ -1,0 +1,35 @@
+use cec_top::{run, Kept, Status};
+use desk_port::{MemDesk, OpenGate};
+use std::alloc::Global;
+use std::collections::BTreeMap;
+use std::sync::Wait;
+use std::test::Fail;
+use std::thread::Threads;
+
+/// What a run left: its status, its desk and the books that it handed back.
+pub struct Ran {
+    pub status: Status,
+    pub desk: MemDesk,
+    pub kept: Vec<Kept>,
+}
+
+/// Runs the program on these words behind its name, over a desk with these files that fails at these calls.
+pub fn run_words(
+    rt: &(impl Threads + Wait),
+    alloc: Global,
+    files: &[(&str, &[u8])],
+    words: &[&str],
+    fails: &[u64],
+) -> Result<Ran, Fail> {
+    let mut named = BTreeMap::new(alloc);
+    for (name, bytes) in files {
+        named.insert(String::from_str(alloc, name)?, Vec::from_slice(alloc, bytes)?)?;
+    }
+    let mut all = vec![in alloc; String::from_str(alloc, "cec")?]?;
+    for word in words {
+        all.push(String::from_str(alloc, word)?)?;
+    }
+    let mut desk = MemDesk::new(alloc, named, Vec::from_slice(alloc, fails)?)?;
+    let (status, kept) = run(rt, alloc, all.as_slice(), &mut desk, &OpenGate);
+    Ok(Ran { status, desk, kept })
+}

@@ -1,0 +1,4 @@
+pub mod SettledLemmas
+pub mod WritingLemmas
+pub mod FinishLemmas
+pub mod CheckLemmas

@@ -1,0 +1,12 @@
+-- The outputs so far are shown equal, in order.
+use Rattle.std.proofs.Common.{◌≡◌, length}
+use Rattle.lemma_book.specs.Book.{IsLegal}
+use Rattle.cec_top.specs.Settled.{AreOuts}
+use Rattle.cec_top.proofs.settling.settle.Given as goal
+
+abbrev pub invariant-loop-j : goal.invariant-loop-j
+invariant-loop-j l = record {
+  legal : IsLegal l.net l.book;
+  outs : AreOuts 0 l.book.entries;
+  count : length l.book.entries ≡ l.j;
+}

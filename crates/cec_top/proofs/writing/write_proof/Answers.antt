@@ -1,0 +1,21 @@
+use Rattle.std.proofs.Common.{arith}
+use Rattle.std.proofs.lemmas.Result.{err_from_is_err_and}
+use Rattle.cec_top.proofs.WritingLemmas.{stops-second, stops-third}
+use Rattle.cec_top.proofs.writing.write_proof.Goals as goal
+
+pub returns-in_err-put_proof-clause-err : goal.returns-in_err-put_proof-clause-err
+returns-in_err-put_proof-clause-err g c =
+  let p = err_from_is_err_and c.from_residual-in_err-put_proof.result c.from_residual-in_err-put_proof.ensures.1 in
+  rw (p.1, p.2)
+    (stops-second c.args.name.now (g.D.Desk.state c.args.desk.now) (g.D.Desk.state c.start.new.desk)
+      (g.D.Desk.state c.put_proof.new.desk) (g.D.Desk.state c.put_proof.new.desk) c.in_ok-start.ensures.ok _
+      c.in_ok-start.ensures.counts.writes c.in_err-put_proof.ensures.err)
+
+pub returns-in_err-close-clause-err : goal.returns-in_err-close-clause-err
+returns-in_err-close-clause-err g c =
+  let p = err_from_is_err_and c.from_residual-in_err-close.result c.from_residual-in_err-close.ensures.1 in
+  rw (p.1, p.2)
+    (stops-third c.args.name.now (g.D.Desk.state c.args.desk.now) (g.D.Desk.state c.start.new.desk)
+      (g.D.Desk.state c.put_proof.new.desk) (g.D.Desk.state c.close.new.desk) c.in_ok-start.ensures.ok _ _
+      c.in_ok-put_proof.ensures.ok.puts
+      (omega (arith, c.in_ok-start.ensures.counts.writes, c.in_ok-put_proof.ensures.counts.writes)) c.in_err-close.ensures.err)

@@ -1,0 +1,12 @@
+-- The status numbers of the process.
+use Rattle.std.specs.Prelude.{ℕ}
+use Rattle.cec_top.specs.declared.status.Status.{Status}
+use Rattle.cec_top.specs.declared.status.Status.TheVariants.{Done, BadUsage, BadInput, CannotRead, CannotWrite, OutOfMemory}
+
+abbrev pub code_of : Status → ℕ
+code_of Done = 0
+code_of BadUsage = 3
+code_of BadInput = 4
+code_of CannotRead = 5
+code_of CannotWrite = 6
+code_of OutOfMemory = 7

@@ -1,0 +1,124 @@
+ghost use Rattle.std.specs.Prelude.{◌≡◌, ◌++◌, IfOk, string_bytes, codes, decimal};
+ghost use Rattle.cec_top.specs.Lines.{aiger_text, unlike_text, name_of, fault_line, file_line, stop_line};
+
+use crate::command::CheckWords;
+use crate::stop::Stop;
+use byte_scan::AigerErr;
+use itoa::Buffer;
+use lits::Side;
+use netlist::Unlike;
+use std::alloc::{AllocError, Global};
+
+/// The text of a fault of an AIGER file.
+#[tactic(auto, unfolding(crate::specs::Lines::aiger_text))]
+fn aiger_fault(alloc: Global, fault: AigerErr) -> Result<String, AllocError>
+    ensures { IfOk result (λ s. string_bytes s ≡ aiger_text fault) }
+{
+    match fault {
+        AigerErr::BadHeader => format!(in alloc; "bad header"),
+        AigerErr::TooLarge(n) => format!(in alloc; "{n} is above 16777216"),
+        AigerErr::HasLatches(n) => format!(in alloc; "{n} latches"),
+        AigerErr::HasProperty(letter) => {
+            let letter = char::from(letter);
+            format!(in alloc; "section {letter} is not supported")
+        }
+        AigerErr::BadNumber(at) => format!(in alloc; "bad number at byte {at}"),
+        AigerErr::BadLiteral(n) => format!(in alloc; "bad literal {n}"),
+        AigerErr::DefinedTwice(n) => format!(in alloc; "literal {n} is defined twice"),
+        AigerErr::Undefined(n) => format!(in alloc; "literal {n} is undefined"),
+        AigerErr::Cycle(n) => format!(in alloc; "literal {n} is on or above a cycle"),
+        AigerErr::BadDelta(gate) => format!(in alloc; "bad delta at gate {gate}"),
+        AigerErr::Truncated(at) => format!(in alloc; "ends too early at byte {at}"),
+        AigerErr::BadSymbol(at) => format!(in alloc; "bad symbol line at byte {at}"),
+        AigerErr::NoMemory => format!(in alloc; "out of memory"),
+    }
+}
+
+/// The text of circuits that can't be compared.
+#[tactic(auto, unfolding(crate::specs::Lines::unlike_text))]
+fn unlike_fault(alloc: Global, fault: Unlike) -> Result<String, AllocError>
+    ensures { IfOk result (λ s. string_bytes s ≡ unlike_text fault) }
+{
+    match fault {
+        Unlike::Inputs(a, b) => differing(alloc, "inputs ", a, b),
+        Unlike::Outputs(a, b) => differing(alloc, "outputs ", a, b),
+        Unlike::NoMemory => String::from_str(alloc, "out of memory"),
+    }
+}
+
+fn differing(alloc: Global, what: &str, a: u32, b: u32) -> Result<String, AllocError>
+    ensures { IfOk result (λ s. string_bytes s ≡ what.now ++ decimal a ++ codes " and " ++ decimal b ++ codes " differ") }
+{
+    let mut text = String::from_str(alloc, what)?;
+    text.push_str(Buffer::new().format(a))?;
+    text.push_str(" and ")?;
+    text.push_str(Buffer::new().format(b))?;
+    text.push_str(" differ")?;
+    Ok(text)
+}
+
+/// The line of a fault that is of no file.
+fn line_of_fault(alloc: Global, text: &str) -> Result<String, AllocError>
+    ensures { IfOk result (λ s. string_bytes s ≡ fault_line text.now) }
+{
+    let mut line = String::from_str(alloc, "cec: ")?;
+    line.push_str(text)?;
+    line.push_str("\n")?;
+    Ok(line)
+}
+
+/// The line of a fault of a file.
+fn line_of_file(alloc: Global, name: &str, text: &str) -> Result<String, AllocError>
+    ensures { IfOk result (λ s. string_bytes s ≡ file_line name.now text.now) }
+{
+    let mut line = String::from_str(alloc, "cec: ")?;
+    line.push_str(name)?;
+    line.push_str(": ")?;
+    line.push_str(text)?;
+    line.push_str("\n")?;
+    Ok(line)
+}
+
+fn name_of_side<'a>(words: CheckWords<'a>, side: Side) -> &'a str
+    ensures { result.now ≡ name_of (record { a = words.entry.a.now; b = words.entry.b.now; prefix = words.entry.prefix.now }) side }
+{
+    match side {
+        Side::A => words.a,
+        Side::B => words.b,
+    }
+}
+
+/// The line of a check that ends without a verdict.
+#[tactic(auto, unfolding(crate::specs::Lines::stop_line))]
+pub(crate) fn line_of_stop(
+    alloc: Global,
+    words: CheckWords<'_>,
+    stop: Stop,
+) -> Result<String, AllocError>
+    ensures { IfOk result (λ s. string_bytes s ≡ stop_line (record { a = words.entry.a.now; b = words.entry.b.now; prefix = words.entry.prefix.now }) stop) }
+{
+    match stop {
+        Stop::CannotRead(side) => line_of_file(alloc, name_of_side(words, side), "cannot read"),
+        Stop::TooLong(side) => {
+            line_of_file(
+                alloc,
+                name_of_side(words, side),
+                "longer than 1073741824 bytes",
+            )
+        }
+        Stop::BadFile(side, fault) => {
+            let text = aiger_fault(alloc, fault)?;
+            line_of_file(alloc, name_of_side(words, side), text.as_str())
+        }
+        Stop::Unlike(fault) => {
+            let text = unlike_fault(alloc, fault)?;
+            line_of_fault(alloc, text.as_str())
+        }
+        Stop::NotEqual(output) => {
+            let text = format!(in alloc; "output {output} is not shown equal")?;
+            line_of_fault(alloc, text.as_str())
+        }
+        Stop::CannotWrite => line_of_fault(alloc, "cannot write"),
+        Stop::OutOfMemory => line_of_fault(alloc, "out of memory"),
+    }
+}

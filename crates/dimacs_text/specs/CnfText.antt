@@ -1,0 +1,20 @@
+-- The text of a CNF in the format of the DIMACS challenge (1993), one clause a line, with one space between numbers.
+use Rattle.std.specs.Prelude.{ℕ, List, [], ◌∷◌, ◌++◌, length, codes, decimal, if◌then◌else◌}
+use Rattle.std.specs.List.{flat_map}
+use Rattle.lits.specs.Dimacs.{DimacsLiteral}
+
+-- a literal: its variable, behind a minus sign where it is negated
+unfoldable pub literal_text : DimacsLiteral → List ℕ
+literal_text d = if d.neg then 45 ∷ decimal d.var else decimal d.var
+
+-- a clause: its literals, each with a space behind it, then 0 and the line's end
+unfoldable pub clause_text : List DimacsLiteral → List ℕ
+clause_text clause = flat_map (λ d. literal_text d ++ 32 ∷ []) clause ++ codes "0\n"
+
+-- the header: how many variables and how many clauses there are
+unfoldable pub header_text : ℕ → ℕ → List ℕ
+header_text variables count = codes "p cnf " ++ decimal variables ++ codes " " ++ decimal count ++ codes "\n"
+
+-- the text of the clauses over variables from 1 to this one
+unfoldable pub cnf_text : ℕ → List (List DimacsLiteral) → List ℕ
+cnf_text variables clauses = header_text variables (length clauses) ++ flat_map clause_text clauses

@@ -1,0 +1,10 @@
+mod GrowingLemmas
+mod NumberLemmas
+mod PartLemmas
+mod SplitLemmas
+mod TextLemmas
+mod DerivationLemmas
+mod WordLemmas
+mod PlaceLemmas
+mod ReadLemmas
+mod LoopLemmas

@@ -1,0 +1,8 @@
+use Rattle.std.proofs.lemmas.Result.{err_from_is_err_and}
+use Rattle.lrat_text.proofs.GrowingLemmas.{begins_after}
+use Rattle.lrat_text.proofs.writing.push_literals.Goals as goal
+
+pub returns-in_err-push_literal-clause-err : goal.returns-in_err-push_literal-clause-err
+returns-in_err-push_literal-clause-err c =
+    let p = err_from_is_err_and c.from_residual.result c.from_residual.ensures.1 in
+    rw p.1 (begins_after _ _ _ _ c.loop-literal.invariant.written c.in_err-push_literal.ensures.err)

@@ -1,0 +1,114 @@
+ghost use Rattle.std.specs.Prelude.{◌≡◌, IfOk, IfErr};
+ghost use Rattle.lrat_text.specs.Steps.{id_after};
+ghost use Rattle.lrat_text.specs.Reading.{words_in, addition_behind, deletion_behind, steps_in, IsFault, SpellsLrat};
+ghost use Rattle.lrat_text.specs.Parts.{addition_of, deletion_of, step_of, Gives};
+
+use crate::error::LratErr;
+use crate::line::Line;
+use crate::number::{Number, number_in};
+use crate::parts::{Parts, Place, TOO_LARGE};
+use crate::step::LratStep;
+use crate::words::first_word;
+use byte_scan::Scan;
+use lits::Listed;
+use std::alloc::Global;
+
+/// Reads a proof text, for a formula of `m` clauses. Lines are ended by LF or by the end of the bytes.
+pub fn read(alloc: Global, bytes: &[u8], m: u64) -> Result<Vec<Line>, LratErr>
+    ensures lines { IfOk result (λ lines. SpellsLrat m bytes.now lines.items) }
+
+    // The first fault of the text, unless memory ran out.
+    ensures fault { IfErr result (λ e. IsFault e (steps_in m bytes.now)) }
+{
+    let mut lines = Vec::new(alloc);
+    let mut scan = Scan::new(bytes);
+    let mut at = 0;
+    let mut last = m;
+    while let Some(line) = scan.line() {
+        at += 1;
+        if let Some(step) = step_of(alloc, at, last, line)? {
+            last = id_after(last, &step);
+            lines.push(Line { at, step })?;
+        }
+    }
+    Ok(lines)
+}
+
+/// The step that line `at` says, if it says one; the additions so far have ids up to `last`.
+fn step_of(alloc: Global, at: u64, last: u64, line: &[u8]) -> Result<Option<LratStep>, LratErr>
+    ensures { Gives result (step_of at last (words_in line.now)) }
+{
+    let Some((first, rest)) = first_word(line) else {
+        return Ok(None);
+    };
+    let number = number_in(first).ok_or(LratErr::BadNumber(at))?;
+    let step = match first_word(rest) {
+        Some(([b'd'], ids)) => deletion(alloc, at, ids)?,
+        _ => addition(alloc, at, last, number, rest)?,
+    };
+    Ok(Some(step))
+}
+
+/// The addition with this id, of the rest of its line.
+fn addition(alloc: Global, at: u64, last: u64, id: Number, rest: &[u8]) -> Result<LratStep, LratErr>
+    ensures { Gives result (addition_behind at last id (words_in rest.now)) }
+{
+    if id.minus || id.size == 0 || id.size >= TOO_LARGE {
+        return Err(LratErr::BadNumber(at));
+    }
+    let parts = Parts::read(alloc, at, Place::Literals, rest)?;
+    addition_of(at, last, id.size, parts)
+}
+
+fn addition_of(at: u64, last: u64, id: u64, parts: Parts) -> Result<LratStep, LratErr>
+    ensures { result ≡ addition_of at last id parts }
+{
+    if !parts.is_ended() {
+        return Err(LratErr::Truncated(at));
+    }
+    if id <= last {
+        return Err(LratErr::Order(at));
+    }
+    if parts.has_minus {
+        return Err(LratErr::Rat(at));
+    }
+    let Parts {
+        literals,
+        hints,
+        ..
+    } = parts;
+    let clause = Listed::of(literals);
+    let hints = Listed::of(hints);
+    Ok(LratStep::Add { id, clause, hints })
+}
+
+/// The deletion, of the part of its line behind the `d`.
+fn deletion(alloc: Global, at: u64, rest: &[u8]) -> Result<LratStep, LratErr>
+    ensures { Gives result (deletion_behind at (words_in rest.now)) }
+{
+    let parts = Parts::read(alloc, at, Place::Hints, rest)?;
+    deletion_of(at, parts)
+}
+
+fn deletion_of(at: u64, parts: Parts) -> Result<LratStep, LratErr>
+    ensures { result ≡ deletion_of at parts }
+{
+    if parts.has_minus {
+        return Err(LratErr::BadNumber(at));
+    }
+    if !parts.is_ended() {
+        return Err(LratErr::Truncated(at));
+    }
+    let ids = Listed::of(parts.hints);
+    Ok(LratStep::Del { ids })
+}
+
+/// The id of the last addition behind the step, `last` being that before it.
+fn id_after(last: u64, step: &LratStep) -> u64
+    ensures { result ≡ id_after last step.now }
+{
+    match step {
+        LratStep::Add { id, .. } => *id,
+        LratStep::Del { .. } => last,
+    }
+}

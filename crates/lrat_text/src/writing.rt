@@ -1,0 +1,100 @@
+ghost use Rattle.std.specs.Prelude.{◌≡◌, ◌++◌, [], ◌∷◌, OnOk, OnErr, decimal, map};
+ghost use Rattle.std.specs.List.{AllByRecursion};
+ghost use Rattle.lits.specs.Dimacs.{DimacsLiteral};
+ghost use Rattle.lrat_text.specs.Growing.{Begins};
+ghost use Rattle.lrat_text.specs.Writing.{literal_text, spaced, line_text, IsInRange, LiteralsFit};
+
+use crate::step::LratStep;
+use itoa::Buffer;
+use lits::Dim;
+use std::alloc::AllocError;
+
+/// Appends the line of a step, with its LF. An addition begins with its id, and a deletion with `last`, by convention
+/// the id of the last addition.
+pub fn push_line(buf: &mut Vec<u8>, last: u64, step: &LratStep) -> Result<(), AllocError>
+    ensures ok { OnOk result (buf.new.items ≡ buf.old.items ++ line_text last step.now) }
+    ensures err { OnErr result (buf.new.items ≡ buf.old.items) }
+
+    // As every `Dim` is; a writer needs it for what the line spells.
+    ensures literals { OnOk result (LiteralsFit step.now) }
+{
+    let length = buf.len();
+    let written = append_line(buf, last, step);
+    if written.is_err() {
+        buf.truncate(length);
+    }
+    written
+}
+
+fn append_line(buf: &mut Vec<u8>, last: u64, step: &LratStep) -> Result<(), AllocError>
+    ensures ok { OnOk result (buf.new.items ≡ buf.old.items ++ line_text last step.now) }
+    ensures err { OnErr result (Begins buf.old.items buf.new.items) }
+    ensures literals { OnOk result (LiteralsFit step.now) }
+{
+    match step {
+        LratStep::Add { id, clause, hints } => {
+            push_number(buf, *id)?;
+            push_literals(buf, clause.as_slice())?;
+            buf.extend_from_slice(b" 0")?;
+            push_ids(buf, hints.as_slice())?;
+        }
+        LratStep::Del { ids } => {
+            push_number(buf, last)?;
+            buf.extend_from_slice(b" d")?;
+            push_ids(buf, ids.as_slice())?;
+        }
+    }
+    buf.extend_from_slice(b" 0\n")?;
+    Ok(())
+}
+
+fn push_number(buf: &mut Vec<u8>, number: u64) -> Result<(), AllocError>
+    ensures ok { OnOk result (buf.new.items ≡ buf.old.items ++ decimal number) }
+    ensures err { OnErr result (buf.new.items ≡ buf.old.items) }
+{
+    let mut digits = Buffer::new();
+    buf.extend_from_slice(digits.format(number).as_bytes())
+}
+
+/// Appends the numbers, each behind a space.
+fn push_ids(buf: &mut Vec<u8>, ids: &[u64]) -> Result<(), AllocError>
+    ensures ok { OnOk result (buf.new.items ≡ buf.old.items ++ spaced (map decimal ids.now)) }
+    ensures err { OnErr result (Begins buf.old.items buf.new.items) }
+{
+    for id in ids {
+        push_id(buf, *id)?;
+    }
+    Ok(())
+}
+
+fn push_id(buf: &mut Vec<u8>, id: u64) -> Result<(), AllocError>
+    ensures ok { OnOk result (buf.new.items ≡ buf.old.items ++ 32 ∷ decimal id) }
+    ensures err { OnErr result (Begins buf.old.items buf.new.items) }
+{
+    buf.push(b' ')?;
+    push_number(buf, id)
+}
+
+/// Appends the literals, each behind a space.
+fn push_literals(buf: &mut Vec<u8>, literals: &[Dim]) -> Result<(), AllocError>
+    ensures ok { OnOk result (buf.new.items ≡ buf.old.items ++ spaced (map literal_text literals.now)) }
+    ensures err { OnErr result (Begins buf.old.items buf.new.items) }
+    ensures range { OnOk result (AllByRecursion IsInRange literals.now) }
+{
+    for literal in literals {
+        push_literal(buf, *literal)?;
+    }
+    Ok(())
+}
+
+fn push_literal(buf: &mut Vec<u8>, literal: Dim) -> Result<(), AllocError>
+    ensures ok { OnOk result (buf.new.items ≡ buf.old.items ++ 32 ∷ literal_text literal) }
+    ensures err { OnErr result (Begins buf.old.items buf.new.items) }
+    ensures range { OnOk result (IsInRange literal) }
+{
+    buf.push(b' ')?;
+    if literal.is_negated() {
+        buf.push(b'-')?;
+    }
+    push_number(buf, u64::from(literal.var()))
+}

@@ -1,0 +1,312 @@
+-- The numbered clauses of the miter.
+use Rattle.std.proofs.Common.{◌≡◌, ℕ, zero, suc, ◌+◌, ◌<◌, ◌≤◌, Bool, true, false, cond, not, Option, Some, None, List, [], ◌∷◌, ◌++◌, length, take, map, get_or, add-one, zero-add, refl, sym, ap, ◌∙◌, subst, arith}
+use Rattle.std.specs.Prelude.{◌==◌, ◌&&◌, ◌||◌, filter, slice_get, slice_set, IfSome}
+use Rattle.std.specs.Option.{option_map, option_map_or}
+use Rattle.std.specs.List.{AllByRecursion, range_with_len, flat_map}
+use Rattle.std.specs.Cmp.{IsEquivalence}
+use Rattle.std.proofs.Math.Seq.{take-length, take-suc-set}
+use Rattle.std.proofs.lemmas.List.{map-append, take_more, length-set}
+use Rattle.std.proofs.lemmas.Option.{none-some, same_Some, slice_get-get_or, slice_get_within}
+use Rattle.std.proofs.lemmas.Bool.Decides.{nat_tests}
+use Rattle.lits.specs.Clause.{has, firsts, no_repeat, has_pair, IsClause}
+use Rattle.lits.specs.Dimacs.{DimacsLiteral}
+use Rattle.lits.specs.declared.node.Node.{Node}
+use Rattle.lits.specs.declared.node.Node.TheVariants.{Const, Input, Gate, Xor}
+use Rattle.lits.specs.declared.literal.Lit.{Lit}
+use Rattle.lits.specs.contracts.dimacs.DimEq.TheImpl.Laws as dim_eq
+use Rattle.netlist.specs.Net.{AigPair, IsNet, same_node}
+use Rattle.netlist.specs.Miter.{same_lit, opposite, positive, kept, axioms_of, axiom_of, xors_of, variables_of, variable_of, numbered, clauses_of, miter_of}
+use Rattle.netlist.specs.Numbered.{AreThere, numbered_at, numbered_before}
+use Rattle.netlist.proofs.StartLemmas.{flat_next, take_next}
+use Rattle.netlist.proofs.LawNumbers.{same_number, opposite_number, numbered-same, numbered-opposite}
+use Rattle.netlist.proofs.LawOver.{over-variables, over-clauses}
+use Rattle.netlist.proofs.LawNodes.{all-parts, same-node_self, exact-lit, range-has}
+use Rattle.netlist.proofs.NetLemmas.{axioms_of-none, axioms_of-meaning}
+use Rattle.netlist.proofs.MeaningLemmas.{length-clauses}
+use Rattle.netlist.specs.declared.meaning.Meaning.{Meaning}
+use Rattle.netlist.specs.Meaning.{meaning_of, clauses_that_say}
+use Rattle.netlist.proofs.LawThere.{has-xor}
+use Rattle.netlist.proofs.PlaceLemmas.{place_none}
+
+pub all-get : {X : Type 0} (P : X → Type 0) (xs : List X) (k : ℕ) (x : X) → AllByRecursion P xs → slice_get xs k ≡ Some x → P x
+all-get P [] k x all e = absurd (none-some x e)
+all-get P (y ∷ ys) zero x all e = subst P (same_Some y x e) all.0
+all-get P (y ∷ ys) (suc k) x all e = all-get P ys k x all.1 e
+
+-- a node at a place is there
+pub has-get : (xs : List Node) (k : ℕ) (n : Node) → slice_get xs k ≡ Some n → has same_node xs n ≡ true
+has-get [] k n e = absurd (none-some n e)
+has-get (x ∷ xs) zero n e =
+    let here : same_node x n ≡ true = subst (λ (m : Node). same_node x m ≡ true) (same_Some x n e) (same-node_self x) in rw here refl
+has-get (x ∷ xs) (suc k) n e = or_true (same_node x n) (has same_node xs n) (has-get xs k n e)
+  where
+    or_true : (a b : Bool) → b ≡ true → (a || b) ≡ true
+    or_true true b h = refl
+    or_true false b h = h
+
+-- a list without repeats is its own clause
+firsts-once : (xs : List DimacsLiteral) → no_repeat same_number xs ≡ true → firsts same_number xs ≡ xs
+firsts-once [] e = refl
+firsts-once (x ∷ xs) e =
+    ap (λ (ys : List DimacsLiteral). x ∷ filter (λ y. not (same_number x y)) ys) (firsts-once xs (right (has same_number xs x) (no_repeat same_number xs) e))
+    ∙ ap (λ (ys : List DimacsLiteral). x ∷ ys) (all xs (left (has same_number xs x) (no_repeat same_number xs) e))
+  where
+    left : (a b : Bool) → (not a && b) ≡ true → a ≡ false
+    left true b h = cc
+    left false b h = refl
+    right : (a b : Bool) → (not a && b) ≡ true → b ≡ true
+    right true b h = cc
+    right false b h = h
+    both : (a b : Bool) → (a || b) ≡ false → (a ≡ false) × (b ≡ false)
+    both true b h = cc
+    both false b h = (refl, h)
+    all : (ys : List DimacsLiteral) → has same_number ys x ≡ false → filter (λ y. not (same_number x y)) ys ≡ ys
+    all [] h = refl
+    all (y ∷ ys) h =
+        let apart = both (same_number y x) (has same_number ys x) h in
+        rw ((dim_eq.laws-law).symm x y ∙ apart.0) (ap (λ (zs : List DimacsLiteral). y ∷ zs) (all ys apart.1))
+
+pub clause_is : (xs : List DimacsLiteral) → IsClause same_number opposite_number xs → firsts same_number xs ≡ xs
+clause_is xs clause = firsts-once xs clause.once
+
+-- numbering keeps clauses
+has-numbered : (net : AigPair) (xs : List Lit) (x : Lit) → AreThere net xs → has same_node (variables_of net) x.node ≡ true
+  → has same_number (map (numbered net) xs) (numbered net x) ≡ has same_lit xs x
+has-numbered net [] x all there = refl
+has-numbered net (y ∷ ys) x all there =
+    rw (numbered-same net y x all.0 there) (ap (λ (b : Bool). same_lit y x || b) (has-numbered net ys x all.1 there))
+
+no_repeat-numbered : (net : AigPair) (xs : List Lit) → AreThere net xs → no_repeat same_number (map (numbered net) xs) ≡ no_repeat same_lit xs
+no_repeat-numbered net [] all = refl
+no_repeat-numbered net (x ∷ xs) all =
+    rw (has-numbered net xs x all.1 all.0) (ap (λ (b : Bool). not (has same_lit xs x) && b) (no_repeat-numbered net xs all.1))
+
+has_pair-numbered : (net : AigPair) (xs : List Lit) → AreThere net xs
+  → has_pair same_number opposite_number (map (numbered net) xs) ≡ has_pair same_lit opposite xs
+has_pair-numbered net [] all = refl
+has_pair-numbered net (x ∷ xs) all =
+    ap (λ (b : Bool). b || has_pair same_number opposite_number (map (numbered net) xs)) (has-numbered net xs (opposite x) all.1 all.0)
+    ∙ ap (λ (b : Bool). has same_lit xs (opposite x) || b) (has_pair-numbered net xs all.1)
+
+pub clause-numbered : (net : AigPair) (xs : List Lit) → AreThere net xs → IsClause same_lit opposite xs
+  → IsClause same_number opposite_number (map (numbered net) xs)
+clause-numbered net xs all clause = record {
+  once = no_repeat-numbered net xs all ∙ clause.once;
+  apart = has_pair-numbered net xs all ∙ clause.apart
+}
+
+-- the literals of an axiom are there
+pub axiom-there : (net : AigPair) (node : Node) (k : ℕ) (c : List Lit) → IsNet net → axiom_of net node k ≡ Some c → AreThere net c
+axiom-there net node k c is e = go (has same_node (variables_of net) node) refl
+  where
+    go : (b : Bool) → has same_node (variables_of net) node ≡ b → AreThere net c
+    go true t = all-get (AreThere net) (axioms_of net node) k c (over-variables net is node t) e
+    go false f =
+        let none : variable_of net node ≡ None = ap (option_map (λ n. n + 1)) (place_none (λ n. same_node n node) (variables_of net) f) in
+        absurd (none-some c (sym (ap (λ (cs : List (List Lit)). slice_get cs k) (axioms_of-none net node none)) ∙ e))
+
+pub axiom_of-there : (net : AigPair) (node : Node) (k : ℕ) → IsNet net → IfSome (axiom_of net node k) (AreThere net)
+axiom_of-there net node k is = go (axiom_of net node k) refl
+  where
+    go : (o : Option (List Lit)) → axiom_of net node k ≡ o → IfSome o (AreThere net)
+    go None e = tt
+    go (Some c) e = axiom-there net node k c is e
+
+-- a node has at most four clauses
+length-kept : (cs : List (List Lit)) → length (kept cs) ≤ length cs
+length-kept [] = omega arith
+length-kept (c ∷ cs) = go (has_pair same_lit opposite c) (length-kept cs)
+  where
+    go : (b : Bool) → length (kept cs) ≤ length cs → length (cond b (kept cs) (firsts same_lit c ∷ kept cs)) ≤ length (c ∷ cs)
+    go true h = omega arith
+    go false h = omega arith
+
+pub length-axioms : (net : AigPair) (node : Node) → length (axioms_of net node) ≤ 4
+length-axioms net node = subst (λ (cs : List (List Lit)). length cs ≤ 4) (axioms_of-meaning net node) (go (meaning_of net node))
+  where
+    go : (o : Option Meaning) → length (option_map_or (λ m. kept (clauses_that_say m)) o []) ≤ 4
+    go None = omega arith
+    go (Some m) = omega (arith, length-kept (clauses_that_say m), length-clauses m)
+
+-- the first k clauses of a node, numbered
+pub numbered_axioms : AigPair → Node → ℕ → List (List DimacsLiteral)
+numbered_axioms net node k = map (λ c. map (numbered net) c) (take k (axioms_of net node))
+
+pub axioms_none : (net : AigPair) (node : Node) → numbered_axioms net node 0 ≡ []
+unfolding numbered_axioms
+axioms_none net node = refl
+
+pub axioms_some : (net : AigPair) (node : Node) (k : ℕ) (c : List Lit) → axiom_of net node k ≡ Some c
+  → numbered_axioms net node (k + 1) ≡ numbered_axioms net node k ++ map (numbered net) c ∷ []
+unfolding numbered_axioms
+axioms_some net node k c e =
+    ap (map (λ c. map (numbered net) c)) (take_next (axioms_of net node) k c e) ∙ map-append (λ c. map (numbered net) c) (take k (axioms_of net node)) (c ∷ [])
+
+pub axioms_end : (net : AigPair) (node : Node) (k : ℕ) → axiom_of net node k ≡ None → numbered_axioms net node (k + 1) ≡ numbered_axioms net node k
+unfolding numbered_axioms
+axioms_end net node k e = ap (map (λ c. map (numbered net) c)) (past (axioms_of net node) k e)
+  where
+    past : {X : Type 0} (xs : List X) (i : ℕ) → slice_get xs i ≡ None → take (i + 1) xs ≡ take i xs
+    past xs i e = ap (λ (n : ℕ). take n xs) (add-one i) ∙ go xs i e
+      where
+        go : {X : Type 0} (xs : List X) (i : ℕ) → slice_get xs i ≡ None → take (suc i) xs ≡ take i xs
+        go [] zero e = refl
+        go [] (suc i) e = refl
+        go (x ∷ xs) zero e = absurd (none-some x (sym e))
+        go (x ∷ xs) (suc i) e = ap (λ ys. x ∷ ys) (go xs i e)
+
+pub axioms_all : (net : AigPair) (node : Node) (k place : ℕ) → 4 ≤ k → slice_get (variables_of net) place ≡ Some node
+  → numbered_axioms net node k ≡ numbered_at net place
+unfolding numbered_axioms numbered_at
+axioms_all net node k place l e =
+    let few = length-axioms net node in
+    ap (map (λ c. map (numbered net) c)) (take-long (axioms_of net node) k (omega arith) ∙ ap (λ (o : Option Node). option_map_or (axioms_of net) o []) (sym e))
+  where
+    take-long : {X : Type 0} (xs : List X) (k : ℕ) → length xs ≤ k → take k xs ≡ xs
+    take-long [] zero l = refl
+    take-long [] (suc k) l = refl
+    take-long (x ∷ xs) zero l = absurd (omega arith)
+    take-long (x ∷ xs) (suc k) l = ap (λ ys. x ∷ ys) (take-long xs k (omega arith))
+
+-- the first i literals of a list, numbered in an array
+pub record AreNumbered (net : AigPair) (lits : List Lit) (numbers : List DimacsLiteral) (i : ℕ) : Type 0 where
+  pub long : length numbers ≡ 3
+  pub done : take i numbers ≡ map (numbered net) (take i lits)
+
+pub numbered_next : (net : AigPair) (lits : List Lit) (numbers : List DimacsLiteral) (i : ℕ) (d : Lit) → i < length lits → i < 3
+  → AreNumbered net lits numbers i → AreNumbered net lits (slice_set numbers i (numbered net (get_or lits i d))) (i + 1)
+numbered_next net lits numbers i d l room old = record {
+  long = length-set numbers i (numbered net (get_or lits i d)) ∙ old.long;
+  done =
+    ap (λ (n : ℕ). take n (slice_set numbers i (numbered net (get_or lits i d)))) (add-one i)
+    ∙ take-suc-set numbers i (numbered net (get_or lits i d)) (omega (arith, old.long))
+    ∙ ap (λ (ns : List DimacsLiteral). ns ++ numbered net (get_or lits i d) ∷ []) old.done
+    ∙ sym (map-append (numbered net) (take i lits) (get_or lits i d ∷ []))
+    ∙ ap (map (numbered net)) (sym (take_more lits i d l))
+}
+
+pub numbered_whole : (net : AigPair) (lits : List Lit) (numbers : List DimacsLiteral) (i : ℕ) → length lits ≡ i
+  → AreNumbered net lits numbers i → take (length lits) numbers ≡ map (numbered net) lits
+numbered_whole net lits numbers i e done =
+    ap (λ (n : ℕ). take n numbers) e ∙ done.done ∙ ap (λ (n : ℕ). map (numbered net) (take n lits)) (sym e) ∙ ap (map (numbered net)) (take-length lits)
+
+pub there-at : (net : AigPair) (lits : List Lit) (i : ℕ) (d : Lit) → AreThere net lits → i < length lits
+  → has same_node (variables_of net) (get_or lits i d).node ≡ true
+there-at net lits i d all l = all-get (λ l. has same_node (variables_of net) l.node ≡ true) lits i (get_or lits i d) all (slice_get-get_or lits i d l)
+
+-- the numbers of the first j XORs
+pub numbered_xors : AigPair → ℕ → List DimacsLiteral
+numbered_xors net j = map (numbered net) (map positive (map Xor (range_with_len 0 j)))
+
+pub xors_none : (net : AigPair) → numbered_xors net 0 ≡ []
+unfolding numbered_xors
+xors_none net = refl
+
+pub xors_more : (net : AigPair) (j : ℕ) → numbered_xors net (j + 1) ≡ numbered_xors net j ++ numbered net (positive (Xor j)) ∷ []
+unfolding numbered_xors
+xors_more net j =
+    ap (λ (js : List ℕ). map (numbered net) (map positive (map Xor js))) (range-more 0 j)
+    ∙ ap (λ (ls : List Node). map (numbered net) (map positive ls)) (map-append Xor (range_with_len 0 j) ((0 + j) ∷ []))
+    ∙ ap (map (numbered net)) (map-append positive (map Xor (range_with_len 0 j)) (Xor (0 + j) ∷ []))
+    ∙ map-append (numbered net) (map positive (map Xor (range_with_len 0 j))) (positive (Xor (0 + j)) ∷ [])
+    ∙ ap (λ (n : ℕ). map (numbered net) (map positive (map Xor (range_with_len 0 j))) ++ numbered net (positive (Xor n)) ∷ []) (zero-add j)
+  where
+    range-more : (a n : ℕ) → range_with_len a (n + 1) ≡ range_with_len a n ++ ((a + n) ∷ [])
+    range-more a n = ap (range_with_len a) (add-one n) ∙ go a n
+      where
+        go : (a n : ℕ) → range_with_len a (suc n) ≡ range_with_len a n ++ ((a + n) ∷ [])
+        go a zero = let e : a ≡ a + 0 = omega arith in ap (λ (k : ℕ). k ∷ []) e
+        go a (suc n) = let e : a + 1 + n ≡ a + suc n = omega arith in ap (λ (ks : List ℕ). a ∷ ks) (go (a + 1) n ∙ ap (λ (k : ℕ). range_with_len (a + 1) n ++ (k ∷ [])) e)
+
+pub xors_all : (net : AigPair) (j : ℕ) → j ≡ length net.a.outputs → numbered_xors net j ≡ map (numbered net) (map positive (xors_of net))
+unfolding numbered_xors
+xors_all net j e = ap (λ (n : ℕ). map (numbered net) (map positive (map Xor (range_with_len 0 n)))) e
+
+pub xor-there : (net : AigPair) (j : ℕ) → j < length net.a.outputs → has same_node (variables_of net) (Xor j) ≡ true
+xor-there net j l = has-xor net j ∙ range-has 0 (length net.a.outputs) j (omega arith) (omega arith)
+
+-- the clause of the XORs
+pub xors-clause : (net : AigPair) → IsClause same_lit opposite (map positive (xors_of net))
+xors-clause net = record {
+  once = once (length net.a.outputs) 0;
+  apart = apart (xors_of net)
+}
+  where
+    not_both : (b c d : Bool) → b ≡ false → c ≡ false → (not (b || c) && d) ≡ d
+    not_both true c d e f = cc
+    not_both false true d e f = cc
+    not_both false false d e f = refl
+    other : (x y : Lit) → (x ≡ y → ⊥) → (b : Bool) → same_lit x y ≡ b → b ≡ false
+    other x y ne true e = absurd (ne (exact-lit x y e))
+    other x y ne false e = refl
+    different : (a b : ℕ) → a < b → same_lit (positive (Xor b)) (positive (Xor a)) ≡ false
+    different a b l = other (positive (Xor b)) (positive (Xor a)) (λ e. apart_numbers a b l (xor_index e)) (same_lit (positive (Xor b)) (positive (Xor a))) refl
+      where
+        index : Node → ℕ
+        index (Xor j) = j
+        index _ = 0
+        xor_index : positive (Xor b) ≡ positive (Xor a) → b ≡ a
+        xor_index e = ap (λ (x : Lit). index x.node) e
+        apart_numbers : (a b : ℕ) → a < b → b ≡ a → ⊥
+        apart_numbers a b l e = omega arith
+    above : (n a b : ℕ) → a < b → has same_lit (map positive (map Xor (range_with_len b n))) (positive (Xor a)) ≡ false
+    above zero a b l = refl
+    above (suc n) a b l = rw (different a b l) (above n a (b + 1) (omega arith))
+    once : (n a : ℕ) → no_repeat same_lit (map positive (map Xor (range_with_len a n))) ≡ true
+    once zero a = refl
+    once (suc n) a = rw (above n a (a + 1) (omega arith)) (once n (a + 1))
+    opposed : (m n : Node) → same_lit (positive m) (opposite (positive n)) ≡ false
+    opposed m n = other (positive m) (opposite (positive n)) (λ e. signs (ap (λ (x : Lit). x.neg) e)) (same_lit (positive m) (opposite (positive n))) refl
+      where
+        signs : false ≡ true → ⊥
+        signs e = cc
+    no_negative : (ns : List Node) (n : Node) → has same_lit (map positive ns) (opposite (positive n)) ≡ false
+    no_negative [] n = refl
+    no_negative (m ∷ ms) n = rw (opposed m n) (no_negative ms n)
+    apart : (ns : List Node) → has_pair same_lit opposite (map positive ns) ≡ false
+    apart [] = refl
+    apart (n ∷ ns) = rw (no_negative ns n) (apart ns)
+
+pub xors-there : (net : AigPair) → IsNet net → AreThere net (map positive (xors_of net))
+xors-there net is =
+    (all-parts (λ c. AllByRecursion (λ l. has same_node (variables_of net) l.node ≡ true) c) (flat_map (axioms_of net) (variables_of net))
+      (map positive (xors_of net) ∷ []) (over-clauses net is)).1.0
+
+next_part : {X Y Z : Type 0} (f : X → List Y) (h : Y → Z) (xs : List X) (i : ℕ) (x : X) → slice_get xs i ≡ Some x
+  → map h (flat_map f (take (i + 1) xs)) ≡ map h (flat_map f (take i xs)) ++ map h (option_map_or f (slice_get xs i) [])
+next_part f h xs i x e =
+    ap (map h) (flat_next f xs i x e) ∙ map-append h (flat_map f (take i xs)) (f x)
+    ∙ ap (λ o. map h (flat_map f (take i xs)) ++ map h (option_map_or f o [])) (sym e)
+
+all_parts : {X Y Z : Type 0} (f : X → List Y) (h : Y → Z) (xs : List X) (y : Y) (i : ℕ) → i ≡ length xs
+  → map h (flat_map f (take i xs)) ++ (h y ∷ []) ≡ map h (flat_map f xs ++ (y ∷ []))
+all_parts f h xs y i e =
+    ap (λ ys. map h (flat_map f ys) ++ (h y ∷ [])) (ap (λ (n : ℕ). take n xs) e ∙ take-length xs)
+    ∙ sym (map-append h (flat_map f xs) (y ∷ []))
+
+-- the clauses, node by node
+pub before_none : (net : AigPair) → numbered_before net 0 ≡ []
+unfolding numbered_before
+before_none net = refl
+
+pub before_more : (net : AigPair) (place : ℕ) → place < length (variables_of net) → numbered_before net (place + 1) ≡ numbered_before net place ++ numbered_at net place
+unfolding numbered_before numbered_at
+before_more net place l =
+    next_part (axioms_of net) (λ c. map (numbered net) c) (variables_of net) place _ (slice_get-get_or (variables_of net) place Const l)
+
+pub before_all : (net : AigPair) (place : ℕ) → place ≡ length (variables_of net)
+  → numbered_before net place ++ (map (numbered net) (map positive (xors_of net)) ∷ []) ≡ miter_of net
+unfolding numbered_before
+before_all net place e =
+    all_parts (axioms_of net) (λ c. map (numbered net) c) (variables_of net) (map positive (xors_of net)) place e
+
+-- the clause of all numbers of an array
+pub numbered_clause : (net : AigPair) (lits : List Lit) (numbers : List DimacsLiteral) (i : ℕ) → length lits ≡ i → AreThere net lits
+  → IsClause same_lit opposite lits → AreNumbered net lits numbers i → IsClause same_number opposite_number (take (length lits) numbers)
+numbered_clause net lits numbers i e all clause done =
+    subst (λ (ds : List DimacsLiteral). IsClause same_number opposite_number ds) (sym (numbered_whole net lits numbers i e done)) (clause-numbered net lits all clause)
+
+pub xors_clause : (net : AigPair) (j : ℕ) → IsNet net → j ≡ length net.a.outputs → IsClause same_number opposite_number (numbered_xors net j)
+xors_clause net j is e =
+    subst (λ (ds : List DimacsLiteral). IsClause same_number opposite_number ds) (sym (xors_all net j e))
+      (clause-numbered net (map positive (xors_of net)) (xors-there net is) (xors-clause net))

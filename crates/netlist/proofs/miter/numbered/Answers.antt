@@ -1,0 +1,7 @@
+use Rattle.std.proofs.Common.{◌≡◌, ◌∙◌, ◌+◌, ◌++◌, ◌∷◌, ◌<◌, ℕ, Some, None, Option, List, [], length, ap, sym, subst, arith}
+use Rattle.netlist.proofs.MiterLemmas.{numbered_clause, numbered_whole}
+use Rattle.netlist.proofs.miter.numbered.Goals as goal
+
+pub clause_of-requires : goal.clause_of-requires
+clause_of-requires c =
+    numbered_clause c.args.pair.now c.args.lits.now c.loop-i.numbers c.loop-i.i (omega arith) c.requires.there c.requires.clause c.loop-i.invariant

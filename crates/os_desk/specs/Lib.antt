@@ -1,0 +1,2 @@
+pub mod OsDesk
+pub mod Streams

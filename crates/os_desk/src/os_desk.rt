@@ -1,0 +1,157 @@
+//! Real files, standard output and standard error.
+ghost use Rattle.std.specs.Prelude.{◌≡◌, ◌≤◌, IfOk, length};
+ghost use Rattle.std.specs.Prelude.{IfSome, IsSome, OnOk};
+ghost use Rattle.std.specs.Io.KnownBytes.{Appends};
+ghost use Rattle.desk_port.specs.Desk.{Says, Warns, Writes, NoCountFalls, Rose};
+
+use crate::streams::{put_all, read_up_to};
+use desk_port::{Desk, PutErr, ReadErr};
+use std::alloc::Global;
+use std::fs;
+use std::io::Write;
+use std::rt::Files;
+
+// The file that is started, and its name.
+#[derive(Drop)]
+struct Started<F> {
+    name: String,
+    file: F,
+}
+
+/// A desk over the files of a runtime and two writers, which are standard output and standard error
+/// where `main` makes it. The writers keep no buffer.
+///
+/// Each error of std is counted as a fault of the call that met it, and ends that call.
+#[derive(Drop)]
+pub struct OsDesk<R: Files, O, E> {
+    alloc: Global,
+    files: R,
+    out: O,
+    err: E,
+    started: Option<Started<R::File>>,
+    read_faults: u64,
+    write_faults: u64,
+    warn_faults: u64,
+}
+
+impl<R: Files, O: Write, E: Write> OsDesk<R, O, E> {
+    ghost use Rattle.os_desk.specs.OsDesk.{state_of, untouched};
+
+    /// A desk with nothing started and no fault.
+    pub fn new(alloc: Global, files: R, out: O, err: E) -> OsDesk<R, O, E>
+        ensures { state_of result ≡ untouched }
+    {
+        OsDesk {
+            alloc,
+            files,
+            out,
+            err,
+            started: None,
+            read_faults: 0,
+            write_faults: 0,
+            warn_faults: 0,
+        }
+    }
+}
+
+impl<R: Files, O: Write, E: Write> Desk for OsDesk<R, O, E> {
+    ghost use Rattle.os_desk.specs.OsDesk.{started_is_there, state_of};
+    ghost use Rattle.os_desk.specs.OsDesk.{err_of, file_of, out_of};
+
+    ghost state = { state_of };
+
+    ghost started_is_there = { started_is_there };
+
+    fn read(&mut self, alloc: Global, name: &str, limit: u64) -> Result<Vec<u8>, ReadErr> {
+        let answer = read_file(&self.files, alloc, name, limit);
+        if let Err(ReadErr::Failed) = answer {
+            count_fault(&mut self.read_faults);
+        }
+        answer
+    }
+
+    fn start(&mut self, name: &str) -> Result<(), PutErr> {
+        let name = String::from_str(self.alloc, name)?;
+        match fs::create(&self.files, name.as_str()) {
+            Ok(file) => {
+                self.started = Some(Started { name, file });
+                Ok(())
+            }
+            Err(_) => {
+                count_fault(&mut self.write_faults);
+                Err(PutErr::Failed)
+            }
+        }
+    }
+
+    fn write(&mut self, bytes: &[u8]) -> Result<(), PutErr>
+        requires { IsSome (state_of self.old).started }
+        ensures answer { Writes (state_of self.old) (state_of self.new) bytes.now result }
+        ensures counts { NoCountFalls (state_of self.old) (state_of self.new) }
+        ensures put { OnOk result
+            (IfSome (file_of self.old) (λ old. IfSome (file_of self.new) (λ new.
+            Appends (R.File.contents old) (R.File.contents new) bytes.now))) }
+    {
+        let started = self.started.as_mut().unwrap();
+        let answer = put_all(&mut started.file, bytes);
+        if answer.is_err() {
+            count_fault(&mut self.write_faults);
+        }
+        answer
+    }
+
+    fn close(&mut self) -> Result<(), PutErr> {
+        self.started = None;
+        Ok(())
+    }
+
+    fn say(&mut self, bytes: &[u8]) -> Result<(), PutErr>
+        ensures answer { Says (state_of self.old) (state_of self.new) bytes.now result }
+        ensures counts { NoCountFalls (state_of self.old) (state_of self.new) }
+        ensures put { OnOk result
+            (Appends (O.contents (out_of self.old)) (O.contents (out_of self.new)) bytes.now) }
+    {
+        let answer = put_all(&mut self.out, bytes);
+        if answer.is_err() {
+            count_fault(&mut self.write_faults);
+        }
+        answer
+    }
+
+    fn warn(&mut self, bytes: &[u8]) -> Result<(), PutErr>
+        ensures answer { Warns (state_of self.old) (state_of self.new) bytes.now result }
+        ensures counts { NoCountFalls (state_of self.old) (state_of self.new) }
+        ensures put { OnOk result
+            (Appends (E.contents (err_of self.old)) (E.contents (err_of self.new)) bytes.now) }
+    {
+        let answer = put_all(&mut self.err, bytes);
+        if answer.is_err() {
+            count_fault(&mut self.warn_faults);
+        }
+        answer
+    }
+}
+
+// Counts a fault. At the last value the count stands still.
+fn count_fault(count: &mut u64)
+    ensures { Rose count.old count.new }
+{
+    *count = count.saturating_add(1);
+}
+
+// The bytes of the named file, of which no more than one past the limit is read.
+fn read_file<R: Files>(files: &R, alloc: Global, name: &str, limit: u64) -> Result<Vec<u8>, ReadErr>
+    ensures { IfOk result (λ v. length v.items ≤ limit) }
+{
+    let Ok(mut file) = fs::open(files, name) else {
+        return Err(ReadErr::Failed);
+    };
+    let bytes = read_up_to(&mut file, alloc, limit.saturating_add(1))?;
+    if bytes.len() as u64 > limit {
+        return Err(ReadErr::TooLong);
+    }
+    Ok(bytes)
+}
+
+#[cfg(test)]
+mod tests;

@@ -1,0 +1,126 @@
+-- An axiom is the clause of the miter that has its number.
+use Rattle.std.proofs.Common.{◌≡◌, ℕ, zero, suc, ◌+◌, ◌-◌, ◌<◌, ◌≤◌, Bool, true, false, ◌||◌, eqb, Option, None, Some, List, [], ◌∷◌, ◌++◌, length, map, refl, sym, ap, ◌∙◌, subst, arith, zero-add, add_assoc, length-append}
+use Rattle.std.specs.Prelude.{slice_get, nat_lt, IsSome, if◌then◌else◌}
+use Rattle.std.specs.List.{list_any, find, flat_map, range_with_len, AllByRecursion}
+use Rattle.std.specs.Option.{option_map_or, unwrap_or}
+use Rattle.std.proofs.lemmas.Bool.Decides.{nat_tests}
+use Rattle.std.proofs.lemmas.Option.{none-some, same_Some, slice_get_within}
+use Rattle.lits.specs.Clause.{has}
+use Rattle.lits.specs.declared.node.Side.{Side}
+use Rattle.lits.specs.declared.node.Side.TheVariants.{A, B}
+use Rattle.lits.specs.declared.node.Node.{Node}
+use Rattle.lits.specs.declared.node.Node.TheVariants.{Const, Input, Gate, Xor}
+use Rattle.lits.specs.declared.literal.Lit.{Lit}
+use Rattle.netlist.specs.declared.gate.And.{And}
+use Rattle.netlist.specs.Place.{before}
+use Rattle.netlist.specs.Net.{AigPair, IsNet, same_node, circuit_of, definition_of, gate_at, output_of, nodes_of}
+use Rattle.netlist.specs.Miter.{gate_clauses, kept, xor_axioms, axioms_of, axiom_of, variables_of, variable_of, clauses_of, clause_number_of, positive, xors_of}
+use Rattle.netlist.proofs.PlaceLemmas.{slice_get-left, slice_get-right}
+use Rattle.netlist.proofs.LawNodes.{exact-node, any_from_find, range-has}
+use Rattle.netlist.proofs.LawThere.{has-gate, has-xor, has-variable}
+use Rattle.netlist.proofs.LawOver.{over-variables}
+use Rattle.unit_prop.proofs.ChainLemmas.{all-slice_get}
+
+-- the node has a CNF variable
+abbrev pub there : AigPair → Node → Bool
+there net node = has same_node (variables_of net) node
+
+-- no clause is at a place of the empty list
+at_nothing : {X Y : Type 0} (k : ℕ) (x : X) → slice_get {X = X} [] k ≡ Some x → Y
+at_nothing k x e = absurd (none-some x e)
+
+-- a node that has an axiom is there
+pub axiom-there : (net : AigPair) (node : Node) (k : ℕ) (c : List Lit) → axiom_of net node k ≡ Some c → there net node ≡ true
+axiom-there net Const k c e = refl
+axiom-there net (Input i) k c e = at_nothing k c e
+axiom-there net (Gate side v) k c e = go (gate_at net side v) refl
+  where
+    go : (o : Option And) → gate_at net side v ≡ o → there net (Gate side v) ≡ true
+    go None f =
+        at_nothing k c
+        (subst (λ (o : Option And). slice_get (option_map_or (λ g. kept (gate_clauses (definition_of side (circuit_of net side) g))) o []) k ≡ Some c) f e)
+    go (Some g) f =
+        has-variable net (Gate side v)
+        (has-gate net side v ∙ any_from_find (λ g. eqb g.var v) (circuit_of net side).gates g f)
+axiom-there net (Xor j) k c e = go (output_of net A j) refl
+  where
+    go : (o : Option Lit) → output_of net A j ≡ o → there net (Xor j) ≡ true
+    go None f = at_nothing k c (subst (λ (o : Option Lit). slice_get (xor_axioms j o (output_of net B j)) k ≡ Some c) f e)
+    go (Some a) f = has-xor net j ∙ range-has 0 (length net.a.outputs) j (omega arith) below
+      where
+        below : j < 0 + length net.a.outputs
+        below = at (slice_get net.a.outputs j) refl
+          where
+            at : (o : Option ℕ) → slice_get net.a.outputs j ≡ o → j < 0 + length net.a.outputs
+            at None g = let h : None ≡ Some a = rw g at f in absurd (none-some a h)
+            at (Some l) g = let h = slice_get_within net.a.outputs j l g in omega arith
+
+-- the literals of an axiom have CNF variables
+pub axiom-over : (net : AigPair) → IsNet net → (node : Node) (k : ℕ) (c : List Lit) → axiom_of net node k ≡ Some c
+    → AllByRecursion (λ l. there net l.node ≡ true) c
+axiom-over net is node k c e =
+    all-slice_get (λ d. AllByRecursion (λ l. there net l.node ≡ true) d) (axioms_of net node) k c
+    (over-variables net is node (axiom-there net node k c e)) e
+
+-- what a list of lists has at a place of one of its parts
+flat_map-at : (f : Node → List (List Lit)) (nodes : List Node) (node : Node) (k : ℕ) → has same_node nodes node ≡ true → k < length (f node)
+    → slice_get (flat_map f nodes) (length (flat_map f (before (λ n. same_node n node) nodes)) + k) ≡ slice_get (f node) k
+flat_map-at f [] node k h lt = cc
+flat_map-at f (n ∷ ns) node k h lt = go (same_node n node) refl (flat_map-at f ns node k)
+  where
+    Rest : Type 0
+    Rest = has same_node ns node ≡ true → k < length (f node)
+        → slice_get (flat_map f ns) (length (flat_map f (before (λ n. same_node n node) ns)) + k) ≡ slice_get (f node) k
+
+    go : (b : Bool) → same_node n node ≡ b → Rest
+        → slice_get (flat_map f (n ∷ ns)) (length (flat_map f (before (λ n. same_node n node) (n ∷ ns))) + k) ≡ slice_get (f node) k
+    go true e rest =
+        rw (e, zero-add k)
+        (subst (λ (m : Node). slice_get (f m ++ flat_map f ns) k ≡ slice_get (f node) k) (sym (exact-node n node e))
+        (slice_get-left (f node) (flat_map f ns) k lt))
+    go false e rest =
+        let shift : length (f n ++ flat_map f (before (λ m. same_node m node) ns)) + k ≡ length (f n) + (length (flat_map f (before (λ m. same_node m node) ns)) + k) =
+        omega (arith, length-append (f n) (flat_map f (before (λ m. same_node m node) ns))) in
+        rw e
+        (ap (slice_get (f n ++ flat_map f ns)) shift
+        ∙ slice_get-right (f n) (flat_map f ns) (length (flat_map f (before (λ m. same_node m node) ns)) + k)
+        ∙ rest (rw e at h) lt)
+
+is_below : (k n : ℕ) → k < n → nat_lt k n ≡ true
+is_below k n lt = grind (arith, nat_tests)
+
+-- what a clause has by its number
+pub record IsNumbered (net : AigPair) (node : Node) (k : ℕ) (c : List Lit) : Type 0 where
+  pub number : ℕ
+  pub is : clause_number_of net node k ≡ Some number
+  pub least : 1 ≤ number
+  pub at : slice_get (clauses_of net) (number - 1) ≡ Some c
+
+pub axiom-numbered : (net : AigPair) (node : Node) (k : ℕ) (c : List Lit) → axiom_of net node k ≡ Some c → IsNumbered net node k c
+axiom-numbered net node k c e = record {
+  number = place + 1;
+  is = rw within refl;
+  least = omega arith;
+  at =
+      ap (slice_get (clauses_of net)) back
+      ∙ slice_get-left (flat_map (axioms_of net) (variables_of net)) (map positive (xors_of net) ∷ []) place inside
+      ∙ here;
+}
+  where
+    below : k < length (axioms_of net node)
+    below = slice_get_within (axioms_of net node) k c e
+
+    within : nat_lt k (length (axioms_of net node)) ≡ true
+    within = is_below k (length (axioms_of net node)) below
+
+    place : ℕ
+    place = length (flat_map (axioms_of net) (before (λ n. same_node n node) (variables_of net))) + k
+
+    back : place + 1 - 1 ≡ place
+    back = omega arith
+
+    here : slice_get (flat_map (axioms_of net) (variables_of net)) place ≡ Some c
+    here = flat_map-at (axioms_of net) (variables_of net) node k (axiom-there net node k c e) below ∙ e
+
+    inside : place < length (flat_map (axioms_of net) (variables_of net))
+    inside = slice_get_within (flat_map (axioms_of net) (variables_of net)) place c here

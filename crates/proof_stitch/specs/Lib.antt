@@ -1,0 +1,4 @@
+pub mod Steps
+pub mod Ids
+pub mod Refused
+pub mod Stitch

@@ -1,0 +1,68 @@
+ghost use Rattle.std.specs.Prelude.{◌≡◌, ◌+◌, ◌<◌, ◌^◌, [], ◌++◌, All, OnOk, length};
+ghost use Rattle.lrat_text.specs.Writing.{line_text, text_from};
+ghost use Rattle.proof_stitch.specs.Steps.{addition, additions_from};
+ghost use Rattle.proof_stitch.specs.Ids.{HasIds};
+
+use crate::addition::addition;
+use lits::Step;
+use lrat_text::{LratStep, push_line};
+use netlist::Net;
+use std::alloc::{AllocError, Global};
+
+/// The text of a proof that grows at its end, and the id of its last addition.
+#[derive(Drop)]
+pub struct ProofText {
+    pub text: Vec<u8>,
+    pub last: u64,
+}
+
+impl ProofText {
+    /// An empty text behind a formula of `last` clauses.
+    pub fn new(alloc: Global, last: u64) -> ProofText
+        ensures text { result.text.items ≡ [] }
+        ensures last { result.last ≡ last }
+    {
+        ProofText {
+            text: Vec::new(alloc),
+            last,
+        }
+    }
+
+    /// Adds a clause under the next id.
+    pub fn push(&mut self, addition: &LratStep) -> Result<(), AllocError>
+        requires { self.old.last + 1 < 2 ^ 64 }
+        ensures text { OnOk result (self.new.text.items ≡ self.old.text.items ++ line_text self.old.last addition.now) }
+        ensures last { OnOk result (self.new.last ≡ self.old.last + 1) }
+    {
+        push_line(&mut self.text, self.last, addition)?;
+        self.last += 1;
+        Ok(())
+    }
+
+    /// Adds the clauses of a list of steps.
+    pub fn push_steps(&mut self, alloc: Global, net: &Net, steps: &[Step]) -> Result<(), AllocError>
+        requires ids { All (HasIds net.now (self.old.last + 1)) steps.now }
+        requires room { self.old.last + length steps.now + 1 < 2 ^ 64 }
+        ensures text { OnOk result (self.new.text.items ≡ self.old.text.items
+            ++ text_from self.old.last (additions_from net.now (self.old.last + 1) (self.old.last + 1) steps.now)) }
+        ensures last { OnOk result (self.new.last ≡ self.old.last + length steps.now) }
+    {
+        let first = self.last + 1;
+        for step in steps {
+            self.push_step(alloc, net, first, step)?;
+        }
+        Ok(())
+    }
+
+    /// Adds the clause of a step. `first` is the id of the first step of its list.
+    fn push_step(&mut self, alloc: Global, net: &Net, first: u64, step: &Step) -> Result<(), AllocError>
+        requires ids { HasIds net.now first step.now }
+        requires room { self.old.last + 1 < 2 ^ 64 }
+        ensures text { OnOk result (self.new.text.items ≡ self.old.text.items
+            ++ line_text self.old.last (addition net.now first (self.old.last + 1) step.now)) }
+        ensures last { OnOk result (self.new.last ≡ self.old.last + 1) }
+    {
+        let addition = addition(alloc, net, first, self.last + 1, step)?;
+        self.push(&addition)
+    }
+}

@@ -1,0 +1,125 @@
+#!/usr/bin/env python3
+"""Random small pairs of circuits, judged apart from the program.
+
+Usage: pairs.py PROGRAM CHECKER [--runs N] [--seed N] [--budget N]
+
+CHECKER is a strict LRAT checker that is called as `CHECKER CNF PROOF` and prints VERIFIED for a refutation, or as
+`CHECKER --steps CNF PROOF` and prints STEPS where each line is a step. For each pair the circuits are evaluated on every
+input here. EQUIVALENT must be true and its proof VERIFIED; DIFFERENT must name an output and an input on which it
+differs, leave an empty proof, and be true; the file of an UNDECIDED must be steps. Status 1 where anything is wrong.
+"""
+import argparse
+import itertools
+import random
+import re
+import subprocess
+import tempfile
+from collections import Counter
+from pathlib import Path
+
+
+def random_circuit(rng, inputs, outputs, gates):
+    """(input literals, output literals, gates) with constants, repeated and complementary fanins among the cases."""
+    known = list(range(2 * inputs + 2))
+    made = []
+    for k in range(gates):
+        lhs = 2 * (inputs + k + 1)
+        made.append((lhs, rng.choice(known), rng.choice(known)))
+        known += [lhs, lhs + 1]
+    return [2 * (k + 1) for k in range(inputs)], [rng.choice(known) for _ in range(outputs)], made
+
+
+def rewritten(rng, circuit):
+    """The same function mostly: fanins swapped, a gate doubled by idempotence; sometimes one sign is turned."""
+    inputs, outputs, gates = circuit
+    gates = [(lhs, right, left) if rng.random() < 0.5 else (lhs, left, right) for lhs, left, right in gates]
+    if gates and rng.random() < 0.35:
+        place = rng.randrange(len(gates))
+        lhs, left, right = gates[place]
+        gates[place] = (lhs, left ^ 1, right)
+    if rng.random() < 0.5 and outputs:
+        lhs = 2 * (len(inputs) + len(gates) + 1)
+        place = rng.randrange(len(outputs))
+        gates = gates + [(lhs, outputs[place], rng.choice([1, outputs[place]]))]
+        outputs = outputs[:place] + [lhs] + outputs[place + 1:]
+    return inputs, outputs, gates
+
+
+def text(circuit):
+    inputs, outputs, gates = circuit
+    variables = max([0] + [literal // 2 for literal in inputs] + [lhs // 2 for lhs, _, _ in gates])
+    lines = [f"aag {variables} {len(inputs)} 0 {len(outputs)} {len(gates)}"]
+    lines += [str(literal) for literal in inputs + outputs]
+    lines += [f"{lhs} {left} {right}" for lhs, left, right in gates]
+    return "\n".join(lines) + "\n"
+
+
+def evaluated(circuit, bits):
+    """The outputs' truth values."""
+    inputs, outputs, gates = circuit
+    values = {0: False}
+    values.update({literal // 2: bit for literal, bit in zip(inputs, bits)})
+
+    def value(literal):
+        return values[literal // 2] ^ bool(literal % 2)
+
+    for lhs, left, right in gates:
+        values[lhs // 2] = value(left) and value(right)
+    return [value(literal) for literal in outputs]
+
+
+def judged(said, status, a, b, folder, checker):
+    """None where the answer is right, else what is wrong."""
+    inputs = len(a[0])
+    differing = {j for bits in itertools.product([False, True], repeat=inputs)
+                 for j, (x, y) in enumerate(zip(evaluated(a, bits), evaluated(b, bits))) if x != y}
+    files = [str(Path(folder, name)) for name in ("p.0.cnf", "p.0.lrat")]
+    lines = said.split("\n")
+    if status == 0:
+        strict = subprocess.run(checker + files, capture_output=True, text=True).stdout.strip()
+        return None if said == "EQUIVALENT\n" and not differing and strict == "VERIFIED" else "a wrong yes: " + strict
+    if status == 1:
+        output = int(re.fullmatch(r"output (\d+)", lines[1])[1])
+        word = re.fullmatch(r"input (none|[01]+)", lines[2])[1]
+        bits = [] if word == "none" else [c == "1" for c in word]
+        right = (lines[0] == "DIFFERENT" and len(bits) == inputs and not Path(files[1]).read_bytes()
+                 and evaluated(a, bits)[output] != evaluated(b, bits)[output])
+        return None if right else "a wrong no"
+    if status == 2:
+        strict = subprocess.run(checker + ["--steps"] + files, capture_output=True, text=True).stdout.strip()
+        return None if lines[0] == "UNDECIDED" and strict.startswith("STEPS") else "a wrong log: " + strict
+    return "no verdict"
+
+
+def main():
+    parser = argparse.ArgumentParser(description=__doc__, formatter_class=argparse.RawDescriptionHelpFormatter)
+    parser.add_argument("program")
+    parser.add_argument("checker", help="a command, its words parted by spaces")
+    parser.add_argument("--runs", type=int, default=400)
+    parser.add_argument("--seed", type=int, default=20261126)
+    parser.add_argument("--budget", type=int, help="of each output's query")
+    words = parser.parse_args()
+    program = str(Path(words.program).resolve())
+    rng = random.Random(words.seed)
+    found, wrong = Counter(), 0
+    with tempfile.TemporaryDirectory() as folder:
+        for _ in range(words.runs):
+            a = random_circuit(rng, rng.randrange(0, 5), rng.randrange(0, 4), rng.randrange(0, 9))
+            b = rewritten(rng, a)
+            Path(folder, "A").write_text(text(a))
+            Path(folder, "B").write_text(text(b))
+            command = [program, "check", "A", "B", "--out", "p"]
+            if words.budget:
+                command += ["--budget", str(words.budget)]
+            ran = subprocess.run(command, cwd=folder, capture_output=True, text=True)
+            fault = judged(ran.stdout, ran.returncode, a, b, folder, words.checker.split())
+            found[ran.returncode] += 1
+            if fault:
+                wrong += 1
+                print(f"{fault}: status {ran.returncode}, {ran.stdout!r}, {ran.stderr!r}, on {text(a)!r} and {text(b)!r}")
+    print(f"seed {words.seed}: {words.runs} pairs, by status {dict(sorted(found.items()))}, {wrong} wrong")
+    raise SystemExit(1 if wrong else 0)
+
+
+if __name__ == "__main__":
+    main()
