@@ -4,3 +4,4 @@ pub mod SectionLemmas
 pub mod FaninLemmas
 pub mod HeaderLemmas
 pub mod CircuitLemmas
+pub mod WordLemmas

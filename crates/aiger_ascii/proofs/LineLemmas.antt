@@ -12,7 +12,7 @@ use Rattle.aiger_ascii.specs.Lines.{Line, onto_line, lines_from, misfit}
 -- ---- digits
 
 -- a digit is no byte that isn't one, as LF and the space
-digit-other : (b c : ℕ) → is_ascii_digit b ≡ true → is_ascii_digit c ≡ false → eqb b c ≡ false
+pub digit-other : (b c : ℕ) → is_ascii_digit b ≡ true → is_ascii_digit c ≡ false → eqb b c ≡ false
 digit-other b c digit other = go (eqb b c) (eqb-true b c)
   where
     go : (t : Bool) → (t ≡ true → b ≡ c) → t ≡ false

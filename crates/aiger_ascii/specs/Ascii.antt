@@ -1,5 +1,6 @@
--- What an ASCII AIGER file spells, and its first fault (A. Biere, The AIGER And-Inverter Graph Format,
--- 2007; AIGER 1.9).
+-- What an ASCII AIGER file spells, and its first fault (A. Biere, The AIGER And-Inverter Graph
+-- Format, 2007; AIGER 1.9): a header line, then a line for each input, each output and each gate.
+-- `total` is the length of the input, `h` its header.
 use Rattle.std.specs.Prelude.{◌≡◌, ℕ, ◌+◌, List, [], ◌∷◌, ◌++◌, length, map, drop, Option, Some, None, unwrap_or, slice_index}
 use Rattle.byte_scan.specs.declared.errors.AigerErr.{AigerErr}
 use Rattle.byte_scan.specs.declared.errors.AigerErr.TheVariants.{BadSymbol}
@@ -18,7 +19,8 @@ use Rattle.aiger_ascii.specs.Literals.{uses_fault, literals_fault, undefined_amo
 abbrev pub defined_by : Line → ℕ
 defined_by line = var_of (first_number line)
 
--- An input's line and a gate's: its form, then its literals from the left.
+-- An input's line, one number, and a gate's, a number and two more: the form is judged first, then the
+-- literals from the left.
 abbrev pub definition_line_fault : ℕ → ℕ → ℕ → List ℕ → Line → Option AigerErr
 definition_line_fault total m more earlier line =
     form_fault total more line or_else literals_fault m earlier (numbers_of line)
@@ -27,7 +29,7 @@ definition_line_fault total m more earlier line =
 abbrev pub output_line_fault : ℕ → ℕ → Line → Option AigerErr
 output_line_fault total m line = form_fault total 0 line or_else uses_fault m (numbers_of line)
 
--- Lines that define, one after the other; the variables of earlier lines are given.
+-- Lines that define, one after the other, behind lines that define the earlier variables.
 abbrev pub definitions_fault : ℕ → ℕ → ℕ → List ℕ → List Line → Option AigerErr
 definitions_fault total m more earlier [] = None
 definitions_fault total m more earlier (line ∷ lines) =
@@ -36,7 +38,8 @@ definitions_fault total m more earlier (line ∷ lines) =
 
 abbrev pub outputs_fault : ℕ → ℕ → List Line → Option AigerErr
 outputs_fault total m [] = None
-outputs_fault total m (line ∷ lines) = output_line_fault total m line or_else outputs_fault total m lines
+outputs_fault total m (line ∷ lines) =
+    output_line_fault total m line or_else outputs_fault total m lines
 
 -- ---- the whole file
 
@@ -59,7 +62,11 @@ gate_lines total h lines = due total h.a (drop (h.i + h.o) lines)
 
 -- what a gate's line says
 abbrev pub gate_of : Line → And
-gate_of line = record { var = defined_by line; left = slice_index (numbers_of line) 1; right = slice_index (numbers_of line) 2 }
+gate_of line = record {
+  var = defined_by line;
+  left = slice_index (numbers_of line) 1;
+  right = slice_index (numbers_of line) 2;
+}
 
 -- the circuit that the lines say
 abbrev pub circuit_of : ℕ → Header → List Line → Aig
@@ -74,8 +81,8 @@ abbrev pub trailing_fault : List Line → Option AigerErr
 trailing_fault [] = None
 trailing_fault (line ∷ lines) = Some (BadSymbol line.at)
 
--- After the last gate: an output may name the constants, inputs and all gates, a fanin only gates of
--- earlier lines.
+-- After the last gate: the first output or fanin, in the file's order, that is undefined. An output may
+-- name the constants, inputs and all gates, a fanin no gate but those of earlier lines.
 unfoldable pub circuit_fault : Aig → Option AigerErr
 circuit_fault c =
     undefined_among (variables_in c) c.outputs or_else undefined_fanin (0 ∷ c.inputs) c.gates
@@ -85,7 +92,8 @@ unfoldable pub lines_fault : ℕ → Header → List Line → Option AigerErr
 lines_fault total h lines =
     definitions_fault total h.m 0 [] (input_lines total h lines)
     or_else outputs_fault total h.m (output_lines total h lines)
-    or_else definitions_fault total h.m 2 (map defined_by (input_lines total h lines)) (gate_lines total h lines)
+    or_else definitions_fault total h.m 2 (map defined_by (input_lines total h lines))
+    (gate_lines total h lines)
 
 -- The faults behind the header: of the lines, then of what they say, then of what follows them.
 unfoldable pub body_fault : ℕ → Header → List Line → Option AigerErr
@@ -97,7 +105,8 @@ body_fault total h lines =
 -- the first fault of a file
 unfoldable pub first_fault : List ℕ → Option AigerErr
 first_fault bytes =
-    header_fault 97 (line_of bytes) or_else body_fault (length bytes) (header_in bytes) (body_lines bytes)
+    header_fault 97 (line_of bytes)
+    or_else body_fault (length bytes) (header_in bytes) (body_lines bytes)
 
 -- The bytes spell this circuit, and have no fault.
 pub record SpellsAscii (bytes : List ℕ) (c : Aig) : Type 0 where

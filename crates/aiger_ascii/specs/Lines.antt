@@ -16,8 +16,8 @@ abbrev pub onto_line : ℕ → ℕ → List Line → List Line
 onto_line at b [] = record { at = at; text = b ∷ [] } ∷ []
 onto_line at b (line ∷ lines) = record { at = at; text = b ∷ line.text } ∷ lines
 
--- The lines of bytes whose first stands at this place. Each is ended by LF, the last one perhaps by the
--- end of input.
+-- The lines of bytes whose first stands at this place. Each is ended by LF, the last one perhaps by
+-- the end of input.
 abbrev pub lines_from : ℕ → List ℕ → List Line
 lines_from at [] = []
 lines_from at (b ∷ bs) =
@@ -30,9 +30,9 @@ due total zero lines = []
 due total (suc n) [] = record { at = total; text = [] } ∷ due total n []
 due total (suc n) (line ∷ lines) = line ∷ due total n lines
 
--- Where a line departs from its form, a number and `more` numbers behind it with one space between: the
--- place of the first byte that cannot stand there, or of the line's end where a digit or a space is due.
--- begun says that a digit of the number has come, so that what may end it is due too.
+-- Where a line departs from its form, which is a number and `more` numbers behind it with one space
+-- between: at the first byte that cannot stand there, or at its end, where a digit or a space is due.
+-- A number is one or more digits; `begun` says that a digit of it has come, so that it may end.
 abbrev pub misfit : ℕ → Bool → ℕ → List ℕ → Option ℕ
 misfit zero begun at [] = if begun then None else Some at
 misfit (suc more) begun at [] = Some at

@@ -1,4 +1,5 @@
--- The literals of an AIGER file, and their faults (A. Biere, The AIGER And-Inverter Graph Format, 2007).
+-- The faults of an AIGER file's literals (A. Biere, The AIGER And-Inverter Graph Format, 2007).
+-- A literal is twice its variable, and one more where it is negated; M is the greatest variable.
 use Rattle.std.specs.Prelude.{ℕ, ◌+◌, ◌*◌, ◌%◌, ◌||◌, not, List, [], ◌∷◌, ◌++◌, Option, None, nat_lt, ◌==◌}
 use Rattle.byte_scan.specs.declared.errors.AigerErr.{AigerErr}
 use Rattle.byte_scan.specs.declared.errors.AigerErr.TheVariants.{BadLiteral, DefinedTwice, Undefined}
@@ -7,7 +8,8 @@ use Rattle.lits.specs.Clause.{has}
 use Rattle.netlist.specs.declared.gate.And.{And}
 use Rattle.netlist.specs.Circuit.{var_of, is_over}
 
--- A literal that a line defines is even, not 0 and at most 2M, and no earlier line defines its variable.
+-- A literal that a line defines is even, not 0 and at most 2M, and no earlier line defines its
+-- variable.
 abbrev pub definition_fault : ℕ → List ℕ → ℕ → Option AigerErr
 definition_fault m earlier n =
     when (n % 2 == 1 || n == 0 || nat_lt (2 * m) n) (BadLiteral n)

@@ -14,10 +14,11 @@ line_at p = record { at = p.at; text = line_of (ahead p) }
 abbrev pub lines_ahead : Place → List Line
 lines_ahead p = lines_from p.at (ahead p)
 
--- Behind a number of a line and the space after it: what is left of the line lacks that number alone.
+-- behind a number of a line and the space after it: what is left of the line lacks that number alone
 pub record PassesNumber (old : Place) (n : ℕ) (new : Place) : Type 0 where
   pub bytes : new.bytes ≡ old.bytes
-  pub form : (more : ℕ) → form_fault (length old.bytes) (suc more) (line_at old) ≡ form_fault (length old.bytes) more (line_at new)
+  pub form : (more : ℕ) →
+      form_fault (length old.bytes) (suc more) (line_at old) ≡ form_fault (length old.bytes) more (line_at new)
   pub numbers : numbers_of (line_at old) ≡ n ∷ numbers_of (line_at new)
   pub later : drop 1 (lines_ahead new) ≡ drop 1 (lines_ahead old)
 
@@ -39,4 +40,8 @@ IsTable table variables = (v : ℕ) → slice_index_or table v false ≡ has ◌
 
 -- the circuit of the parts that were read
 abbrev pub circuit_in : Parts → Aig
-circuit_in parts = record { inputs = parts.inputs.items; gates = parts.gates.items; outputs = parts.outputs.items }
+circuit_in parts = record {
+  inputs = parts.inputs.items;
+  gates = parts.gates.items;
+  outputs = parts.outputs.items;
+}

@@ -68,7 +68,8 @@ fn judge_parts(alloc: Global, parts: &Parts, defined: &Table) -> Result<(), Aige
     requires { IsTable defined.now.marks.items
         (parts.now.inputs.items ++ gate_vars parts.now.gates.items) }
     ensures sound { OnOk result (circuit_fault (circuit_in parts.now) ≡ None) }
-    ensures fault { IfErr result (λ e. e ≢ NoMemory → circuit_fault (circuit_in parts.now) ≡ Some e) }
+    ensures fault { IfErr result (λ e. e ≢ NoMemory →
+        circuit_fault (circuit_in parts.now) ≡ Some e) }
 {
     judge_outputs(&parts.outputs, defined)?;
     judge_fanins(alloc, &parts.inputs, &parts.gates)

@@ -1,6 +1,7 @@
 use netlist::And;
 
-/// What the lines of a file say, in their order: the inputs' variables, the gates, the outputs' literals.
+/// What the lines of a file say, in their order: the inputs' variables, the gates and the outputs'
+/// literals.
 #[derive(Drop)]
 pub(crate) struct Parts {
     pub(crate) inputs: Vec<u32>,

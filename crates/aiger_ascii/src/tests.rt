@@ -3,6 +3,9 @@ use byte_scan::AigerErr;
 use netlist::And;
 use std::test::*;
 
+/// Greater numbers count as this one.
+const MOST: u64 = 1_000_000_000_000_000_000;
+
 const AND: &[u8] = b"aag 3 2 0 1 1\n2\n4\n6\n6 2 4\n";
 
 #[test]
@@ -53,19 +56,17 @@ fn accepted(rt: HostRuntime) {
 }
 
 #[test]
-fn faults(rt: HostRuntime) {
-    let rows: [(&[u8], AigerErr); 30] = [
-        // the header
+fn faults_of_header_and_lines(rt: HostRuntime) {
+    let rows: [(&[u8], AigerErr); 16] = [
         (b"aig 3 2 0 1 1\n6\n\x02\x02", AigerErr::BadHeader),
         (b"aag 1 0 1 0 0\n2 3\n", AigerErr::HasLatches(1)),
         (b"aag 1 1 0 0 0 0 1\n2\n2\n", AigerErr::HasProperty(b'C')),
         (b"aag 16777217 0 0 0 0\n", AigerErr::TooLarge(16777217)),
         (
             b"aag 1000000000000000000000 0 0 0 0\n",
-            AigerErr::TooLarge(1_000_000_000_000_000_000),
+            AigerErr::TooLarge(MOST),
         ),
         (b"aag 16777216 16777216 0 0 0\n", AigerErr::Truncated(28)),
-        // the form of a line
         (b"aag 1 1 0 0 0\nx\n", AigerErr::BadNumber(14)),
         (b"aag 1 1 0 0 0\n\n", AigerErr::BadNumber(14)),
         (b"aag 1 1 0 0 0\n2 \n", AigerErr::BadNumber(15)),
@@ -76,14 +77,23 @@ fn faults(rt: HostRuntime) {
         (b"aag 2 1 0 0 1\n2\n4 2 2 2\n", AigerErr::BadNumber(21)),
         (b"aag 2 1 0 0 1\n2\n4 2 ", AigerErr::Truncated(20)),
         (b"aag 2 1 0 0 1\n2\n4 2", AigerErr::Truncated(19)),
-        // the literals, from the left, line by line
+    ];
+    for (bytes, want) in rows {
+        assert_eq!(rt; read(rt.alloc(), bytes).err(), Some(want), "at {bytes:?}");
+    }
+}
+
+#[test]
+fn faults_of_literals(rt: HostRuntime) {
+    let rows: [(&[u8], AigerErr); 14] = [
+        // line by line, from the left
         (b"aag 1 1 0 0 0\n3\n", AigerErr::BadLiteral(3)),
         (b"aag 1 1 0 0 0\n0\n", AigerErr::BadLiteral(0)),
         (b"aag 1 1 0 0 0\n4\n", AigerErr::BadLiteral(4)),
         (b"aag 1 1 0 1 0\n2\n4\n", AigerErr::BadLiteral(4)),
         (
             b"aag 1 1 0 0 0\n18446744073709551618\n",
-            AigerErr::BadLiteral(1_000_000_000_000_000_000),
+            AigerErr::BadLiteral(MOST),
         ),
         (b"aag 3 2 0 0 0\n2\n2\n", AigerErr::DefinedTwice(2)),
         (b"aag 2 1 0 0 1\n2\n2 9 9\n", AigerErr::DefinedTwice(2)),

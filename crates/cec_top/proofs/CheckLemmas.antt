@@ -9,7 +9,6 @@ use Rattle.cec_top.specs.declared.stop.Stop.TheVariants.{CannotRead, TooLong, Ba
 use Rattle.cec_top.specs.Command.{CheckCommand, cnf_name, proof_name}
 use Rattle.cec_top.specs.Causes.{ReadsPair, HasCircuit, after_reads}
 use Rattle.cec_top.specs.Answers.{Checks, ChecksPair, ChecksRead, HasPair}
-use Rattle.cec_top.proofs.WritingLemmas.{touches-same}
 
 -- a pair that isn't read ends the check
 pub checks-unread : (c : CheckCommand) (old new : DeskState) (kept : List Kept) (stop : Stop) → kept ≡ []
@@ -23,11 +22,11 @@ checks-unread c old new kept (BadFile B e) none p = (p, none)
 checks-unread c old new kept (Unlike u) none p = (p, none)
 checks-unread c old new kept (NotEqual j) none p = absurd p
 checks-unread c old new kept CannotWrite none p = absurd p
-checks-unread c old new kept OutOfMemory none p = (new, p, touches-same (cnf_name c ∷ proof_name c ∷ []) new)
+checks-unread c old new kept OutOfMemory none p = inl (p, none)
 
 -- memory runs out once the pair is read
-pub checks-out : (c : CheckCommand) (old new : DeskState) (kept : List Kept) → new ≡ after_reads old c → Checks c old new kept (Err OutOfMemory)
-checks-out c old new kept read = (new, inr (inr read), touches-same (cnf_name c ∷ proof_name c ∷ []) new)
+pub checks-out : (c : CheckCommand) (old new : DeskState) (kept : List Kept) → kept ≡ [] → new ≡ after_reads old c → Checks c old new kept (Err OutOfMemory)
+checks-out c old new kept none read = inl (inr (inr read), none)
 
 -- the pair that was read is checked
 pub checks-pair : (c : CheckCommand) (old mid new : DeskState) (kept : List Kept) (net : AigPair) (r : Result (Unit {0}) Stop)
@@ -42,7 +41,7 @@ checks-pair c old mid new kept net r cnf proof cnf_is proof_is pair read p =
     go (Ok u) f = record { net = net; pair = pair; checks = f }
     go (Err (NotEqual j)) f = record { net = net; pair = pair; checks = f }
     go (Err CannotWrite) f = record { net = net; pair = pair; checks = f }
-    go (Err OutOfMemory) f = (after_reads old c, inr (inr refl), f)
+    go (Err OutOfMemory) f = inr (record { net = net; pair = pair; checks = f })
     go (Err (CannotRead side)) f = absurd f
     go (Err (TooLong side)) f = absurd f
     go (Err (BadFile side e)) f = absurd f

@@ -2,3 +2,4 @@ pub mod SettledLemmas
 pub mod WritingLemmas
 pub mod FinishLemmas
 pub mod CheckLemmas
+pub mod DecidedLemmas

@@ -8,8 +8,8 @@ use Rattle.desk_port.specs.Desk.{DeskState, Files, put, extended, Rose, last_cou
 use Rattle.desk_port.specs.declared.errors.PutErr.{PutErr}
 use Rattle.desk_port.specs.declared.errors.PutErr.TheVariants as put_err
 use Rattle.netlist.specs.Net.{AigPair}
-use Rattle.proof_stitch.specs.declared.StitchErr.{StitchErr}
-use Rattle.proof_stitch.specs.declared.StitchErr.TheVariants as stitch_err
+use Rattle.proof_stitch.specs.declared.stitch_err.StitchErr.{StitchErr}
+use Rattle.proof_stitch.specs.declared.stitch_err.StitchErr.TheVariants as stitch_err
 use Rattle.proof_stitch.specs.Stitch.{WritesRefutation}
 use Rattle.cec_top.specs.declared.stop.Stop.{Stop}
 use Rattle.cec_top.specs.declared.stop.Stop.TheVariants.{CannotRead, TooLong, BadFile, Unlike, NotEqual, CannotWrite, OutOfMemory}

@@ -4,6 +4,7 @@ use Rattle.desk_port.specs.Desk.{DeskState, WarnFault, OfSomePrefix, after_warn}
 use Rattle.netlist.specs.Net.{AigPair}
 use Rattle.lemma_book.specs.Entry.{Entries}
 use Rattle.lemma_book.specs.Book.{IsLegal}
+use Rattle.netlist.specs.Unlike.{unlike_of}
 use Rattle.cec_top.specs.declared.kept.Kept.{Kept}
 use Rattle.cec_top.specs.declared.status.Status.{Status}
 use Rattle.cec_top.specs.declared.status.Status.TheVariants as ends
@@ -12,13 +13,18 @@ use Rattle.cec_top.specs.declared.stop.Stop.TheVariants.{CannotRead, TooLong, Ba
 use Rattle.cec_top.specs.Command.{CheckCommand, command_of, cnf_name, proof_name}
 use Rattle.cec_top.specs.Stops.{status_of}
 use Rattle.cec_top.specs.Lines.{stop_line, fault_line}
-use Rattle.cec_top.specs.Causes.{HasCircuit, ReadsPair, after_reads, TouchesOnly, Finishes}
+use Rattle.cec_top.specs.Causes.{HasCircuit, ReadsPair, after_reads, TouchesOnly, Finishes, IsDecided}
 use Rattle.cec_top.specs.Settled.{AreOuts, EndsAt}
 
--- the book that is handed back: it is legal, and it shows each output to be equal, in order
+-- how many learned clauses an output's query may spend
+abbrev pub out_budget : ℕ
+out_budget = 100000
+
+-- the book that is handed back: it is legal under that budget, and it shows each output to be equal, in order
 pub record KeepsOuts (net : AigPair) (kept : List Kept) : Type 0 where
   pub book : Entries
   pub only : kept ≡ record { check = 0; book = book } ∷ []
+  pub budget : book.out_budget ≡ out_budget
   pub legal : IsLegal net book
   pub outs : AreOuts 0 book.entries
   pub count : length book.entries ≡ length net.a.outputs
@@ -27,21 +33,24 @@ pub record KeepsOuts (net : AigPair) (kept : List Kept) : Type 0 where
 pub record KeepsOpen (net : AigPair) (j : ℕ) (kept : List Kept) : Type 0 where
   pub book : Entries
   pub only : kept ≡ record { check = 0; book = book } ∷ []
+  pub budget : book.out_budget ≡ out_budget
   pub legal : IsLegal net book
   pub ends : EndsAt j book.entries
 
 -- the pair is settled, and where each output is shown equal the files are written and the verdict is said
 abbrev pub ChecksPair : List ℕ → List ℕ → AigPair → DeskState → DeskState → List Kept → Result (Unit {0}) Stop → Type 0
-ChecksPair cnf proof net old new kept (Ok u) = KeepsOuts net kept × Finishes cnf proof net old new (Ok u)
+ChecksPair cnf proof net old new kept (Ok u) = IsDecided net × KeepsOuts net kept × Finishes cnf proof net old new (Ok u)
 ChecksPair cnf proof net old new kept (Err (NotEqual j)) = KeepsOpen net j kept × (new ≡ old)
 ChecksPair cnf proof net old new kept (Err CannotWrite) = KeepsOuts net kept × Finishes cnf proof net old new (Err CannotWrite)
-ChecksPair cnf proof net old new kept (Err OutOfMemory) = TouchesOnly (cnf ∷ proof ∷ []) old new
+ChecksPair cnf proof net old new kept (Err OutOfMemory) =
+    ((kept ≡ []) ⊎ KeepsOuts net kept) × TouchesOnly (cnf ∷ proof ∷ []) old new
 ChecksPair cnf proof net old new kept (Err _) = ⊥
 
--- the files spell the pair
+-- the files spell two circuits that can be compared
 pub record HasPair (c : CheckCommand) (old : DeskState) (net : AigPair) : Type 0 where
   pub a : HasCircuit old c.a net.a
   pub b : HasCircuit old c.b net.b
+  pub alike : unlike_of net.a net.b ≡ None
 
 -- the pair is read and checked
 pub record ChecksRead (c : CheckCommand) (old new : DeskState) (kept : List Kept) (result : Result (Unit {0}) Stop) : Type 0 where
@@ -59,7 +68,7 @@ Checks c old new kept (Err (Unlike u)) = ReadsPair c old new (Err (Unlike u)) ×
 Checks c old new kept (Err (NotEqual j)) = ChecksRead c old new kept (Err (NotEqual j))
 Checks c old new kept (Err CannotWrite) = ChecksRead c old new kept (Err CannotWrite)
 Checks c old new kept (Err OutOfMemory) =
-    (mid : DeskState) × ReadsPair c old mid (Err OutOfMemory) × TouchesOnly (cnf_name c ∷ proof_name c ∷ []) mid new
+    (ReadsPair c old new (Err OutOfMemory) × (kept ≡ [])) ⊎ ChecksRead c old new kept (Err OutOfMemory)
 
 -- the line is warned; where the warning failed, a first part of it
 abbrev pub IsWarned : DeskState → DeskState → List ℕ → Type 0
@@ -87,7 +96,7 @@ pub record Refuses (words : List (List ℕ)) (old new : DeskState) (status : Sta
   pub cause : Checks command old mid kept (Err stop)
   pub warned : IsWarned mid new (stop_line command stop)
 
--- memory ran out, in the check or for the line of its end
+-- memory ran out, in the check or for the line of its end; a check's own cause may be any
 pub record RunsOut (command : CheckCommand) (old new : DeskState) (kept : List Kept) : Type 0 where
   pub stop : Stop
   pub mid : DeskState

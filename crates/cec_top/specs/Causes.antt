@@ -1,5 +1,5 @@
 -- How a check goes, step by step: what each part of it makes of the desk, and the cause of each end without a verdict.
-use Rattle.std.specs.Prelude.{◌≡◌, ◌≢◌, ◌⊎◌, ℕ, ◌+◌, ◌<◌, List, [], ◌∷◌, ◌++◌, length, Option, Some, None, IfSome, IsSomeAnd, Result, Ok, Err, false, codes}
+use Rattle.std.specs.Prelude.{◌≡◌, ◌↔◌, ◌⊎◌, ℕ, ◌≤◌, List, [], ◌∷◌, ◌++◌, length, Option, Some, None, IfSome, IsSomeAnd, Result, Ok, Err, false, codes}
 use Rattle.std.specs.List.{list_any}
 use Rattle.std.specs.Option.{option_map}
 use Rattle.std.specs.Str.{bytes_eq}
@@ -7,12 +7,14 @@ use Rattle.lits.specs.declared.node.Side.{Side}
 use Rattle.lits.specs.declared.node.Side.TheVariants.{A, B}
 use Rattle.desk_port.specs.Desk.{DeskState, Files, HasMore, ReadFault, WriteFault, OfSomePrefix, Rose, put, after_read, after_write, after_say}
 use Rattle.netlist.specs.Circuit.{Aig}
-use Rattle.netlist.specs.Net.{AigPair}
+use Rattle.lits.specs.Assignment.{IsSatisfiable}
+use Rattle.lrat_text.specs.Derivation.{opposite_literal}
+use Rattle.netlist.specs.Net.{AigPair, Agree, Differ}
 use Rattle.netlist.specs.Miter.{miter_of, variables_of}
 use Rattle.dimacs_text.specs.CnfText.{cnf_text}
 use Rattle.netlist.specs.Unlike.{unlike_of}
 use Rattle.byte_scan.specs.declared.errors.AigerErr.{AigerErr}
-use Rattle.aiger_ascii.specs.Ascii.{SpellsAscii, ascii_fault}
+use Rattle.aiger_ascii.specs.Ascii.{SpellsAscii, first_fault}
 use Rattle.proof_stitch.specs.Stitch.{IsRefutation}
 use Rattle.cec_top.specs.declared.stop.Stop.{Stop}
 use Rattle.cec_top.specs.declared.stop.Stop.TheVariants.{CannotRead, TooLong, BadFile, Unlike, NotEqual, CannotWrite, OutOfMemory}
@@ -22,13 +24,13 @@ use Rattle.cec_top.specs.Command.{CheckCommand, cnf_name, proof_name}
 abbrev pub limit : ℕ
 limit = 1073741824
 
--- the named file spells the circuit, where the desk tells its files
+-- the named file has at most that many bytes and spells the circuit, where the desk tells its files
 abbrev pub HasCircuit : DeskState → List ℕ → Aig → Type 0
-HasCircuit s name c = IfSome s.files (λ files. IsSomeAnd (files name) (λ bytes. SpellsAscii bytes c))
+HasCircuit s name c = IfSome s.files (λ files. IsSomeAnd (files name) (λ bytes. (length bytes ≤ limit) × SpellsAscii bytes c))
 
--- the named file has this first fault, where the desk tells its files
+-- the named file has at most that many bytes and this first fault, where the desk tells its files
 abbrev pub HasFault : DeskState → List ℕ → AigerErr → Type 0
-HasFault s name e = IfSome s.files (λ files. IsSomeAnd (files name) (λ bytes. ascii_fault bytes ≡ Some e))
+HasFault s name e = IfSome s.files (λ files. IsSomeAnd (files name) (λ bytes. (length bytes ≤ limit) × (first_fault bytes ≡ Some e)))
 
 -- the named file is longer than the limit, where the desk tells its files
 abbrev pub IsLong : DeskState → List ℕ → Type 0
@@ -49,7 +51,8 @@ after_reads s c = after_read (after_read s c.a) c.b
 
 -- both circuits are read, A first, and paired
 abbrev pub ReadsPair : CheckCommand → DeskState → DeskState → Result AigPair Stop → Type 0
-ReadsPair c old new (Ok net) = HasCircuit old c.a net.a × HasCircuit old c.b net.b × (new ≡ after_reads old c)
+ReadsPair c old new (Ok net) =
+    HasCircuit old c.a net.a × HasCircuit old c.b net.b × (unlike_of net.a net.b ≡ None) × (new ≡ after_reads old c)
 ReadsPair c old new (Err (CannotRead A)) = ReadFault (after_read old c.a) new
 ReadsPair c old new (Err (CannotRead B)) = (a : Aig) × HasCircuit old c.a a × ReadFault (after_reads old c) new
 ReadsPair c old new (Err (TooLong A)) = IsLong old c.a × (new ≡ after_read old c.a)
@@ -134,3 +137,8 @@ Finishes cnf proof net old new (Err CannotWrite) =
     ⊎ ((bytes : List ℕ) × IsProof net bytes × SaysVerdict (after_files old cnf proof net bytes) new (Err CannotWrite))
 Finishes cnf proof net old new (Err OutOfMemory) = TouchesOnly (cnf ∷ proof ∷ []) old new
 Finishes cnf proof net old new (Err _) = ⊥
+
+-- the circuits agree on every input, and the pair's miter is satisfiable exactly if they differ
+pub record IsDecided (net : AigPair) : Type 0 where
+  pub agree : Agree net
+  pub exact : IsSatisfiable opposite_literal (miter_of net) ↔ Differ net

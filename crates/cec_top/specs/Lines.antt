@@ -4,8 +4,8 @@ use Rattle.lits.specs.declared.node.Side.{Side}
 use Rattle.lits.specs.declared.node.Side.TheVariants.{A, B}
 use Rattle.byte_scan.specs.declared.errors.AigerErr.{AigerErr}
 use Rattle.byte_scan.specs.declared.errors.AigerErr.TheVariants as aiger
-use Rattle.netlist.specs.declared.net.Unlike.{Unlike}
-use Rattle.netlist.specs.declared.net.Unlike.TheVariants as unlike
+use Rattle.netlist.specs.declared.unlike.Unlike.{Unlike}
+use Rattle.netlist.specs.declared.unlike.Unlike.TheVariants as unlike
 use Rattle.cec_top.specs.declared.stop.Stop.{Stop}
 use Rattle.cec_top.specs.declared.stop.Stop.TheVariants.{CannotRead, TooLong, BadFile, Unlike as NotAlike, NotEqual, CannotWrite, OutOfMemory}
 use Rattle.cec_top.specs.Command.{CheckCommand}

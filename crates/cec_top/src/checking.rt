@@ -1,7 +1,7 @@
-ghost use Rattle.std.specs.Prelude.{◌≡◌, [], ◌++◌, None, IfOk, length, string_bytes};
+ghost use Rattle.std.specs.Prelude.{◌≡◌, [], ◌++◌, None, IfOk, OnOk, length, string_bytes};
 ghost use Rattle.desk_port.specs.Desk.{NoCountFalls};
 ghost use Rattle.lemma_book.specs.Book.{IsLegal};
-ghost use Rattle.cec_top.specs.Causes.{Finishes};
+ghost use Rattle.cec_top.specs.Causes.{Finishes, IsDecided};
 ghost use Rattle.cec_top.specs.Settled.{AreOuts};
 ghost use Rattle.cec_top.specs.Answers.{Checks, ChecksPair};
 
@@ -44,8 +44,14 @@ fn finish<D: Desk>(
     requires legal { IsLegal net.now book.now }
     requires outs { AreOuts 0 book.now.entries × (length book.now.entries ≡ length net.now.a.outputs) }
     ensures answer { Finishes cnf.now proof.now net.now (D.state desk.old) (D.state desk.new) result }
+    ensures decided { OnOk result (IsDecided net.now) }
     ensures counts { NoCountFalls (D.state desk.old) (D.state desk.new) }
 {
+    // What the proof that is written means for the circuits: laws, which do nothing when they run.
+    netlist::satisfiable_if_different(net);
+    netlist::unsatisfiable_if_equal(net);
+    lrat_text::derived_lines();
+
     write_cnf(alloc, net, desk, cnf)?;
     write_proof(alloc, net, book, desk, proof)?;
     say_verdict(desk)

@@ -48,7 +48,7 @@ pub(crate) fn read_pair<D: Desk>(
 {
     let a = read_circuit(alloc, desk, words.a, Side::A)?;
     let b = read_circuit(alloc, desk, words.b, Side::B)?;
-    match Net::of(a, b) {
+    match Net::of(alloc, a, b) {
         Ok(net) => Ok(net),
         Err(Unlike::NoMemory) => Err(Stop::OutOfMemory),
         Err(unlike) => Err(Stop::Unlike(unlike)),

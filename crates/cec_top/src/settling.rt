@@ -14,6 +14,7 @@ use unit_prop::Refuter;
 pub(crate) fn settle(alloc: Global, net: &Net, book: &mut Book) -> Result<(), Stop>
     requires { book.old.entries ≡ [] }
     ensures legal { IsLegal net.now book.new }
+    ensures budget { book.new.out_budget ≡ book.old.out_budget }
     ensures answer { Settles net.now book.new.entries result }
 {
     let mut solver = PlainSolver::new(alloc);
@@ -35,6 +36,7 @@ fn settle_output<R: Refuter + Send>(
     requires output { j < length net.now.a.outputs }
     requires unsettled { has_output book.old.entries j ≡ false }
     ensures legal { IsLegal net.now book.new }
+    ensures budget { book.new.out_budget ≡ book.old.out_budget }
     ensures answer { AppendsOut j book.old.entries book.new.entries result }
 {
     let Ok(entry) = cone_query::output(alloc, net, book, j, refuter) else {

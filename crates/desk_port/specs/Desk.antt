@@ -23,7 +23,7 @@ abbrev pub extended : List ℕ → List ℕ → Files → Files
 extended name bytes files =
     λ q. if bytes_eq name q then option_map (λ old. old ++ bytes) (files q) else files q
 
--- What a desk shows. What it doesn't tell is None, as all content of a desk of real files.
+-- What a desk shows. Content that it doesn't tell is None; a desk of real files tells none.
 pub record DeskState : Type 0 where
   -- the files, where told
   pub files : Option Files
@@ -104,7 +104,7 @@ pub record NoCountFalls (old new : DeskState) : Type 0 where
   pub writes : old.write_faults ≤ new.write_faults
   pub warns : old.warn_faults ≤ new.warn_faults
 
--- A read, a write or a warn fault was counted, and nothing else is another.
+-- A read, a write or a warn fault was counted, and nothing else changed.
 pub record ReadFault (old new : DeskState) : Type 0 where
   pub rose : Rose old.read_faults new.read_faults
   pub stays : new ≡ record old { read_faults = new.read_faults }

@@ -13,8 +13,8 @@ use std::collections::BTreeMap;
 
 /// A desk whose files, output and error stand in memory. It tells all.
 ///
-/// Its calls are counted together from 0, but for those that memory was wanting for. A call whose
-/// number it was told fails: it counts a fault of its kind and puts nothing, and a `close` still
+/// Its calls are counted together from 0; one that answers `NoMemory` isn't. A call whose number
+/// was given to `new` fails: it counts a fault of its kind and puts nothing, and a `close` still
 /// closes. No other call fails, but a `read` of a missing file. At the last number of a `u64` the
 /// counting stands still.
 #[derive(Drop)]

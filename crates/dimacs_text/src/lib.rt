@@ -8,3 +8,6 @@
 pub use write::print;
 
 mod write;
+
+#[cfg(test)]
+mod tests;

@@ -25,10 +25,12 @@ pub fn derived_lines()
         live_after (formula_live formula) (lines ++ line ∷ [])
         ≡ after_step (live_after (formula_live formula) lines) line.step }
     ensures line { (formula : List (List DimacsLiteral)) (lines : List Line) (line : Line) →
-        Derives formula lines → fault_over (live_after (formula_live formula) lines) line.step ≡ None →
+        Derives formula lines →
+        fault_over (live_after (formula_live formula) lines) line.step ≡ None →
         Derives formula (lines ++ line ∷ []) }
     ensures empty { (formula : List (List DimacsLiteral)) (lines : List Line) (line : Line) →
-        Derives formula lines → fault_over (live_after (formula_live formula) lines) line.step ≡ None →
+        Derives formula lines →
+        fault_over (live_after (formula_live formula) lines) line.step ≡ None →
         adds_empty line.step ≡ true → Refutes formula (lines ++ line ∷ []) }
 {}
 

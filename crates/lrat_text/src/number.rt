@@ -4,10 +4,10 @@ ghost use Rattle.lrat_text.specs.Numbers.{size_in, number_in};
 use byte_scan::Scan;
 
 /// A number as a proof text writes it: digits, with a minus sign in front where it is negative.
-#[derive(Clone, Copy, Debug, PartialEq, Eq)]
-pub struct Number {
-    pub minus: bool,
-    pub size: u64,
+#[derive(Clone, Copy)]
+pub(crate) struct Number {
+    pub(crate) minus: bool,
+    pub(crate) size: u64,
 }
 
 /// The number that the word writes, if it writes one.

@@ -12,7 +12,7 @@ use std::alloc::Global;
 pub(crate) const TOO_LARGE: u64 = 1_000_000_000_000_000_000;
 
 /// Which numbers of a line come next.
-#[derive(Clone, Copy, Debug, PartialEq, Eq)]
+#[derive(Clone, Copy)]
 pub(crate) enum Place {
     Literals,
     Hints,

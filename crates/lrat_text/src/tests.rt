@@ -89,10 +89,19 @@ fn read_texts(rt: HostRuntime) -> Result<(), Fail> {
     check_read(&rt, alloc, wide, again, &[1, 2])
 }
 
+/// Reads each text, for a formula of 12 clauses, and compares its fault.
+fn check_faults(rt: &impl Abort, alloc: Global, rows: &[(&[u8], LratErr)]) {
+    for (i, (text, fault)) in rows.iter().enumerate() {
+        match read(alloc, *text, 12) {
+            Err(found) => assert_eq!(rt; found, *fault, "row {i}"),
+            Ok(_) => assert!(rt; false, "row {i} is read"),
+        }
+    }
+}
+
 #[test]
-fn faults(rt: HostRuntime) -> Result<(), Fail> {
-    let rows: [(&[u8], LratErr); 32] = [
-        // words that are no numbers
+fn words_that_are_no_numbers(rt: HostRuntime) {
+    let rows: [(&[u8], LratErr); 11] = [
         (b"13 -0 0 1 0\n", LratErr::BadNumber(1)),
         (b"13 1 0 1 0\n\nx 0 1 0\n", LratErr::BadNumber(3)),
         (b"13 1 0 1 0\r\n", LratErr::BadNumber(1)),
@@ -104,7 +113,13 @@ fn faults(rt: HostRuntime) -> Result<(), Fail> {
         (b"13 1 d 0\n", LratErr::BadNumber(1)),
         (b"x d 1 0\n", LratErr::BadNumber(1)),
         (b"-00 d 1 0\n", LratErr::BadNumber(1)),
-        // numbers that don't fit their place
+    ];
+    check_faults(&rt, rt.alloc(), rows.as_slice());
+}
+
+#[test]
+fn numbers_out_of_place(rt: HostRuntime) {
+    let rows: [(&[u8], LratErr); 11] = [
         (b"0 1 0 1 0\n", LratErr::BadNumber(1)),
         (b"-13 1 0 1 0\n", LratErr::BadNumber(1)),
         (b"1000000000000000000 1 0 1 0\n", LratErr::BadNumber(1)),
@@ -116,27 +131,26 @@ fn faults(rt: HostRuntime) -> Result<(), Fail> {
         (b"13 d -1 0\n", LratErr::BadNumber(1)),
         (b"13 d 1000000000000000000 0\n", LratErr::BadNumber(1)),
         (b"13 d 1 0 2\n", LratErr::BadNumber(1)),
-        // a zero is missing, whatever else is wrong with the id or a hint
+    ];
+    check_faults(&rt, rt.alloc(), rows.as_slice());
+}
+
+#[test]
+fn faults_of_whole_lines(rt: HostRuntime) {
+    let rows: [(&[u8], LratErr); 10] = [
+        // A missing 0 is judged before the id and the hints.
         (b"13\n", LratErr::Truncated(1)),
         (b"12 1\n", LratErr::Truncated(1)),
         (b"12 1 0 -1", LratErr::Truncated(1)),
         (b"13 d 1\n", LratErr::Truncated(1)),
         (b"13 d", LratErr::Truncated(1)),
-        // ids that don't rise
         (b"12 1 0 -1 0\n", LratErr::Order(1)),
         (b"13 1 0 1 0\n13 2 0 1 0\n", LratErr::Order(2)),
         (b"14 1 0 1 0\n14 d 14 0\n13 2 0 1 0\n", LratErr::Order(3)),
-        // a negative hint
         (b"13 -4 5 0 -2 3 7 0\n", LratErr::Rat(1)),
         (b"13 1 0 1 0\n14 2 0 1 -1 0\n", LratErr::Rat(2)),
     ];
-    for (i, (text, fault)) in rows.iter().enumerate() {
-        match read(rt.alloc(), *text, 12) {
-            Err(found) => assert_eq!(rt; found, *fault, "row {i}"),
-            Ok(_) => assert!(rt; false, "row {i} is read"),
-        }
-    }
-    Ok(())
+    check_faults(&rt, rt.alloc(), rows.as_slice());
 }
 
 #[test]

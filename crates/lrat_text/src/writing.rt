@@ -77,7 +77,8 @@ fn push_id(buf: &mut Vec<u8>, id: u64) -> Result<(), AllocError>
 
 /// Appends the literals, each behind a space.
 fn push_literals(buf: &mut Vec<u8>, literals: &[Dim]) -> Result<(), AllocError>
-    ensures ok { OnOk result (buf.new.items ≡ buf.old.items ++ spaced (map literal_text literals.now)) }
+    ensures ok { OnOk result
+        (buf.new.items ≡ buf.old.items ++ spaced (map literal_text literals.now)) }
     ensures err { OnErr result (Begins buf.old.items buf.new.items) }
     ensures range { OnOk result (AllByRecursion IsInRange literals.now) }
 {

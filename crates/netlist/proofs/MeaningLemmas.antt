@@ -19,7 +19,7 @@ kept-cons c cs = go (has_pair same_lit opposite c)
 
 -- the clauses that stay from clause i on
 pub kept-drop : (raw : List (List Lit)) (i : ℕ)
-  → kept (drop i raw) ≡ cons_option (option_and_then kept_clause (slice_get raw i)) (kept (drop (i + 1) raw))
+    → kept (drop i raw) ≡ cons_option (option_and_then kept_clause (slice_get raw i)) (kept (drop (i + 1) raw))
 kept-drop raw i = subst (λ (n : ℕ). kept (drop i raw) ≡ cons_option (option_and_then kept_clause (slice_get raw i)) (kept (drop n raw))) (sym (add-one i)) (go raw i)
   where
     go : (raw : List (List Lit)) (i : ℕ) → kept (drop i raw) ≡ cons_option (option_and_then kept_clause (slice_get raw i)) (kept (drop (suc i) raw))
@@ -52,7 +52,7 @@ module _ (raw : List (List Lit)) (i k left : ℕ) (so_far : slice_get (kept raw)
   axiom_here s e z = sym (so_far ∙ here ∙ rw (e, z) refl)
 
   pub axiom_later : (s : List Lit) → option_and_then kept_clause (slice_get raw i) ≡ Some s → left ≢ 0
-    → slice_get (kept raw) k ≡ slice_get (kept (drop (i + 1) raw)) (left - 1)
+      → slice_get (kept raw) k ≡ slice_get (kept (drop (i + 1) raw)) (left - 1)
   axiom_later s e some =
       let one : left ≡ suc (left - 1) = omega arith in
       so_far ∙ here ∙ rw e (ap (λ (n : ℕ). slice_get (s ∷ kept (drop (i + 1) raw)) n) one)
@@ -65,6 +65,6 @@ length-cons_option None cs = omega arith
 length-cons_option (Some c) cs = omega arith
 
 pub length-kept-drop : (raw : List (List Lit)) (i : ℕ)
-  → length (kept (drop i raw)) ≡ cond (is_some (option_and_then kept_clause (slice_get raw i))) 1 0 + length (kept (drop (i + 1) raw))
+    → length (kept (drop i raw)) ≡ cond (is_some (option_and_then kept_clause (slice_get raw i))) 1 0 + length (kept (drop (i + 1) raw))
 length-kept-drop raw i =
     ap length (kept-drop raw i) ∙ length-cons_option (option_and_then kept_clause (slice_get raw i)) (kept (drop (i + 1) raw))

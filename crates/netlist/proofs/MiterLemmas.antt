@@ -54,12 +54,15 @@ firsts-once (x ∷ xs) e =
     left : (a b : Bool) → (not a && b) ≡ true → a ≡ false
     left true b h = cc
     left false b h = refl
+
     right : (a b : Bool) → (not a && b) ≡ true → b ≡ true
     right true b h = cc
     right false b h = h
+
     both : (a b : Bool) → (a || b) ≡ false → (a ≡ false) × (b ≡ false)
     both true b h = cc
     both false b h = (refl, h)
+
     all : (ys : List DimacsLiteral) → has same_number ys x ≡ false → filter (λ y. not (same_number x y)) ys ≡ ys
     all [] h = refl
     all (y ∷ ys) h =
@@ -71,7 +74,7 @@ clause_is xs clause = firsts-once xs clause.once
 
 -- numbering keeps clauses
 has-numbered : (net : AigPair) (xs : List Lit) (x : Lit) → AreThere net xs → has same_node (variables_of net) x.node ≡ true
-  → has same_number (map (numbered net) xs) (numbered net x) ≡ has same_lit xs x
+    → has same_number (map (numbered net) xs) (numbered net x) ≡ has same_lit xs x
 has-numbered net [] x all there = refl
 has-numbered net (y ∷ ys) x all there =
     rw (numbered-same net y x all.0 there) (ap (λ (b : Bool). same_lit y x || b) (has-numbered net ys x all.1 there))
@@ -82,17 +85,17 @@ no_repeat-numbered net (x ∷ xs) all =
     rw (has-numbered net xs x all.1 all.0) (ap (λ (b : Bool). not (has same_lit xs x) && b) (no_repeat-numbered net xs all.1))
 
 has_pair-numbered : (net : AigPair) (xs : List Lit) → AreThere net xs
-  → has_pair same_number opposite_number (map (numbered net) xs) ≡ has_pair same_lit opposite xs
+    → has_pair same_number opposite_number (map (numbered net) xs) ≡ has_pair same_lit opposite xs
 has_pair-numbered net [] all = refl
 has_pair-numbered net (x ∷ xs) all =
     ap (λ (b : Bool). b || has_pair same_number opposite_number (map (numbered net) xs)) (has-numbered net xs (opposite x) all.1 all.0)
     ∙ ap (λ (b : Bool). has same_lit xs (opposite x) || b) (has_pair-numbered net xs all.1)
 
 pub clause-numbered : (net : AigPair) (xs : List Lit) → AreThere net xs → IsClause same_lit opposite xs
-  → IsClause same_number opposite_number (map (numbered net) xs)
+    → IsClause same_number opposite_number (map (numbered net) xs)
 clause-numbered net xs all clause = record {
   once = no_repeat-numbered net xs all ∙ clause.once;
-  apart = has_pair-numbered net xs all ∙ clause.apart
+  apart = has_pair-numbered net xs all ∙ clause.apart;
 }
 
 -- the literals of an axiom are there
@@ -137,7 +140,7 @@ unfolding numbered_axioms
 axioms_none net node = refl
 
 pub axioms_some : (net : AigPair) (node : Node) (k : ℕ) (c : List Lit) → axiom_of net node k ≡ Some c
-  → numbered_axioms net node (k + 1) ≡ numbered_axioms net node k ++ map (numbered net) c ∷ []
+    → numbered_axioms net node (k + 1) ≡ numbered_axioms net node k ++ map (numbered net) c ∷ []
 unfolding numbered_axioms
 axioms_some net node k c e =
     ap (map (λ c. map (numbered net) c)) (take_next (axioms_of net node) k c e) ∙ map-append (λ c. map (numbered net) c) (take k (axioms_of net node)) (c ∷ [])
@@ -156,7 +159,7 @@ axioms_end net node k e = ap (map (λ c. map (numbered net) c)) (past (axioms_of
         go (x ∷ xs) (suc i) e = ap (λ ys. x ∷ ys) (go xs i e)
 
 pub axioms_all : (net : AigPair) (node : Node) (k place : ℕ) → 4 ≤ k → slice_get (variables_of net) place ≡ Some node
-  → numbered_axioms net node k ≡ numbered_at net place
+    → numbered_axioms net node k ≡ numbered_at net place
 unfolding numbered_axioms numbered_at
 axioms_all net node k place l e =
     let few = length-axioms net node in
@@ -174,24 +177,24 @@ pub record AreNumbered (net : AigPair) (lits : List Lit) (numbers : List DimacsL
   pub done : take i numbers ≡ map (numbered net) (take i lits)
 
 pub numbered_next : (net : AigPair) (lits : List Lit) (numbers : List DimacsLiteral) (i : ℕ) (d : Lit) → i < length lits → i < 3
-  → AreNumbered net lits numbers i → AreNumbered net lits (slice_set numbers i (numbered net (get_or lits i d))) (i + 1)
+    → AreNumbered net lits numbers i → AreNumbered net lits (slice_set numbers i (numbered net (get_or lits i d))) (i + 1)
 numbered_next net lits numbers i d l room old = record {
   long = length-set numbers i (numbered net (get_or lits i d)) ∙ old.long;
   done =
-    ap (λ (n : ℕ). take n (slice_set numbers i (numbered net (get_or lits i d)))) (add-one i)
-    ∙ take-suc-set numbers i (numbered net (get_or lits i d)) (omega (arith, old.long))
-    ∙ ap (λ (ns : List DimacsLiteral). ns ++ numbered net (get_or lits i d) ∷ []) old.done
-    ∙ sym (map-append (numbered net) (take i lits) (get_or lits i d ∷ []))
-    ∙ ap (map (numbered net)) (sym (take_more lits i d l))
+      ap (λ (n : ℕ). take n (slice_set numbers i (numbered net (get_or lits i d)))) (add-one i)
+      ∙ take-suc-set numbers i (numbered net (get_or lits i d)) (omega (arith, old.long))
+      ∙ ap (λ (ns : List DimacsLiteral). ns ++ numbered net (get_or lits i d) ∷ []) old.done
+      ∙ sym (map-append (numbered net) (take i lits) (get_or lits i d ∷ []))
+      ∙ ap (map (numbered net)) (sym (take_more lits i d l));
 }
 
 pub numbered_whole : (net : AigPair) (lits : List Lit) (numbers : List DimacsLiteral) (i : ℕ) → length lits ≡ i
-  → AreNumbered net lits numbers i → take (length lits) numbers ≡ map (numbered net) lits
+    → AreNumbered net lits numbers i → take (length lits) numbers ≡ map (numbered net) lits
 numbered_whole net lits numbers i e done =
     ap (λ (n : ℕ). take n numbers) e ∙ done.done ∙ ap (λ (n : ℕ). map (numbered net) (take n lits)) (sym e) ∙ ap (map (numbered net)) (take-length lits)
 
 pub there-at : (net : AigPair) (lits : List Lit) (i : ℕ) (d : Lit) → AreThere net lits → i < length lits
-  → has same_node (variables_of net) (get_or lits i d).node ≡ true
+    → has same_node (variables_of net) (get_or lits i d).node ≡ true
 there-at net lits i d all l = all-get (λ l. has same_node (variables_of net) l.node ≡ true) lits i (get_or lits i d) all (slice_get-get_or lits i d l)
 
 -- the numbers of the first j XORs
@@ -229,40 +232,49 @@ xor-there net j l = has-xor net j ∙ range-has 0 (length net.a.outputs) j (omeg
 pub xors-clause : (net : AigPair) → IsClause same_lit opposite (map positive (xors_of net))
 xors-clause net = record {
   once = once (length net.a.outputs) 0;
-  apart = apart (xors_of net)
+  apart = apart (xors_of net);
 }
   where
     not_both : (b c d : Bool) → b ≡ false → c ≡ false → (not (b || c) && d) ≡ d
     not_both true c d e f = cc
     not_both false true d e f = cc
     not_both false false d e f = refl
+
     other : (x y : Lit) → (x ≡ y → ⊥) → (b : Bool) → same_lit x y ≡ b → b ≡ false
     other x y ne true e = absurd (ne (exact-lit x y e))
     other x y ne false e = refl
+
     different : (a b : ℕ) → a < b → same_lit (positive (Xor b)) (positive (Xor a)) ≡ false
     different a b l = other (positive (Xor b)) (positive (Xor a)) (λ e. apart_numbers a b l (xor_index e)) (same_lit (positive (Xor b)) (positive (Xor a))) refl
       where
         index : Node → ℕ
         index (Xor j) = j
         index _ = 0
+
         xor_index : positive (Xor b) ≡ positive (Xor a) → b ≡ a
         xor_index e = ap (λ (x : Lit). index x.node) e
+
         apart_numbers : (a b : ℕ) → a < b → b ≡ a → ⊥
         apart_numbers a b l e = omega arith
+
     above : (n a b : ℕ) → a < b → has same_lit (map positive (map Xor (range_with_len b n))) (positive (Xor a)) ≡ false
     above zero a b l = refl
     above (suc n) a b l = rw (different a b l) (above n a (b + 1) (omega arith))
+
     once : (n a : ℕ) → no_repeat same_lit (map positive (map Xor (range_with_len a n))) ≡ true
     once zero a = refl
     once (suc n) a = rw (above n a (a + 1) (omega arith)) (once n (a + 1))
+
     opposed : (m n : Node) → same_lit (positive m) (opposite (positive n)) ≡ false
     opposed m n = other (positive m) (opposite (positive n)) (λ e. signs (ap (λ (x : Lit). x.neg) e)) (same_lit (positive m) (opposite (positive n))) refl
       where
         signs : false ≡ true → ⊥
         signs e = cc
+
     no_negative : (ns : List Node) (n : Node) → has same_lit (map positive ns) (opposite (positive n)) ≡ false
     no_negative [] n = refl
     no_negative (m ∷ ms) n = rw (opposed m n) (no_negative ms n)
+
     apart : (ns : List Node) → has_pair same_lit opposite (map positive ns) ≡ false
     apart [] = refl
     apart (n ∷ ns) = rw (no_negative ns n) (apart ns)
@@ -270,16 +282,16 @@ xors-clause net = record {
 pub xors-there : (net : AigPair) → IsNet net → AreThere net (map positive (xors_of net))
 xors-there net is =
     (all-parts (λ c. AllByRecursion (λ l. has same_node (variables_of net) l.node ≡ true) c) (flat_map (axioms_of net) (variables_of net))
-      (map positive (xors_of net) ∷ []) (over-clauses net is)).1.0
+    (map positive (xors_of net) ∷ []) (over-clauses net is)).1.0
 
 next_part : {X Y Z : Type 0} (f : X → List Y) (h : Y → Z) (xs : List X) (i : ℕ) (x : X) → slice_get xs i ≡ Some x
-  → map h (flat_map f (take (i + 1) xs)) ≡ map h (flat_map f (take i xs)) ++ map h (option_map_or f (slice_get xs i) [])
+    → map h (flat_map f (take (i + 1) xs)) ≡ map h (flat_map f (take i xs)) ++ map h (option_map_or f (slice_get xs i) [])
 next_part f h xs i x e =
     ap (map h) (flat_next f xs i x e) ∙ map-append h (flat_map f (take i xs)) (f x)
     ∙ ap (λ o. map h (flat_map f (take i xs)) ++ map h (option_map_or f o [])) (sym e)
 
 all_parts : {X Y Z : Type 0} (f : X → List Y) (h : Y → Z) (xs : List X) (y : Y) (i : ℕ) → i ≡ length xs
-  → map h (flat_map f (take i xs)) ++ (h y ∷ []) ≡ map h (flat_map f xs ++ (y ∷ []))
+    → map h (flat_map f (take i xs)) ++ (h y ∷ []) ≡ map h (flat_map f xs ++ (y ∷ []))
 all_parts f h xs y i e =
     ap (λ ys. map h (flat_map f ys) ++ (h y ∷ [])) (ap (λ (n : ℕ). take n xs) e ∙ take-length xs)
     ∙ sym (map-append h (flat_map f xs) (y ∷ []))
@@ -295,18 +307,18 @@ before_more net place l =
     next_part (axioms_of net) (λ c. map (numbered net) c) (variables_of net) place _ (slice_get-get_or (variables_of net) place Const l)
 
 pub before_all : (net : AigPair) (place : ℕ) → place ≡ length (variables_of net)
-  → numbered_before net place ++ (map (numbered net) (map positive (xors_of net)) ∷ []) ≡ miter_of net
+    → numbered_before net place ++ (map (numbered net) (map positive (xors_of net)) ∷ []) ≡ miter_of net
 unfolding numbered_before
 before_all net place e =
     all_parts (axioms_of net) (λ c. map (numbered net) c) (variables_of net) (map positive (xors_of net)) place e
 
 -- the clause of all numbers of an array
 pub numbered_clause : (net : AigPair) (lits : List Lit) (numbers : List DimacsLiteral) (i : ℕ) → length lits ≡ i → AreThere net lits
-  → IsClause same_lit opposite lits → AreNumbered net lits numbers i → IsClause same_number opposite_number (take (length lits) numbers)
+    → IsClause same_lit opposite lits → AreNumbered net lits numbers i → IsClause same_number opposite_number (take (length lits) numbers)
 numbered_clause net lits numbers i e all clause done =
     subst (λ (ds : List DimacsLiteral). IsClause same_number opposite_number ds) (sym (numbered_whole net lits numbers i e done)) (clause-numbered net lits all clause)
 
 pub xors_clause : (net : AigPair) (j : ℕ) → IsNet net → j ≡ length net.a.outputs → IsClause same_number opposite_number (numbered_xors net j)
 xors_clause net j is e =
     subst (λ (ds : List DimacsLiteral). IsClause same_number opposite_number ds) (sym (xors_all net j e))
-      (clause-numbered net (map positive (xors_of net)) (xors-there net is) (xors-clause net))
+    (clause-numbered net (map positive (xors_of net)) (xors-there net is) (xors-clause net))

@@ -26,14 +26,23 @@ use Rattle.netlist.proofs.VariableLemmas.{few_gates_of}
 
 pub length-definitions : (net : AigPair) → length (definitions net) ≡ length net.a.gates + length net.b.gates
 length-definitions net =
-    omega (arith, length-append (map (definition_of A net.a) net.a.gates) (map (definition_of B net.b) net.b.gates),
-      length-map net.a.gates (definition_of A net.a), length-map net.b.gates (definition_of B net.b))
+    omega (
+      arith,
+      length-append (map (definition_of A net.a) net.a.gates) (map (definition_of B net.b) net.b.gates),
+      length-map net.a.gates (definition_of A net.a),
+      length-map net.b.gates (definition_of B net.b),
+    )
 
 pub length-nodes : (net : AigPair) → length (nodes_of net) ≡ 1 + length net.a.inputs + length net.a.gates + length net.b.gates
 length-nodes net =
-    omega (arith, length-append (map Input (range_with_len 0 (length net.a.inputs))) (map (λ d. d.node) (definitions net)),
-      length-map (range_with_len 0 (length net.a.inputs)) Input, length-range (length net.a.inputs) 0,
-      length-map (definitions net) (λ d. d.node), length-definitions net)
+    omega (
+      arith,
+      length-append (map Input (range_with_len 0 (length net.a.inputs))) (map (λ d. d.node) (definitions net)),
+      length-map (range_with_len 0 (length net.a.inputs)) Input,
+      length-range (length net.a.inputs) 0,
+      length-map (definitions net) (λ d. d.node),
+      length-definitions net,
+    )
 
 pub length-variables : (net : AigPair) → length (variables_of net) ≡ length (nodes_of net) + length net.a.outputs
 length-variables net =
@@ -41,11 +50,11 @@ length-variables net =
 
 -- the place of a node but the constant
 parts : (net : AigPair) (test : Node → Bool) → test Const ≡ false
-  → place_of test (nodes_of net)
+    → place_of test (nodes_of net)
     ≡ option_map (λ k. k + 1) (or_place (place_of (λ k. test (Input k)) (range_with_len 0 (length net.a.inputs)))
-        (option_map (λ k. length net.a.inputs + k)
-          (or_place (place_of (λ g. test (Gate A g.var)) net.a.gates)
-            (option_map (λ k. length net.a.gates + k) (place_of (λ g. test (Gate B g.var)) net.b.gates)))))
+    (option_map (λ k. length net.a.inputs + k)
+    (or_place (place_of (λ g. test (Gate A g.var)) net.a.gates)
+    (option_map (λ k. length net.a.gates + k) (place_of (λ g. test (Gate B g.var)) net.b.gates)))))
 parts net test e = rw e (ap (option_map (λ k. k + 1)) (
     place_of-append test (map Input inputs) (map (λ d. d.node) (definitions net))
     ∙ ap (λ (o : Option ℕ). or_place o (option_map (λ k. length (map Input inputs) + k) (place_of test (map (λ d. d.node) (definitions net))))) (place_of-map test Input inputs)
@@ -54,16 +63,18 @@ parts net test e = rw e (ap (option_map (λ k. k + 1)) (
   where
     inputs : List ℕ
     inputs = range_with_len 0 (length net.a.inputs)
+
     long : length (map Input inputs) ≡ length net.a.inputs
     long = length-map inputs Input ∙ length-range (length net.a.inputs) 0
+
     gates : place_of test (map (λ d. d.node) (definitions net))
-      ≡ or_place (place_of (λ g. test (Gate A g.var)) net.a.gates)
-          (option_map (λ k. length net.a.gates + k) (place_of (λ g. test (Gate B g.var)) net.b.gates))
+        ≡ or_place (place_of (λ g. test (Gate A g.var)) net.a.gates)
+        (option_map (λ k. length net.a.gates + k) (place_of (λ g. test (Gate B g.var)) net.b.gates))
     gates = place_of-map test (λ d. d.node) (definitions net)
-      ∙ place_of-append (λ d. test d.node) (map (definition_of A net.a) net.a.gates) (map (definition_of B net.b) net.b.gates)
-      ∙ ap (λ (n : ℕ). or_place (place_of (λ d. test d.node) (map (definition_of A net.a) net.a.gates)) (option_map (λ k. n + k) (place_of (λ d. test d.node) (map (definition_of B net.b) net.b.gates))))
-          (length-map net.a.gates (definition_of A net.a))
-      ∙ rw (place_of-map (λ d. test d.node) (definition_of A net.a) net.a.gates, place_of-map (λ d. test d.node) (definition_of B net.b) net.b.gates) refl
+        ∙ place_of-append (λ d. test d.node) (map (definition_of A net.a) net.a.gates) (map (definition_of B net.b) net.b.gates)
+        ∙ ap (λ (n : ℕ). or_place (place_of (λ d. test d.node) (map (definition_of A net.a) net.a.gates)) (option_map (λ k. n + k) (place_of (λ d. test d.node) (map (definition_of B net.b) net.b.gates))))
+        (length-map net.a.gates (definition_of A net.a))
+        ∙ rw (place_of-map (λ d. test d.node) (definition_of A net.a) net.a.gates, place_of-map (λ d. test d.node) (definition_of B net.b) net.b.gates) refl
 
 or_place-none : (o : Option ℕ) → or_place o None ≡ o
 or_place-none None = refl
@@ -74,67 +85,77 @@ position_of-input net k = parts net (λ n. same_node n (Input k)) refl ∙ go (n
   where
     inputs : Option ℕ
     inputs = place_of (λ i. i == k) (range_with_len 0 (length net.a.inputs))
+
     gates : Option ℕ
     gates = or_place (place_of (λ g. same_node (Gate A g.var) (Input k)) net.a.gates)
         (option_map (λ i. length net.a.gates + i) (place_of (λ g. same_node (Gate B g.var) (Input k)) net.b.gates))
+
     go : (b : Bool) → nat_lt k (length net.a.inputs) ≡ b
-      → option_map (λ i. i + 1) (or_place inputs (option_map (λ i. length net.a.inputs + i) gates)) ≡ cond b (Some (k + 1)) None
+        → option_map (λ i. i + 1) (or_place inputs (option_map (λ i. length net.a.inputs + i) gates)) ≡ cond b (Some (k + 1)) None
     go true t =
         let l : k < length net.a.inputs = grind (arith, nat_tests, t) in
         rw (place-range_in (length net.a.inputs) 0 k k (omega arith) l) refl
     go false f =
         let l : length net.a.inputs ≤ k = grind (arith, nat_tests, f) in
-        rw (place-range_out (length net.a.inputs) 0 k (omega arith),
+        rw (
+          place-range_out (length net.a.inputs) 0 k (omega arith),
           place_none-all (λ (g : And). same_node (Gate A g.var) (Input k)) net.a.gates (λ g. refl),
-          place_none-all (λ (g : And). same_node (Gate B g.var) (Input k)) net.b.gates (λ g. refl)) refl
+          place_none-all (λ (g : And). same_node (Gate B g.var) (Input k)) net.b.gates (λ g. refl),
+        ) refl
 
 pub position_of-gate_a : (net : AigPair) (v : ℕ)
-  → position_of net (Gate A v) ≡ option_map (λ g. length net.a.inputs + g + 1) (place_of (λ g. g.var == v) net.a.gates)
+    → position_of net (Gate A v) ≡ option_map (λ g. length net.a.inputs + g + 1) (place_of (λ g. g.var == v) net.a.gates)
 position_of-gate_a net v =
     parts net (λ n. same_node n (Gate A v)) refl
-    ∙ rw (place_none-all (λ (k : ℕ). same_node (Input k) (Gate A v)) (range_with_len 0 (length net.a.inputs)) (λ k. refl),
-        place_none-all (λ (g : And). same_node (Gate B g.var) (Gate A v)) net.b.gates (λ g. refl)) (go (place_of (λ g. g.var == v) net.a.gates))
+    ∙ rw (
+      place_none-all (λ (k : ℕ). same_node (Input k) (Gate A v)) (range_with_len 0 (length net.a.inputs)) (λ k. refl),
+      place_none-all (λ (g : And). same_node (Gate B g.var) (Gate A v)) net.b.gates (λ g. refl),
+    ) (go (place_of (λ g. g.var == v) net.a.gates))
   where
     go : (o : Option ℕ) → option_map (λ k. k + 1) (option_map (λ k. length net.a.inputs + k) (or_place o None)) ≡ option_map (λ g. length net.a.inputs + g + 1) o
     go None = refl
     go (Some g) = refl
 
 pub position_of-gate_b : (net : AigPair) (v : ℕ)
-  → position_of net (Gate B v) ≡ option_map (λ g. length net.a.inputs + length net.a.gates + g + 1) (place_of (λ g. g.var == v) net.b.gates)
+    → position_of net (Gate B v) ≡ option_map (λ g. length net.a.inputs + length net.a.gates + g + 1) (place_of (λ g. g.var == v) net.b.gates)
 position_of-gate_b net v =
     parts net (λ n. same_node n (Gate B v)) refl
-    ∙ rw (place_none-all (λ (k : ℕ). same_node (Input k) (Gate B v)) (range_with_len 0 (length net.a.inputs)) (λ k. refl),
-        place_none-all (λ (g : And). same_node (Gate A g.var) (Gate B v)) net.a.gates (λ g. refl)) (go (place_of (λ g. g.var == v) net.b.gates))
+    ∙ rw (
+      place_none-all (λ (k : ℕ). same_node (Input k) (Gate B v)) (range_with_len 0 (length net.a.inputs)) (λ k. refl),
+      place_none-all (λ (g : And). same_node (Gate A g.var) (Gate B v)) net.a.gates (λ g. refl),
+    ) (go (place_of (λ g. g.var == v) net.b.gates))
   where
     go : (o : Option ℕ) → option_map (λ k. k + 1) (option_map (λ k. length net.a.inputs + k) (option_map (λ k. length net.a.gates + k) o))
-      ≡ option_map (λ g. length net.a.inputs + length net.a.gates + g + 1) o
+        ≡ option_map (λ g. length net.a.inputs + length net.a.gates + g + 1) o
     go None = refl
     go (Some g) = let e : length net.a.inputs + (length net.a.gates + g) + 1 ≡ length net.a.inputs + length net.a.gates + g + 1 = omega arith in ap Some e
 
 pub position_of-xor : (net : AigPair) (j : ℕ) → position_of net (Xor j) ≡ None
 position_of-xor net j =
     parts net (λ n. same_node n (Xor j)) refl
-    ∙ rw (place_none-all (λ (k : ℕ). same_node (Input k) (Xor j)) (range_with_len 0 (length net.a.inputs)) (λ k. refl),
-        place_none-all (λ (g : And). same_node (Gate A g.var) (Xor j)) net.a.gates (λ g. refl),
-        place_none-all (λ (g : And). same_node (Gate B g.var) (Xor j)) net.b.gates (λ g. refl)) refl
+    ∙ rw (
+      place_none-all (λ (k : ℕ). same_node (Input k) (Xor j)) (range_with_len 0 (length net.a.inputs)) (λ k. refl),
+      place_none-all (λ (g : And). same_node (Gate A g.var) (Xor j)) net.a.gates (λ g. refl),
+      place_none-all (λ (g : And). same_node (Gate B g.var) (Xor j)) net.b.gates (λ g. refl),
+    ) refl
 
 -- the variable of a node: its position, counted from 1, or behind all positions
 pub variable_of-parts : (net : AigPair) (node : Node)
-  → variable_of net node ≡ option_map (λ k. k + 1) (or_place (position_of net node)
-      (option_map (λ k. length (nodes_of net) + k) (place_of (λ j. same_node (Xor j) node) (range_with_len 0 (length net.a.outputs)))))
+    → variable_of net node ≡ option_map (λ k. k + 1) (or_place (position_of net node)
+    (option_map (λ k. length (nodes_of net) + k) (place_of (λ j. same_node (Xor j) node) (range_with_len 0 (length net.a.outputs)))))
 variable_of-parts net node =
     ap (option_map (λ k. k + 1)) (
-      place_of-append (λ n. same_node n node) (nodes_of net) (xors_of net)
-      ∙ ap (λ (o : Option ℕ). or_place (position_of net node) (option_map (λ k. length (nodes_of net) + k) o))
-          (place_of-map (λ n. same_node n node) Xor (range_with_len 0 (length net.a.outputs))))
+    place_of-append (λ n. same_node n node) (nodes_of net) (xors_of net)
+    ∙ ap (λ (o : Option ℕ). or_place (position_of net node) (option_map (λ k. length (nodes_of net) + k) o))
+    (place_of-map (λ n. same_node n node) Xor (range_with_len 0 (length net.a.outputs))))
 
 pub variable_of-xor : (net : AigPair) (j : ℕ)
-  → variable_of net (Xor j) ≡ cond (nat_lt j (length net.a.outputs)) (Some (length (nodes_of net) + j + 1)) None
+    → variable_of net (Xor j) ≡ cond (nat_lt j (length net.a.outputs)) (Some (length (nodes_of net) + j + 1)) None
 variable_of-xor net j = variable_of-parts net (Xor j) ∙ go (nat_lt j (length net.a.outputs)) refl
   where
     go : (b : Bool) → nat_lt j (length net.a.outputs) ≡ b
-      → option_map (λ k. k + 1) (or_place (position_of net (Xor j))
-          (option_map (λ k. length (nodes_of net) + k) (place_of (λ i. i == j) (range_with_len 0 (length net.a.outputs)))))
+        → option_map (λ k. k + 1) (or_place (position_of net (Xor j))
+        (option_map (λ k. length (nodes_of net) + k) (place_of (λ i. i == j) (range_with_len 0 (length net.a.outputs)))))
         ≡ cond b (Some (length (nodes_of net) + j + 1)) None
     go true t =
         let l : j < length net.a.outputs = grind (arith, nat_tests, t) in
@@ -145,14 +166,14 @@ variable_of-xor net j = variable_of-parts net (Xor j) ∙ go (nat_lt j (length n
 
 -- a node that is no XOR
 pub variable_of-node : (net : AigPair) (node : Node) → ((j : ℕ) → same_node (Xor j) node ≡ false)
-  → variable_of net node ≡ option_map (λ k. k + 1) (position_of net node)
+    → variable_of net node ≡ option_map (λ k. k + 1) (position_of net node)
 variable_of-node net node no_xor =
     variable_of-parts net node
     ∙ rw (place_none-all (λ (j : ℕ). same_node (Xor j) node) (range_with_len 0 (length net.a.outputs)) no_xor)
-        (ap (option_map (λ k. k + 1)) (or_place-none (position_of net node)))
+    (ap (option_map (λ k. k + 1)) (or_place-none (position_of net node)))
 
 pub sizes_of : (net : AigPair) (s : Sizes) → IsNet net → s.inputs ≡ length net.a.inputs → s.gates_a ≡ length net.a.gates
-  → s.gates_b ≡ length net.b.gates → s.outputs ≡ length net.a.outputs → AreSizes net s
+    → s.gates_b ≡ length net.b.gates → s.outputs ≡ length net.a.outputs → AreSizes net s
 sizes_of net s is e f g h = record {
   net_is = is;
   inputs = e;
@@ -162,7 +183,7 @@ sizes_of net s is e f g h = record {
   other_outputs = h ∙ is.outputs;
   few_a = omega (arith, few_gates_of net.a is.a);
   few_b = omega (arith, few_gates_of net.b is.b, is.inputs);
-  few_outputs = omega (arith, is.a.count)
+  few_outputs = omega (arith, is.a.count);
 }
 
 -- the nodes by their variables, counted from 0
@@ -176,23 +197,23 @@ node_at-position : (net : AigPair) (p : ℕ) (n : Node) → slice_get (nodes_of 
 node_at-position net p n e = slice_get-left (nodes_of net) (xors_of net) p (slice_get_within (nodes_of net) p n e) ∙ e
 
 behind_constant : (net : AigPair) (p k : ℕ) → p ≡ k + 1
-  → slice_get (nodes_of net) p ≡ slice_get (map Input (range_with_len 0 (length net.a.inputs)) ++ map (λ d. d.node) (definitions net)) k
+    → slice_get (nodes_of net) p ≡ slice_get (map Input (range_with_len 0 (length net.a.inputs)) ++ map (λ d. d.node) (definitions net)) k
 behind_constant net p k e = ap (slice_get (nodes_of net)) (e ∙ add-one k)
 
 pub node_at-input : (net : AigPair) (p k : ℕ) → p ≡ k + 1 → k < length net.a.inputs → slice_get (variables_of net) p ≡ Some (Input k)
 node_at-input net p k e l = node_at-position net p (Input k) (
     behind_constant net p k e
     ∙ slice_get-left (map Input (range_with_len 0 (length net.a.inputs))) (map (λ d. d.node) (definitions net)) k
-        (omega (arith, length-map (range_with_len 0 (length net.a.inputs)) Input, length-range (length net.a.inputs) 0))
+    (omega (arith, length-map (range_with_len 0 (length net.a.inputs)) Input, length-range (length net.a.inputs) 0))
     ∙ slice_get-map Input (range_with_len 0 (length net.a.inputs)) k
     ∙ ap (option_map Input) (slice_get-range (length net.a.inputs) 0 k l ∙ ap Some (zero-add k)))
 
 -- the gates stand behind the inputs
 behind_inputs : (net : AigPair) (p i : ℕ) → p ≡ length net.a.inputs + i + 1
-  → slice_get (nodes_of net) p ≡ option_map (λ d. d.node) (slice_get (definitions net) i)
+    → slice_get (nodes_of net) p ≡ option_map (λ d. d.node) (slice_get (definitions net) i)
 behind_inputs net p i e =
     behind_constant net p (length (map Input (range_with_len 0 (length net.a.inputs))) + i)
-      (omega (arith, length-map (range_with_len 0 (length net.a.inputs)) Input, length-range (length net.a.inputs) 0))
+    (omega (arith, length-map (range_with_len 0 (length net.a.inputs)) Input, length-range (length net.a.inputs) 0))
     ∙ slice_get-right (map Input (range_with_len 0 (length net.a.inputs))) (map (λ d. d.node) (definitions net)) i
     ∙ slice_get-map (λ d. d.node) (definitions net) i
 
@@ -205,28 +226,28 @@ read_var (x ∷ xs) zero l = refl
 read_var (x ∷ xs) (suc g) l = read_var xs g (omega arith)
 
 pub node_at-gate_a : (net : AigPair) (p g : ℕ) → p ≡ length net.a.inputs + g + 1 → g < length net.a.gates
-  → slice_get (variables_of net) p ≡ Some (gate_node net A g)
+    → slice_get (variables_of net) p ≡ Some (gate_node net A g)
 node_at-gate_a net p g e l = node_at-position net p (gate_node net A g) (
     behind_inputs net p g e
     ∙ ap (option_map (λ d. d.node)) (
-        slice_get-left (map (definition_of A net.a) net.a.gates) (map (definition_of B net.b) net.b.gates) g
-          (omega (arith, length-map net.a.gates (definition_of A net.a)))
-        ∙ slice_get-map (definition_of A net.a) net.a.gates g
-        ∙ ap (option_map (definition_of A net.a)) (slice_get-get_or net.a.gates g none l))
+    slice_get-left (map (definition_of A net.a) net.a.gates) (map (definition_of B net.b) net.b.gates) g
+    (omega (arith, length-map net.a.gates (definition_of A net.a)))
+    ∙ slice_get-map (definition_of A net.a) net.a.gates g
+    ∙ ap (option_map (definition_of A net.a)) (slice_get-get_or net.a.gates g none l))
     ∙ ap (λ (v : ℕ). Some (Gate A v)) (read_var net.a.gates g l))
 
 pub node_at-gate_b : (net : AigPair) (p g : ℕ) → p ≡ length net.a.inputs + length net.a.gates + g + 1 → g < length net.b.gates
-  → slice_get (variables_of net) p ≡ Some (gate_node net B g)
+    → slice_get (variables_of net) p ≡ Some (gate_node net B g)
 node_at-gate_b net p g e l = node_at-position net p (gate_node net B g) (
     behind_inputs net p (length (map (definition_of A net.a) net.a.gates) + g) (omega (arith, length-map net.a.gates (definition_of A net.a)))
     ∙ ap (option_map (λ d. d.node)) (
-        slice_get-right (map (definition_of A net.a) net.a.gates) (map (definition_of B net.b) net.b.gates) g
-        ∙ slice_get-map (definition_of B net.b) net.b.gates g
-        ∙ ap (option_map (definition_of B net.b)) (slice_get-get_or net.b.gates g none l))
+    slice_get-right (map (definition_of A net.a) net.a.gates) (map (definition_of B net.b) net.b.gates) g
+    ∙ slice_get-map (definition_of B net.b) net.b.gates g
+    ∙ ap (option_map (definition_of B net.b)) (slice_get-get_or net.b.gates g none l))
     ∙ ap (λ (v : ℕ). Some (Gate B v)) (read_var net.b.gates g l))
 
 pub node_at-xor : (net : AigPair) (p j : ℕ) → p ≡ length net.a.inputs + length net.a.gates + length net.b.gates + j + 1
-  → j < length net.a.outputs → slice_get (variables_of net) p ≡ Some (Xor j)
+    → j < length net.a.outputs → slice_get (variables_of net) p ≡ Some (Xor j)
 node_at-xor net p j e l =
     let same : p ≡ length (nodes_of net) + j = omega (arith, length-nodes net) in
     ap (slice_get (variables_of net)) same ∙ slice_get-xors net j l
@@ -236,7 +257,7 @@ map-same None f g e = refl
 map-same (Some k) f g e = ap Some (e k)
 
 pub position-gate : (net : AigPair) (side : Side) (v : ℕ)
-  → option_map (λ g. first_gate net side + g) (place_of (λ g. g.var == v) (circuit_of net side).gates) ≡ position_of net (Gate side v)
+    → option_map (λ g. first_gate net side + g) (place_of (λ g. g.var == v) (circuit_of net side).gates) ≡ position_of net (Gate side v)
 position-gate net A v =
     map-same (place_of (λ g. g.var == v) net.a.gates) (λ g. first_gate net A + g) (λ g. length net.a.inputs + g + 1) (λ g. omega arith)
     ∙ sym (position_of-gate_a net v)
@@ -260,7 +281,7 @@ module _ {net : AigPair} {s : Sizes} (sizes : AreSizes net s) where
   variable-xor_in j l =
       let t : nat_lt j (length net.a.outputs) ≡ true = grind (arith, nat_tests, l, sizes.outputs) in
       let e : 1 + s.inputs + s.gates_a + s.gates_b + j + 1 ≡ length (nodes_of net) + j + 1 =
-          omega (arith, length-nodes net, sizes.inputs, sizes.gates_a, sizes.gates_b) in
+      omega (arith, length-nodes net, sizes.inputs, sizes.gates_a, sizes.gates_b) in
       ap Some e ∙ sym (variable_of-xor net j ∙ rw t refl)
 
   pub variable-xor_out : (j : ℕ) → s.outputs ≤ j → None ≡ variable_of net (Xor j)
@@ -269,7 +290,7 @@ module _ {net : AigPair} {s : Sizes} (sizes : AreSizes net s) where
       sym (variable_of-xor net j ∙ rw f refl)
 
 pub variable-node : (net : AigPair) (node : Node) → ((j : ℕ) → node ≡ Xor j → ⊥)
-  → option_map (λ k. k + 1) (position_of net node) ≡ variable_of net node
+    → option_map (λ k. k + 1) (position_of net node) ≡ variable_of net node
 variable-node net node apart = sym (variable_of-node net node (λ j. go j (same_node (Xor j) node) refl))
   where
     go : (j : ℕ) (b : Bool) → same_node (Xor j) node ≡ b → b ≡ false
@@ -295,26 +316,26 @@ list_all-get p (y ∷ ys) (suc k) x all e = list_all-get p ys k x (go (p y) (lis
 
 -- an output's literal is defined
 pub output_of-lit : (net : AigPair) (side : Side) (j l : ℕ) → IsNet net → slice_get (circuit_of net side).outputs j ≡ Some l
-  → lit_of net side l ≡ output_of net side j
+    → lit_of net side l ≡ output_of net side j
 output_of-lit net side j l is e =
     let over = list_all-get (is_over (variables_in (circuit_of net side))) (circuit_of net side).outputs j l (circuit_at net side is).outputs e in
     rw (over, e) refl
 
 -- what the clauses of a gate say
 pub meaning_of-gate : (net : AigPair) (side : Side) (v k : ℕ) (d : And) → k < length (circuit_of net side).gates
-  → place_of (λ g. g.var == v) (circuit_of net side).gates ≡ Some k
-  → meaning_of net (Gate side v) ≡ Some (conjunction_of side (circuit_of net side) (get_or (circuit_of net side).gates k d))
+    → place_of (λ g. g.var == v) (circuit_of net side).gates ≡ Some k
+    → meaning_of net (Gate side v) ≡ Some (conjunction_of side (circuit_of net side) (get_or (circuit_of net side).gates k d))
 meaning_of-gate net side v k d l e =
     ap (option_map (conjunction_of side (circuit_of net side))) (
-      find-place (λ g. g.var == v) (circuit_of net side).gates
-      ∙ ap (option_and_then (slice_get (circuit_of net side).gates)) e
-      ∙ slice_get-get_or (circuit_of net side).gates k d l)
+    find-place (λ g. g.var == v) (circuit_of net side).gates
+    ∙ ap (option_and_then (slice_get (circuit_of net side).gates)) e
+    ∙ slice_get-get_or (circuit_of net side).gates k d l)
 
 pub meaning_of-no_gate : (net : AigPair) (side : Side) (v : ℕ) → place_of (λ g. g.var == v) (circuit_of net side).gates ≡ None
-  → meaning_of net (Gate side v) ≡ None
+    → meaning_of net (Gate side v) ≡ None
 meaning_of-no_gate net side v e =
     ap (option_map (conjunction_of side (circuit_of net side))) (
-      find-place (λ g. g.var == v) (circuit_of net side).gates ∙ ap (option_and_then (slice_get (circuit_of net side).gates)) e)
+    find-place (λ g. g.var == v) (circuit_of net side).gates ∙ ap (option_and_then (slice_get (circuit_of net side).gates)) e)
 
 -- the axioms of a node are the clauses that say what it means
 pub axioms_of-meaning : (net : AigPair) (node : Node) → option_map_or (λ m. kept (clauses_that_say m)) (meaning_of net node) [] ≡ axioms_of net node
@@ -323,7 +344,7 @@ axioms_of-meaning net (Input k) = refl
 axioms_of-meaning net (Gate side v) = go (gate_at net side v)
   where
     go : (o : Option And) → option_map_or (λ m. kept (clauses_that_say m)) (option_map (conjunction_of side (circuit_of net side)) o) []
-      ≡ option_map_or (λ g. kept (gate_clauses (definition_of side (circuit_of net side) g))) o []
+        ≡ option_map_or (λ g. kept (gate_clauses (definition_of side (circuit_of net side) g))) o []
     go None = refl
     go (Some g) = refl
 axioms_of-meaning net (Xor j) = go (output_of net A j) (output_of net B j)
@@ -345,6 +366,7 @@ axioms_of-none net (Gate side v) e = go (place_of (λ g. g.var == v) (circuit_of
   where
     known : option_map (λ k. k + 1) (option_map (λ g. first_gate net side + g) (place_of (λ g. g.var == v) (circuit_of net side).gates)) ≡ None
     known = ap (option_map (λ k. k + 1)) (position-gate net side v) ∙ sym (variable_of-node net (Gate side v) (λ j. refl)) ∙ e
+
     go : (o : Option ℕ) → place_of (λ g. g.var == v) (circuit_of net side).gates ≡ o → axioms_of net (Gate side v) ≡ []
     go None f = sym (axioms_of-meaning net (Gate side v)) ∙ ap (λ (m : Option Meaning). option_map_or (λ m. kept (clauses_that_say m)) m []) (meaning_of-no_gate net side v f)
     go (Some k) f = absurd (none-some (first_gate net side + k + 1) (sym known ∙ ap (λ (o : Option ℕ). option_map (λ k. k + 1) (option_map (λ g. first_gate net side + g) o)) f))

@@ -25,15 +25,16 @@ option_map-zero None = refl
 option_map-zero (Some k) = ap Some (sym (zero-add k))
 
 pub place_of-append : {X : Type 0} (test : X → Bool) (xs ys : List X)
-  → place_of test (xs ++ ys) ≡ or_place (place_of test xs) (option_map (λ k. length xs + k) (place_of test ys))
+    → place_of test (xs ++ ys) ≡ or_place (place_of test xs) (option_map (λ k. length xs + k) (place_of test ys))
 place_of-append test [] ys = option_map-zero (place_of test ys)
 place_of-append {X} test (x ∷ xs) ys = go (test x) (place_of-append test xs ys)
   where
     shift : option_map (λ k. k + 1) (option_map (λ k. length xs + k) (place_of test ys)) ≡ option_map (λ k. length (x ∷ xs) + k) (place_of test ys)
     shift = option_map-map (place_of test ys) (length xs) ∙ ap (λ (n : ℕ). option_map (λ k. n + k) (place_of test ys)) (add-one (length xs))
+
     go : (b : Bool)
-      → place_of test (xs ++ ys) ≡ or_place (place_of test xs) (option_map (λ k. length xs + k) (place_of test ys))
-      → cond b (Some 0) (option_map (λ k. k + 1) (place_of test (xs ++ ys)))
+        → place_of test (xs ++ ys) ≡ or_place (place_of test xs) (option_map (λ k. length xs + k) (place_of test ys))
+        → cond b (Some 0) (option_map (λ k. k + 1) (place_of test (xs ++ ys)))
         ≡ or_place (cond b (Some 0) (option_map (λ k. k + 1) (place_of test xs))) (option_map (λ k. length (x ∷ xs) + k) (place_of test ys))
     go true e = refl
     go false e =
@@ -64,7 +65,7 @@ place_none test xs e = none_from_is_some (place_of test xs) (is_some-place test 
 
 -- what a place k of `x ∷ xs` can be: that of x, or one behind it
 next_place : (P : ℕ → Type 0) (b : Bool) (o : Option ℕ) (k : ℕ) → cond b (Some 0) (option_map (λ j. j + 1) o) ≡ Some k
-  → (b ≡ true → P 0) → ((j : ℕ) → b ≡ false → o ≡ Some j → P (suc j)) → P k
+    → (b ≡ true → P 0) → ((j : ℕ) → b ≡ false → o ≡ Some j → P (suc j)) → P k
 next_place P true o k e here later = subst P (same_Some 0 k e) (here refl)
 next_place P false None k e here later = absurd (none-some k e)
 next_place P false (Some j) k e here later = subst P (sym (add-one j) ∙ same_Some (j + 1) k e) (later j refl refl)
@@ -74,20 +75,20 @@ pub at_place : {X : Type 0} (test : X → Bool) (xs : List X) (k : ℕ) → plac
 at_place test [] k e = absurd (none-some k e)
 at_place {X} test (x ∷ xs) k e =
     next_place (λ (n : ℕ). (y : X) × (slice_get (x ∷ xs) n ≡ Some y) × (test y ≡ true)) (test x) (place_of test xs) k e
-      (λ t. (x, refl, t)) (λ j f o. at_place test xs j o)
+    (λ t. (x, refl, t)) (λ j f o. at_place test xs j o)
 
 pub before-take : {X : Type 0} (test : X → Bool) (xs : List X) (k : ℕ) → place_of test xs ≡ Some k → before test xs ≡ take k xs
 before-take test [] k e = absurd (none-some k e)
 before-take {X} test (x ∷ xs) k e =
     next_place (λ (n : ℕ). cond (test x) [] (x ∷ before test xs) ≡ take n (x ∷ xs)) (test x) (place_of test xs) k e
-      (λ t. rw t refl) (λ j f o. rw (f, before-take test xs j o) refl)
+    (λ t. rw t refl) (λ j f o. rw (f, before-take test xs j o) refl)
 
 pub find-place : {X : Type 0} (test : X → Bool) (xs : List X) → find test xs ≡ option_and_then (slice_get xs) (place_of test xs)
 find-place test [] = refl
 find-place {X} test (x ∷ xs) = go (test x) (place_of test xs) (find-place test xs)
   where
     go : (b : Bool) (o : Option ℕ) → find test xs ≡ option_and_then (slice_get xs) o
-      → cond b (Some x) (find test xs) ≡ option_and_then (slice_get (x ∷ xs)) (cond b (Some 0) (option_map (λ k. k + 1) o))
+        → cond b (Some x) (find test xs) ≡ option_and_then (slice_get (x ∷ xs)) (cond b (Some 0) (option_map (λ k. k + 1) o))
     go true o e = refl
     go false None e = e
     go false (Some k) e = e ∙ ap (slice_get (x ∷ xs)) (sym (add-one k))

@@ -25,9 +25,9 @@ run-append (x ∷ xs) ys v = run-append xs ys (put v x.var (lit_value v x.left &
 
 -- one gate more
 pub run-more : (gates : List And) (i : ℕ) (d : And) (v : ℕ → Bool) → i < length gates
-  → run (take (i + 1) gates) v
+    → run (take (i + 1) gates) v
     ≡ put (run (take i gates) v) (get_or gates i d).var
-      (lit_value (run (take i gates) v) (get_or gates i d).left && lit_value (run (take i gates) v) (get_or gates i d).right)
+    (lit_value (run (take i gates) v) (get_or gates i d).left && lit_value (run (take i gates) v) (get_or gates i d).right)
 run-more gates i d v l =
     ap (λ (gs : List And). run gs v) (take_more gates i d l) ∙ run-append (take i gates) (get_or gates i d ∷ []) v
 
@@ -43,16 +43,15 @@ or_nothing false = refl
 
 -- each gate comes next where the earlier gates' variables are known too
 pub next_at : (known : List ℕ) (gates : List And) (i : ℕ) (d : And) → AreOrdered known gates → i < length gates
-  → (now : List ℕ) × (IsNext now (get_or gates i d)) × ((v : ℕ) → has ◌==◌ now v ≡ (has ◌==◌ known v || has ◌==◌ (gate_vars (take i gates)) v))
+    → (now : List ℕ) × (IsNext now (get_or gates i d)) × ((v : ℕ) → has ◌==◌ now v ≡ (has ◌==◌ known v || has ◌==◌ (gate_vars (take i gates)) v))
 next_at known [] i d ordered l = absurd (omega arith)
 next_at known (g ∷ gs) zero d ordered l = (known, ordered.0, λ v. sym (or_nothing (has ◌==◌ known v)))
 next_at known (g ∷ gs) (suc i) d ordered l =
     let rest = next_at (g.var ∷ known) gs i d ordered.1 (omega arith) in
     (rest.0, rest.1, λ v. rest.2 v ∙ or_move (g.var == v) (has ◌==◌ known v) (has ◌==◌ (gate_vars (take i gs)) v))
 
-
 has-known : (c : Aig) (i v : ℕ) → (has ◌==◌ (0 ∷ c.inputs) v || has ◌==◌ (gate_vars (take i c.gates)) v)
-  ≡ has ◌==◌ (0 ∷ (c.inputs ++ gate_vars (take i c.gates))) v
+    ≡ has ◌==◌ (0 ∷ (c.inputs ++ gate_vars (take i c.gates))) v
 has-known c i v =
     or_assoc (0 == v) (has ◌==◌ c.inputs v) (has ◌==◌ (gate_vars (take i c.gates)) v)
     ∙ ap (λ (b : Bool). (0 == v) || b) (sym (list_any-append (λ x. x == v) c.inputs (gate_vars (take i c.gates))))
@@ -63,7 +62,7 @@ has-known c i v =
 
 -- the fanins of gate i are over what is known before it
 pub fanins_known : (c : Aig) (i : ℕ) (d : And) → IsCircuit c → i < length c.gates
-  → (has ◌==◌ (0 ∷ (c.inputs ++ gate_vars (take i c.gates))) (var_of (get_or c.gates i d).left) ≡ true)
+    → (has ◌==◌ (0 ∷ (c.inputs ++ gate_vars (take i c.gates))) (var_of (get_or c.gates i d).left) ≡ true)
     × (has ◌==◌ (0 ∷ (c.inputs ++ gate_vars (take i c.gates))) (var_of (get_or c.gates i d).right) ≡ true)
 fanins_known c i d circuit l =
     let found = next_at (0 ∷ c.inputs) c.gates i d circuit.gates l in
@@ -74,15 +73,15 @@ fanins_known c i d circuit l =
 known_all : (c : Aig) (i v : ℕ) → has ◌==◌ (0 ∷ (c.inputs ++ gate_vars (take i c.gates))) v ≡ true → has ◌==◌ (variables_in c) v ≡ true
 known_all c i v e =
     let whole : gate_vars (take i c.gates) ++ gate_vars (drop i c.gates) ≡ gate_vars c.gates =
-        sym (map-append (λ g. g.var) (take i c.gates) (drop i c.gates)) ∙ ap gate_vars (take-append-drop i c.gates) in
+    sym (map-append (λ g. g.var) (take i c.gates) (drop i c.gates)) ∙ ap gate_vars (take-append-drop i c.gates) in
     let all : (0 ∷ (c.inputs ++ gate_vars (take i c.gates))) ++ gate_vars (drop i c.gates) ≡ variables_in c =
-        ap (λ (vs : List ℕ). 0 ∷ vs) (append_assoc c.inputs (gate_vars (take i c.gates)) (gate_vars (drop i c.gates)) ∙ ap (λ (vs : List ℕ). c.inputs ++ vs) whole) in
+    ap (λ (vs : List ℕ). 0 ∷ vs) (append_assoc c.inputs (gate_vars (take i c.gates)) (gate_vars (drop i c.gates)) ∙ ap (λ (vs : List ℕ). c.inputs ++ vs) whole) in
     subst (λ (vs : List ℕ). has ◌==◌ vs v ≡ true) all
-      (list_any-append (λ x. x == v) (0 ∷ (c.inputs ++ gate_vars (take i c.gates))) (gate_vars (drop i c.gates)) ∙ rw e refl)
+    (list_any-append (λ x. x == v) (0 ∷ (c.inputs ++ gate_vars (take i c.gates))) (gate_vars (drop i c.gates)) ∙ rw e refl)
 
 -- a gate's fanins are variables of the circuit
 pub fanins_over : (c : Aig) (i : ℕ) (d : And) → IsCircuit c → i < length c.gates
-  → (is_over (variables_in c) (get_or c.gates i d).left ≡ true) × (is_over (variables_in c) (get_or c.gates i d).right ≡ true)
+    → (is_over (variables_in c) (get_or c.gates i d).left ≡ true) × (is_over (variables_in c) (get_or c.gates i d).right ≡ true)
 fanins_over c i d circuit l =
     let known = fanins_known c i d circuit l in
     (known_all c i (var_of (get_or c.gates i d).left) known.0, known_all c i (var_of (get_or c.gates i d).right) known.1)
@@ -93,7 +92,7 @@ or_false false b e = (refl, e)
 
 -- the place of a gate by its variable
 pub place-gate : (c : Aig) (i : ℕ) (d : And) → IsCircuit c → i < length c.gates
-  → place_of (λ g. g.var == (get_or c.gates i d).var) c.gates ≡ Some i
+    → place_of (λ g. g.var == (get_or c.gates i d).var) c.gates ≡ Some i
 place-gate c i d circuit l =
     let v : ℕ = (get_or c.gates i d).var in
     let new = new_gate c.inputs c.gates i d (variables c circuit) l in
@@ -121,8 +120,8 @@ gate-source : (c : Aig) (v i : ℕ) (d : And) → source_of c v ≡ Some (Gate i
 gate-source c v i d e = go (v == 0) (place_of (λ x. x == v) c.inputs) (place_of (λ g. g.var == v) c.gates) e (λ k. at_place (λ g. g.var == v) c.gates k)
   where
     go : (b : Bool) (inputs gates : Option ℕ) → cond b (Some Constant) (input_or inputs gates) ≡ Some (Gate i)
-      → ((k : ℕ) → gates ≡ Some k → (g : And) × (slice_get c.gates k ≡ Some g) × ((g.var == v) ≡ true))
-      → (get_or c.gates i d).var ≡ v
+        → ((k : ℕ) → gates ≡ Some k → (g : And) × (slice_get c.gates k ≡ Some g) × ((g.var == v) ≡ true))
+        → (get_or c.gates i d).var ≡ v
     go true inputs gates e found = cc
     go false (Some k) gates e found = cc
     go false None None e found = cc
@@ -135,7 +134,7 @@ gate-source c v i d e = go (v == 0) (place_of (λ x. x == v) c.inputs) (place_of
 
 -- a written gate changes only what reads it
 read-other : (inputs gates : List Bool) (i : ℕ) (x : Bool) (s : Option Source) → s ≢ Some (Gate i)
-  → value_at inputs (slice_set gates i x) s ≡ value_at inputs gates s
+    → value_at inputs (slice_set gates i x) s ≡ value_at inputs gates s
 read-other inputs gates i x None apart = refl
 read-other inputs gates i x (Some Constant) apart = refl
 read-other inputs gates i x (Some (Input k)) apart = refl
@@ -158,9 +157,10 @@ computed_none c inputs gates circuit = record { known = λ v e. go v (v == 0) re
   where
     constant : place_of (λ x. x == 0) c.inputs ≡ None
     constant = place_none (λ x. x == 0) c.inputs (not_true (has ◌==◌ c.inputs 0) (and_left _ (no_repeat ◌==◌ c.inputs) circuit.inputs))
+
     go : (v : ℕ) (b : Bool) → (v == 0) ≡ b → (o : Option ℕ) → place_of (λ x. x == v) c.inputs ≡ o
-      → has ◌==◌ (0 ∷ (c.inputs ++ [])) v ≡ true
-      → value_at inputs gates (cond b (Some Constant) (input_or o (place_of (λ g. g.var == v) c.gates))) ≡ option_map_or (λ k. slice_index_or inputs k false) o false
+        → has ◌==◌ (0 ∷ (c.inputs ++ [])) v ≡ true
+        → value_at inputs gates (cond b (Some Constant) (input_or o (place_of (λ g. g.var == v) c.gates))) ≡ option_map_or (λ k. slice_index_or inputs k false) o false
     go v true t None f e = refl
     go v true t (Some k) f e =
         let zero : v ≡ 0 = grind (arith, nat_tests, t) in
@@ -182,26 +182,31 @@ shrink xs y v apart e =
 
 -- one gate more is computed
 pub computed_more : (c : Aig) (inputs gates : List Bool) (i : ℕ) (d : And) (x : Bool) → IsCircuit c → i < length c.gates → i < length gates
-  → IsComputed c inputs gates (take i c.gates)
-  → x ≡ (lit_value (read_in c inputs gates) (get_or c.gates i d).left && lit_value (read_in c inputs gates) (get_or c.gates i d).right)
-  → IsComputed c inputs (slice_set gates i x) (take (i + 1) c.gates)
+    → IsComputed c inputs gates (take i c.gates)
+    → x ≡ (lit_value (read_in c inputs gates) (get_or c.gates i d).left && lit_value (read_in c inputs gates) (get_or c.gates i d).right)
+    → IsComputed c inputs (slice_set gates i x) (take (i + 1) c.gates)
 computed_more c inputs gates i d x circuit l room old is = record { known = λ v e. go v (v == g.var) refl e }
   where
     g : And
     g = get_or c.gates i d
+
     now : ℕ → Bool
     now = run (take i c.gates) (given c.inputs inputs)
+
     fanins : (has ◌==◌ (0 ∷ (c.inputs ++ gate_vars (take i c.gates))) (var_of g.left) ≡ true)
-      × (has ◌==◌ (0 ∷ (c.inputs ++ gate_vars (take i c.gates))) (var_of g.right) ≡ true)
+        × (has ◌==◌ (0 ∷ (c.inputs ++ gate_vars (take i c.gates))) (var_of g.right) ≡ true)
     fanins = fanins_known c i d circuit l
+
     value : x ≡ (lit_value now g.left && lit_value now g.right)
     value = is
-      ∙ ap (λ (b : Bool). b && lit_value (read_in c inputs gates) g.right) (lit_value-same (read_in c inputs gates) now g.left (old.known (var_of g.left) fanins.0))
-      ∙ ap (λ (b : Bool). lit_value now g.left && b) (lit_value-same (read_in c inputs gates) now g.right (old.known (var_of g.right) fanins.1))
+        ∙ ap (λ (b : Bool). b && lit_value (read_in c inputs gates) g.right) (lit_value-same (read_in c inputs gates) now g.left (old.known (var_of g.left) fanins.0))
+        ∙ ap (λ (b : Bool). lit_value now g.left && b) (lit_value-same (read_in c inputs gates) now g.right (old.known (var_of g.right) fanins.1))
+
     next : (v : ℕ) → run (take (i + 1) c.gates) (given c.inputs inputs) v ≡ cond (v == g.var) (lit_value now g.left && lit_value now g.right) (now v)
     next v = ap (λ (f : ℕ → Bool). f v) (run-more c.gates i d (given c.inputs inputs) l)
+
     go : (v : ℕ) (b : Bool) → (v == g.var) ≡ b → has ◌==◌ (0 ∷ (c.inputs ++ gate_vars (take (i + 1) c.gates))) v ≡ true
-      → read_in c inputs (slice_set gates i x) v ≡ run (take (i + 1) c.gates) (given c.inputs inputs) v
+        → read_in c inputs (slice_set gates i x) v ≡ run (take (i + 1) c.gates) (given c.inputs inputs) v
     go v true t e =
         let same : g.var ≡ v = grind (arith, nat_tests, t) in
         let source : source_of c v ≡ Some (Gate i) = subst (λ (n : ℕ). source_of c n ≡ Some (Gate i)) same (source-gate c i d circuit l) in
@@ -210,9 +215,9 @@ computed_more c inputs gates i d x circuit l room old is = record { known = λ v
         let other : source_of c v ≢ Some (Gate i) = λ s. (let same : g.var ≡ v = gate-source c v i d s in let t : (v == g.var) ≡ true = grind (arith, nat_tests, same) in none_true t f) in
         let here : (g.var == v) ≡ false = grind (arith, nat_tests, f) in
         let more : has ◌==◌ (0 ∷ ((c.inputs ++ gate_vars (take i c.gates)) ++ g.var ∷ [])) v ≡ true =
-            subst (λ (vs : List ℕ). has ◌==◌ (0 ∷ vs) v ≡ true) (sym (vars_more c.inputs c.gates i d l)) e in
+        subst (λ (vs : List ℕ). has ◌==◌ (0 ∷ vs) v ≡ true) (sym (vars_more c.inputs c.gates i d l)) e in
         let before : has ◌==◌ (0 ∷ (c.inputs ++ gate_vars (take i c.gates))) v ≡ true =
-            shrink (c.inputs ++ gate_vars (take i c.gates)) g.var v here more in
+        shrink (c.inputs ++ gate_vars (take i c.gates)) g.var v here more in
         read-other inputs gates i x (source_of c v) other ∙ old.known v before ∙ sym (next v ∙ rw f refl)
       where
         none_true : {b : Bool} → b ≡ true → b ≡ false → ⊥
@@ -220,7 +225,7 @@ computed_more c inputs gates i d x circuit l room old is = record { known = λ v
 
 -- once all gates are computed, each literal has its value
 pub computed_all : (c : Aig) (inputs gates : List Bool) (i lit : ℕ) → length c.gates ≡ i → IsComputed c inputs gates (take i c.gates)
-  → has ◌==◌ (variables_in c) (var_of lit) ≡ true → lit_value (read_in c inputs gates) lit ≡ value_in c inputs lit
+    → has ◌==◌ (variables_in c) (var_of lit) ≡ true → lit_value (read_in c inputs gates) lit ≡ value_in c inputs lit
 computed_all c inputs gates i lit l all e =
     let whole : take i c.gates ≡ c.gates = subst (λ (n : ℕ). take n c.gates ≡ c.gates) l (take-length c.gates) in
     let known = subst (λ (gs : List And). IsComputed c inputs gates gs) whole all in

@@ -12,10 +12,10 @@ pub laws : IsLiteral same_lit opposite
 laws = is_literal lit_eq.laws-law lit_laws.exact-law lit_laws.twice-law
 
 pub clause_push : (kept : List Lit) (l : Lit) → IsClause same_lit opposite kept → has same_lit kept l ≡ false
-  → has same_lit kept (opposite l) ≡ false → IsClause same_lit opposite (kept ++ l ∷ [])
+    → has same_lit kept (opposite l) ≡ false → IsClause same_lit opposite (kept ++ l ∷ [])
 clause_push kept l clause new apart = record {
   once = no_repeat-push laws kept l ∙ rw (clause.once, new) refl;
-  apart = has_pair-push laws kept l ∙ rw (clause.apart, apart) refl
+  apart = has_pair-push laws kept l ∙ rw (clause.apart, apart) refl;
 }
 
 -- an element of a list is read with any default
@@ -25,12 +25,12 @@ read_same (x ∷ xs) zero d e l = refl
 read_same (x ∷ xs) (suc i) d e l = read_same xs i d e (omega arith)
 
 pub next_kept : (lits : List Lit) (i : ℕ) (d : Lit) (kept new : List Lit) → i < length lits → IsKept same_lit opposite (take i lits) kept
-  → Adds same_lit opposite kept (get_or lits i d) new → IsKept same_lit opposite (take (i + 1) lits) new
+    → Adds same_lit opposite kept (get_or lits i d) new → IsKept same_lit opposite (take (i + 1) lits) new
 next_kept lits i d kept new below k adds =
     kept-next laws lits i (get_or lits i d) kept new below (read_same lits i d (get_or lits i d) below) k adds
 
 pub pair_kept : (lits : List Lit) (i : ℕ) (d : Lit) (kept : List Lit) → i < length lits → IsKept same_lit opposite (take i lits) kept
-  → has same_lit kept (opposite (get_or lits i d)) ≡ true → None ≡ kept_clause lits
+    → has same_lit kept (opposite (get_or lits i d)) ≡ true → None ≡ kept_clause lits
 pair_kept lits i d kept below k pair =
     let found = pair-next laws lits i (get_or lits i d) kept below (read_same lits i d (get_or lits i d) below) k pair in
     rw found refl

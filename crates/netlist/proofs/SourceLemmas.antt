@@ -39,22 +39,25 @@ source_at-gate n g =
     rw (z, t, e) refl
 
 pub source_of-place : (c : Aig) (v : ℕ)
-  → option_map (source_at (length c.inputs)) (place_of (λ x. x == v) (variables_in c)) ≡ source_of c v
+    → option_map (source_at (length c.inputs)) (place_of (λ x. x == v) (variables_in c)) ≡ source_of c v
 source_of-place c v = go (v == 0) refl
   where
     n : ℕ
     n = length c.inputs
+
     parts : place_of (λ x. x == v) (c.inputs ++ gate_vars c.gates)
-      ≡ or_place (place_of (λ x. x == v) c.inputs) (option_map (λ k. n + k) (place_of (λ g. g.var == v) c.gates))
+        ≡ or_place (place_of (λ x. x == v) c.inputs) (option_map (λ k. n + k) (place_of (λ g. g.var == v) c.gates))
     parts = place_of-append (λ x. x == v) c.inputs (gate_vars c.gates)
         ∙ ap (λ (o : Option ℕ). or_place (place_of (λ x. x == v) c.inputs) (option_map (λ k. n + k) o)) (place_of-map (λ x. x == v) (λ g. g.var) c.gates)
+
     found : (inputs gates : Option ℕ) → ((k : ℕ) → inputs ≡ Some k → k < n)
-      → option_map (source_at n) (option_map (λ k. k + 1) (or_place inputs (option_map (λ k. n + k) gates))) ≡ input_or inputs gates
+        → option_map (source_at n) (option_map (λ k. k + 1) (or_place inputs (option_map (λ k. n + k) gates))) ≡ input_or inputs gates
     found (Some k) gates below = ap Some (source_at-input n k (below k refl))
     found None (Some g) below = ap Some (source_at-gate n g)
     found None None below = refl
+
     go : (b : Bool) → (v == 0) ≡ b
-      → option_map (source_at n) (place_of (λ x. x == v) (variables_in c))
+        → option_map (source_at n) (place_of (λ x. x == v) (variables_in c))
         ≡ cond b (Some Constant) (input_or (place_of (λ x. x == v) c.inputs) (place_of (λ g. g.var == v) c.gates))
     go true e = let t : (0 == v) ≡ true = grind (arith, nat_tests, e) in rw t refl
     go false e =
@@ -64,10 +67,10 @@ source_of-place c v = go (v == 0) refl
 pub source_within : (c : Aig) (v : ℕ) → IfSome (source_of c v) (IsWithin c)
 source_within c v =
     go (v == 0) (place_of (λ x. x == v) c.inputs) (place_of (λ g. g.var == v) c.gates)
-      (λ k. place_within (λ x. x == v) c.inputs k) (λ k. place_within (λ g. g.var == v) c.gates k)
+    (λ k. place_within (λ x. x == v) c.inputs k) (λ k. place_within (λ g. g.var == v) c.gates k)
   where
     go : (b : Bool) (inputs gates : Option ℕ) → ((k : ℕ) → inputs ≡ Some k → k < length c.inputs) → ((k : ℕ) → gates ≡ Some k → k < length c.gates)
-      → IfSome (cond b (Some Constant) (input_or inputs gates)) (IsWithin c)
+        → IfSome (cond b (Some Constant) (input_or inputs gates)) (IsWithin c)
     go true inputs gates p q = tt
     go false (Some k) gates p q = p k refl
     go false None (Some g) p q = q g refl
@@ -75,7 +78,7 @@ source_within c v =
 
 -- what the table finds
 pub source_found : (c : Aig) (t : Places) (v p : ℕ) → IsTable t (variables_in c) → place_in t v ≡ Some p
-  → Some (source_at (length c.inputs) p) ≡ source_of c v
+    → Some (source_at (length c.inputs) p) ≡ source_of c v
 source_found c t v p table e =
     ap (option_map (source_at (length c.inputs))) (sym e ∙ table.finds v) ∙ source_of-place c v
 
@@ -97,20 +100,21 @@ is_over-source c lit =
 
 -- the literal by the variable's source
 pub lit_of-source : (net : AigPair) (side : Side) (lit : ℕ)
-  → lit_from side (var_of lit) (is_negated lit) (source_of (circuit_of net side) (var_of lit)) ≡ lit_of net side lit
+    → lit_from side (var_of lit) (is_negated lit) (source_of (circuit_of net side) (var_of lit)) ≡ lit_of net side lit
 lit_of-source net side lit =
     go (var_of lit == 0) (place_of (λ x. x == var_of lit) c.inputs) (place_of (λ g. g.var == var_of lit) c.gates)
     ∙ ap (λ (b : Bool). cond b (Some (lit_named side c lit)) None) (sym (is_over-source c lit))
   where
     c : Aig
     c = circuit_of net side
+
     go : (b : Bool) (inputs gates : Option ℕ)
-      → lit_from side (var_of lit) (is_negated lit) (cond b (Some Constant) (input_or inputs gates))
+        → lit_from side (var_of lit) (is_negated lit) (cond b (Some Constant) (input_or inputs gates))
         ≡ cond (is_some (cond b (Some Constant) (input_or inputs gates)))
-            (Some (record {
-              node = cond b node.Const (option_map_or node.Input inputs (node.Gate side (var_of lit)));
-              neg = cond b (not (is_negated lit)) (is_negated lit)
-            })) None
+        (Some (record {
+          node = cond b node.Const (option_map_or node.Input inputs (node.Gate side (var_of lit)));
+          neg = cond b (not (is_negated lit)) (is_negated lit);
+        })) None
     go true inputs gates = refl
     go false (Some k) gates = refl
     go false None (Some g) = refl
@@ -122,9 +126,10 @@ gate_from-source c v circuit = go (v == 0) refl (place_of (λ x. x == v) c.input
   where
     none : has ◌==◌ (0 ∷ c.inputs) v ≡ true → place_of (λ g. g.var == v) c.gates ≡ None
     none e = place_none (λ g. g.var == v) c.gates (sym (list_any-vars c.gates v)
-      ∙ no_repeat-apart (0 ∷ c.inputs) (gate_vars c.gates) v (variables c circuit).distinct e)
+        ∙ no_repeat-apart (0 ∷ c.inputs) (gate_vars c.gates) v (variables c circuit).distinct e)
+
     go : (b : Bool) → (v == 0) ≡ b → (o : Option ℕ) → place_of (λ x. x == v) c.inputs ≡ o
-      → gate_from (cond b (Some Constant) (input_or o (place_of (λ g. g.var == v) c.gates))) ≡ place_of (λ g. g.var == v) c.gates
+        → gate_from (cond b (Some Constant) (input_or o (place_of (λ g. g.var == v) c.gates))) ≡ place_of (λ g. g.var == v) c.gates
     go true t o e = let z : (0 == v) ≡ true = grind (arith, nat_tests, t) in sym (none (ap (λ (b : Bool). b || has ◌==◌ c.inputs v) z))
     go false f (Some k) e =
         let some : has ◌==◌ c.inputs v ≡ true = sym (is_some-place (λ x. x == v) c.inputs) ∙ ap is_some e in

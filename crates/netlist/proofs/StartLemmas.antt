@@ -25,7 +25,7 @@ take_next xs i x e =
     take_more xs i x (slice_get_within xs i x e) ∙ ap (λ y. take i xs ++ y ∷ []) (get_or_from_slice_get xs i x x e)
 
 pub flat_next : {X Y : Type 0} (f : X → List Y) (xs : List X) (i : ℕ) (x : X) → slice_get xs i ≡ Some x
-  → flat_map f (take (i + 1) xs) ≡ flat_map f (take i xs) ++ f x
+    → flat_map f (take (i + 1) xs) ≡ flat_map f (take i xs) ++ f x
 flat_next f xs i x e =
     ap (flat_map f) (take_next xs i x e) ∙ flat_map-append f (take i xs) (x ∷ [])
     ∙ ap (λ ys. flat_map f (take i xs) ++ ys) (append-nil (f x))
@@ -35,16 +35,16 @@ unfolding first_clause
 first_clause-none net = refl
 
 length-next : {X Y : Type 0} (f : X → List Y) (xs : List X) (i : ℕ) (x : X) → slice_get xs i ≡ Some x
-  → length (flat_map f (take (i + 1) xs)) + 1 ≡ length (flat_map f (take i xs)) + 1 + length (f x)
+    → length (flat_map f (take (i + 1) xs)) + 1 ≡ length (flat_map f (take i xs)) + 1 + length (f x)
 length-next f xs i x e = omega (arith, ap length (flat_next f xs i x e), length-append (flat_map f (take i xs)) (f x))
 
 pub first_clause-more : (net : AigPair) (place : ℕ) (node : Node) → slice_get (variables_of net) place ≡ Some node
-  → first_clause net (place + 1) ≡ first_clause net place + length (axioms_of net node)
+    → first_clause net (place + 1) ≡ first_clause net place + length (axioms_of net node)
 unfolding first_clause
 first_clause-more net place node e = length-next (axioms_of net) (variables_of net) place node e
 
 length-whole : {X Y Z : Type 0} (f : X → List Y) (g : Y → Z) (xs : List X) (y : Y)
-  → length (flat_map f (take (length xs) xs)) + 1 ≡ length (map g (flat_map f xs ++ y ∷ []))
+    → length (flat_map f (take (length xs) xs)) + 1 ≡ length (map g (flat_map f xs ++ y ∷ []))
 length-whole f g xs y =
     let same : length (flat_map f (take (length xs) xs)) ≡ length (flat_map f xs) = ap (λ ys. length (flat_map f ys)) (take-length xs) in
     omega (arith, same, length-map (flat_map f xs ++ y ∷ []) g, length-append (flat_map f xs) (y ∷ []))
@@ -59,13 +59,13 @@ number_at true m n k e = let f : m + k + 1 ≡ (n + 1) + k = omega (arith, e) in
 number_at false m n k e = refl
 
 pub clause_number_of-place : (net : AigPair) (node : Node) (k place : ℕ) → place_of (λ n. same_node n node) (variables_of net) ≡ Some place
-  → clause_number_of net node k ≡ cond (nat_lt k (length (axioms_of net node))) (Some (first_clause net place + k)) None
+    → clause_number_of net node k ≡ cond (nat_lt k (length (axioms_of net node))) (Some (first_clause net place + k)) None
 unfolding first_clause
 clause_number_of-place net node k place e =
     number_at (nat_lt k (length (axioms_of net node)))
-      (length (flat_map (axioms_of net) (before (λ n. same_node n node) (variables_of net))))
-      (length (flat_map (axioms_of net) (take place (variables_of net)))) k
-      (ap (λ (ns : List Node). length (flat_map (axioms_of net) ns)) (before-take (λ n. same_node n node) (variables_of net) place e))
+    (length (flat_map (axioms_of net) (before (λ n. same_node n node) (variables_of net))))
+    (length (flat_map (axioms_of net) (take place (variables_of net)))) k
+    (ap (λ (ns : List Node). length (flat_map (axioms_of net) ns)) (before-take (λ n. same_node n node) (variables_of net) place e))
 
 -- the same for a node that isn't there
 pub clause_number_of-none : (net : AigPair) (node : Node) (k : ℕ) → axioms_of net node ≡ [] → clause_number_of net node k ≡ None
@@ -83,11 +83,11 @@ module _ (net : AigPair) (starts : List ℕ) (table : AreStarts net starts) wher
 
   -- the place of a variable
   place_at : (node : Node) (v : ℕ) → variable_of net node ≡ Some v
-    → (place_of (λ n. same_node n node) (variables_of net) ≡ Some (v - 1)) × (v - 1 < length (variables_of net))
+      → (place_of (λ n. same_node n node) (variables_of net) ≡ Some (v - 1)) × (v - 1 < length (variables_of net))
   place_at node v e = go (place_of (λ n. same_node n node) (variables_of net)) refl e
     where
       go : (o : Option ℕ) → place_of (λ n. same_node n node) (variables_of net) ≡ o → option_map (λ k. k + 1) o ≡ Some v
-        → (place_of (λ n. same_node n node) (variables_of net) ≡ Some (v - 1)) × (v - 1 < length (variables_of net))
+          → (place_of (λ n. same_node n node) (variables_of net) ≡ Some (v - 1)) × (v - 1 < length (variables_of net))
       go None f e = absurd (none-some v e)
       go (Some k) f e =
           let same : k ≡ v - 1 = (let h = same_Some (k + 1) v e in omega arith) in
@@ -103,7 +103,7 @@ module _ (net : AigPair) (starts : List ℕ) (table : AreStarts net starts) wher
       omega arith
 
   pub number_in : (node : Node) (k v : ℕ) → variable_of net node ≡ Some v → k < length (axioms_of net node)
-    → Some (slice_index starts (v - 1) + k) ≡ clause_number_of net node k
+      → Some (slice_index starts (v - 1) + k) ≡ clause_number_of net node k
   number_in node k v e l =
       let place = place_at node v e in
       let t : nat_lt k (length (axioms_of net node)) ≡ true = grind (arith, nat_tests, l) in
@@ -124,32 +124,32 @@ first_none net = record {
   next_is = sym (first_clause-none net);
   few_next = omega arith;
   each = λ k l. absurd (omega arith);
-  few = λ k l. absurd (omega arith)
+  few = λ k l. absurd (omega arith);
 }
 
 -- what holds of the numbers and of the next one holds of all of them
 read_push : (P : ℕ → ℕ → Type 0) (numbers : List ℕ) (place next : ℕ) → length numbers ≡ place
-  → ((k : ℕ) → k < place → P k (slice_index numbers k)) → P place next → (k : ℕ) → k ≤ place → P k (slice_index (numbers ++ next ∷ []) k)
+    → ((k : ℕ) → k < place → P k (slice_index numbers k)) → P place next → (k : ℕ) → k ≤ place → P k (slice_index (numbers ++ next ∷ []) k)
 read_push P numbers place next e each last k l = ⊎_elim
     (λ (same : k ≡ place). subst (λ (n : ℕ). P n (slice_index (numbers ++ next ∷ []) n)) (e ∙ sym same)
-      (subst (λ (n : ℕ). P (length numbers) n) (sym (get_or-append_seam numbers next [] 0)) (subst (λ (n : ℕ). P n next) (sym e) last)))
+    (subst (λ (n : ℕ). P (length numbers) n) (sym (get_or-append_seam numbers next [] 0)) (subst (λ (n : ℕ). P n next) (sym e) last)))
     (λ (below : k < place). subst (λ (n : ℕ). P k n) (sym (get_or-append numbers (next ∷ []) 0 k (omega arith))) (each k below))
     (eq-or-lt_of_le l)
 
 pub first_more : (net : AigPair) (numbers : List ℕ) (place next count : ℕ) → AreFirst net numbers place next
-  → first_clause net (place + 1) ≡ first_clause net place + count → count ≤ 4 → AreFirst net (numbers ++ next ∷ []) (place + 1) (next + count)
+    → first_clause net (place + 1) ≡ first_clause net place + count → count ≤ 4 → AreFirst net (numbers ++ next ∷ []) (place + 1) (next + count)
 first_more net numbers place next count old step few = record {
   count = omega (arith, length-append numbers (next ∷ []), old.count);
   next_is = omega (arith, old.next_is, step);
   few_next = omega (arith, old.few_next);
   each = λ k l. read_push (λ k n. n ≡ first_clause net k) numbers place next old.count old.each old.next_is k (omega arith);
-  few = λ k l. read_push (λ k n. n ≤ 4 * k + 1) numbers place next old.count old.few old.few_next k (omega arith)
+  few = λ k l. read_push (λ k n. n ≤ 4 * k + 1) numbers place next old.count old.few old.few_next k (omega arith);
 }
 
 pub first_all : (net : AigPair) (numbers : List ℕ) (place next : ℕ) → AreFirst net numbers place next → place ≡ length (variables_of net)
-  → AreStarts net (numbers ++ next ∷ [])
+    → AreStarts net (numbers ++ next ∷ [])
 first_all net numbers place next old e = record {
   count = omega (arith, length-append numbers (next ∷ []), old.count);
   each = λ k l. read_push (λ k n. n ≡ first_clause net k) numbers place next old.count old.each old.next_is k (omega arith);
-  few = λ k l. read_push (λ k n. n ≤ 4 * k + 1) numbers place next old.count old.few old.few_next k (omega arith)
+  few = λ k l. read_push (λ k n. n ≤ 4 * k + 1) numbers place next old.count old.few old.few_next k (omega arith);
 }

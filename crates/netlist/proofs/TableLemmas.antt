@@ -26,31 +26,33 @@ true_false : (vars : List ℕ) (v : ℕ) → has ◌==◌ vars 0 ≡ true → ha
 true_false vars v e f same = let g : has ◌==◌ vars v ≡ true = rw same e in cc
 
 pub push_table : (t : Places) (vars : List ℕ) (v : ℕ) → IsTable t vars → v < length t.by_variable → has ◌==◌ vars v ≡ false
-  → IsTable (record { by_variable = slice_set t.by_variable v t.count; count = t.count + 1 }) (vars ++ v ∷ [])
+    → IsTable (record { by_variable = slice_set t.by_variable v t.count; count = t.count + 1 }) (vars ++ v ∷ [])
 push_table t vars v table room new = record {
   finds = λ q. go q (v == q) refl;
-  count = rw table.count (sym (length-append vars (v ∷ [])))
+  count = rw table.count (sym (length-append vars (v ∷ [])));
 }
   where
     some : 0 < t.count
     some = let n = few_none vars (has_constant t vars table) in omega (arith, table.count)
+
     above : v ≢ 0
     above = true_false vars v (has_constant t vars table) new
+
     go : (q : ℕ) (b : Bool) → (v == q) ≡ b
-      → place_in (record { by_variable = slice_set t.by_variable v t.count; count = t.count + 1 }) q
+        → place_in (record { by_variable = slice_set t.by_variable v t.count; count = t.count + 1 }) q
         ≡ place_of (λ x. x == q) (vars ++ v ∷ [])
     go q true e =
         let same : v ≡ q = grind (arith, nat_tests, e) in
         let zero_not : (q == 0) ≡ false = grind (arith, nat_tests, above, same) in
         let written : slice_index (slice_set t.by_variable v t.count) q ≡ t.count =
-            subst (λ (w : ℕ). slice_index (slice_set t.by_variable v t.count) w ≡ t.count) same (get_or-set_same t.by_variable v t.count 0 room) in
+        subst (λ (w : ℕ). slice_index (slice_set t.by_variable v t.count) w ≡ t.count) same (get_or-set_same t.by_variable v t.count 0 room) in
         let counted : (t.count == 0) ≡ false = grind (arith, nat_tests, some) in
         let none : place_of (λ x. x == q) vars ≡ None =
-            place_none (λ x. x == q) vars (subst (λ (w : ℕ). has ◌==◌ vars w ≡ false) same new) in
+        place_none (λ x. x == q) vars (subst (λ (w : ℕ). has ◌==◌ vars w ≡ false) same new) in
         let last : length vars + 0 ≡ t.count = omega (arith, table.count) in
         rw (zero_not, written, counted, place_of-append (λ x. x == q) vars (v ∷ []), none, e, last) refl
     go q false e =
         let apart : q ≢ v = grind (arith, nat_tests, e) in
         let old : slice_index (slice_set t.by_variable v t.count) q ≡ slice_index t.by_variable q =
-            get_or-set_other t.by_variable v q t.count 0 apart in
+        get_or-set_other t.by_variable v q t.count 0 apart in
         rw (old, place_of-append (λ x. x == q) vars (v ∷ []), e, or_place-none (place_of (λ x. x == q) vars)) (table.finds q)

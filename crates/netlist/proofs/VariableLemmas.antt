@@ -61,8 +61,9 @@ below_from (x ∷ xs) q all e =
   where
     here : nat_le x most ≡ true
     here = and_left (nat_le x most) (list_all (λ v. nat_le v most) xs) all
+
     go : (b : Bool) → (q == x) ≡ b → (b || list_any (λ y. q == y) xs) ≡ true
-      → (list_any (λ y. q == y) xs ≡ true → q < most + 1) → q < most + 1
+        → (list_any (λ y. q == y) xs ≡ true → q < most + 1) → q < most + 1
     go true t e rest = grind (arith, nat_tests, here, t)
     go false t e rest = rest e
 
@@ -76,10 +77,10 @@ few {inputs} {gates} vars = length-distinct (0 ∷ (inputs ++ gate_vars gates)) 
 
 -- an input is none of the constant and the inputs before it
 pub new_input : (inputs : List ℕ) (gates : List And) (i : ℕ) → AreVariables inputs gates → i < length inputs
-  → has ◌==◌ (0 ∷ take i inputs) (get_or inputs i 0) ≡ false
+    → has ◌==◌ (0 ∷ take i inputs) (get_or inputs i 0) ≡ false
 new_input inputs gates i vars l =
     no_repeat-split (0 ∷ take i inputs) (drop (suc i) inputs ++ gate_vars gates) (get_or inputs i 0)
-      (subst (λ (xs : List ℕ). no_repeat ◌==◌ (0 ∷ xs) ≡ true) whole vars.distinct)
+    (subst (λ (xs : List ℕ). no_repeat ◌==◌ (0 ∷ xs) ≡ true) whole vars.distinct)
   where
     whole : inputs ++ gate_vars gates ≡ take i inputs ++ get_or inputs i 0 ∷ (drop (suc i) inputs ++ gate_vars gates)
     whole = ap (λ (xs : List ℕ). xs ++ gate_vars gates) (split_at inputs i 0 l)
@@ -87,15 +88,16 @@ new_input inputs gates i vars l =
 
 -- a gate's variable is none of the constant, the inputs and the gates before it
 pub new_gate : (inputs : List ℕ) (gates : List And) (i : ℕ) (d : And) → AreVariables inputs gates → i < length gates
-  → has ◌==◌ (0 ∷ (inputs ++ gate_vars (take i gates))) (get_or gates i d).var ≡ false
+    → has ◌==◌ (0 ∷ (inputs ++ gate_vars (take i gates))) (get_or gates i d).var ≡ false
 new_gate inputs gates i d vars l =
     no_repeat-split (0 ∷ (inputs ++ gate_vars (take i gates))) (gate_vars (drop (suc i) gates)) (get_or gates i d).var
-      (subst (λ (xs : List ℕ). no_repeat ◌==◌ (0 ∷ xs) ≡ true) whole vars.distinct)
+    (subst (λ (xs : List ℕ). no_repeat ◌==◌ (0 ∷ xs) ≡ true) whole vars.distinct)
   where
     gates_whole : gate_vars gates ≡ gate_vars (take i gates) ++ (get_or gates i d).var ∷ gate_vars (drop (suc i) gates)
     gates_whole = ap gate_vars (split_at gates i d l) ∙ map-append (λ g. g.var) (take i gates) (get_or gates i d ∷ drop (suc i) gates)
+
     whole : inputs ++ gate_vars gates
-      ≡ (inputs ++ gate_vars (take i gates)) ++ (get_or gates i d).var ∷ gate_vars (drop (suc i) gates)
+        ≡ (inputs ++ gate_vars (take i gates)) ++ (get_or gates i d).var ∷ gate_vars (drop (suc i) gates)
     whole = ap (λ (xs : List ℕ). inputs ++ xs) gates_whole
         ∙ sym (append_assoc inputs (gate_vars (take i gates)) ((get_or gates i d).var ∷ gate_vars (drop (suc i) gates)))
 
@@ -104,18 +106,25 @@ few_inputs inputs gates i vars =
     omega (arith, few vars, length-take i inputs, length-append inputs (gate_vars gates))
 
 pub few_gates : (inputs : List ℕ) (gates : List And) (i : ℕ) → AreVariables inputs gates
-  → length (0 ∷ (inputs ++ gate_vars (take i gates))) ≤ most + 1
+    → length (0 ∷ (inputs ++ gate_vars (take i gates))) ≤ most + 1
 few_gates inputs gates i vars =
-    omega (arith, few vars, length-append inputs (gate_vars (take i gates)), length-map (take i gates) (λ g. g.var),
-      length-take i gates, length-append inputs (gate_vars gates), length-map gates (λ g. g.var))
+    omega (
+      arith,
+      few vars,
+      length-append inputs (gate_vars (take i gates)),
+      length-map (take i gates) (λ g. g.var),
+      length-take i gates,
+      length-append inputs (gate_vars gates),
+      length-map gates (λ g. g.var),
+    )
 
 -- the variables up to the next gate
 pub vars_more : (inputs : List ℕ) (gates : List And) (i : ℕ) (d : And) → i < length gates
-  → (inputs ++ gate_vars (take i gates)) ++ (get_or gates i d).var ∷ [] ≡ inputs ++ gate_vars (take (i + 1) gates)
+    → (inputs ++ gate_vars (take i gates)) ++ (get_or gates i d).var ∷ [] ≡ inputs ++ gate_vars (take (i + 1) gates)
 vars_more inputs gates i d l =
     append_assoc inputs (gate_vars (take i gates)) ((get_or gates i d).var ∷ [])
     ∙ ap (λ (xs : List ℕ). inputs ++ xs)
-      (sym (map-append (λ g. g.var) (take i gates) (get_or gates i d ∷ [])) ∙ ap gate_vars (sym (take_more gates i d l)))
+    (sym (map-append (λ g. g.var) (take i gates) (get_or gates i d ∷ [])) ∙ ap gate_vars (sym (take_more gates i d l)))
 
 no_repeat_push : (xs : List ℕ) (y : ℕ) → no_repeat ◌==◌ xs ≡ true → has ◌==◌ xs y ≡ false → no_repeat ◌==◌ (xs ++ y ∷ []) ≡ true
 no_repeat_push [] y e f = refl
@@ -136,19 +145,19 @@ has_more known xs y v e = rw (list_any-append (λ z. z == v) xs (y ∷ []), e) (
     go false false = refl
 
 distinct_gates : (known xs : List ℕ) (gates : List And) → ((v : ℕ) → has ◌==◌ known v ≡ has ◌==◌ xs v)
-  → no_repeat ◌==◌ xs ≡ true → AreOrdered known gates → no_repeat ◌==◌ (xs ++ gate_vars gates) ≡ true
+    → no_repeat ◌==◌ xs ≡ true → AreOrdered known gates → no_repeat ◌==◌ (xs ++ gate_vars gates) ≡ true
 distinct_gates known xs [] same e ordered = subst (λ (ys : List ℕ). no_repeat ◌==◌ ys ≡ true) (sym (append-nil xs)) e
 distinct_gates known xs (g ∷ gs) same e ordered =
     let new : has ◌==◌ xs g.var ≡ false = sym (same g.var) ∙ ordered.0.new in
     let rest = distinct_gates (g.var ∷ known) (xs ++ g.var ∷ []) gs (λ v. has_more known xs g.var v (same v))
-      (no_repeat_push xs g.var e new) ordered.1 in
+    (no_repeat_push xs g.var e new) ordered.1 in
     subst (λ (ys : List ℕ). no_repeat ◌==◌ ys ≡ true) (append_assoc xs (g.var ∷ []) (gate_vars gs)) rest
 
 -- the variables of a circuit
 pub variables : (c : Aig) → IsCircuit c → AreVariables c.inputs c.gates
 variables c circuit = record {
   distinct = distinct_gates (0 ∷ c.inputs) (0 ∷ c.inputs) c.gates (λ v. refl) circuit.inputs circuit.gates;
-  range = circuit.range
+  range = circuit.range;
 }
 
 pub few_inputs_of : (c : Aig) → IsCircuit c → length c.inputs ≤ most
@@ -166,8 +175,10 @@ no_repeat-apart (x ∷ xs) ys v e in_xs =
   where
     first : has ◌==◌ (xs ++ ys) x ≡ false
     first = not_true (has ◌==◌ (xs ++ ys) x) (and_left _ (no_repeat ◌==◌ (xs ++ ys)) e)
+
     out : has ◌==◌ ys x ≡ false
     out = (or_false (has ◌==◌ xs x) (has ◌==◌ ys x) (sym (list_any-append (λ z. z == x) xs ys) ∙ first)).1
+
     go : (b : Bool) → (x == v) ≡ b → (b || has ◌==◌ xs v) ≡ true → (has ◌==◌ xs v ≡ true → has ◌==◌ ys v ≡ false) → has ◌==◌ ys v ≡ false
     go true t h rest = let same : x ≡ v = grind (arith, nat_tests, t) in subst (λ (n : ℕ). has ◌==◌ ys n ≡ false) same out
     go false t h rest = rest h

@@ -45,7 +45,7 @@ read_in c inputs gates v = value_at inputs gates (source_of c v)
 -- the first i gates are computed: each variable known there has its value
 pub record IsComputed (c : Aig) (inputs gates : List Bool) (first : List And) : Type 0 where
   pub known : (v : ℕ) → has ◌==◌ (0 ∷ (c.inputs ++ gate_vars first)) v ≡ true
-            → read_in c inputs gates v ≡ run first (given c.inputs inputs) v
+      → read_in c inputs gates v ≡ run first (given c.inputs inputs) v
 
 -- the parts make a circuit, and the table finds its variables
 pub record IsIndexed (c : Aig) (t : Places) : Type 0 where

@@ -30,9 +30,7 @@ impl Model for Circuit {
 
     ghost view = { λ c. record { inputs = c.inputs.items; gates = c.gates.items; outputs = c.outputs.items } };
 
-    ghost invariant = {
-        λ c. IsIndexed (record { inputs = c.inputs.items; gates = c.gates.items; outputs = c.outputs.items }) c.table
-    };
+    ghost invariant = { λ c. IsIndexed (record { inputs = c.inputs.items; gates = c.gates.items; outputs = c.outputs.items }) c.table };
 }
 
 impl Circuit {
@@ -43,12 +41,8 @@ impl Circuit {
         gates: Vec<And>,
         outputs: Vec<u32>,
     ) -> Result<Circuit, AllocError>
-        requires {
-            IsCircuit (record { inputs = inputs.items; gates = gates.items; outputs = outputs.items })
-        }
-        ensures {
-            IfOk result (λ c. c ≡ record { inputs = inputs.items; gates = gates.items; outputs = outputs.items })
-        }
+        requires { IsCircuit (record { inputs = inputs.items; gates = gates.items; outputs = outputs.items }) }
+        ensures { IfOk result (λ c. c ≡ record { inputs = inputs.items; gates = gates.items; outputs = outputs.items }) }
     {
         let table = VariableTable::of(alloc, inputs.as_slice(), gates.as_slice())?;
         Ok(Circuit {
@@ -121,10 +115,8 @@ impl Circuit {
     fn both(&self, inputs: &[bool], gates: &[bool], left: u32, right: u32) -> bool
         requires inputs { length inputs.now ≡ length self.now.inputs }
         requires gates { length self.now.gates ≤ length gates.now }
-        ensures {
-            let v = read_in self.now inputs.now gates.now in
-            result ≡ (lit_value v left && lit_value v right)
-        }
+        ensures { let v = read_in self.now inputs.now gates.now in
+            result ≡ (lit_value v left && lit_value v right) }
     {
         self.read(inputs, gates, left) && self.read(inputs, gates, right)
     }

@@ -16,28 +16,18 @@ pub use net::Net;
 pub use short::Short;
 pub use unlike::Unlike;
 
-mod gate;
-
-mod source;
-
-mod variable_table;
-
 mod circuit;
-
-mod short;
-
-mod meaning;
-
-mod sizes;
-
-mod pair;
-
-mod starts;
-
-mod miter;
-
-mod unlike;
-
-mod net;
-
+mod gate;
 mod law;
+mod meaning;
+mod miter;
+mod net;
+mod pair;
+mod short;
+mod sizes;
+mod source;
+mod starts;
+#[cfg(test)]
+mod tests;
+mod unlike;
+mod variable_table;

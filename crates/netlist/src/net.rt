@@ -38,10 +38,8 @@ impl Net {
     /// The net of two circuits. The circuits are given up where there is none.
     pub fn of(alloc: Global, a: Circuit, b: Circuit) -> Result<Net, Unlike>
         ensures unlike { IfSome (unlike_of a b) (λ u. result ≡ Err u) }
-        ensures like {
-            IfNone (unlike_of a b)
-                (MatchResult result (λ n. n ≡ record { a = a; b = b }) (λ e. e ≡ Unlike.NoMemory))
-        }
+        ensures like { IfNone (unlike_of a b)
+            (MatchResult result (λ n. n ≡ record { a = a; b = b }) (λ e. e ≡ Unlike.NoMemory)) }
     {
         if let Some(unlike) = unlike_of(&a, &b) {
             return Err(unlike);

@@ -102,11 +102,7 @@ impl CircuitPair {
                 let gate = circuit.gates()[index as usize];
                 let left = self.named(side, gate.left);
                 let right = self.named(side, gate.right);
-                Some(Meaning::Conjunction(
-                    Node::Gate(side, gate.var),
-                    left,
-                    right,
-                ))
+                Some(Meaning::Conjunction(Node::Gate(side, gate.var), left, right))
             }
             None => None,
         }
@@ -163,7 +159,11 @@ impl CircuitPair {
         let sizes = self.sizes();
         let positions = 1 + sizes.inputs + sizes.gates_a + sizes.gates_b;
         match node {
-            Node::Xor(j) => if j < sizes.outputs { Some(positions + j + 1) } else { None },
+            Node::Xor(j) => if j < sizes.outputs {
+                Some(positions + j + 1)
+            } else {
+                None
+            },
             _ => match self.position(node) {
                 Some(position) => Some(position + 1),
                 None => None,

@@ -37,10 +37,8 @@ impl VariableTable {
     fn push(&mut self, var: u32)
         requires room { var < length self.old.by_variable }
         requires few { self.old.count < 2 ^ 31 }
-        ensures table {
-            (vars : List ℕ) → IsTable self.old vars → has ◌==◌ vars var ≡ false
-                → IsTable self.new (vars ++ var ∷ [])
-        }
+        ensures table { (vars : List ℕ) → IsTable self.old vars → has ◌==◌ vars var ≡ false
+            → IsTable self.new (vars ++ var ∷ []) }
         ensures room { length self.new.by_variable ≡ length self.old.by_variable }
         ensures count { self.new.count ≡ self.old.count + 1 }
     {

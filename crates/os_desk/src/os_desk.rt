@@ -1,8 +1,7 @@
 //! Real files, standard output and standard error.
-ghost use Rattle.std.specs.Prelude.{◌≡◌, ◌≤◌, IfOk, length};
-ghost use Rattle.std.specs.Prelude.{IfSome, IsSome, OnOk};
+ghost use Rattle.std.specs.Prelude.{◌≡◌, ◌≤◌, IfOk, IfSome, IsSome, OnOk, length};
 ghost use Rattle.std.specs.Io.KnownBytes.{Appends};
-ghost use Rattle.desk_port.specs.Desk.{Says, Warns, Writes, NoCountFalls, Rose};
+ghost use Rattle.desk_port.specs.Desk.{NoCountFalls, Rose, Says, Warns, Writes};
 
 use crate::streams::{put_all, read_up_to};
 use desk_port::{Desk, PutErr, ReadErr};
@@ -100,6 +99,7 @@ impl<R: Files, O: Write, E: Write> Desk for OsDesk<R, O, E> {
         answer
     }
 
+    // std closes a file where it is dropped, and tells no error.
     fn close(&mut self) -> Result<(), PutErr> {
         self.started = None;
         Ok(())

@@ -1,22 +1,33 @@
 -- What the entries of a legal book say, each by itself, and how much they are.
-use Rattle.std.proofs.Common.{◌≡◌, ℕ, ◌+◌, ◌*◌, ◌-◌, ◌<◌, ◌≤◌, Bool, true, false, not, ◌&&◌, ◌||◌, eqb, Option, Some, None, List, [], ◌∷◌, ◌++◌, length, map, refl, sym, ap, ◌∙◌, subst, arith}
-use Rattle.std.specs.Prelude.{nat_le}
-use Rattle.std.specs.List.{list_any, list_all, AllByRecursion}
+use Rattle.std.proofs.Common.{◌≡◌, ℕ, ◌+◌, ◌*◌, ◌-◌, ◌<◌, ◌≤◌, Bool, true, false, not, ◌&&◌, ◌||◌, eqb, Option, Some, None, List, [], ◌∷◌, ◌++◌, length, map, refl, sym, ap, ◌∙◌, subst, arith, rules, append_assoc, length-append}
+use Rattle.std.specs.Prelude.{nat_le, filter, slice_get}
+use Rattle.std.specs.List.{list_any, list_all, flat_map, AllByRecursion}
+use Rattle.std.proofs.lemmas.Option.{none-some}
 use Rattle.std.proofs.lemmas.Bool.Decides.{nat_tests}
 use Rattle.std.proofs.lemmas.List.{length-map}
 use Rattle.std.proofs.lemmas.List.Folds.{list_any-append}
 use Rattle.lits.specs.Clause.{has, no_repeat}
+use Rattle.lits.specs.declared.node.Node.{Node}
+use Rattle.lits.specs.declared.node.Node.TheVariants.{Xor}
+use Rattle.lits.specs.declared.literal.Lit.{Lit}
+use Rattle.lits.specs.declared.step.Ref.{Ref}
+use Rattle.lits.specs.declared.step.Named.{Named}
 use Rattle.lits.specs.declared.step.Step.{Step}
 use Rattle.netlist.specs.Circuit.{most}
 use Rattle.netlist.specs.Net.{AigPair, IsNet}
+use Rattle.netlist.specs.Miter.{axioms_of, variables_of}
+use Rattle.netlist.proofs.PlaceLemmas.{slice_get-right}
 use Rattle.netlist.proofs.VariableLemmas.{length-distinct}
 use Rattle.netlist.proofs.LawNodes.{equal-number, same-number}
-use Rattle.unit_prop.specs.Log.{InTurn}
+use Rattle.unit_prop.specs.Log.{same_name, base_clause, InTurn, IsStepAfter, IsLearned}
+use Rattle.unit_prop.proofs.ChainLemmas.{all-append, in_turn-map}
+use Rattle.lemma_book.specs.Cone.{named_from, named_axioms, IsCone}
 use Rattle.lemma_book.specs.declared.entry.Entry.{Entry}
 use Rattle.lemma_book.specs.declared.entry.Entry.TheVariants.{Out, OutApart, OutSpent}
 use Rattle.lemma_book.specs.Entry.{Entries, output_of, has_output, axiom_named, EndsEqual, IsGood}
 use Rattle.lemma_book.specs.Book.{IsLegal}
 use Rattle.proof_stitch.specs.Stitch.{is_out, out_steps}
+use Rattle.proof_stitch.specs.Derivation.{is_spent, log_of}
 use Rattle.proof_stitch.proofs.StepLemmas.{IsDerived}
 
 -- what a good entry says without the entries before it
@@ -25,10 +36,55 @@ pub record IsSound (net : AigPair) (budget : ℕ) (entry : Entry) : Type 0 where
   pub derived : IsDerived net (out_steps entry)
   pub short : length (out_steps entry) ≤ budget + 2
   pub unit : (j : ℕ) → is_out j entry ≡ true → EndsEqual j (out_steps entry)
+  pub logged : IsDerived net (log_of entry)
+  pub log_short : length (log_of entry) ≤ budget
+  pub log_whole : (j : ℕ) → is_spent j entry ≡ true → length (log_of entry) ≡ budget
 
 -- the entry is good over those before it
 abbrev pub IsGoodAfter : AigPair → ℕ → List Entry → Entry → Type 0
 IsGoodAfter net budget before entry = IsGood net (record { out_budget = budget; entries = before }) entry
+
+pub nothing : (net : AigPair) → IsDerived net []
+nothing net = record { find = axiom_named net; axioms = λ name c f. f; over = tt; chain = tt }
+
+-- the clause is the axiom of its name
+pub record IsAxiom (net : AigPair) (n : Named) : Type 0 where
+  pub is : axiom_named net n.by ≡ Some n.clause
+
+exact-name : (x y : Ref) → same_name x y ≡ true → x ≡ y
+exact-name = search rules
+
+cone-clause : (net : AigPair) (cone : List Named) (name : Ref) (c : List Lit) → AllByRecursion (IsAxiom net) cone
+    → base_clause cone name ≡ Some c → axiom_named net name ≡ Some c
+cone-clause net [] name c all e = absurd (none-some c e)
+cone-clause net (n ∷ ns) name c all e = go (same_name n.by name) refl (cone-clause net ns name c all.1)
+  where
+    go : (b : Bool) → same_name n.by name ≡ b → (base_clause ns name ≡ Some c → axiom_named net name ≡ Some c) → axiom_named net name ≡ Some c
+    go true f rest =
+        let g : Some n.clause ≡ Some c = rw f at e in
+        subst (λ (x : Ref). axiom_named net x ≡ Some c) (exact-name n.by name f) (all.0.is ∙ g)
+    go false f rest = rest (rw f at e)
+
+named-axioms : (net : AigPair) (node : Node) (before cs : List (List Lit)) (k : ℕ) → k ≡ length before → axioms_of net node ≡ before ++ cs
+    → AllByRecursion (IsAxiom net) (named_from node k cs)
+named-axioms net node before [] k e f = tt
+named-axioms net node before (c ∷ cs) k e f = (
+  record { is = ap (slice_get (axioms_of net node)) at ∙ ap (λ (l : List (List Lit)). slice_get l (length before + 0)) f ∙ slice_get-right before (c ∷ cs) 0 },
+  named-axioms net node (before ++ c ∷ []) cs (k + 1) (omega (arith, length-append before (c ∷ []))) (f ∙ sym (append_assoc before (c ∷ []) cs)),
+)
+  where
+    at : k ≡ length before + 0
+    at = omega arith
+
+all-axioms : (net : AigPair) (nodes : List Node) → AllByRecursion (IsAxiom net) (flat_map (named_axioms net) nodes)
+all-axioms net [] = tt
+all-axioms net (n ∷ ns) =
+    all-append (IsAxiom net) (named_axioms net n) (flat_map (named_axioms net) ns) (named-axioms net n [] (axioms_of net n) 0 refl refl) (all-axioms net ns)
+
+-- a cone has axioms alone
+cone-axioms : (net : AigPair) (j : ℕ) (cone : List Named) → IsCone net (Xor j ∷ []) cone → AllByRecursion (IsAxiom net) cone
+cone-axioms net j cone is =
+    subst (λ (l : List Named). AllByRecursion (IsAxiom net) l) (sym is.clauses) (all-axioms net (filter is.reached (variables_of net)))
 
 good-sound : (net : AigPair) (budget : ℕ) (before : List Entry) (e : Entry) → IsGoodAfter net budget before e → IsSound net budget e
 good-sound net budget before (Out k steps) good = record {
@@ -36,18 +92,32 @@ good-sound net budget before (Out k steps) good = record {
   derived = record { find = axiom_named net; axioms = λ name c f. f; over = good.shown.over; chain = good.shown.chain };
   short = good.shown.count;
   unit = λ j e. subst (λ (i : ℕ). EndsEqual i steps) (equal-number k j e) good.shown.shape;
+  logged = nothing net;
+  log_short = omega arith;
+  log_whole = λ j e. cc;
 }
 good-sound net budget before (OutApart k input) good = record {
   output = good.output;
-  derived = record { find = axiom_named net; axioms = λ name c f. f; over = tt; chain = tt };
+  derived = nothing net;
   short = omega arith;
   unit = λ j e. cc;
+  logged = nothing net;
+  log_short = omega arith;
+  log_whole = λ j e. cc;
 }
 good-sound net budget before (OutSpent k seen log) good = record {
   output = good.output;
-  derived = record { find = axiom_named net; axioms = λ name c f. f; over = tt; chain = tt };
+  derived = nothing net;
   short = omega arith;
   unit = λ j e. cc;
+  logged = record {
+    find = base_clause good.shown.cone;
+    axioms = λ name c. cone-clause net good.shown.cone name c (cone-axioms net k good.shown.cone good.shown.is_cone);
+    over = good.shown.over;
+    chain = in_turn-map (IsLearned good.shown.cone) (IsStepAfter (base_clause good.shown.cone)) [] log (λ b x p. p.step) good.shown.spent.learned;
+  };
+  log_short = omega (arith, good.shown.spent.whole);
+  log_whole = λ j e. good.shown.spent.whole;
 }
 
 pub legal-sound : (net : AigPair) (budget : ℕ) (before entries : List Entry) → InTurn (IsGoodAfter net budget) before entries

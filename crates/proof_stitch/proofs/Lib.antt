@@ -7,3 +7,6 @@ pub mod XorLemmas
 pub mod BookLemmas
 pub mod RefutationLemmas
 pub mod WriterLemmas
+pub mod PlaceLemmas
+pub mod LogLemmas
+pub mod DerivationLemmas

@@ -148,7 +148,7 @@ length-clauses_in net (steps ∷ lists) =
       length-clauses_in net lists
     )
 
-all-derived : (net : AigPair) (budget : ℕ) (es : List Entry) → AllByRecursion (IsSound net budget) es → AllByRecursion (IsDerived net) (map out_steps es)
+pub all-derived : (net : AigPair) (budget : ℕ) (es : List Entry) → AllByRecursion (IsSound net budget) es → AllByRecursion (IsDerived net) (map out_steps es)
 all-derived net budget [] sound = tt
 all-derived net budget (e ∷ es) sound = (sound.0.derived, all-derived net budget es sound.1)
 

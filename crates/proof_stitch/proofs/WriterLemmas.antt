@@ -110,7 +110,7 @@ pub record IsAt (net : AigPair) (budget : ℕ) (text0 : List ℕ) (last0 : ℕ) 
   pub noted : (j : ℕ) → j < length net.a.outputs → resolved units last left j ≡ unit_id (last0 + 1) entries j
   pub sound : AllByRecursion (IsSound net budget) left
   pub distinct : no_repeat eqb (map output_of left) ≡ true
-  pub few : last0 + total (map out_steps entries) + 1 < 2 ^ 64
+  pub few : last0 + total (map out_steps entries) + 1 < 2 ^ 60
 
 pub at-start : (net : AigPair) (budget : ℕ) (text : List ℕ) (last : ℕ) (entries : List Entry) → IsNet net → budget ≤ 1000000000
     → InTurn (IsGoodAfter net budget) [] entries → last < 2 ^ 32
@@ -241,7 +241,7 @@ pub at-end : {net : AigPair} {budget : ℕ} {text0 : List ℕ} {last0 : ℕ} {en
     → (text ≡ text0 ++ text_from last0 (additions net (last0 + 1) (map out_steps entries)))
     × (last ≡ last0 + length (additions net (last0 + 1) (map out_steps entries)))
     × (units ≡ map (unit_id (last0 + 1) entries) (range_with_len 0 (length net.a.outputs)))
-    × (last + 1 < 2 ^ 64)
+    × (last + 1 < 2 ^ 60)
 at-end {net} {budget} {text0} {last0} {entries} {left} {text} {last} {units} none given = (
   sym (append-nil text) ∙ at.text_is,
   omega (arith, at.last_is, length-additions net (last0 + 1) (map out_steps entries)),
@@ -261,15 +261,15 @@ pub at-done : {net : AigPair} {budget : ℕ} {text0 : List ℕ} {last0 : ℕ} {e
     → (text ≡ text0 ++ text_from last0 (additions net (last0 + 1) (map out_steps entries)))
     × (last ≡ last0 + length (additions net (last0 + 1) (map out_steps entries)))
     × (units ≡ map (unit_id (last0 + 1) entries) (range_with_len 0 (length net.a.outputs)))
-    × (last + 1 < 2 ^ 64)
+    × (last + 1 < 2 ^ 60)
 at-done {net} {budget} {text0} {last0} {entries} {given} {text} {last} {units} i same past at =
     at-end (drop_of_length-le entries (subst (λ (l : List Entry). length l ≤ i) same past))
     (subst (λ (l : List Entry). IsAt net budget text0 last0 l (drop i l) text last units) same at)
 
 -- a list that was lent whole, as it comes back
-pub written_back : (xs ys : List ℕ) (n : ℕ) → n ≡ length ys → length xs ≡ length ys → take n (xs ++ drop (length xs) ys) ≡ xs
+pub written_back : {X : Type 0} (xs ys : List X) (n : ℕ) → n ≡ length ys → length xs ≡ length ys → take n (xs ++ drop (length xs) ys) ≡ xs
 written_back xs ys n e f =
-    ap₂ (λ (k : ℕ) (zs : List ℕ). take k (xs ++ zs)) (e ∙ sym f) (drop_of_length-le ys (omega arith))
+    ap₂ (λ (k : ℕ) (zs : List _). take k (xs ++ zs)) (e ∙ sym f) (drop_of_length-le ys (omega arith))
     ∙ ap (take (length xs)) (append-nil xs) ∙ take-length xs
 
 -- the text of some lists, and of what stands behind them

@@ -1,22 +1,32 @@
 //! One proof in LRAT (Cruz-Filipe et al. 2017) from the entries of a lemma book.
 //!
-//! An entry shows its output equal by steps that cite the miter's axioms by node and their own earlier steps by place.
-//! Here they become one text: the entries' steps in the order of the book, as additions under ids that go on without
-//! gaps from the number of the miter's clauses, and last the empty clause from the outputs' units. The crate promises
-//! that the text that it writes spells lines that refute the miter, and which lines these are.
+//! An entry's steps cite the miter's axioms by node and their own earlier steps by place. Here they become one text, the
+//! additions under ids without gaps that go on behind the numbers of the miter's clauses. `refutation` writes the steps
+//! that show each output equal, in the order of the book, and last the empty clause from the outputs' units;
+//! `derivation` writes what there is of those and then the logs of the queries that spent their budgets. The crate
+//! promises which lines the text spells, and that they refute the miter, or derive from it.
 //!
-//! Definitions: `specs/Steps.antt` (the additions that lists of steps make), `specs/Stitch.antt` (the refutation, and
-//! what a call writes). Begin to read at `refuting.rt`.
+//! Definitions: `specs/Steps.antt` (the additions that lists of steps make), `specs/Stitch.antt` (the refutation),
+//! `specs/Derivation.antt` (the derivation and its spans). Begin to read at `refuted.rt`.
 #![tactic(auto)]
 
-pub use refuting::refutation;
+pub use derived::derivation;
+pub use refuted::refutation;
+pub use span::Span;
 pub use stitch_err::StitchErr;
 
-mod refuting;
+mod refuted;
+
+mod derived;
 
 mod outs;
+
+mod logs;
+
+mod places;
 
 mod proof_text;
 
 mod addition;
+mod span;
 mod stitch_err;

@@ -20,7 +20,7 @@ pub fn push_outs(alloc: Global, net: &Net, book: &Book, proof: &mut ProofText) -
         ++ text_from proof.old.last (additions net.now (proof.old.last + 1) (map out_steps book.now.entries))) }
     ensures last { OnOk result (proof.new.last
         ≡ proof.old.last + length (additions net.now (proof.old.last + 1) (map out_steps book.now.entries))) }
-    ensures room { OnOk result (proof.new.last + 1 < 2 ^ 64) }
+    ensures room { OnOk result (proof.new.last + 1 < 2 ^ 60) }
     ensures units { IfOk result (λ units. units.items
         ≡ map (unit_id (proof.old.last + 1) book.now.entries) (range_with_len 0 (length net.now.a.outputs))) }
 {

@@ -18,7 +18,7 @@ returns-in_err-cnf-clause-answer g c =
   let p = err_from_is_err_and c.from_residual-in_err-cnf.result c.from_residual-in_err-cnf.ensures.1 in
   rw (p.1, p.2)
     (checks-out words (g.D.Desk.state c.args.desk.now) (g.D.Desk.state c.read_pair.new.desk) c.args.kept.now.items
-      c.in_ok-net.ensures.answer.2)
+      c.requires.empty c.in_ok-net.ensures.answer.3)
 
 pub returns-in_err-proof-clause-answer : goal.returns-in_err-proof-clause-answer
 returns-in_err-proof-clause-answer g c =
@@ -26,7 +26,7 @@ returns-in_err-proof-clause-answer g c =
   let p = err_from_is_err_and c.from_residual-in_err-proof.result c.from_residual-in_err-proof.ensures.1 in
   rw (p.1, p.2)
     (checks-out words (g.D.Desk.state c.args.desk.now) (g.D.Desk.state c.read_pair.new.desk) c.args.kept.now.items
-      c.in_ok-net.ensures.answer.2)
+      c.requires.empty c.in_ok-net.ensures.answer.3)
 
 pub returns-clause-answer : goal.returns-clause-answer
 returns-clause-answer g c =
@@ -35,5 +35,6 @@ returns-clause-answer g c =
     (g.D.Desk.state c.check_pair.new.desk) c.check_pair.new.kept.items c.in_ok-net.net c.check_pair.result
     c.as_str.result.now c.as_str-2.result.now (c.as_str.ensures.value ∙ c.in_ok-cnf.ensures)
     (c.as_str-2.ensures.value ∙ c.in_ok-proof.ensures)
-    (record { a = c.in_ok-net.ensures.answer.0; b = c.in_ok-net.ensures.answer.1 }) c.in_ok-net.ensures.answer.2
+    (record { a = c.in_ok-net.ensures.answer.0; b = c.in_ok-net.ensures.answer.1; alike = c.in_ok-net.ensures.answer.2 })
+    c.in_ok-net.ensures.answer.3
     c.check_pair.ensures.answer

@@ -14,6 +14,7 @@ loop-j-preserved c =
   let a = c.in_ok-settle_output.ensures.answer in
   record {
     legal = c.in_ok-settle_output.ensures.legal;
+    budget = c.in_ok-settle_output.ensures.budget ∙ c.loop-j.invariant.budget;
     outs = subst (λ (es : List Entry). AreOuts 0 es) (sym a.1)
       (AreOuts-push 0 c.loop-j.book.entries a.0 c.loop-j.invariant.outs (omega (arith, a.2)) a.3);
     count = ap length a.1 ∙ length_push c.loop-j.book.entries a.0 ∙ omega arith;

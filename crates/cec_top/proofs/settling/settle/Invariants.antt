@@ -7,6 +7,7 @@ use Rattle.cec_top.proofs.settling.settle.Given as goal
 abbrev pub invariant-loop-j : goal.invariant-loop-j
 invariant-loop-j l = record {
   legal : IsLegal l.net l.book;
+  budget : l.book.out_budget ≡ l.initial.book.out_budget;
   outs : AreOuts 0 l.book.entries;
   count : length l.book.entries ≡ l.j;
 }

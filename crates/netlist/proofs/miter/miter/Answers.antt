@@ -18,4 +18,4 @@ returns c =
     c.in_ok-push.ensures.items
     ∙ ap (λ (cs : List (List DimacsLiteral)). cs ++ c.in_ok-last.last ∷ []) c.loop-place.invariant
     ∙ rw c.in_ok-last.ensures
-        (before_all c.args.pair.now c.loop-place.place (omega (arith, c.variables-place-end.ensures.count, c.loop-place-test.false)))
+    (before_all c.args.pair.now c.loop-place.place (omega (arith, c.variables-place-end.ensures.count, c.loop-place-test.false)))

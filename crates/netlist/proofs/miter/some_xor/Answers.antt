@@ -21,12 +21,12 @@ loop-j-preserved c =
 pub clause_of-requires : goal.clause_of-requires
 clause_of-requires c =
     subst (λ (ds : List DimacsLiteral). IsClause same_number opposite_number ds) (sym (c.as_slice.ensures.value ∙ c.loop-j.invariant))
-      (xors_clause c.args.pair.now c.loop-j.j c.sizes-j-end.ensures.net_is
-        (omega (arith, c.sizes-j-end.ensures.outputs, c.loop-j-test.false)))
+    (xors_clause c.args.pair.now c.loop-j.j c.sizes-j-end.ensures.net_is
+    (omega (arith, c.sizes-j-end.ensures.outputs, c.loop-j-test.false)))
 
 pub returns : goal.returns
 returns c =
     subst (λ (ds : List DimacsLiteral). IfOk c.clause_of.result (λ d. d ≡ ds))
-      (c.as_slice.ensures.value ∙ c.loop-j.invariant
-        ∙ xors_all c.args.pair.now c.loop-j.j (omega (arith, c.sizes-j-end.ensures.outputs, c.loop-j-test.false)))
-      c.clause_of.ensures
+    (c.as_slice.ensures.value ∙ c.loop-j.invariant
+    ∙ xors_all c.args.pair.now c.loop-j.j (omega (arith, c.sizes-j-end.ensures.outputs, c.loop-j-test.false)))
+    c.clause_of.ensures

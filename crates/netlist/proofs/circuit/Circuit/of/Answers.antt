@@ -11,5 +11,5 @@ of-requires c = rw (c.as_slice.ensures.value, c.as_slice-2.ensures.value) (varia
 pub invariant_of-result : goal.invariant_of-result
 invariant_of-result c = record {
   circuit = c.requires;
-  table = rw (c.as_slice.ensures.value, c.as_slice-2.ensures.value) at c.in_ok-table.ensures
+  table = rw (c.as_slice.ensures.value, c.as_slice-2.ensures.value) at c.in_ok-table.ensures;
 }

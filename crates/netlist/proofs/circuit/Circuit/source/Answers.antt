@@ -21,4 +21,4 @@ returns-in-Some-clause-within c =
 pub returns-in-None-clause-source : goal.returns-in-None-clause-source
 returns-in-None-clause-source c =
     subst (λ (g : Aig). None ≡ source_of g c.args.var) c.self.view_is
-      (source_missing (record { inputs = c.self.inside.inputs.items; gates = c.self.inside.gates.items; outputs = c.self.inside.outputs.items }) c.self.inside.table c.args.var c.self.invariant.table (sym c.place.ensures ∙ c.in-None.is))
+    (source_missing (record { inputs = c.self.inside.inputs.items; gates = c.self.inside.gates.items; outputs = c.self.inside.outputs.items }) c.self.inside.table c.args.var c.self.invariant.table (sym c.place.ensures ∙ c.in-None.is))

@@ -11,10 +11,10 @@ loop-i-preserved c =
     let next = length-kept-drop (clauses_that_say c.args.self) c.loop-i.i in
     let kept : is_some c.clause.result ≡ is_some (option_and_then kept_clause (slice_get (clauses_that_say c.args.self) c.loop-i.i)) = ap is_some c.clause.ensures in
     elim c.if-is_some.branch [
-      then-is_some w ↦
-        let n = rw (sym kept ∙ sym c.is_some.ensures ∙ w.if-is_some.true) at next in
-        (omega (arith, n, w.count-is, c.loop-i.invariant.0), omega (arith, w.count-is, c.loop-i.invariant.1))
-    | else-is_some w ↦
-        let n = rw (sym kept ∙ sym c.is_some.ensures ∙ w.if-is_some.false) at next in
-        (omega (arith, n, w.count-is, c.loop-i.invariant.0), omega (arith, w.count-is, c.loop-i.invariant.1))
+      | then-is_some w ↦
+          let n = rw (sym kept ∙ sym c.is_some.ensures ∙ w.if-is_some.true) at next in
+          (omega (arith, n, w.count-is, c.loop-i.invariant.0), omega (arith, w.count-is, c.loop-i.invariant.1))
+      | else-is_some w ↦
+          let n = rw (sym kept ∙ sym c.is_some.ensures ∙ w.if-is_some.false) at next in
+          (omega (arith, n, w.count-is, c.loop-i.invariant.0), omega (arith, w.count-is, c.loop-i.invariant.1))
     ]

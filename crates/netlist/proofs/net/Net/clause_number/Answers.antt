@@ -19,11 +19,11 @@ overflow_add-result c =
 pub returns-in-Some : goal.returns-in-Some
 returns-in-Some c =
     let inside = number_in c.self.inside.pair c.self.inside.starts c.self.invariant c.args.node c.args.k c.in-Some.variable
-        (sym c.variable.ensures.variable ∙ c.in-Some.is) (omega (arith, c.clauses.ensures.count, c.from.ensures, c.if-from-clauses.true)) in
+    (sym c.variable.ensures.variable ∙ c.in-Some.is) (omega (arith, c.clauses.ensures.count, c.from.ensures, c.if-from-clauses.true)) in
     rw (c.first.ensures, c.from-in-Some.ensures) (subst (λ (net : AigPair). Some (slice_index c.self.inside.starts (c.in-Some.variable - 1) + c.args.k) ≡ clause_number_of net c.args.node c.args.k) c.self.view_is inside)
 
 pub returns-in_default-2 : goal.returns-in_default-2
 returns-in_default-2 c =
     subst (λ (net : AigPair). None ≡ clause_number_of net c.args.node c.args.k) c.self.view_is
-      (sym (clause_number_of-none c.self.inside.pair c.args.node c.args.k
-        (axioms_of-none c.self.inside.pair c.args.node (sym c.variable.ensures.variable ∙ c.in_default.is))))
+    (sym (clause_number_of-none c.self.inside.pair c.args.node c.args.k
+    (axioms_of-none c.self.inside.pair c.args.node (sym c.variable.ensures.variable ∙ c.in_default.is))))

@@ -11,9 +11,9 @@ pub returns-in-Some-clause-clause : goal.returns-in-Some-clause-clause
 returns-in-Some-clause-clause c =
     c.axiom.ensures
     ∙ ap (λ (cs : List (List Lit)). slice_get cs c.args.k)
-        (axioms_of-some c.args.self.now c.args.node c.in-Some.meaning (sym c.meaning.ensures ∙ c.in-Some.is))
+    (axioms_of-some c.args.self.now c.args.node c.in-Some.meaning (sym c.meaning.ensures ∙ c.in-Some.is))
 
 pub returns-in-Some-clause-there : goal.returns-in-Some-clause-there
 returns-in-Some-clause-there c =
     subst (λ (o : Option (List Lit)). IfSome o (AreThere c.args.self.now)) (sym (returns-in-Some-clause-clause c))
-      (axiom_of-there c.args.self.now c.args.node c.args.k (subst (λ (net : AigPair). IsNet net) c.self.view_is c.self.invariant))
+    (axiom_of-there c.args.self.now c.args.node c.args.k (subst (λ (net : AigPair). IsNet net) c.self.view_is c.self.invariant))

@@ -10,5 +10,5 @@ pub returns : goal.returns
 returns c =
     c.lit_from.ensures
     ∙ ap (lit_from c.args.side (var_of c.args.aiger) (is_negated c.args.aiger))
-        (c.source.ensures.source ∙ ap (λ (g : Aig). source_of g (var_of c.args.aiger)) c.circuit.ensures.circuit)
+    (c.source.ensures.source ∙ ap (λ (g : Aig). source_of g (var_of c.args.aiger)) c.circuit.ensures.circuit)
     ∙ lit_of-source c.args.self.now c.args.side c.args.aiger

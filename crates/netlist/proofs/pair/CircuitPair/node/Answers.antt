@@ -9,18 +9,25 @@ returns-then-place-first_a c =
 pub returns-then-place-first_b : goal.returns-then-place-first_b
 returns-then-place-first_b c =
     rw c.gate_node.ensures
-      (node_at-gate_a c.args.self.now c.args.place _ (omega (arith, c.sizes-sizes.ensures.inputs))
-        (omega (arith, c.sizes-sizes.ensures.gates_a)))
+    (node_at-gate_a c.args.self.now c.args.place _ (omega (arith, c.sizes-sizes.ensures.inputs))
+    (omega (arith, c.sizes-sizes.ensures.gates_a)))
 
 pub returns-then-place-first_xor : goal.returns-then-place-first_xor
 returns-then-place-first_xor c =
     rw c.gate_node-then-place-first_xor.ensures
-      (node_at-gate_b c.args.self.now c.args.place _ (omega (arith, c.sizes-sizes.ensures.inputs, c.sizes-sizes.ensures.gates_a))
-        (omega (arith, c.sizes-sizes.ensures.gates_b)))
+    (node_at-gate_b c.args.self.now c.args.place _ (omega (arith, c.sizes-sizes.ensures.inputs, c.sizes-sizes.ensures.gates_a))
+    (omega (arith, c.sizes-sizes.ensures.gates_b)))
 
 pub returns-else-place-first_xor : goal.returns-else-place-first_xor
 returns-else-place-first_xor c =
     node_at-xor c.args.self.now c.args.place _
-      (omega (arith, c.sizes-sizes.ensures.inputs, c.sizes-sizes.ensures.gates_a, c.sizes-sizes.ensures.gates_b))
-      (omega (arith, c.requires, length-nodes c.args.self.now, length-variables c.args.self.now,
-        c.sizes-sizes.ensures.inputs, c.sizes-sizes.ensures.gates_a, c.sizes-sizes.ensures.gates_b))
+    (omega (arith, c.sizes-sizes.ensures.inputs, c.sizes-sizes.ensures.gates_a, c.sizes-sizes.ensures.gates_b))
+    (omega (
+      arith,
+      c.requires,
+      length-nodes c.args.self.now,
+      length-variables c.args.self.now,
+      c.sizes-sizes.ensures.inputs,
+      c.sizes-sizes.ensures.gates_a,
+      c.sizes-sizes.ensures.gates_b,
+    ))

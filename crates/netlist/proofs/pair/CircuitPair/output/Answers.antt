@@ -11,4 +11,4 @@ returns c =
     let same = c.outputs.ensures.outputs ∙ ap (λ (g : Aig). g.outputs) c.circuit.ensures.circuit in
     c.lit.ensures
     ∙ output_of-lit c.args.self.now c.args.side c.args.j c.in_ok-lit.lit.now c.circuit.ensures.net
-        (subst (λ (ls : List ℕ). slice_get ls c.args.j ≡ Some c.in_ok-lit.lit.now) same found)
+    (subst (λ (ls : List ℕ). slice_get ls c.args.j ≡ Some c.in_ok-lit.lit.now) same found)

@@ -7,6 +7,7 @@ returns-then-not-add c =
     pair_kept c.args.lits.now c.loop-lit.lit-index _ c.loop-lit.kept c.loop-lit-test.true c.loop-lit.invariant.0 (c.add.ensures.pair c.if-not-add.true)
 
 pub loop-lit-preserved : goal.loop-lit-preserved
-loop-lit-preserved c =
-    (next_kept c.args.lits.now c.loop-lit.lit-index _ c.loop-lit.kept c.add.new.self c.loop-lit-test.true c.loop-lit.invariant.0 (c.add.ensures.added c.if-not-add.false),
-     omega (arith, c.loop-lit.invariant.1, c.add.ensures.room))
+loop-lit-preserved c = (
+  next_kept c.args.lits.now c.loop-lit.lit-index _ c.loop-lit.kept c.add.new.self c.loop-lit-test.true c.loop-lit.invariant.0 (c.add.ensures.added c.if-not-add.false),
+  omega (arith, c.loop-lit.invariant.1, c.add.ensures.room),
+)

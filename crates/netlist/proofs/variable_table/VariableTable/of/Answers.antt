@@ -20,7 +20,7 @@ push-requires-in-loop-gate-clause-few c =
     omega (arith, c.loop-gate.invariant.0.count, few_gates c.args.inputs.now c.args.gates.now c.loop-gate.gate-index c.requires)
 
 pub loop-gate-preserved : goal.loop-gate-preserved
-loop-gate-preserved c = 
+loop-gate-preserved c =
     let now = c.loop-gate.gate-index in
     let new = new_gate c.args.inputs.now c.args.gates.now now _ c.requires c.loop-gate-test.true in
     let grown = c.push-in-loop-gate.ensures.table _ c.loop-gate.invariant.0 new in

@@ -2,7 +2,7 @@ use Rattle.std.proofs.Common.{◌-◌}
 use Rattle.std.proofs.lemmas.Result.{err_from_is_err_and}
 use Rattle.proof_stitch.specs.Stitch.{IsRefutation}
 use Rattle.proof_stitch.proofs.RefutationLemmas.{refused}
-use Rattle.proof_stitch.proofs.refuting.refutation.Goals as goal
+use Rattle.proof_stitch.proofs.refuted.refutation.Goals as goal
 
 pub returns-in_err-write-clause-answer : goal.returns-in_err-write-clause-answer
 returns-in_err-write-clause-answer g c =

@@ -6,7 +6,7 @@ use Rattle.lrat_text.specs.declared.step.LratStep.TheVariants.{Add}
 use Rattle.proof_stitch.specs.Stitch.{unit_id, out_additions, empty_addition, refutation_of, IsRefutation}
 use Rattle.proof_stitch.proofs.WriterLemmas.{whole-text}
 use Rattle.proof_stitch.proofs.RefutationLemmas.{IsProved, refutation-refutes}
-use Rattle.proof_stitch.proofs.refuting.whole_proof.Goals as goal
+use Rattle.proof_stitch.proofs.refuted.whole_proof.Goals as goal
 
 text_is : goal.returns-clause-text
 text_is c =
