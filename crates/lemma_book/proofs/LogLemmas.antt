@@ -17,6 +17,7 @@ use Rattle.netlist.proofs.LawNodes.{exact-lit, all-append}
 use Rattle.unit_prop.specs.New.{occurs}
 use Rattle.unit_prop.specs.Step.{IsStep}
 use Rattle.unit_prop.specs.Log.{same_lit, opposite, base_clause, base_clauses, with_own, clauses_of, InTurn, IsStepAfter, IsChain, IsLearned, IsLog}
+use Rattle.unit_prop.specs.Refuter.{IsOver}
 use Rattle.unit_prop.proofs.LawLemmas.{step-more}
 use Rattle.unit_prop.proofs.ChainLemmas.{in_turn-map}
 use Rattle.lemma_book.specs.Cone.{AreThere, IsCone}
@@ -95,16 +96,29 @@ module _ (P : Node → Type 0) where
       each [] all = tt
       each (l ∷ ls) all = (occurs-over (clauses_of base before) l (clauses_of-over base before b s) all.0, each ls all.1)
 
--- a log over a cone is over nodes that the miter has variables for
-pub log-over : (net : AigPair) → IsNet net → (seeds : List Node) (cone : List Named) → IsCone net seeds cone → (log : List Step) → IsLog cone log → AreOver net log
-log-over net is seeds cone is_cone log learned =
-    learned-over (λ n. IsSome (variable_of net n)) cone [] log (there cone (cone-over net is seeds cone is_cone)) tt learned
-  where
-    there : (ms : List Named) → AllByRecursion (λ m. AllByRecursion (λ l. has same_node (variables_of net) l.node ≡ true) m.clause) ms
-        → AllByRecursion (λ m. AllByRecursion (λ l. IsSome (variable_of net l.node)) m.clause) ms
-    there [] all = tt
-    there (m ∷ ms) all = (clause m.clause all.0, there ms all.1)
-      where
-        clause : (ls : List Lit) → AllByRecursion (λ l. has same_node (variables_of net) l.node ≡ true) ls → AllByRecursion (λ l. IsSome (variable_of net l.node)) ls
-        clause [] a = tt
-        clause (l ∷ ls) a = (is_some-variable net l.node ∙ a.0, clause ls a.1)
+module _ (net : AigPair) (is : IsNet net) (seeds : List Node) (cone : List Named) (is_cone : IsCone net seeds cone) where
+  all-there : AllByRecursion (λ m. AllByRecursion (λ l. IsSome (variable_of net l.node)) m.clause) cone
+  all-there = named cone (cone-over net is seeds cone is_cone)
+    where
+      named : (ms : List Named) → AllByRecursion (λ m. AllByRecursion (λ l. has same_node (variables_of net) l.node ≡ true) m.clause) ms
+          → AllByRecursion (λ m. AllByRecursion (λ l. IsSome (variable_of net l.node)) m.clause) ms
+      named [] all = tt
+      named (m ∷ ms) all = (clause m.clause all.0, named ms all.1)
+        where
+          clause : (ls : List Lit) → AllByRecursion (λ l. has same_node (variables_of net) l.node ≡ true) ls → AllByRecursion (λ l. IsSome (variable_of net l.node)) ls
+          clause [] a = tt
+          clause (l ∷ ls) a = (is_some-variable net l.node ∙ a.0, clause ls a.1)
+
+  -- a log over a cone is over nodes that the miter has variables for
+  pub log-over : (log : List Step) → IsLog cone log → AreOver net log
+  log-over log learned = learned-over (λ n. IsSome (variable_of net n)) cone [] log all-there tt learned
+
+  -- so are literals whose variables occur in a cone
+  pub over-there : (ls : List Lit) → IsOver cone ls → AreThere net ls
+  over-there [] all = tt
+  over-there (l ∷ ls) all = (occurs-over (λ n. IsSome (variable_of net n)) (base_clauses cone) l (bare cone all-there) all.0, over-there ls all.1)
+    where
+      bare : (ms : List Named) → AllByRecursion (λ m. AllByRecursion (λ k. IsSome (variable_of net k.node)) m.clause) ms
+          → AllByRecursion (λ c. AllByRecursion (λ k. IsSome (variable_of net k.node)) c) (base_clauses ms)
+      bare [] a = tt
+      bare (m ∷ ms) a = (a.0, bare ms a.1)

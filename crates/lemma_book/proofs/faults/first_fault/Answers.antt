@@ -1,5 +1,5 @@
 use Rattle.lemma_book.proofs.FaultLemmas.{good-no_fault, first-one}
-use Rattle.lemma_book.proofs.laws.first_fault.Goals as goal
+use Rattle.lemma_book.proofs.faults.first_fault.Goals as goal
 
 pub returns : goal.returns
 returns c = record {

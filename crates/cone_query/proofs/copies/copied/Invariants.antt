@@ -1,0 +1,6 @@
+-- The steps so far are copied.
+use Rattle.std.proofs.Common.{◌≡◌, take}
+use Rattle.cone_query.proofs.copies.copied.Given as goal
+
+abbrev pub invariant-loop-step : goal.invariant-loop-step
+invariant-loop-step l = l.copies.items ≡ take l.step-index l.steps
