@@ -5,17 +5,22 @@ use cec_top::{Status, run};
 use desk_port::OpenGate;
 use os_desk::OsDesk;
 use std::env;
-use std::io::ErrorKind;
+use std::io::{self, ErrorKind};
 use std::process::ExitCode;
+use std::rt::Env;
+
+fn words(rt: &(impl Env + AllocGlobal)) -> io::Result<Vec<String>> {
+    Ok(env::args(rt)?.collect(rt.alloc())?)
+}
 
 fn main(rt: HostRuntime) -> ExitCode {
-    let words = match env::args(&rt) {
+    let words = match words(&rt) {
         Ok(words) => words,
         Err(error) if error.kind() == ErrorKind::OutOfMemory => {
             return ExitCode::from(Status::OutOfMemory.code());
         }
         // A word that isn't UTF-8 is answered as words that aren't understood.
-        Err(_) => Vec::new(rt.alloc()).into_iter(),
+        Err(_) => Vec::new(rt.alloc()),
     };
     let mut desk = OsDesk::new(rt.alloc(), &rt, rt.stdout(), rt.stderr());
     let (status, _kept) = run(&rt, rt.alloc(), words.as_slice(), &mut desk, &OpenGate);

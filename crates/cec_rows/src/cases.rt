@@ -1,12 +1,16 @@
 //! Whole checks: what is said, warned and left, and with which status.
-use crate::desk::{run_words, Ran};
+use crate::desk::{Ran, run_words};
 use cec_top::Status;
 use std::test::Fail;
 
 const SWAPPED_A: &[u8] = b"aag 3 2 0 1 1\n2\n4\n6\n6 2 4\n";
+
 const SWAPPED_B: &[u8] = b"aag 3 2 0 1 1\n2\n4\n6\n6 4 2\n";
-const SWAPPED_CNF: &[u8] = b"p cnf 6 12\n1 0\n-4 2 0\n-4 3 0\n4 -2 -3 0\n-5 3 0\n-5 2 0\n5 -3 -2 0\n-6 4 5 0\n\
+
+const SWAPPED_CNF: &[u8] =
+    b"p cnf 6 12\n1 0\n-4 2 0\n-4 3 0\n4 -2 -3 0\n-5 3 0\n-5 2 0\n5 -3 -2 0\n-6 4 5 0\n\
     -6 -4 -5 0\n6 -4 5 0\n6 4 -5 0\n6 0\n";
+
 const EMPTY: &[u8] = b"aag 0 0 0 0 0\n";
 
 const WORDS: [&str; 5] = ["check", "A", "B", "--out", "p"];
@@ -30,7 +34,10 @@ fn swapped_and(rt: HostRuntime) -> Result<(), Fail> {
 fn empty_circuits(rt: HostRuntime) -> Result<(), Fail> {
     let ran = run_words(&rt, rt.alloc(), &[("A", EMPTY), ("B", EMPTY)], &WORDS, &[])?;
     assert!(rt; ran.status == Status::Done);
-    assert_eq!(rt; ran.desk.file("p.0.cnf"), Some(b"p cnf 1 2\n1 0\n0\n".as_slice()));
+    assert_eq!(rt;
+        ran.desk.file("p.0.cnf"),
+        Some(b"p cnf 1 2\n1 0\n0\n".as_slice())
+    );
     assert_eq!(rt; ran.desk.file("p.0.lrat"), Some(b"3 0 2 0\n".as_slice()));
     Ok(())
 }
@@ -40,7 +47,10 @@ fn input_counts_differ(rt: HostRuntime) -> Result<(), Fail> {
     let files = [("A", SWAPPED_A), ("B", b"aag 3 3 0 1 0\n2\n4\n6\n6\n")];
     let ran = run_words(&rt, rt.alloc(), &files, &WORDS, &[])?;
     assert!(rt; ran.status == Status::BadInput);
-    assert_eq!(rt; ran.desk.warned(), b"cec: inputs 2 and 3 differ\n".as_slice());
+    assert_eq!(rt;
+        ran.desk.warned(),
+        b"cec: inputs 2 and 3 differ\n".as_slice()
+    );
     assert_eq!(rt; ran.desk.said(), b"".as_slice());
     assert!(rt; ran.desk.file("p.0.cnf").is_none());
     assert_eq!(rt; ran.kept.len(), 0);
@@ -70,7 +80,13 @@ fn missing_file(rt: HostRuntime) -> Result<(), Fail> {
     assert_eq!(rt; asked.first().map(|name| name.as_str()), Some("A"));
     assert_eq!(rt; asked.last().map(|name| name.as_str()), Some("B"));
 
-    let ran = run_words(&rt, rt.alloc(), &[("A", b""), ("B", SWAPPED_B)], &WORDS, &[])?;
+    let ran = run_words(
+        &rt,
+        rt.alloc(),
+        &[("A", b""), ("B", SWAPPED_B)],
+        &WORDS,
+        &[],
+    )?;
     assert!(rt; ran.status == Status::BadInput);
     assert_eq!(rt; ran.desk.warned(), b"cec: A: bad header\n".as_slice());
     Ok(())
@@ -87,9 +103,19 @@ fn words_that_are_refused(rt: HostRuntime) -> Result<(), Fail> {
         &["lrat", "A", "B"],
     ];
     for words in cases {
-        let ran = run_words(&rt, rt.alloc(), &[("A", SWAPPED_A), ("B", SWAPPED_B)], words, &[])?;
+        let ran = run_words(
+            &rt,
+            rt.alloc(),
+            &[("A", SWAPPED_A), ("B", SWAPPED_B)],
+            words,
+            &[],
+        )?;
         assert!(rt; ran.status == Status::BadUsage, "{words:?}");
-        assert_eq!(rt; ran.desk.warned(), b"cec: bad usage\n".as_slice(), "{words:?}");
+        assert_eq!(rt;
+            ran.desk.warned(),
+            b"cec: bad usage\n".as_slice(),
+            "{words:?}"
+        );
         assert_eq!(rt; ran.desk.asked().len(), 0, "{words:?}");
     }
     Ok(())

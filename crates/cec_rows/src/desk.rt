@@ -1,4 +1,4 @@
-use cec_top::{run, Kept, Status};
+use cec_top::{Kept, Status, run};
 use desk_port::{MemDesk, OpenGate};
 use std::alloc::Global;
 use std::collections::BTreeMap;
@@ -7,6 +7,7 @@ use std::test::Fail;
 use std::thread::Threads;
 
 /// What a run left: its status, its desk and the books that it handed back.
+#[derive(Drop)]
 pub struct Ran {
     pub status: Status,
     pub desk: MemDesk,
@@ -23,7 +24,10 @@ pub fn run_words(
 ) -> Result<Ran, Fail> {
     let mut named = BTreeMap::new(alloc);
     for (name, bytes) in files {
-        named.insert(String::from_str(alloc, name)?, Vec::from_slice(alloc, bytes)?)?;
+        named.insert(
+            String::from_str(alloc, name)?,
+            Vec::from_slice(alloc, bytes)?,
+        )?;
     }
     let mut all = vec![in alloc; String::from_str(alloc, "cec")?]?;
     for word in words {

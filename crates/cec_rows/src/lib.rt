@@ -3,10 +3,8 @@
 #![tactic(auto)]
 
 #[cfg(test)]
-mod desk;
-
-#[cfg(test)]
 mod cases;
-
+#[cfg(test)]
+mod desk;
 #[cfg(test)]
 mod readers;

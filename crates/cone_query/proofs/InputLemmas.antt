@@ -31,8 +31,8 @@ module _ (net : AigPair) where
   input_from-nothing n count =
       same_lists (replicate n false) (input_from net []) (length-replicate n false ∙ count ∙ sym (length-input_from []))
       (λ k d below.
-        let inside : k < n = omega (arith, length-replicate n false) in
-        get_or-replicate n k false d inside ∙ sym (input_from-at [] k d (omega arith)))
+      let inside : k < n = omega (arith, length-replicate n false) in
+      get_or-replicate n k false d inside ∙ sym (input_from-at [] k d (omega arith)))
 
   -- an input with a variable is below the number of inputs
   pub there-below : (n : Node) → IsSome (variable_of net n) → IsBelow (length net.a.inputs) n
@@ -47,9 +47,9 @@ module _ (net : AigPair) where
   input_from-other model l apart =
       same_lists (input_from net model) (input_from net (model ++ l ∷ [])) (length-input_from model ∙ sym (length-input_from (model ++ l ∷ [])))
       (λ k d below.
-        let inside : k < length net.a.inputs = omega (arith, length-input_from model) in
-        input_from-at model k d inside ∙ sym (input_from-at (model ++ l ∷ []) k d inside
-        ∙ list_any-append (λ y. same_lit y (positive (Input k))) model (l ∷ []) ∙ rw (apart k) (or_false (has same_lit model (positive (Input k))))))
+      let inside : k < length net.a.inputs = omega (arith, length-input_from model) in
+      input_from-at model k d inside ∙ sym (input_from-at (model ++ l ∷ []) k d inside
+      ∙ list_any-append (λ y. same_lit y (positive (Input k))) model (l ∷ []) ∙ rw (apart k) (or_false (has same_lit model (positive (Input k))))))
     where
       or_false : (b : Bool) → (b || false) ≡ b
       or_false true = refl
@@ -61,9 +61,9 @@ module _ (net : AigPair) where
       same_lists (set (input_from net model) i true) (input_from net (model ++ positive (Input i) ∷ []))
       (length-set (input_from net model) i true ∙ length-input_from model ∙ sym (length-input_from (model ++ positive (Input i) ∷ [])))
       (λ k d at.
-        let inside : k < length net.a.inputs = omega (arith, length-set (input_from net model) i true, length-input_from model) in
-        go k d inside (i == k) refl
-        ∙ sym (input_from-at (model ++ positive (Input i) ∷ []) k d inside ∙ list_any-append (λ y. same_lit y (positive (Input k))) model (positive (Input i) ∷ [])))
+      let inside : k < length net.a.inputs = omega (arith, length-set (input_from net model) i true, length-input_from model) in
+      go k d inside (i == k) refl
+      ∙ sym (input_from-at (model ++ positive (Input i) ∷ []) k d inside ∙ list_any-append (λ y. same_lit y (positive (Input k))) model (positive (Input i) ∷ [])))
     where
       or_true : (b : Bool) → (b || true) ≡ true
       or_true true = refl

@@ -10,8 +10,8 @@
 
 pub use query::output;
 
-mod query;
-
-mod input;
-
 mod copies;
+mod input;
+mod query;
+#[cfg(test)]
+mod tests;

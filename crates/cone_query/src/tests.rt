@@ -46,8 +46,18 @@ fn gate(var: u32, left: u32, right: u32) -> And
 
 /// Two circuits for the XOR of two inputs, no gate of one a twin of the other's.
 fn xors(alloc: Global) -> Result<(Circuit, Circuit), AllocError> {
-    let a = circuit(alloc, &[1, 2], &[gate(3, 2, 5), gate(4, 3, 4), gate(5, 7, 9)], &[11])?;
-    let b = circuit(alloc, &[1, 2], &[gate(3, 2, 4), gate(4, 3, 5), gate(5, 7, 9)], &[10])?;
+    let a = circuit(
+        alloc,
+        &[1, 2],
+        &[gate(3, 2, 5), gate(4, 3, 4), gate(5, 7, 9)],
+        &[11],
+    )?;
+    let b = circuit(
+        alloc,
+        &[1, 2],
+        &[gate(3, 2, 4), gate(4, 3, 5), gate(5, 7, 9)],
+        &[10],
+    )?;
     Ok((a, b))
 }
 

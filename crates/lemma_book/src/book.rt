@@ -51,10 +51,8 @@ impl Book {
 
     /// Puts an entry last. Where memory is refused the book stays as it is.
     pub fn push(&mut self, entry: Entry) -> Result<(), AllocError>
-        ensures ok {
-            OnOk result
-                (self.new ≡ record { out_budget = self.old.out_budget; entries = self.old.entries ++ entry ∷ [] })
-        }
+        ensures ok { OnOk result
+            (self.new ≡ record { out_budget = self.old.out_budget; entries = self.old.entries ++ entry ∷ [] }) }
         ensures err { OnErr result (self.new ≡ self.old) }
     {
         self.entries.push(entry)?;

@@ -4,9 +4,15 @@ use lits::{Listed, Step};
 #[derive(Drop)]
 pub enum Entry {
     /// Both circuits give the output one value: the steps end with the unit that says so.
-    Out { output: u32, steps: Listed<Step> },
+    Out {
+        output: u32,
+        steps: Listed<Step>,
+    },
     /// The output differs on these truth values of the inputs.
-    OutApart { output: u32, input: Listed<bool> },
+    OutApart {
+        output: u32,
+        input: Listed<bool>,
+    },
     /// A query of the output over the first `seen` entries spent its budget for these learned clauses.
     OutSpent {
         output: u32,

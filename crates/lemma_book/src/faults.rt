@@ -8,12 +8,8 @@ ghost use Rattle.lemma_book.specs.Fault.{Fault, FirstFault};
 ///
 /// It does nothing when it runs.
 pub fn first_fault()
-    ensures good {
-        (net : AigPair) (book : Entries) (entry : Entry) (fault : Fault)
-            → IsGood net book entry → ¬ FirstFault net book entry fault
-    }
-    ensures one {
-        (net : AigPair) (book : Entries) (entry : Entry) (f g : Fault)
-            → FirstFault net book entry f → FirstFault net book entry g → f ≡ g
-    }
+    ensures good { (net : AigPair) (book : Entries) (entry : Entry) (fault : Fault)
+        → IsGood net book entry → ¬ FirstFault net book entry fault }
+    ensures one { (net : AigPair) (book : Entries) (entry : Entry) (f g : Fault)
+        → FirstFault net book entry f → FirstFault net book entry g → f ≡ g }
 {}

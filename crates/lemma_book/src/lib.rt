@@ -14,15 +14,10 @@ pub use cones::cone;
 pub use entry::Entry;
 pub use faults::first_fault;
 
-mod entry;
-
 mod book;
-
-mod walk;
-
 mod cones;
-
+mod entry;
 mod faults;
-
 #[cfg(test)]
 mod tests;
+mod walk;

@@ -85,7 +85,14 @@ fn cone_of_swapped_ands(rt: HostRuntime) -> Result<(), Fail> {
     let alloc = rt.alloc();
     let expected = "4.0 -4 2\n4.1 -4 3\n4.2 4 -2 -3\n5.0 -5 3\n5.1 -5 2\n5.2 5 -3 -2\n6.0 -6 4 5\n\
         6.1 -6 -4 -5\n6.2 6 -4 5\n6.3 6 4 -5\n";
-    is_cone(&rt, alloc, and(alloc, 2, 4)?, and(alloc, 4, 2)?, Node::Xor(0), expected)
+    is_cone(
+        &rt,
+        alloc,
+        and(alloc, 2, 4)?,
+        and(alloc, 4, 2)?,
+        Node::Xor(0),
+        expected,
+    )
 }
 
 #[test]
@@ -94,7 +101,14 @@ fn cone_with_the_constant(rt: HostRuntime) -> Result<(), Fail> {
     let expected = "1.0 1\n4.0 -4 2\n4.1 -4 3\n4.2 4 -2 -3\n5.0 -5 4 -1\n5.1 -5 -4 1\n5.2 5 -4 -1\n\
         5.3 5 4 1\n";
     let no_gates = circuit(alloc, &[1, 2], &[], &[0])?;
-    is_cone(&rt, alloc, and(alloc, 2, 4)?, no_gates, Node::Xor(0), expected)
+    is_cone(
+        &rt,
+        alloc,
+        and(alloc, 2, 4)?,
+        no_gates,
+        Node::Xor(0),
+        expected,
+    )
 }
 
 /// Output 0 is the input and output 1 is false, in A by a gate each.
@@ -121,7 +135,14 @@ fn cone_without_other_outputs(rt: HostRuntime) -> Result<(), Fail> {
     let (a, b) = merged(alloc)?;
     is_cone(&rt, alloc, a, b, Node::Xor(1), expected)?;
     let (a, b) = merged(alloc)?;
-    is_cone(&rt, alloc, a, b, Node::Gate(Side::A, 2), "3.0 -3 2\n3.1 -3 2\n3.2 3 -2\n")?;
+    is_cone(
+        &rt,
+        alloc,
+        a,
+        b,
+        Node::Gate(Side::A, 2),
+        "3.0 -3 2\n3.1 -3 2\n3.2 3 -2\n",
+    )?;
     let (a, b) = merged(alloc)?;
     is_cone(&rt, alloc, a, b, Node::Input(0), "")
 }
@@ -137,7 +158,10 @@ fn entries_in_order(rt: HostRuntime) -> Result<(), Fail> {
         book.push(Entry::OutApart { output, input })?;
     }
     let outputs = match book.entries() {
-        [Entry::OutApart { output: first, .. }, Entry::OutApart { output: second, .. }] => (*first, *second),
+        [
+            Entry::OutApart { output: first, .. },
+            Entry::OutApart { output: second, .. },
+        ] => (*first, *second),
         _ => (9, 9),
     };
     assert_eq!(rt; outputs, (2, 0));

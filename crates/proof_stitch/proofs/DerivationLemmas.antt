@@ -73,7 +73,7 @@ derivation-derives net is budget entries low legal spelling few = record {
           length-additions net (length (miter_of net) + 1) (map out_steps entries ++ map (spent_log entries) (outputs_of net)),
           total-append (map out_steps entries) (map (spent_log entries) (outputs_of net)),
           total-few net is budget entries low legal,
-          logs-few net is budget entries low sound
+          logs-few net is budget entries low sound,
         )
 
 -- what is written behind the steps of the Out entries

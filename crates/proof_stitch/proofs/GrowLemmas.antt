@@ -51,27 +51,27 @@ live-at : (formula : Formula) (clause : List DimacsLiteral) (hints : List ℕ) (
     → after_step (formula_live formula) (Add (length formula + 1) clause hints) id ≡ formula_live (formula ++ clause ∷ []) id
 live-at formula clause hints id =
     elim (cases_lt id 1) [
-      inl none ↦
-        let zero : id ≡ 0 = omega arith in
-        rw (zero, test_other 0 (length formula + 1) (inl (omega arith))) refl
-    | inr least ↦ elim (cases_lt (length formula + 1) id) [
-        inl past ↦
-          rw (test_other id (length formula + 1) (inr past))
-          (live-is formula id least
-          ∙ slice_get_past formula (id - 1) (omega arith)
-          ∙ sym (live-is (formula ++ clause ∷ []) id least
-          ∙ slice_get_past (formula ++ clause ∷ []) (id - 1) (omega (arith, length-append formula (clause ∷ [])))))
-      | inr upto ↦ elim (cases_lt id (length formula + 1)) [
-          inl within ↦
-            rw (test_other id (length formula + 1) (inl within))
+      | inl none ↦
+          let zero : id ≡ 0 = omega arith in
+          rw (zero, test_other 0 (length formula + 1) (inl (omega arith))) refl
+      | inr least ↦ elim (cases_lt (length formula + 1) id) [
+        | inl past ↦
+            rw (test_other id (length formula + 1) (inr past))
             (live-is formula id least
-            ∙ sym (slice_get-left formula (clause ∷ []) (id - 1) (omega arith))
-            ∙ sym (live-is (formula ++ clause ∷ []) id least))
-        | inr next ↦
-          let at : id - 1 ≡ length formula + 0 = omega arith in
-          rw (test_same id (length formula + 1) (omega arith))
-          (sym (live-is (formula ++ clause ∷ []) id least ∙ ap (slice_get (formula ++ clause ∷ [])) at
-          ∙ slice_get-right formula (clause ∷ []) 0))
+            ∙ slice_get_past formula (id - 1) (omega arith)
+            ∙ sym (live-is (formula ++ clause ∷ []) id least
+            ∙ slice_get_past (formula ++ clause ∷ []) (id - 1) (omega (arith, length-append formula (clause ∷ [])))))
+        | inr upto ↦ elim (cases_lt id (length formula + 1)) [
+          | inl within ↦
+              rw (test_other id (length formula + 1) (inl within))
+              (live-is formula id least
+              ∙ sym (slice_get-left formula (clause ∷ []) (id - 1) (omega arith))
+              ∙ sym (live-is (formula ++ clause ∷ []) id least))
+          | inr next ↦
+              let at : id - 1 ≡ length formula + 0 = omega arith in
+              rw (test_same id (length formula + 1) (omega arith))
+              (sym (live-is (formula ++ clause ∷ []) id least ∙ ap (slice_get (formula ++ clause ∷ [])) at
+              ∙ slice_get-right formula (clause ∷ []) 0))
         ]
       ]
     ]
@@ -125,12 +125,12 @@ pub live-range : (formula : Formula) (id : ℕ) (clause : List DimacsLiteral) �
     → (1 ≤ id) × (id ≤ length formula)
 live-range formula id clause e =
     elim (cases_lt id 1) [
-      inl none ↦
-        let zero : id ≡ 0 = omega arith in
-        absurd (none-some clause (rw zero at e))
-    | inr least ↦
-        let within = slice_get_within formula (id - 1) clause (sym (live-is formula id least) ∙ e) in
-        (least, omega arith)
+      | inl none ↦
+          let zero : id ≡ 0 = omega arith in
+          absurd (none-some clause (rw zero at e))
+      | inr least ↦
+          let within = slice_get_within formula (id - 1) clause (sym (live-is formula id least) ∙ e) in
+          (least, omega arith)
     ]
 
 ids : (formula : Formula) (names : List ℕ) → length formula < 10 ^ 18 → AllByRecursion (IsFound (formula_live formula)) names

@@ -10,3 +10,4 @@ pub mod WriterLemmas
 pub mod PlaceLemmas
 pub mod LogLemmas
 pub mod DerivationLemmas
+pub mod WorkedRows

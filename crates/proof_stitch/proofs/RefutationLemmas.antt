@@ -57,7 +57,7 @@ few_variables net is =
       length-range (length net.a.outputs) 0,
       few_gates_of net.a is.a,
       few_gates_of net.b is.b,
-      is.a.count
+      is.a.count,
     )
 
 -- so their CNF variables are in the range of DIMACS
@@ -135,7 +135,7 @@ length-additions net id (steps ∷ lists) =
       arith,
       length-append (additions_from net id id steps) (additions net (id + length steps) lists),
       length-additions_from net id id steps,
-      length-additions net (id + length steps) lists
+      length-additions net (id + length steps) lists,
     )
 
 length-clauses_in : (net : AigPair) (lists : List (List Step)) → length (clauses_in net lists) ≡ total lists
@@ -145,7 +145,7 @@ length-clauses_in net (steps ∷ lists) =
       arith,
       length-append (map (clause_of net) steps) (clauses_in net lists),
       length-map steps (clause_of net),
-      length-clauses_in net lists
+      length-clauses_in net lists,
     )
 
 pub all-derived : (net : AigPair) (budget : ℕ) (es : List Entry) → AllByRecursion (IsSound net budget) es → AllByRecursion (IsDerived net) (map out_steps es)
@@ -212,7 +212,7 @@ module _ (net : AigPair) (budget : ℕ) (entries : List Entry) (proved : IsProve
             arith,
             length-append (miter_of net) (clauses_in net (map out_steps entries)),
             length-clauses_in net (map out_steps entries),
-            length-additions net (m + 1) (map out_steps entries)
+            length-additions net (m + 1) (map out_steps entries),
           );
       step = empty-step same_literal opposite_literal (formula_live f) (unit_id (m + 1) entries) (equal_number net) outputs m (whole f e);
       range = tt;
@@ -230,7 +230,7 @@ module _ (net : AigPair) (budget : ℕ) (entries : List Entry) (proved : IsProve
       omega (
         arith,
         length-append (out_additions net entries) (empty_addition net entries (m + length (out_additions net entries) + 1) ∷ []),
-        length-additions net (m + 1) (map out_steps entries)
+        length-additions net (m + 1) (map out_steps entries),
       )
 
   -- the text of the proof refutes the miter

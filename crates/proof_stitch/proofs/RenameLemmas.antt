@@ -96,11 +96,10 @@ module _ {L M : Type 0} {eq : L → L → Bool} {opposite : L → L} {eq' : M �
       let at : record { set = s.set; clashed = true } ≡ t = cc in
       (subst (λ (z : State L). AllByRecursion P z.set) at all, ap (λ (z : State L). Ok (state z)) at)
   opened s t (l ∷ []) all here e =
-      let at : record { set = s.set ++ l ∷ []; clashed = false } ≡ t = cc in
-      (
+      let at : record { set = s.set ++ l ∷ []; clashed = false } ≡ t = cc in (
         subst (λ (z : State L). AllByRecursion P z.set) at (all-append P s.set (l ∷ []) all here),
         ap (λ (x : List M). Ok (record { set = x; clashed = false })) (sym (map-append f s.set (l ∷ [])))
-        ∙ ap (λ (z : State L). Ok (state z)) at
+            ∙ ap (λ (z : State L). Ok (state z)) at,
       )
   opened s t (l ∷ m ∷ ls) all here e = cc
 

@@ -93,13 +93,12 @@ module _ (net : AigPair) (is : IsNet net) (fits : FitsDimacs net) where
         → AllByRecursion (IsThere net) c
         × (formula_live (base ++ map (clause_of net) before) (id_of net (length base + 1) name) ≡ Some (map (numbered net) c))
     finds before over (Axiom node k) c e =
-        let f = derived.axioms (Axiom node k) c e in
-        (
+        let f = derived.axioms (Axiom node k) c e in (
           axiom-over net is node k c f,
           axiom-live (base ++ map (clause_of net) before) (record {
             more = begins.more ++ map (clause_of net) before;
             is = ap (λ (f : Formula). f ++ map (clause_of net) before) begins.is ∙ append_assoc (miter_of net) begins.more (map (clause_of net) before);
-          }) node k c f
+          }) node k c f,
         )
     finds before over (Shown entry k) c e = let f : None ≡ Some c = derived.axioms (Shown entry k) c e in absurd (none-some c f)
     finds before over (Own k) c e = go (slice_get before k) refl
@@ -109,14 +108,13 @@ module _ (net : AigPair) (is : IsNet net) (fits : FitsDimacs net) where
         go None f = let g : None ≡ Some c = rw f at e in absurd (none-some c g)
         go (Some s) f =
             let g : s.clause ≡ c = same_Some s.clause c (rw f at e) in
-            let at : length base + 1 + k - 1 ≡ length base + k = omega arith in
-            (
+            let at : length base + 1 + k - 1 ≡ length base + k = omega arith in (
               subst (λ (d : List Lit). AllByRecursion (IsThere net) d) g
-              (all_there net s.clause (all-slice_get (λ (t : Step). AllByRecursion (λ l. IsSome (variable_of net l.node)) t.clause) before k s over f)),
+                  (all_there net s.clause (all-slice_get (λ (t : Step). AllByRecursion (λ l. IsSome (variable_of net l.node)) t.clause) before k s over f)),
               live-is (base ++ map (clause_of net) before) (length base + 1 + k) (omega arith)
-              ∙ ap (slice_get (base ++ map (clause_of net) before)) at
-              ∙ slice_get-right base (map (clause_of net) before) k
-              ∙ slice_get-map (clause_of net) before k ∙ ap (option_map (clause_of net)) f ∙ ap (λ (d : List Lit). Some (map (numbered net) d)) g
+                  ∙ ap (slice_get (base ++ map (clause_of net) before)) at
+                  ∙ slice_get-right base (map (clause_of net) before) k
+                  ∙ slice_get-map (clause_of net) before k ∙ ap (option_map (clause_of net)) f ∙ ap (λ (d : List Lit). Some (map (numbered net) d)) g,
             )
 
     -- the steps behind some first ones are additions by which the formula grows

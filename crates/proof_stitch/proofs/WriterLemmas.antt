@@ -302,6 +302,6 @@ whole-text net entries text last hints text' f g h k =
     let outs = out_additions net entries in
     let empty = empty_addition net entries (m + length outs + 1) in
     k ∙ rw (f, g, h) (sym (
-      text_from-lists net m (m + 1) (map out_steps entries) (empty ∷ []) refl
-      ∙ ap (λ (t : List ℕ). text_from m outs ++ t) (append-nil (line_text (m + length outs) empty))
+    text_from-lists net m (m + 1) (map out_steps entries) (empty ∷ []) refl
+    ∙ ap (λ (t : List ℕ). text_from m outs ++ t) (append-nil (line_text (m + length outs) empty))
     ))

@@ -10,7 +10,13 @@ use netlist::Net;
 use std::alloc::{AllocError, Global};
 
 /// The addition of a step under that id. `first` is the id of the first step of its list.
-pub fn addition(alloc: Global, net: &Net, first: u64, id: u64, step: &Step) -> Result<LratStep, AllocError>
+pub fn addition(
+    alloc: Global,
+    net: &Net,
+    first: u64,
+    id: u64,
+    step: &Step,
+) -> Result<LratStep, AllocError>
     requires { HasIds net.now first step.now }
     ensures { IfOk result (λ a. a ≡ addition net.now first id step.now) }
 {

@@ -17,7 +17,12 @@ use std::alloc::{AllocError, Global};
 
 /// Writes to the started file what the book derives from the miter: the steps of its Out entries in order, and then the
 /// logs of its OutSpent entries in order of outputs. It gives the ids of the logs, output by output.
-pub fn derivation<D: Desk>(alloc: Global, net: &Net, book: &Book, desk: &mut D) -> Result<Vec<Span>, StitchErr>
+pub fn derivation<D: Desk>(
+    alloc: Global,
+    net: &Net,
+    book: &Book,
+    desk: &mut D,
+) -> Result<Vec<Span>, StitchErr>
     requires started { IsSome (D.state desk.old).started }
     requires legal { IsLegal net.now book.now }
     ensures answer { WritesDerivation net.now book.now.entries (D.state desk.old) (D.state desk.new) result }
@@ -32,7 +37,11 @@ pub fn derivation<D: Desk>(alloc: Global, net: &Net, book: &Book, desk: &mut D) 
 }
 
 /// The text of the whole derivation, and the ids of the logs.
-fn whole_derivation(alloc: Global, net: &Net, book: &Book) -> Result<(ProofText, Vec<Span>), AllocError>
+fn whole_derivation(
+    alloc: Global,
+    net: &Net,
+    book: &Book,
+) -> Result<(ProofText, Vec<Span>), AllocError>
     requires { IsLegal net.now book.now }
     ensures derives { IfOk result (λ p. IsDerivation net.now book.now.entries p.0.text.items) }
     ensures spans { IfOk result (λ p. p.1.items ≡ spans_of net.now book.now.entries) }

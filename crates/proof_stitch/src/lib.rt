@@ -15,18 +15,14 @@ pub use refuted::refutation;
 pub use span::Span;
 pub use stitch_err::StitchErr;
 
-mod refuted;
-
-mod derived;
-
-mod outs;
-
-mod logs;
-
-mod places;
-
-mod proof_text;
-
 mod addition;
+mod derived;
+mod logs;
+mod outs;
+mod places;
+mod proof_text;
+mod refuted;
 mod span;
 mod stitch_err;
+#[cfg(test)]
+mod tests;

@@ -16,7 +16,12 @@ use netlist::Net;
 use std::alloc::{AllocError, Global};
 
 /// Adds the logs of a book's OutSpent entries, in order of outputs, and gives their ids.
-pub fn push_logs(alloc: Global, net: &Net, book: &Book, proof: &mut ProofText) -> Result<Vec<Span>, AllocError>
+pub fn push_logs(
+    alloc: Global,
+    net: &Net,
+    book: &Book,
+    proof: &mut ProofText,
+) -> Result<Vec<Span>, AllocError>
     requires legal { IsLegal net.now book.now }
     requires room { proof.old.last < 2 ^ 60 }
     ensures text { OnOk result (proof.new.text.items ≡ proof.old.text.items
@@ -31,7 +36,15 @@ pub fn push_logs(alloc: Global, net: &Net, book: &Book, proof: &mut ProofText) -
     let places = spent_places(alloc, entries, net.outputs())?;
     let mut spans = Vec::new(alloc);
     for output in 0..net.outputs() {
-        push_output(alloc, net, entries, output, places[output as usize], proof, &mut spans)?;
+        push_output(
+            alloc,
+            net,
+            entries,
+            output,
+            places[output as usize],
+            proof,
+            &mut spans,
+        )?;
     }
     Ok(spans)
 }

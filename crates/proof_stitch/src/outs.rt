@@ -13,7 +13,12 @@ use netlist::Net;
 use std::alloc::{AllocError, Global};
 
 /// Adds the steps of a book's Out entries, in order. It gives the ids of the outputs' units, in order of outputs.
-pub fn push_outs(alloc: Global, net: &Net, book: &Book, proof: &mut ProofText) -> Result<Vec<u64>, AllocError>
+pub fn push_outs(
+    alloc: Global,
+    net: &Net,
+    book: &Book,
+    proof: &mut ProofText,
+) -> Result<Vec<u64>, AllocError>
     requires legal { IsLegal net.now book.now }
     requires room { proof.old.last < 2 ^ 32 }
     ensures text { OnOk result (proof.new.text.items ≡ proof.old.text.items
@@ -35,7 +40,13 @@ pub fn push_outs(alloc: Global, net: &Net, book: &Book, proof: &mut ProofText) -
 }
 
 /// Adds the steps of an Out entry, and notes the last one's id as its output's unit.
-fn push_out(alloc: Global, net: &Net, entry: &Entry, proof: &mut ProofText, units: &mut [u64]) -> Result<(), AllocError>
+fn push_out(
+    alloc: Global,
+    net: &Net,
+    entry: &Entry,
+    proof: &mut ProofText,
+    units: &mut [u64],
+) -> Result<(), AllocError>
     requires ids { All (HasIds net.now (proof.old.last + 1)) (out_steps entry.now) }
     requires room { proof.old.last + length (out_steps entry.now) + 1 < 2 ^ 64 }
     requires output { output_of entry.now < length units.old }

@@ -6,7 +6,11 @@ use lemma_book::Entry;
 use std::alloc::{AllocError, Global};
 
 /// Where in a book each output's entry with a log stands, by output.
-pub fn spent_places(alloc: Global, entries: &[Entry], outputs: u32) -> Result<Vec<Option<usize>>, AllocError>
+pub fn spent_places(
+    alloc: Global,
+    entries: &[Entry],
+    outputs: u32,
+) -> Result<Vec<Option<usize>>, AllocError>
     requires { All (λ e. output_of e < outputs) entries.now }
     ensures { IfOk result (λ v. ArePlaces entries.now outputs v.items) }
 {

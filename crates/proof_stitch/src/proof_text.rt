@@ -55,7 +55,13 @@ impl ProofText {
     }
 
     /// Adds the clause of a step. `first` is the id of the first step of its list.
-    fn push_step(&mut self, alloc: Global, net: &Net, first: u64, step: &Step) -> Result<(), AllocError>
+    fn push_step(
+        &mut self,
+        alloc: Global,
+        net: &Net,
+        first: u64,
+        step: &Step,
+    ) -> Result<(), AllocError>
         requires ids { HasIds net.now first step.now }
         requires room { self.old.last + 1 < 2 ^ 64 }
         ensures text { OnOk result (self.new.text.items ≡ self.old.text.items

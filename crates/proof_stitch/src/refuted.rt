@@ -17,7 +17,12 @@ use std::alloc::{AllocError, Global};
 
 /// Writes to the started file that the miter has no solution: the steps of the book's Out entries in order, and then the
 /// empty clause, shown by the outputs' units. It gives the number of added lines.
-pub fn refutation<D: Desk>(alloc: Global, net: &Net, book: &Book, desk: &mut D) -> Result<u64, StitchErr>
+pub fn refutation<D: Desk>(
+    alloc: Global,
+    net: &Net,
+    book: &Book,
+    desk: &mut D,
+) -> Result<u64, StitchErr>
     requires started { IsSome (D.state desk.old).started }
     requires legal { IsLegal net.now book.now }
     requires outs { (j : ℕ) → j < length net.now.a.outputs → HasOut book.now.entries j ≡ true }

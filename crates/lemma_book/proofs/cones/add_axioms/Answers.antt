@@ -18,7 +18,7 @@ returns c =
 
 pub loop-k-preserved : goal.loop-k-preserved
 loop-k-preserved c = elim c.match-axiom.branch [
-    in-Some+in_ok-clause+in_ok-push w ↦
+  | in-Some+in_ok-clause+in_ok-push w ↦
       rw w.cone-is
       (named-next c.args.node (axioms_of c.args.net.now c.args.node) c.loop-k.k w.in-Some.short c.args.cone.now.items c.loop-k.cone.items w.push.new.self.items
       (sym w.in-Some.ensures) c.loop-k.invariant
@@ -27,4 +27,4 @@ loop-k-preserved c = elim c.match-axiom.branch [
       rw w.cone-is
       (named-past c.args.node (axioms_of c.args.net.now c.args.node) c.loop-k.k c.args.cone.now.items c.loop-k.cone.items
       (sym c.axiom.ensures ∙ w.in_default.is) c.loop-k.invariant)
-  ]
+]

@@ -45,7 +45,9 @@ returns-clause-refutes c =
     let last : c.push_outs.new.proof.last ≡ m + length (out_additions c.args.net.now entries) = c.in_ok-hints.ensures.last ∙ rw start refl in
     let count : c.push-2.new.self.last - m ≡ length (refutation_of c.args.net.now entries) =
     omega (
-      arith, last, c.in_ok-push-2.ensures.last,
-      length-append (out_additions c.args.net.now entries) (empty_addition c.args.net.now entries (m + length (out_additions c.args.net.now entries) + 1) ∷ [])
+      arith,
+      last,
+      c.in_ok-push-2.ensures.last,
+      length-append (out_additions c.args.net.now entries) (empty_addition c.args.net.now entries (m + length (out_additions c.args.net.now entries) + 1) ∷ []),
     ) in
     rw (text_is c, count) (refutation-refutes c.args.net.now c.args.book.now.out_budget entries proved c.written_text.ensures.all few)

@@ -17,16 +17,16 @@ find_all-requires-clause-there c =
 
 pub loop-k-preserved : goal.loop-k-preserved
 loop-k-preserved c = elim c.match-axiom.branch [
-    in-Some+in_ok-find_all w ↦ 
+  | in-Some+in_ok-find_all w ↦
       let found = subst (λ (lits : List Lit). Finds c.args.net.now c.loop-k.self (nodes_in lits) w.find_all.new.self) w.lits.ensures.lits w.in_ok-find_all.ensures in
       rw w.self-is
       (finds-clause c.args.net.now c.args.self.now c.loop-k.self w.find_all.new.self (axioms_of c.args.net.now c.args.node) c.loop-k.k w.in-Some.clause
       (sym w.in-Some.ensures) c.loop-k.invariant found)
-  | in_default w ↦ 
+  | in_default w ↦
       rw w.self-is
       (finds-no_clause c.args.net.now c.args.self.now c.loop-k.self (axioms_of c.args.net.now c.args.node) c.loop-k.k (sym c.axiom.ensures ∙ w.in_default.is)
       c.loop-k.invariant)
-  ]
+]
 
 pub returns : goal.returns
 returns c =

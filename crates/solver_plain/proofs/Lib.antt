@@ -1,0 +1,9 @@
+pub mod ListLemmas
+pub mod EffectLemmas
+pub mod NameLemmas
+pub mod FormulaLemmas
+pub mod ScanLemmas
+pub mod SearchLemmas
+pub mod ModelLemmas
+pub mod SettleLemmas
+pub mod GuardLemmas

@@ -1,0 +1,6 @@
+pub mod Literals
+pub mod Formula
+pub mod Effect
+pub mod Scan
+pub mod Search
+pub mod Solver
