@@ -13,5 +13,3 @@ pub use query::output;
 mod copies;
 mod input;
 mod query;
-#[cfg(test)]
-mod tests;

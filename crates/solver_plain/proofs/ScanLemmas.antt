@@ -17,7 +17,7 @@ use Rattle.unit_prop.specs.Refuter.{is_over, IsOver}
 use Rattle.unit_prop.proofs.LitLaws.{lit_laws}
 use Rattle.unit_prop.proofs.LiteralLemmas.{or_left, or_right, and_both, contrary, has-map-opposite}
 use Rattle.unit_prop.proofs.ChainLemmas.{all-append}
-use Rattle.unit_prop.proofs.ClosureLemmas.{IsRound, round-first, round-next, round-clash, round-last, consistent-push}
+use Rattle.unit_prop.proofs.ClosureLemmas.{IsRound, round-next, round-clash, round-last, consistent-push}
 use Rattle.solver_plain.specs.declared.effect.Effect.{Effect}
 use Rattle.solver_plain.specs.declared.effect.Effect.TheVariants.{Clashes, Forces}
 use Rattle.solver_plain.specs.declared.formula.Hint.{Hint}
@@ -103,7 +103,11 @@ pub record IsScanning (f : Clauses) (given set : List Lit) (hints : List Ref) : 
   pub over : IsOver f.base set
 
 pub scanning-start : (f : Clauses) (given : List Lit) → IsSound f given → IsScanning f given given []
-scanning-start f given sound = record { brings = refl; round = round-first (clauses_in f) given sound.consistent; over = sound.over }
+scanning-start f given sound = record {
+  brings = refl;
+  round = record { starts = λ l h. h; least = λ p closed. closed.starts; consistent = sound.consistent };
+  over = sound.over;
+}
 
 -- a set stays sound where a free literal joins it
 pub sound-push : (f : Clauses) (set : List Lit) (x : Lit) → IsSound f set → IsFree same_lit opposite set x → is_over f.base x ≡ true
