@@ -8,14 +8,14 @@ use std::thread::Threads;
 
 /// What a run left: its status, its desk and the books that it handed back.
 #[derive(Drop)]
-pub struct Ran {
-    pub status: Status,
-    pub desk: MemDesk,
-    pub kept: Vec<Kept>,
+pub(crate) struct Ran {
+    pub(crate) status: Status,
+    pub(crate) desk: MemDesk,
+    pub(crate) kept: Vec<Kept>,
 }
 
 /// Runs the program on these words behind its name, over a desk with these files that fails at these calls.
-pub fn run_words(
+pub(crate) fn run_words(
     rt: &(impl Threads + Wait),
     alloc: Global,
     files: &[(&str, &[u8])],

@@ -31,6 +31,11 @@ fn and(alloc: Global, left: u32, right: u32) -> Result<Circuit, AllocError>
       gates = record { var = 3; left = left; right = right } ∷ [];
       outputs = 6 ∷ [];
     }) }
+    ensures { IfOk result (λ c. c ≡ record {
+      inputs = 1 ∷ 2 ∷ [];
+      gates = record { var = 3; left = left; right = right } ∷ [];
+      outputs = 6 ∷ [];
+    }) }
 {
     let gate = And {
         var: 3,

@@ -24,5 +24,3 @@ mod proof_text;
 mod refuted;
 mod span;
 mod stitch_err;
-#[cfg(test)]
-mod tests;
