@@ -1,6 +1,6 @@
 -- The definitions computed on a small net: two outputs, the input and its negation, the same on both sides. Its miter is
 -- 1: (1), 2: (-3 2), 3: (-3 -2), 4: (-4 -2), 5: (-4 2), 6: (3 4), by hand from the text of the definitions.
-use Rattle.std.proofs.Common.{◌≡◌, ℕ, zero, suc, ◌<◌, true, List, [], ◌∷◌, length, refl, arith, lit<, lit≤}
+use Rattle.std.proofs.Common.{◌≡◌, ℕ, zero, suc, ◌<◌, true, false, List, [], ◌∷◌, length, refl, arith, lit<, lit≤}
 use Rattle.lits.specs.Dimacs.{DimacsLiteral}
 use Rattle.lits.specs.declared.node.Node.TheVariants.{Input, Xor}
 use Rattle.lits.specs.declared.literal.Lit.{Lit}
