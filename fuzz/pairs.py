@@ -1,12 +1,11 @@
 #!/usr/bin/env python3
 """Random small pairs of circuits, judged apart from the program.
 
-Usage: pairs.py PROGRAM CHECKER [--runs N] [--seed N] [--budget N]
+Usage: pairs.py PROGRAM CHECKER [--runs N] [--seed N]
 
-CHECKER is a strict LRAT checker that is called as `CHECKER CNF PROOF` and prints VERIFIED for a refutation, or as
-`CHECKER --steps CNF PROOF` and prints STEPS where each line is a step. For each pair the circuits are evaluated on every
-input here. EQUIVALENT must be true and its proof VERIFIED; DIFFERENT must name an output and an input on which it
-differs, leave an empty proof, and be true; the file of an UNDECIDED must be steps. Status 1 where anything is wrong.
+CHECKER is a strict LRAT checker that is called as `CHECKER CNF PROOF` and prints VERIFIED for a refutation. For each pair
+the circuits are evaluated on every input here. EQUIVALENT must be true and its proof VERIFIED; an output that is not shown
+equal must be the first that differs. Status 1 where anything is wrong.
 """
 import argparse
 import itertools
@@ -68,27 +67,19 @@ def evaluated(circuit, bits):
     return [value(literal) for literal in outputs]
 
 
-def judged(said, status, a, b, folder, checker):
+def judged(ran, a, b, folder, checker):
     """None where the answer is right, else what is wrong."""
     inputs = len(a[0])
-    differing = {j for bits in itertools.product([False, True], repeat=inputs)
-                 for j, (x, y) in enumerate(zip(evaluated(a, bits), evaluated(b, bits))) if x != y}
-    files = [str(Path(folder, name)) for name in ("p.0.cnf", "p.0.lrat")]
-    lines = said.split("\n")
-    if status == 0:
+    differing = [j for bits in itertools.product([False, True], repeat=inputs)
+                 for j, (x, y) in enumerate(zip(evaluated(a, bits), evaluated(b, bits))) if x != y]
+    if ran.returncode == 0:
+        files = [str(Path(folder, name)) for name in ("p.0.cnf", "p.0.lrat")]
         strict = subprocess.run(checker + files, capture_output=True, text=True).stdout.strip()
-        return None if said == "EQUIVALENT\n" and not differing and strict == "VERIFIED" else "a wrong yes: " + strict
-    if status == 1:
-        output = int(re.fullmatch(r"output (\d+)", lines[1])[1])
-        word = re.fullmatch(r"input (none|[01]+)", lines[2])[1]
-        bits = [] if word == "none" else [c == "1" for c in word]
-        right = (lines[0] == "DIFFERENT" and len(bits) == inputs and not Path(files[1]).read_bytes()
-                 and evaluated(a, bits)[output] != evaluated(b, bits)[output])
-        return None if right else "a wrong no"
-    if status == 2:
-        strict = subprocess.run(checker + ["--steps"] + files, capture_output=True, text=True).stdout.strip()
-        return None if lines[0] == "UNDECIDED" and strict.startswith("STEPS") else "a wrong log: " + strict
-    return "no verdict"
+        return None if ran.stdout == "EQUIVALENT\n" and not differing and strict == "VERIFIED" else "a wrong yes: " + strict
+    open_output = re.fullmatch(r"cec: output (\d+) is not shown equal\n", ran.stderr)
+    if ran.returncode == 4 and open_output:
+        return None if differing and int(open_output[1]) == min(differing) and not ran.stdout else "a wrong no"
+    return "no answer"
 
 
 def main():
@@ -97,7 +88,6 @@ def main():
     parser.add_argument("checker", help="a command, its words parted by spaces")
     parser.add_argument("--runs", type=int, default=400)
     parser.add_argument("--seed", type=int, default=20261126)
-    parser.add_argument("--budget", type=int, help="of each output's query")
     words = parser.parse_args()
     program = str(Path(words.program).resolve())
     rng = random.Random(words.seed)
@@ -109,10 +99,8 @@ def main():
             Path(folder, "A").write_text(text(a))
             Path(folder, "B").write_text(text(b))
             command = [program, "check", "A", "B", "--out", "p"]
-            if words.budget:
-                command += ["--budget", str(words.budget)]
             ran = subprocess.run(command, cwd=folder, capture_output=True, text=True)
-            fault = judged(ran.stdout, ran.returncode, a, b, folder, words.checker.split())
+            fault = judged(ran, a, b, folder, words.checker.split())
             found[ran.returncode] += 1
             if fault:
                 wrong += 1

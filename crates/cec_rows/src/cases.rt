@@ -32,7 +32,8 @@ fn swapped_and(rt: HostRuntime) -> Result<(), Fail> {
 
 #[test]
 fn empty_circuits(rt: HostRuntime) -> Result<(), Fail> {
-    let ran = run_words(&rt, rt.alloc(), &[("A", EMPTY), ("B", EMPTY)], &WORDS, &[])?;
+    let files = [("A", EMPTY), ("B", b"aag 0 0 0 0 0\n")];
+    let ran = run_words(&rt, rt.alloc(), &files, &WORDS, &[])?;
     assert!(rt; ran.status == Status::Done);
     assert_eq!(rt;
         ran.desk.file("p.0.cnf"),
