@@ -3,8 +3,9 @@
 
 Usage: run.py PROGRAM [--sizes N ..] [--folder DIR]
 
-big pairs:    two circuits of N gates a side and no output: seconds, bytes of the files a second, peak memory a gate,
-              beside the seconds of `wc -l` on the same file as a yardstick of the machine
+big pairs:    two circuits of N gates a side and no output: seconds to read A alone (the run ends at a B that is missing),
+              its bytes a second, the seconds of `wc -l` on it as a yardstick of the machine, seconds of the whole check,
+              and its peak memory a gate
 solved pairs: small circuits with outputs that the solver decides: verdict, seconds, clauses and proof lines
 """
 import argparse
@@ -36,16 +37,17 @@ def measured(command, folder):
 
 
 def big_pairs(program, sizes, folder):
-    print(f"{'gates a side':>12} {'bytes':>12} {'seconds':>8} {'MB/s':>7} {'wc -l s':>8} {'peak B/gate':>12}  verdict")
+    print(f"{'gates a side':>12} {'bytes of A':>11} {'read A s':>8} {'MB/s':>7} {'wc -l s':>8} {'check s':>8} {'peak B/gate':>12}"
+          "  verdict")
     for size in sizes:
         a, b = make_pair(SEED, 64, size, 0)
         Path(folder, "A").write_text(a)
         Path(folder, "B").write_text(b)
+        _, _, read, _ = measured([program, "check", "A", "missing", "--out", "p"], folder)
+        _, _, yard, _ = measured(["wc", "-l", "A"], folder)
         status, said, seconds, peak = measured([program, "check", "A", "B", "--out", "p"], folder)
-        _, _, yard, _ = measured(["wc", "-l", "A", "B"], folder)
-        total = len(a) + len(b)
         verdict = said.split("\n")[0]
-        print(f"{size:>12} {total:>12} {seconds:>8.2f} {total / seconds / 1e6:>7.1f} {yard:>8.3f} "
+        print(f"{size:>12} {len(a):>11} {read:>8.2f} {len(a) / read / 1e6:>7.1f} {yard:>8.3f} {seconds:>8.2f} "
               f"{peak / (2 * size):>12.0f}  {status} {verdict}")
 
 
