@@ -13,6 +13,8 @@ const SWAPPED_CNF: &[u8] =
 
 const EMPTY: &[u8] = b"aag 0 0 0 0 0\n";
 
+const EMPTY_CNF: &[u8] = b"p cnf 1 2\n1 0\n0\n";
+
 const WORDS: [&str; 5] = ["check", "A", "B", "--out", "p"];
 
 #[test]
@@ -32,13 +34,10 @@ fn swapped_and(rt: HostRuntime) -> Result<(), Fail> {
 
 #[test]
 fn empty_circuits(rt: HostRuntime) -> Result<(), Fail> {
-    let files = [("A", EMPTY), ("B", b"aag 0 0 0 0 0\n")];
+    let files = [("A", EMPTY), ("B", EMPTY)];
     let ran = run_words(&rt, rt.alloc(), &files, &WORDS, &[])?;
     assert!(rt; ran.status == Status::Done);
-    assert_eq!(rt;
-        ran.desk.file("p.0.cnf"),
-        Some(b"p cnf 1 2\n1 0\n0\n".as_slice())
-    );
+    assert_eq!(rt; ran.desk.file("p.0.cnf"), Some(EMPTY_CNF));
     assert_eq!(rt; ran.desk.file("p.0.lrat"), Some(b"3 0 2 0\n".as_slice()));
     Ok(())
 }
