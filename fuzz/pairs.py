@@ -7,14 +7,14 @@ CHECKER is a strict LRAT checker that is called as `CHECKER CNF PROOF` and print
 the circuits are evaluated on every input here. EQUIVALENT must be true and its proof VERIFIED; an output that is not shown
 equal must be the first that differs. Status 1 where anything is wrong.
 """
-import argparse
 import itertools
 import random
 import re
 import subprocess
 import tempfile
-from collections import Counter
 from pathlib import Path
+
+from rounds import Tally, words_of
 
 
 def random_circuit(rng, inputs, outputs, gates):
@@ -83,30 +83,19 @@ def judged(ran, a, b, folder, checker):
 
 
 def main():
-    parser = argparse.ArgumentParser(description=__doc__, formatter_class=argparse.RawDescriptionHelpFormatter)
-    parser.add_argument("program")
-    parser.add_argument("checker", help="a command, its words parted by spaces")
-    parser.add_argument("--runs", type=int, default=400)
-    parser.add_argument("--seed", type=int, default=20261126)
-    words = parser.parse_args()
-    program = str(Path(words.program).resolve())
-    rng = random.Random(words.seed)
-    found, wrong = Counter(), 0
+    words = words_of(__doc__, 400, "checker")
+    rng, tally = random.Random(words.seed), Tally(words.seed)
     with tempfile.TemporaryDirectory() as folder:
         for _ in range(words.runs):
             a = random_circuit(rng, rng.randrange(0, 5), rng.randrange(0, 4), rng.randrange(0, 9))
             b = rewritten(rng, a)
             Path(folder, "A").write_text(text(a))
             Path(folder, "B").write_text(text(b))
-            command = [program, "check", "A", "B", "--out", "p"]
+            command = [words.program, "check", "A", "B", "--out", "p"]
             ran = subprocess.run(command, cwd=folder, capture_output=True, text=True)
             fault = judged(ran, a, b, folder, words.checker.split())
-            found[ran.returncode] += 1
-            if fault:
-                wrong += 1
-                print(f"{fault}: status {ran.returncode}, {ran.stdout!r}, {ran.stderr!r}, on {text(a)!r} and {text(b)!r}")
-    print(f"seed {words.seed}: {words.runs} pairs, by status {dict(sorted(found.items()))}, {wrong} wrong")
-    raise SystemExit(1 if wrong else 0)
+            tally.add(ran.returncode, fault and f"{fault}: {ran!r}, on {text(a)!r} and {text(b)!r}")
+    tally.end()
 
 
 if __name__ == "__main__":

@@ -6,12 +6,12 @@ Usage: reader.py PROGRAM [--runs N] [--seed N]
 Each run has to end by itself with status 0, 1, 2 or 4, and with exactly one line of warning where the status is 4 and none
 elsewhere. Prints what it found and the seed; status 1 where a run did otherwise.
 """
-import argparse
 import random
 import subprocess
 import tempfile
-from collections import Counter
 from pathlib import Path
+
+from rounds import Tally, words_of
 
 VALID = [
     b"aag 3 2 0 1 1\n2\n4\n6\n6 2 4\n",
@@ -48,32 +48,28 @@ def mutated(rng, file):
     return bytes(data)
 
 
+def faulty(status, lines):
+    """Whether a run did otherwise than it has to."""
+    return status not in (0, 1, 2, 4) or lines != (1 if status == 4 else 0)
+
+
 def main():
-    parser = argparse.ArgumentParser(description=__doc__, formatter_class=argparse.RawDescriptionHelpFormatter)
-    parser.add_argument("program")
-    parser.add_argument("--runs", type=int, default=4000)
-    parser.add_argument("--seed", type=int, default=20261126)
-    words = parser.parse_args()
-    program = str(Path(words.program).resolve())
-    rng = random.Random(words.seed)
-    found, wrong = Counter(), 0
+    words = words_of(__doc__, 4000)
+    rng, tally = random.Random(words.seed), Tally(words.seed)
     with tempfile.TemporaryDirectory() as folder:
         for _ in range(words.runs):
             file = rng.choice(VALID)
             names = {"A": mutated(rng, file), "B": rng.choice([file, mutated(rng, file)])}
             for name, data in names.items():
                 Path(folder, name).write_bytes(data)
+            command = [words.program, "check", "A", "B", "--out", "p"]
             try:
-                ran = subprocess.run([program, "check", "A", "B", "--out", "p"], cwd=folder, capture_output=True, timeout=60)
+                ran = subprocess.run(command, cwd=folder, capture_output=True, timeout=60)
                 status, lines = ran.returncode, ran.stderr.count(b"\n")
             except subprocess.TimeoutExpired:
                 status, lines = "hang", 0
-            found[status] += 1
-            if status not in (0, 1, 2, 4) or lines != (1 if status == 4 else 0):
-                wrong += 1
-                print(f"status {status}, {lines} lines of warning, on {names!r}")
-    print(f"seed {words.seed}: {words.runs} runs, by status {dict(sorted(found.items(), key=str))}, {wrong} wrong")
-    raise SystemExit(1 if wrong else 0)
+            tally.add(status, faulty(status, lines) and f"status {status}, {lines} lines of warning, on {names!r}")
+    tally.end()
 
 
 if __name__ == "__main__":

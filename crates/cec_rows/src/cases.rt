@@ -65,6 +65,7 @@ fn failing_proof_write(rt: HostRuntime) -> Result<(), Fail> {
     assert!(rt; ran.status == Status::CannotWrite);
     assert_eq!(rt; ran.desk.said(), b"".as_slice());
     assert_eq!(rt; ran.desk.warned(), b"cec: cannot write\n".as_slice());
+    assert_eq!(rt; ran.desk.file("p.0.lrat"), Some(b"".as_slice()));
     assert_eq!(rt; ran.desk.file("p.0.cnf"), Some(SWAPPED_CNF));
     assert_eq!(rt; ran.kept.len(), 1);
     Ok(())

@@ -36,6 +36,29 @@ fn ascii_faults(rt: HostRuntime) -> Result<(), Fail> {
     Ok(())
 }
 
+// Up to byte 12 the header is cut, and before byte 25 a line that has to be there.
+#[test]
+fn cut_at_each_byte(rt: HostRuntime) -> Result<(), Fail> {
+    let whole = AND.as_bytes();
+    for n in 0..26u64 {
+        let files = [("A", &whole[..n as usize]), ("B", whole)];
+        let ran = run_words(
+            &rt,
+            rt.alloc(),
+            &files,
+            &["check", "A", "B", "--out", "p"],
+            &[],
+        )?;
+        let line = match n {
+            0..=12 => format!(in rt.alloc(); "cec: A: bad header\n")?,
+            13..=24 => format!(in rt.alloc(); "cec: A: ends too early at byte {n}\n")?,
+            _ => format!(in rt.alloc(); "")?,
+        };
+        assert_eq!(rt; ran.desk.warned(), line.as_bytes(), "after {n} bytes");
+    }
+    Ok(())
+}
+
 #[test]
 fn last_newline(rt: HostRuntime) -> Result<(), Fail> {
     let whole = AND.as_bytes();
