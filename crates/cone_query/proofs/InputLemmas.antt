@@ -1,8 +1,7 @@
 -- The input of a model, literal by literal.
-use Rattle.std.proofs.Common.{◌≡◌, ◌≢◌, ℕ, ◌+◌, ◌<◌, ◌≤◌, Bool, true, false, not, ◌&&◌, ◌||◌, List, [], ◌∷◌, ◌++◌, length, set, take, drop, get_or, zero, suc, map, replicate, refl, sym, ap, ◌∙◌, subst, arith, length-set, get_or-set_same, get_or-set_other}
-use Rattle.std.specs.Prelude.{◌==◌, ⊤, if◌then◌else◌}
+use Rattle.std.proofs.Common.{◌≡◌, ◌≢◌, ℕ, ◌+◌, ◌<◌, Bool, true, false, ◌&&◌, ◌||◌, List, [], ◌∷◌, ◌++◌, length, set, take, drop, get_or, zero, suc, replicate, refl, sym, ap, ◌∙◌, subst, arith, length-set, get_or-set_same, get_or-set_other}
+use Rattle.std.specs.Prelude.{◌==◌, if◌then◌else◌}
 use Rattle.std.specs.Option.{IsSome}
-use Rattle.std.specs.List.{range_with_len, list_any}
 use Rattle.std.proofs.lemmas.Bool.Decides.{nat_tests}
 use Rattle.std.proofs.lemmas.List.{same_lists, take_more, take_at, get_or-replicate, length-replicate}
 use Rattle.std.proofs.lemmas.List.Folds.{list_any-append}
@@ -11,8 +10,9 @@ use Rattle.lits.specs.Clause.{has}
 use Rattle.lits.specs.declared.node.Node.{Node}
 use Rattle.lits.specs.declared.node.Node.TheVariants.{Const, Input, Gate, Xor}
 use Rattle.lits.specs.declared.literal.Lit.{Lit}
-use Rattle.netlist.specs.Net.{AigPair, same_node}
-use Rattle.netlist.specs.Miter.{same_lit, positive, variable_of, variables_of}
+use Rattle.netlist.specs.Net.{AigPair}
+use Rattle.lits.specs.Same.{same_node, same_lit}
+use Rattle.netlist.specs.Miter.{positive, variable_of}
 use Rattle.netlist.proofs.LawThere.{has-position, input-below}
 use Rattle.lemma_book.specs.Cone.{AreThere}
 use Rattle.lemma_book.proofs.ThereLemmas.{is_some-variable}

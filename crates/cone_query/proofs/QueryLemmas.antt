@@ -1,28 +1,28 @@
 -- What a solver's answer over the cone of an output's XOR shows of the output.
-use Rattle.std.proofs.Common.{◌≡◌, ℕ, ◌+◌, ◌<◌, ◌≤◌, Bool, true, false, not, ◌&&◌, ◌||◌, List, [], ◌∷◌, ◌++◌, Option, Some, length, refl, sym, ap, ◌∙◌, subst, arith, length-append}
-use Rattle.std.specs.Prelude.{if◌then◌else◌, slice_index_or}
+use Rattle.std.proofs.Common.{◌≡◌, ℕ, ◌+◌, ◌<◌, Bool, true, false, not, ◌||◌, List, [], ◌∷◌, ◌++◌, length, refl, sym, ap, ◌∙◌, subst, arith, length-append}
+use Rattle.std.specs.Prelude.{if◌then◌else◌}
 use Rattle.std.specs.Option.{IsSome}
-use Rattle.std.specs.List.{list_any, AllByRecursion, range_with_len}
+use Rattle.std.specs.List.{list_any}
 use Rattle.std.proofs.lemmas.Bool.{and_parts}
-use Rattle.lits.specs.Assignment.{Holds, Meets}
+use Rattle.lits.specs.Assignment.{Meets}
 use Rattle.lits.specs.Clause.{has, has_pair}
-use Rattle.lits.specs.declared.node.Side.{Side}
 use Rattle.lits.specs.declared.node.Node.{Node}
-use Rattle.lits.specs.declared.node.Node.TheVariants.{Input, Xor}
+use Rattle.lits.specs.declared.node.Node.TheVariants.{Xor}
 use Rattle.lits.specs.declared.literal.Lit.{Lit}
 use Rattle.lits.specs.declared.step.Named.{Named}
 use Rattle.lits.specs.declared.step.Step.{Step}
 use Rattle.lits.specs.declared.step.Ref.{Ref}
 use Rattle.lits.specs.contracts.literal.LitLiteral.TheImpl.Laws as laws
 use Rattle.netlist.specs.Circuit.{output_value}
-use Rattle.netlist.specs.Net.{AigPair, IsNet, same_node, output_of, value_of, lit_holds, differs}
+use Rattle.netlist.specs.Net.{AigPair, IsNet, lit_holds, differs}
+use Rattle.lits.specs.Same.{same_node, same_lit, opposite}
 use Rattle.netlist.specs.Miter.{positive, negative, axioms_of, variables_of, variable_of}
 use Rattle.netlist.proofs.LawNodes.{exact-lit, range-has, all-append}
 use Rattle.netlist.proofs.LawThere.{has-xor}
 use Rattle.netlist.proofs.LawCones.{IsModelOver, model-xor}
 use Rattle.unit_prop.specs.declared.refuter.Refuted.{Refuted}
 use Rattle.unit_prop.specs.declared.refuter.Refuted.TheVariants.{Yes, No, Spent}
-use Rattle.unit_prop.specs.Log.{same_lit, opposite, base_clauses, IsStepAfter, IsLog}
+use Rattle.unit_prop.specs.Log.{IsStepAfter, IsLog}
 use Rattle.unit_prop.specs.Refuter.{IsOver, IsModel, Answers, StaysUndecided}
 use Rattle.unit_prop.proofs.ChainLemmas.{in_turn-append, log-grows}
 use Rattle.lemma_book.specs.Cone.{AreThere, AreIn, IsCone}

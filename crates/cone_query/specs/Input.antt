@@ -6,7 +6,8 @@ use Rattle.lits.specs.declared.node.Node.{Node}
 use Rattle.lits.specs.declared.node.Node.TheVariants.{Input}
 use Rattle.lits.specs.declared.literal.Lit.{Lit}
 use Rattle.netlist.specs.Net.{AigPair}
-use Rattle.netlist.specs.Miter.{same_lit, positive}
+use Rattle.netlist.specs.Miter.{positive}
+use Rattle.lits.specs.Same.{same_lit}
 
 -- an input is true exactly where the model has its literal, so one of which the model says nothing is false
 abbrev pub input_from : AigPair → List Lit → List Bool

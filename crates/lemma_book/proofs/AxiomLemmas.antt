@@ -1,5 +1,5 @@
 -- The clauses that define a node, one after another.
-use Rattle.std.proofs.Common.{◌≡◌, ℕ, ◌+◌, ◌<◌, ◌≤◌, Bool, true, false, Option, Some, None, List, [], ◌∷◌, ◌++◌, take, length, refl, sym, ap, ◌∙◌, subst, arith, zero, suc, add-one, length-take}
+use Rattle.std.proofs.Common.{◌≡◌, ℕ, ◌+◌, ◌≤◌, Bool, true, false, Option, Some, None, List, [], ◌∷◌, ◌++◌, take, length, refl, sym, ap, ◌∙◌, arith, zero, suc, add-one, length-take}
 use Rattle.std.specs.Prelude.{slice_get}
 use Rattle.std.specs.Option.{option_map_or, IsSome}
 use Rattle.std.specs.List.{AllByRecursion}
@@ -13,8 +13,9 @@ use Rattle.lits.specs.declared.literal.Lit.{Lit}
 use Rattle.lits.specs.declared.step.Ref.TheVariants.{Axiom}
 use Rattle.lits.specs.declared.step.Named.{Named}
 use Rattle.netlist.specs.declared.gate.And.{And}
-use Rattle.netlist.specs.Net.{AigPair, IsNet, same_node, circuit_of, definition_of, gate_at, output_of}
-use Rattle.netlist.specs.Miter.{same_lit, opposite, axioms_of, axiom_of, xor_axioms, gate_clauses, xor_clauses, kept, variables_of, variable_of}
+use Rattle.netlist.specs.Net.{AigPair, IsNet, circuit_of, definition_of, gate_at, output_of}
+use Rattle.lits.specs.Same.{same_node, same_lit, opposite}
+use Rattle.netlist.specs.Miter.{axioms_of, axiom_of, xor_axioms, gate_clauses, xor_clauses, kept, variables_of, variable_of}
 use Rattle.netlist.proofs.LawOver.{over-variables}
 use Rattle.unit_prop.proofs.LitLaws.{lit_laws}
 use Rattle.unit_prop.proofs.ChainLemmas.{all-slice_get}

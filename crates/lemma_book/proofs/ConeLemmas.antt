@@ -1,27 +1,27 @@
 -- What holds of each cone: it is a base, its names are those of the miter's clauses, and there is one.
-use Rattle.std.proofs.Common.{◌≡◌, ℕ, ◌+◌, ◌<◌, ◌≤◌, Bool, true, false, not, ◌&&◌, ◌||◌, Option, Some, None, List, [], ◌∷◌, ◌++◌, map, filter, refl, sym, ap, ◌∙◌, subst, arith, rules, zero, suc}
-use Rattle.std.specs.Prelude.{◌==◌, slice_get, if◌then◌else◌}
+use Rattle.std.proofs.Common.{◌≡◌, ℕ, ◌+◌, ◌<◌, Bool, true, false, not, ◌&&◌, Some, List, [], ◌∷◌, ◌++◌, map, filter, refl, sym, ap, ◌∙◌, subst, arith, rules, suc}
+use Rattle.std.specs.Prelude.{◌==◌, slice_get}
 use Rattle.std.specs.List.{list_any, AllByRecursion, flat_map}
 use Rattle.std.proofs.lemmas.Bool.Decides.{nat_tests}
 use Rattle.std.proofs.lemmas.List.{map-append}
 use Rattle.std.proofs.lemmas.List.Folds.{list_any-append}
-use Rattle.std.proofs.lemmas.Option.{none-some, same_Some}
+use Rattle.std.proofs.lemmas.Option.{none-some}
 use Rattle.lits.specs.Clause.{has, no_repeat}
 use Rattle.lits.specs.declared.node.Node.{Node}
 use Rattle.lits.specs.declared.literal.Lit.{Lit}
 use Rattle.lits.specs.declared.step.Ref.{Ref}
-use Rattle.lits.specs.declared.step.Ref.TheVariants.{Axiom, Entry, Own}
+use Rattle.lits.specs.declared.step.Ref.TheVariants.{Axiom}
 use Rattle.lits.specs.declared.step.Named.{Named}
-use Rattle.netlist.specs.Net.{AigPair, IsNet, same_node}
+use Rattle.netlist.specs.Net.{AigPair, IsNet}
+use Rattle.lits.specs.Same.{same_node}
 use Rattle.netlist.specs.Miter.{axioms_of, axiom_of, variables_of}
-use Rattle.netlist.proofs.LawNodes.{exact-node, same-node_self, all-append}
+use Rattle.netlist.proofs.LawNodes.{same-node_self, all-append}
 use Rattle.netlist.proofs.LawOver.{AreOver, over-variables, all-members}
 use Rattle.unit_prop.specs.Log.{same_name, is_own, IsBase, base_clause}
-use Rattle.lemma_book.specs.Cone.{named_from, named_axioms, AreIn, IsReach, IsCone}
+use Rattle.lemma_book.specs.Cone.{named_from, named_axioms, IsReach, IsCone}
 use Rattle.lemma_book.specs.Entry.{axiom_named}
 use Rattle.lemma_book.proofs.RepeatLemmas.{contrary, or_none, and_both, not_true, no_repeat-append, no_repeat-filter, filter-agree, all-filtered}
 use Rattle.lemma_book.proofs.ThereLemmas.{variables-distinct}
-use Rattle.lemma_book.proofs.FaninLemmas.{reach-there}
 
 exact-name : (x y : Ref) → same_name x y ≡ true → x ≡ y
 exact-name = search rules

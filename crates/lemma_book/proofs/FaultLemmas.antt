@@ -1,8 +1,8 @@
 -- A good entry has no fault, and an entry has one first fault at most.
-use Rattle.std.proofs.Common.{◌≡◌, ℕ, ◌+◌, ◌<◌, ◌≤◌, Bool, true, false, not, ◌||◌, Option, Some, None, List, [], ◌∷◌, ◌++◌, length, take, refl, sym, ap, ◌∙◌, subst, arith, zero, suc, ◌⊎◌, inl, inr}
+use Rattle.std.proofs.Common.{◌≡◌, ℕ, ◌+◌, ◌<◌, Bool, true, false, Option, Some, None, List, [], ◌∷◌, ◌++◌, take, refl, sym, ap, ◌∙◌, subst, arith, zero, suc, ◌⊎◌, inl, inr}
 use Rattle.std.specs.Prelude.{slice_get, nat_lt}
-use Rattle.std.specs.List.{list_any, AllByRecursion}
-use Rattle.std.specs.Option.{is_some, is_none, IsSome}
+use Rattle.std.specs.List.{list_any}
+use Rattle.std.specs.Option.{is_none}
 use Rattle.std.proofs.lemmas.Bool.Decides.{nat_tests}
 use Rattle.std.proofs.lemmas.List.{append_assoc, append-nil}
 use Rattle.std.proofs.lemmas.Option.{none-some, same_Some}
@@ -15,14 +15,15 @@ use Rattle.netlist.specs.Net.{AigPair}
 use Rattle.netlist.specs.Miter.{variable_of}
 use Rattle.unit_prop.specs.declared.why.BadStep.{BadStep}
 use Rattle.unit_prop.specs.Step.{first_fault}
-use Rattle.unit_prop.specs.Log.{same_lit, opposite, base_clause, with_own, InTurn, IsStepAfter, IsChain, IsLearned}
+use Rattle.unit_prop.specs.Log.{base_clause, with_own, InTurn, IsStepAfter, IsChain, IsLearned}
+use Rattle.lits.specs.Same.{same_lit, opposite}
 use Rattle.unit_prop.specs.Refuter.{IsUndecided}
 use Rattle.unit_prop.proofs.ChainLemmas.{in_turn-map}
 use Rattle.lemma_book.specs.declared.entry.Entry.{Entry}
 use Rattle.lemma_book.specs.declared.entry.Entry.TheVariants.{Out, OutApart, OutSpent}
-use Rattle.lemma_book.specs.Cone.{AreThere, IsCone}
+use Rattle.lemma_book.specs.Cone.{AreThere}
 use Rattle.lemma_book.specs.Entry.{Entries, output_of, has_output, equal_clause, axiom_named, AreOver, IsGood}
-use Rattle.lemma_book.specs.Fault.{Fault, NoNode, Already, NotApart, Shape, Count, Seen, NoStep, NotNew, has_unknown, steps_of, turn_of, step_of, HasNoStep, FailsAt, FailsInCone, IsStale, Stands, ComesBefore, FirstFault}
+use Rattle.lemma_book.specs.Fault.{Fault, NoNode, Already, NotApart, Shape, Count, Seen, NoStep, NotNew, has_unknown, turn_of, step_of, HasNoStep, FailsAt, Stands, FirstFault}
 use Rattle.lemma_book.proofs.RepeatLemmas.{contrary}
 use Rattle.lemma_book.proofs.ConeLemmas.{cone-one}
 

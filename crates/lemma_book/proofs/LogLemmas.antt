@@ -1,9 +1,7 @@
 -- What logs over a cone are over the whole miter: chains over its axioms, and over nodes that it has variables for.
-use Rattle.std.proofs.Common.{◌≡◌, ℕ, Bool, true, false, ◌||◌, List, [], ◌∷◌, ◌++◌, Option, Some, None, map, refl, sym, ap, ◌∙◌, subst}
-use Rattle.std.specs.Prelude.{slice_get}
-use Rattle.std.specs.Option.{option_map, IsSome}
-use Rattle.std.specs.List.{list_any, AllByRecursion}
-use Rattle.std.proofs.lemmas.Bool.{or_parts}
+use Rattle.std.proofs.Common.{◌≡◌, Bool, true, false, ◌||◌, List, [], ◌∷◌, ◌++◌, Option, Some, refl, sym, ap, ◌∙◌, subst}
+use Rattle.std.specs.Option.{IsSome}
+use Rattle.std.specs.List.{AllByRecursion}
 use Rattle.lits.specs.Clause.{has}
 use Rattle.lits.specs.declared.node.Node.{Node}
 use Rattle.lits.specs.declared.literal.Lit.{Lit}
@@ -11,18 +9,18 @@ use Rattle.lits.specs.declared.step.Named.{Named}
 use Rattle.lits.specs.declared.step.Step.{Step}
 use Rattle.lits.specs.declared.step.Ref.{Ref}
 use Rattle.lits.specs.declared.step.Ref.TheVariants.{Axiom, Entry, Own}
-use Rattle.netlist.specs.Net.{AigPair, IsNet, same_node}
+use Rattle.netlist.specs.Net.{AigPair, IsNet}
+use Rattle.lits.specs.Same.{same_node, same_lit, opposite}
 use Rattle.netlist.specs.Miter.{variables_of, variable_of}
 use Rattle.netlist.proofs.LawNodes.{exact-lit, all-append}
 use Rattle.unit_prop.specs.New.{occurs}
 use Rattle.unit_prop.specs.Step.{IsStep}
-use Rattle.unit_prop.specs.Log.{same_lit, opposite, base_clause, base_clauses, with_own, clauses_of, InTurn, IsStepAfter, IsChain, IsLearned, IsLog}
+use Rattle.unit_prop.specs.Log.{base_clause, base_clauses, with_own, clauses_of, InTurn, IsStepAfter, IsChain, IsLearned, IsLog}
 use Rattle.unit_prop.specs.Refuter.{IsOver}
 use Rattle.unit_prop.proofs.LawLemmas.{step-more}
 use Rattle.unit_prop.proofs.ChainLemmas.{in_turn-map}
 use Rattle.lemma_book.specs.Cone.{AreThere, IsCone}
 use Rattle.lemma_book.specs.Entry.{axiom_named, AreOver}
-use Rattle.lemma_book.proofs.RepeatLemmas.{or_none}
 use Rattle.lemma_book.proofs.ThereLemmas.{is_some-variable}
 use Rattle.lemma_book.proofs.ConeLemmas.{cone-axiom, cone-over}
 

@@ -1,7 +1,7 @@
 -- What the clauses of a cone ask of its nodes, and that a node's variable occurs in them.
-use Rattle.std.proofs.Common.{◌≡◌, ℕ, ◌+◌, ◌<◌, Bool, true, false, ◌&&◌, ◌||◌, List, [], ◌∷◌, ◌++◌, Option, Some, None, map, filter, flat_map, length, refl, sym, ap, ◌∙◌, subst}
+use Rattle.std.proofs.Common.{◌≡◌, ℕ, ◌+◌, ◌<◌, Bool, true, false, ◌||◌, List, [], ◌∷◌, ◌++◌, Option, Some, filter, flat_map, length, refl, sym, ap, ◌∙◌, subst}
 use Rattle.std.specs.Prelude.{slice_index}
-use Rattle.std.specs.List.{list_any, AllByRecursion}
+use Rattle.std.specs.List.{list_any}
 use Rattle.std.proofs.lemmas.List.{map-append}
 use Rattle.std.proofs.lemmas.List.Folds.{list_any-append}
 use Rattle.std.proofs.lemmas.Map.Views.{any-filter_same}
@@ -14,15 +14,16 @@ use Rattle.lits.specs.declared.literal.Lit.{Lit}
 use Rattle.lits.specs.declared.step.Named.{Named}
 use Rattle.lits.specs.contracts.literal.LitLiteral.TheImpl.Laws as laws
 use Rattle.netlist.specs.Circuit.{var_of}
-use Rattle.netlist.specs.Net.{AigPair, IsNet, same_node, output_of}
-use Rattle.netlist.specs.Miter.{same_lit, opposite, positive, negative, axioms_of, xor_axioms, xor_clauses, kept, variables_of}
-use Rattle.netlist.proofs.LawNodes.{exact-node, exact-lit, same-node_self}
+use Rattle.netlist.specs.Net.{AigPair, IsNet, output_of}
+use Rattle.lits.specs.Same.{same_node, same_lit, opposite}
+use Rattle.netlist.specs.Miter.{positive, negative, axioms_of, xor_axioms, xor_clauses, kept, variables_of}
+use Rattle.netlist.proofs.LawNodes.{exact-node, exact-lit}
 use Rattle.netlist.proofs.LawCones.{output_lit, output_of-below}
 use Rattle.netlist.proofs.LawOver.{flat_map-member}
 use Rattle.unit_prop.specs.New.{occurs}
 use Rattle.unit_prop.specs.Log.{base_clauses}
 use Rattle.unit_prop.proofs.LitLaws.{lit_laws}
-use Rattle.lemma_book.specs.Cone.{named_from, named_axioms, AreIn, IsReach, IsCone}
+use Rattle.lemma_book.specs.Cone.{named_from, named_axioms, AreIn, IsCone}
 use Rattle.lemma_book.proofs.RepeatLemmas.{or_left, or_right}
 use Rattle.lemma_book.proofs.FaninLemmas.{apart-lits, node_of-no_xor, reach-there}
 

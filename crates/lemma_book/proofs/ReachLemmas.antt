@@ -1,9 +1,7 @@
 -- A walk that goes on until nothing is left to be visited finds what its seeds reach.
-use Rattle.std.proofs.Common.{◌≡◌, ℕ, ◌+◌, ◌-◌, ◌<◌, ◌≤◌, Bool, true, false, not, ◌&&◌, ◌||◌, Option, Some, None, List, [], ◌∷◌, ◌++◌, map, length, flat_map, refl, sym, ap, ◌∙◌, subst, arith, length-append}
-use Rattle.std.specs.Ordering.{nat_cmp}
-use Rattle.std.specs.Option.{option_map, is_some, IsSome}
+use Rattle.std.proofs.Common.{◌≡◌, ℕ, ◌+◌, ◌-◌, ◌<◌, ◌≤◌, Bool, true, false, not, ◌&&◌, ◌||◌, Option, Some, None, List, [], ◌∷◌, ◌++◌, length, flat_map, refl, sym, ap, ◌∙◌, subst, arith, length-append}
+use Rattle.std.specs.Option.{is_some, IsSome}
 use Rattle.std.specs.Map.{keys_of, values_of}
-use Rattle.std.specs.BTreeMap.{IsOrdered}
 use Rattle.std.specs.List.{All, AllByRecursion}
 use Rattle.std.proofs.lemmas.List.Elements.{All-from_recursion}
 use Rattle.std.proofs.lemmas.List.Folds.{list_any-append}
@@ -14,16 +12,15 @@ use Rattle.lits.specs.Clause.{has}
 use Rattle.lits.specs.declared.node.Node.{Node}
 use Rattle.lits.specs.declared.literal.Lit.{Lit}
 use Rattle.netlist.specs.Place.{place_of}
-use Rattle.netlist.specs.Net.{AigPair, IsNet, same_node}
+use Rattle.netlist.specs.Net.{AigPair, IsNet}
+use Rattle.lits.specs.Same.{same_node}
 use Rattle.netlist.specs.Miter.{axioms_of, variables_of, variable_of}
 use Rattle.netlist.proofs.LawNodes.{at-place, exact-node, same-node_self}
-use Rattle.netlist.proofs.LawNumbers.{variable-has}
 use Rattle.netlist.proofs.LawOver.{AreOver, all-members}
 use Rattle.lemma_book.specs.declared.walk.Walk.{Walk}
 use Rattle.lemma_book.specs.Cone.{nodes_in, AreIn, IsClosed, IsReach}
 use Rattle.lemma_book.specs.Walk.{AreNumbered, is_found, is_pending, nodes_named, IsWalk, Finds}
 use Rattle.lemma_book.proofs.RepeatLemmas.{contrary, or_none, or_left, or_right}
-use Rattle.lemma_book.proofs.ThereLemmas.{is_some-variable}
 use Rattle.lemma_book.proofs.FaninLemmas.{closed-over, fanins_from_over}
 
 -- clauses whose nodes are in a set are over it, and the other way round

@@ -1,10 +1,10 @@
 -- Nodes that are found by their CNF variables stand in the order of the miter.
-use Rattle.std.proofs.Common.{◌≡◌, ℕ, ◌+◌, ◌-◌, ◌<◌, ◌≤◌, Bool, true, false, ◌||◌, Option, Some, None, List, [], ◌∷◌, ◌++◌, map, filter, length, refl, sym, ap, ◌∙◌, subst, arith, length-append, ◌⊎◌, inl, inr}
+use Rattle.std.proofs.Common.{◌≡◌, ℕ, ◌+◌, ◌-◌, ◌≤◌, Bool, true, false, ◌||◌, Some, List, [], ◌∷◌, ◌++◌, filter, length, refl, sym, ap, ◌∙◌, subst, arith, length-append, ◌⊎◌, inl, inr}
 use Rattle.std.specs.Prelude.{slice_get, nat_lt, not, if◌then◌else◌, ⊤}
 use Rattle.std.specs.Ordering.{nat_cmp}
 use Rattle.std.specs.declared.cmp.Ordering.TheVariants.{Less}
 use Rattle.std.specs.Map.{keys_of, values_of}
-use Rattle.std.specs.List.{list_any, AllByRecursion}
+use Rattle.std.specs.List.{AllByRecursion}
 use Rattle.std.specs.List.Sorted.{IsStrictlySortedBy}
 use Rattle.std.proofs.lemmas.Option.{none-some, same_Some}
 use Rattle.std.proofs.lemmas.List.{append_assoc}
@@ -12,13 +12,14 @@ use Rattle.std.proofs.lemmas.Map.Keys.{sorted_head, sorted_tail}
 use Rattle.std.proofs.lemmas.Bool.Decides.{nat_tests}
 use Rattle.lits.specs.Clause.{has, no_repeat}
 use Rattle.lits.specs.declared.node.Node.{Node}
-use Rattle.netlist.specs.Net.{AigPair, IsNet, same_node}
-use Rattle.netlist.specs.Miter.{variables_of, variable_of}
+use Rattle.netlist.specs.Net.{AigPair, IsNet}
+use Rattle.lits.specs.Same.{same_node}
+use Rattle.netlist.specs.Miter.{variables_of}
 use Rattle.netlist.proofs.PlaceLemmas.{slice_get-right}
 use Rattle.netlist.proofs.LawNodes.{same-node_self, exact-node}
 use Rattle.netlist.proofs.LawNumbers.{variable_at}
 use Rattle.lemma_book.specs.Walk.{AreNumbered}
-use Rattle.lemma_book.proofs.RepeatLemmas.{and_both, not_true, or_none, contrary, filter-agree, filter-nothing, has_from_filter, no_repeat-rest}
+use Rattle.lemma_book.proofs.RepeatLemmas.{and_both, not_true, or_none, contrary, filter-agree, filter-nothing, has_from_filter}
 use Rattle.lemma_book.proofs.ThereLemmas.{variable-positive, variables-distinct}
 
 -- the entries' numbers rise from low on, and each is the variable of its node

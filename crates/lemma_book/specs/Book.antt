@@ -1,8 +1,7 @@
 -- When a book is legal.
-use Rattle.std.specs.Prelude.{List, [], ◌∷◌, ◌++◌}
+use Rattle.std.specs.Prelude.{[]}
 use Rattle.netlist.specs.Net.{AigPair}
 use Rattle.unit_prop.specs.Log.{InTurn}
-use Rattle.lemma_book.specs.declared.entry.Entry.{Entry}
 use Rattle.lemma_book.specs.Entry.{Entries, IsGood}
 
 -- each entry is good over those before it

@@ -13,7 +13,8 @@ use Rattle.netlist.specs.Miter.{variable_of}
 use Rattle.unit_prop.specs.declared.why.BadStep.{BadStep}
 use Rattle.unit_prop.specs.Step.{first_fault}
 use Rattle.unit_prop.specs.New.{IsNew}
-use Rattle.unit_prop.specs.Log.{same_lit, opposite, base_clause, with_own, clauses_of}
+use Rattle.unit_prop.specs.Log.{base_clause, with_own, clauses_of}
+use Rattle.lits.specs.Same.{same_lit, opposite}
 use Rattle.unit_prop.specs.Refuter.{IsUndecided}
 use Rattle.lemma_book.specs.declared.entry.Entry.{Entry}
 use Rattle.lemma_book.specs.declared.entry.Entry.TheVariants.{Out, OutApart, OutSpent}

@@ -5,7 +5,8 @@ use Rattle.std.specs.Ordering.{nat_cmp}
 use Rattle.std.specs.BTreeMap.{IsOrdered, values}
 use Rattle.lits.specs.Clause.{has}
 use Rattle.lits.specs.declared.node.Node.{Node}
-use Rattle.netlist.specs.Net.{AigPair, same_node}
+use Rattle.netlist.specs.Net.{AigPair}
+use Rattle.lits.specs.Same.{same_node}
 use Rattle.netlist.specs.Miter.{axioms_of, variable_of}
 use Rattle.lemma_book.specs.declared.walk.Walk.{Walk}
 use Rattle.lemma_book.specs.Cone.{nodes_in}

@@ -1,4 +1,6 @@
 pub mod Clause
 pub mod Assignment
 pub mod Dimacs
-pub mod LiteralSet
+pub mod Chains
+pub mod Code
+pub mod Same

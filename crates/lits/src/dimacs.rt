@@ -72,8 +72,11 @@ impl Default for Dim {
 
 impl Literal for Dim {
     ghost use Rattle.std.proofs.Common.{rules};
+    ghost use Rattle.lits.specs.Code.{code_of_dim};
 
     ghost opposite = { λ d. record d { neg = not d.neg } };
+
+    ghost code = { code_of_dim };
 
     ghost twice = { Prim.search rules };
 
@@ -86,5 +89,9 @@ impl Literal for Dim {
             var: self.var,
             neg: !self.neg,
         }
+    }
+
+    fn code(self) -> u64 {
+        2 * u64::from(self.var) + if self.neg { 1 } else { 0 }
     }
 }

@@ -17,6 +17,7 @@ pub use literal_set::LiteralSet;
 pub use node::{Node, Side};
 pub use step::{Named, Ref, Step};
 
+mod chains;
 mod clause;
 mod dimacs;
 mod listed;

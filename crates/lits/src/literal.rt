@@ -1,6 +1,7 @@
-ghost use Rattle.std.specs.Prelude.{◌≡◌, Bool, true, false, not};
+ghost use Rattle.std.specs.Prelude.{◌≡◌, ◌<◌, ◌^◌, ℕ, Bool, true, false, not};
+ghost use Rattle.lits.specs.Code.{code_of_node};
 
-use crate::node::Node;
+use crate::node::{Node, Side};
 
 /// A variable or its negation.
 ///
@@ -11,6 +12,12 @@ pub trait Literal: Copy + Ord + Default {
     /// The literal of the same variable with the other sign.
     fn not(self) -> Self
         ensures { result ≡ opposite self };
+
+    ghost code: { Self → ℕ };
+
+    /// A number of the literal, by which tables spread literals.
+    fn code(self) -> u64
+        ensures { result ≡ code self };
 
     ghost twice: { (x : Self) → opposite (opposite x) ≡ x };
 
@@ -37,8 +44,11 @@ impl Default for Lit {
 
 impl Literal for Lit {
     ghost use Rattle.std.proofs.Common.{rules};
+    ghost use Rattle.lits.specs.Code.{code_of_lit};
 
     ghost opposite = { λ l. record l { neg = not l.neg } };
+
+    ghost code = { code_of_lit };
 
     ghost twice = { Prim.search rules };
 
@@ -51,5 +61,22 @@ impl Literal for Lit {
             node: self.node,
             neg: !self.neg,
         }
+    }
+
+    fn code(self) -> u64 {
+        2 * code_of_node(self.node) + if self.neg { 1 } else { 0 }
+    }
+}
+
+fn code_of_node(node: Node) -> u64
+    ensures value { result ≡ code_of_node node }
+    ensures small { result < 2 ^ 35 }
+{
+    match node {
+        Node::Const => 0,
+        Node::Input(index) => 5 * u64::from(index) + 1,
+        Node::Gate(Side::A, variable) => 5 * u64::from(variable) + 2,
+        Node::Gate(Side::B, variable) => 5 * u64::from(variable) + 3,
+        Node::Xor(index) => 5 * u64::from(index) + 4,
     }
 }

@@ -1,27 +1,27 @@
 ghost use Rattle.std.specs.Prelude.{◌≡◌, [], ◌∷◌, ◌++◌, false, OnOk, OnErr};
 ghost use Rattle.lits.specs.Clause.{has};
 
+use crate::chains::Chains;
 use crate::literal::Literal;
 use std::alloc::{AllocError, Global};
-use std::collections::BTreeSet;
 use std::marker::Model;
 
-/// Literals in the order in which they came, each once, in which one finds a literal in logarithmic time.
+/// Literals in the order in which they came, each once, in which one finds a literal in constant time on average.
 #[derive(Drop)]
 pub struct LiteralSet<L: Literal> {
     order: Vec<L>,
-    index: BTreeSet<L>,
+    chains: Chains,
 }
 
 impl<L: Literal> Model for LiteralSet<L> {
     ghost use Rattle.std.specs.Prelude.{List};
-    ghost use Rattle.lits.specs.LiteralSet.{IsIndex};
+    ghost use Rattle.lits.specs.Chains.{IsIndex};
 
     ghost Value = { List L };
 
     ghost view = { λ s. s.order.items };
 
-    ghost invariant = { λ s. IsIndex L.PartialEq.eq L.Ord.cmp s.index s.order.items };
+    ghost invariant = { λ s. IsIndex L.Literal.code s.chains.heads.items s.chains.links.items s.order.items };
 }
 
 impl<L: Literal> LiteralSet<L> {
@@ -31,7 +31,7 @@ impl<L: Literal> LiteralSet<L> {
     {
         LiteralSet {
             order: Vec::new(alloc),
-            index: BTreeSet::new(alloc),
+            chains: Chains::new(alloc),
         }
     }
 
@@ -39,7 +39,7 @@ impl<L: Literal> LiteralSet<L> {
     pub fn has(&self, lit: L) -> bool
         ensures { result ≡ has L.PartialEq.eq self.now lit }
     {
-        self.index.contains(&lit)
+        self.chains.has(self.order.as_slice(), lit)
     }
 
     /// Puts a literal last that the set hasn't.
@@ -49,7 +49,9 @@ impl<L: Literal> LiteralSet<L> {
         ensures err { OnErr result (self.new ≡ self.old) }
     {
         self.order.reserve(1)?;
-        self.index.insert(lit)?;
+        let alloc = *self.order.allocator();
+        self.chains.make_room(alloc, self.order.as_slice())?;
+        self.chains.add(lit.code())?;
         self.order.push_reserved(lit);
         Ok(())
     }
@@ -59,7 +61,7 @@ impl<L: Literal> LiteralSet<L> {
         ensures { self.new ≡ [] }
     {
         self.order.clear();
-        self.index.clear();
+        self.chains.clear();
     }
 
     /// The literals, in the order in which they came.
@@ -73,7 +75,7 @@ impl<L: Literal> LiteralSet<L> {
     pub fn into_vec(self) -> Vec<L>
         ensures { result.items ≡ self }
     {
-        let LiteralSet { order, index: _ } = self;
+        let LiteralSet { order, chains: _ } = self;
         order
     }
 }

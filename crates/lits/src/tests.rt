@@ -128,3 +128,22 @@ fn literal_sets(rt: HostRuntime) -> Result<(), Fail> {
     assert!(rt; set.into_vec().is_empty());
     Ok(())
 }
+
+#[test]
+fn large_literal_sets(rt: HostRuntime) -> Result<(), Fail> {
+    let mut set = LiteralSet::new(rt.alloc());
+    for _ in 0..2 {
+        set.clear();
+        for var in 1..100u32 {
+            let lit = Dim::new(var, var % 3 == 0);
+            if !set.has(lit) {
+                set.push(lit)?;
+            }
+        }
+        assert_eq!(rt; set.lits().len(), 99);
+        assert!(rt; set.has(Dim::new(3, true)));
+        assert!(rt; !set.has(Dim::new(3, false)));
+        assert!(rt; !set.has(Dim::new(100, false)));
+    }
+    Ok(())
+}

@@ -13,9 +13,10 @@ use Rattle.unit_prop.proofs.ChainLemmas.{all-slice_get}
 use Rattle.lrat_text.specs.declared.line.Line.{Line}
 use Rattle.lrat_text.specs.declared.step.LratStep.{LratStep}
 use Rattle.lrat_text.specs.declared.step.LratStep.TheVariants.{Add, Del}
-use Rattle.lrat_text.specs.Derivation.{same_literal, opposite_literal, Live, formula_live, after_step, live_after, fault_over, DerivesFrom, Derives, adds_empty, Refutes}
+use Rattle.lrat_text.specs.Derivation.{Live, formula_live, after_step, live_after, fault_over, DerivesFrom, Derives, adds_empty, Refutes}
+use Rattle.lits.specs.Same.{same_dim, opposite_dim}
 
-literal_laws : IsLiteral same_literal opposite_literal
+literal_laws : IsLiteral same_dim opposite_dim
 literal_laws = is_literal dim_eq.laws-law dim.exact-law dim.twice-law
 
 -- each live clause holds under v
@@ -29,7 +30,7 @@ formula-holds v formula meets = record { holds = λ id clause e. go id clause (e
     go id clause true f e = let g : None ≡ Some clause = rw f at e in cc
     go id clause false f e = all-slice_get (Holds v) formula (id - 1) clause meets (rw f at e)
 
-module _ (v : DimacsLiteral → Bool) (assigns : IsAssignment opposite_literal v) where
+module _ (v : DimacsLiteral → Bool) (assigns : IsAssignment opposite_dim v) where
   -- the clause of a step holds where the live ones do
   step-clause : (live : Live) (id : ℕ) (clause : List DimacsLiteral) (hints : List ℕ) → AllHold v live → fault_over live (Add id clause hints) ≡ None → Holds v clause
   step-clause live id clause hints all step = step-holds literal_laws v assigns live all.holds clause hints step
@@ -66,12 +67,12 @@ module _ (v : DimacsLiteral → Bool) (assigns : IsAssignment opposite_literal v
         | inr there ↦ lines-not_empty (after_step live line.step) lines (step-keeps live line.step all derives.0) derives.1 there
       ]
 
-pub refutes-unsatisfiable : (formula : List (List DimacsLiteral)) (lines : List Line) → Refutes formula lines → ¬ IsSatisfiable opposite_literal formula
+pub refutes-unsatisfiable : (formula : List (List DimacsLiteral)) (lines : List Line) → Refutes formula lines → ¬ IsSatisfiable opposite_dim formula
 refutes-unsatisfiable formula lines r s =
     lines-not_empty s.values s.assigns (formula_live formula) lines (formula-holds s.values formula s.meets) r.derives r.empty
 
 pub live-follows : (formula : List (List DimacsLiteral)) (lines : List Line) → Derives formula lines → (id : ℕ) (clause : List DimacsLiteral)
-    → live_after (formula_live formula) lines id ≡ Some clause → Follows opposite_literal formula clause
+    → live_after (formula_live formula) lines id ≡ Some clause → Follows opposite_dim formula clause
 live-follows formula lines derives id clause e v assigns meets =
     (lines-keep v assigns (formula_live formula) lines (formula-holds v formula meets) derives).holds id clause e
 

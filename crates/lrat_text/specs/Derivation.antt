@@ -4,21 +4,13 @@
 use Rattle.std.specs.Prelude.{◌≡◌, ℕ, ◌-◌, Bool, true, false, List, [], ◌∷◌, Option, Some, None, ◌==◌, if◌then◌else◌}
 use Rattle.std.specs.List.{list_any, slice_get}
 use Rattle.lits.specs.Dimacs.{DimacsLiteral}
-use Rattle.lits.specs.contracts.dimacs.DimPartialEq.TheImpl as dim_eq
-use Rattle.lits.specs.contracts.dimacs.DimLiteral.TheImpl as dim
+use Rattle.lits.specs.Same.{same_dim, opposite_dim}
 use Rattle.unit_prop.specs.Step.{first_fault}
 use Rattle.unit_prop.specs.declared.why.BadStep.{BadStep}
 use Rattle.lrat_text.specs.declared.line.Line.{Line}
 use Rattle.lrat_text.specs.declared.step.LratStep.{LratStep}
 use Rattle.lrat_text.specs.declared.step.LratStep.TheVariants.{Add, Del}
 use Rattle.lrat_text.specs.Numbers.{is_empty}
-
--- the `==` of literals, and their negation
-abbrev pub same_literal : DimacsLiteral → DimacsLiteral → Bool
-same_literal = dim_eq.ghosts.eq
-
-abbrev pub opposite_literal : DimacsLiteral → DimacsLiteral
-opposite_literal = dim.ghosts.opposite
 
 -- the clauses that are live, by their ids
 abbrev pub Live : Type 0
@@ -40,7 +32,7 @@ live_after live (line ∷ lines) = live_after (after_step live line.step) lines
 
 -- the first fault of an addition; a deletion has none
 abbrev pub fault_over : Live → LratStep → Option BadStep
-fault_over live (Add id clause hints) = first_fault same_literal opposite_literal live clause hints
+fault_over live (Add id clause hints) = first_fault same_dim opposite_dim live clause hints
 fault_over live (Del ids) = None
 
 -- each step is one over the clauses that are live then

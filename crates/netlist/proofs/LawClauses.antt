@@ -8,7 +8,8 @@ use Rattle.lits.specs.Assignment.{IsAssignment, Meets}
 use Rattle.lits.specs.declared.node.Node.{Node}
 use Rattle.lits.specs.declared.literal.Lit.{Lit}
 use Rattle.netlist.specs.Net.{Definition, differs, lit_holds}
-use Rattle.netlist.specs.Miter.{same_lit, opposite, gate_clauses, xor_clauses, kept}
+use Rattle.netlist.specs.Miter.{gate_clauses, xor_clauses, kept}
+use Rattle.lits.specs.Same.{same_lit, opposite}
 use Rattle.netlist.proofs.LawNodes.{exact-lit}
 
 -- the values of literals by those of nodes are an assignment

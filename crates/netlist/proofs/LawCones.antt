@@ -12,7 +12,8 @@ use Rattle.lits.specs.declared.node.Node.TheVariants.{Const, Input, Gate, Xor}
 use Rattle.lits.specs.declared.literal.Lit.{Lit}
 use Rattle.netlist.specs.declared.gate.And.{And}
 use Rattle.netlist.specs.Circuit.{Aig, output_value}
-use Rattle.netlist.specs.Net.{AigPair, IsNet, same_node, nodes_of, circuit_of, lit_named, output_of, definition_of, gate_at, differs, value_of, lit_holds}
+use Rattle.netlist.specs.Net.{AigPair, IsNet, nodes_of, circuit_of, lit_named, output_of, definition_of, gate_at, differs, value_of, lit_holds}
+use Rattle.lits.specs.Same.{same_node}
 use Rattle.netlist.specs.Miter.{axioms_of, xor_axioms, gate_clauses, xor_clauses, kept, variables_of}
 use Rattle.netlist.proofs.LawNodes.{equal-number, found-one, no-facts}
 use Rattle.netlist.proofs.LawClauses.{meets_from_kept, gate_from_meets, xor_from_meets}

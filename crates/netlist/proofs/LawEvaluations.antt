@@ -16,7 +16,8 @@ use Rattle.lits.specs.declared.literal.Lit.{Lit}
 use Rattle.netlist.specs.declared.gate.And.{And}
 use Rattle.netlist.specs.Place.{place_of}
 use Rattle.netlist.specs.Circuit.{var_of, gate_vars, variables_in, is_over, Aig, IsCircuit, given, values_in, value_in, output_value}
-use Rattle.netlist.specs.Net.{AigPair, IsNet, same_node, circuit_of, node_of, lit_named, output_of, gate_at, nodes_of, value_of, lit_holds}
+use Rattle.netlist.specs.Net.{AigPair, IsNet, circuit_of, node_of, lit_named, output_of, gate_at, nodes_of, value_of, lit_holds}
+use Rattle.lits.specs.Same.{same_node}
 use Rattle.netlist.proofs.LawNodes.{equal-number, other-number, place_from_any, at-place, both-all, found-one, any_from_find, find_from_any, list_any-map}
 use Rattle.netlist.proofs.LawRun.{IsAmong, Follows, lit_value-same, all-new, all-found, run-unique}
 use Rattle.netlist.proofs.LawValues.{at_variables, lit_holds-named, is_circuit, given-zero, value_of-gate, value-gate}

@@ -8,7 +8,8 @@ use Rattle.lits.specs.Assignment.{Holds, Meets, IsSatisfiable}
 use Rattle.lits.specs.declared.node.Node.{Node}
 use Rattle.lits.specs.declared.node.Node.TheVariants.{Xor}
 use Rattle.netlist.specs.Circuit.{output_value}
-use Rattle.netlist.specs.Net.{AigPair, IsNet, Agree, Differ, same_node, value_of, lit_holds, differs}
+use Rattle.netlist.specs.Net.{AigPair, IsNet, Agree, Differ, value_of, lit_holds, differs}
+use Rattle.lits.specs.Same.{same_node, opposite_dim}
 use Rattle.netlist.specs.Miter.{positive, axioms_of, xors_of, variables_of, clauses_of, miter_of}
 use Rattle.netlist.proofs.LawNodes.{equal-number, same-number, range-has, list_any-map, all-append, all-parts}
 use Rattle.netlist.proofs.LawValues.{values-meet}
@@ -16,7 +17,7 @@ use Rattle.netlist.proofs.LawThere.{has-xor, xor-below}
 use Rattle.netlist.proofs.LawEvaluations.{inputs_under, length-inputs_under, inputs_under-at}
 use Rattle.netlist.proofs.LawCones.{IsModelOver, model-all}
 use Rattle.netlist.proofs.LawOver.{all-members, all-flat_map, flat_map-member, variables-fanins, variables-outputs, over-clauses}
-use Rattle.netlist.proofs.LawNumbers.{opposite_number, satisfiable-numbers}
+use Rattle.netlist.proofs.LawNumbers.{satisfiable-numbers}
 
 -- a number of the list that passes
 any_number : (test : ℕ → Bool) (xs : List ℕ) → list_any test xs ≡ true
@@ -107,7 +108,7 @@ module _ (net : AigPair) (is : IsNet net) where
       apart = differs_from_apart (output_value net.a d.bits d.output) (output_value net.b d.bits d.output) d.apart
 
   -- the law
-  pub satisfiable : IsSatisfiable opposite_number (miter_of net) ↔ Differ net
+  pub satisfiable : IsSatisfiable opposite_dim (miter_of net) ↔ Differ net
   satisfiable =
       let numbers = satisfiable-numbers net (clauses_of net) (over-clauses net is) in
       (λ s. let r = numbers.0 s in differ_from_model r.0 r.1, λ d. numbers.1 (value_of net d.bits, model_from_differ d))
@@ -122,7 +123,7 @@ module _ (net : AigPair) (is : IsNet net) where
       go false true e f = absurd (none (record { bits = bits; whole = whole; output = j; within = within; apart = λ s. let h : false ≡ true = sym e ∙ s ∙ f in cc }))
 
   -- the law, the other way round
-  pub unsatisfiable : (¬ IsSatisfiable opposite_number (miter_of net)) ↔ Agree net
+  pub unsatisfiable : (¬ IsSatisfiable opposite_dim (miter_of net)) ↔ Agree net
   unsatisfiable = (
     λ none. agree_from_same (λ d. none (satisfiable.1 d)),
     λ agree s. let d = satisfiable.0 s in d.apart (agree d.bits d.whole d.output d.within),

@@ -9,8 +9,7 @@ use Rattle.std.proofs.lemmas.Bool.Decides.{nat_tests}
 use Rattle.lits.specs.declared.node.Node.{Node}
 use Rattle.lits.specs.declared.literal.Lit.{Lit}
 use Rattle.netlist.specs.Place.{place_of}
-use Rattle.netlist.specs.Net.{same_node}
-use Rattle.netlist.specs.Miter.{same_lit}
+use Rattle.lits.specs.Same.{same_node, same_lit}
 use Rattle.netlist.proofs.PlaceLemmas.{is_some-place, at_place}
 
 -- nodes, literals and numbers that are found equal are one, and each equals itself

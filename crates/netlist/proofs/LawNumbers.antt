@@ -9,34 +9,25 @@ use Rattle.lits.specs.Assignment.{IsAssignment, Meets, Follows, IsSatisfiable}
 use Rattle.lits.specs.Dimacs.{DimacsLiteral}
 use Rattle.lits.specs.declared.node.Node.{Node}
 use Rattle.lits.specs.declared.literal.Lit.{Lit}
-use Rattle.lits.specs.contracts.dimacs.DimLiteral.TheImpl as dim
-use Rattle.lits.specs.contracts.dimacs.DimPartialEq.TheImpl as dim_eq
 use Rattle.netlist.specs.Place.{place_of}
-use Rattle.netlist.specs.Net.{AigPair, same_node, lit_holds}
-use Rattle.netlist.specs.Miter.{same_lit, opposite, positive, variables_of, variable_of, cnf_number_of, numbered}
+use Rattle.netlist.specs.Net.{AigPair, lit_holds}
+use Rattle.lits.specs.Same.{same_node, same_lit, opposite, same_dim, opposite_dim}
+use Rattle.netlist.specs.Miter.{positive, variables_of, variable_of, cnf_number_of, numbered}
 use Rattle.netlist.proofs.LawNodes.{exact-node, exact-lit, list_any-same, place_from_any, at-place}
 use Rattle.netlist.proofs.LawClauses.{lit_holds-assigns}
 use Rattle.netlist.proofs.LawOver.{AreOver}
 
--- DIMACS literals are negated as the program does it
-abbrev pub opposite_number : DimacsLiteral → DimacsLiteral
-opposite_number = (dim.ghosts).opposite
-
--- DIMACS literals are compared as the program does it
-abbrev pub same_number : DimacsLiteral → DimacsLiteral → Bool
-same_number = (dim_eq.ghosts).eq
-
-exact-number : (x y : DimacsLiteral) → same_number x y ≡ true → x ≡ y
+exact-number : (x y : DimacsLiteral) → same_dim x y ≡ true → x ≡ y
 exact-number = search rules
 
-same-number_self : (x : DimacsLiteral) → same_number x x ≡ true
+same-number_self : (x : DimacsLiteral) → same_dim x x ≡ true
 same-number_self = search rules
 
 same-lit_self : (x : Lit) → same_lit x x ≡ true
 same-lit_self = search rules
 
 -- the number of a negation is the negation of the number
-pub numbered-opposite : (net : AigPair) (l : Lit) → numbered net (opposite l) ≡ opposite_number (numbered net l)
+pub numbered-opposite : (net : AigPair) (l : Lit) → numbered net (opposite l) ≡ opposite_dim (numbered net l)
 numbered-opposite net l = refl
 
 -- the node at its own place
@@ -95,10 +86,10 @@ numbered-one net x y hx hy e =
 
 -- so numbering keeps which literals are equal
 pub numbered-same : (net : AigPair) (x y : Lit) → has same_node (variables_of net) x.node ≡ true
-    → has same_node (variables_of net) y.node ≡ true → same_number (numbered net x) (numbered net y) ≡ same_lit x y
-numbered-same net x y hx hy = go (same_number (numbered net x) (numbered net y)) (same_lit x y) refl refl
+    → has same_node (variables_of net) y.node ≡ true → same_dim (numbered net x) (numbered net y) ≡ same_lit x y
+numbered-same net x y hx hy = go (same_dim (numbered net x) (numbered net y)) (same_lit x y) refl refl
   where
-    go : (b c : Bool) → same_number (numbered net x) (numbered net y) ≡ b → same_lit x y ≡ c → b ≡ c
+    go : (b c : Bool) → same_dim (numbered net x) (numbered net y) ≡ b → same_lit x y ≡ c → b ≡ c
     go true true e f = refl
     go false false e f = refl
     go true false e f =
@@ -106,7 +97,7 @@ numbered-same net x y hx hy = go (same_number (numbered net x) (numbered net y))
         sym (subst (λ (z : Lit). same_lit x z ≡ true) one (same-lit_self x)) ∙ f
     go false true e f =
         let one = exact-lit x y f in
-        sym e ∙ subst (λ (z : Lit). same_number (numbered net x) (numbered net z) ≡ true) one (same-number_self (numbered net x))
+        sym e ∙ subst (λ (z : Lit). same_dim (numbered net x) (numbered net z) ≡ true) one (same-number_self (numbered net x))
 
 -- the values of nodes by those of literals
 abbrev pub values_of_nodes : (Lit → Bool) → Node → Bool
@@ -135,7 +126,7 @@ abbrev pub values_by_number : AigPair → (DimacsLiteral → Bool) → Node → 
 values_by_number net u n = u (numbered net (positive n))
 
 -- a literal has the value of its number
-pub values_by_number-literal : (net : AigPair) (u : DimacsLiteral → Bool) → IsAssignment opposite_number u → (l : Lit)
+pub values_by_number-literal : (net : AigPair) (u : DimacsLiteral → Bool) → IsAssignment opposite_dim u → (l : Lit)
     → lit_holds (values_by_number net u) l ≡ u (numbered net l)
 values_by_number-literal net u assigns l = go l.neg (unwrap_or (variable_of net l.node) 0)
   where
@@ -151,7 +142,7 @@ abbrev pub numbers_by_node : AigPair → (Node → Bool) → DimacsLiteral → B
 numbers_by_node net v d = if d.neg then not (value_at_number net v d.var) else value_at_number net v d.var
 
 -- they are an assignment
-pub numbers_by_node-assigns : (net : AigPair) (v : Node → Bool) → IsAssignment opposite_number (numbers_by_node net v)
+pub numbers_by_node-assigns : (net : AigPair) (v : Node → Bool) → IsAssignment opposite_dim (numbers_by_node net v)
 numbers_by_node-assigns net v = record { negates = λ d. go d.neg (value_at_number net v d.var) }
   where
     go : (neg value : Bool) → (if not neg then not value else value) ≡ not (if neg then not value else value)
@@ -197,7 +188,7 @@ over-weaker P Q f (c ∷ cs) all = (go c all.0, over-weaker P Q f cs all.1)
 
 module _ (net : AigPair) (cs : List (List Lit)) where
   -- an assignment of numbers that meets the numbered clauses meets them as one of nodes
-  pub nodes-meet : (u : DimacsLiteral → Bool) → IsAssignment opposite_number u → Meets u (map (λ c. map (numbered net) c) cs)
+  pub nodes-meet : (u : DimacsLiteral → Bool) → IsAssignment opposite_dim u → Meets u (map (λ c. map (numbered net) c) cs)
       → Meets (lit_holds (values_by_number net u)) cs
   nodes-meet u assigns m =
       let same = λ (l : Lit). sym (values_by_number-literal net u assigns l) in
@@ -215,7 +206,7 @@ module _ (net : AigPair) (cs : List (List Lit)) where
 
   -- the numbered clauses are satisfiable exactly where some values of the nodes meet the clauses
   pub satisfiable-numbers : AreOver (has same_node (variables_of net)) cs
-      → (IsSatisfiable opposite_number (map (λ c. map (numbered net) c) cs) ↔ ((v : Node → Bool) × Meets (lit_holds v) cs))
+      → (IsSatisfiable opposite_dim (map (λ c. map (numbered net) c) cs) ↔ ((v : Node → Bool) × Meets (lit_holds v) cs))
   satisfiable-numbers over = (
     λ s. (values_by_number net s.values, nodes-meet s.values s.assigns s.meets),
     λ s. record {
@@ -227,7 +218,7 @@ module _ (net : AigPair) (cs : List (List Lit)) where
 
   -- what follows from clauses over nodes follows from them by numbers
   pub follows-numbers : (c : List Lit) → Follows opposite cs c
-      → Follows opposite_number (map (λ d. map (numbered net) d) cs) (map (numbered net) c)
+      → Follows opposite_dim (map (λ d. map (numbered net) d) cs) (map (numbered net) c)
   follows-numbers c follows u assigns m =
       holds-replaced u (lit_holds (values_by_number net u)) (numbered net) c
       (all-all (λ l. u (numbered net l) ≡ lit_holds (values_by_number net u) l) (λ l. sym (values_by_number-literal net u assigns l)) c)

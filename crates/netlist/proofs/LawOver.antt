@@ -15,8 +15,9 @@ use Rattle.lits.specs.declared.node.Node.TheVariants.{Const, Input, Gate, Xor}
 use Rattle.lits.specs.declared.literal.Lit.{Lit}
 use Rattle.netlist.specs.declared.gate.And.{And}
 use Rattle.netlist.specs.Circuit.{var_of, gate_vars, variables_in, Aig}
-use Rattle.netlist.specs.Net.{AigPair, IsNet, same_node, circuit_of, node_of, lit_named, output_of, definition_of, gate_at, nodes_of}
-use Rattle.netlist.specs.Miter.{same_lit, opposite, positive, axioms_of, xor_axioms, gate_clauses, xor_clauses, kept, xors_of, variables_of, clauses_of}
+use Rattle.netlist.specs.Net.{AigPair, IsNet, circuit_of, node_of, lit_named, output_of, definition_of, gate_at, nodes_of}
+use Rattle.lits.specs.Same.{same_node, same_lit, opposite}
+use Rattle.netlist.specs.Miter.{positive, axioms_of, xor_axioms, gate_clauses, xor_clauses, kept, xors_of, variables_of, clauses_of}
 use Rattle.netlist.proofs.LawNodes.{exact-node, same-node_self, equal-number, found-one, all-append, all-parts, no-facts}
 use Rattle.netlist.proofs.LawRun.{IsAmong, all-over}
 use Rattle.netlist.proofs.LawValues.{is_circuit}

@@ -14,7 +14,8 @@ use Rattle.lits.specs.declared.node.Node.TheVariants.{Const, Input, Gate, Xor}
 use Rattle.netlist.specs.declared.gate.And.{And}
 use Rattle.netlist.specs.Place.{place_of}
 use Rattle.netlist.specs.Circuit.{gate_vars, variables_in, is_over, Aig}
-use Rattle.netlist.specs.Net.{AigPair, IsNet, same_node, circuit_of, node_of, definition_of, definitions, nodes_of, position_of}
+use Rattle.netlist.specs.Net.{AigPair, IsNet, circuit_of, node_of, definition_of, definitions, nodes_of, position_of}
+use Rattle.lits.specs.Same.{same_node}
 use Rattle.netlist.specs.Miter.{xors_of, variables_of}
 use Rattle.netlist.proofs.PlaceLemmas.{place_none}
 use Rattle.netlist.proofs.LawNodes.{other-number, place_from_any, at-place, list_any-map, list_any-same, list_all-get, in-range, range-has}

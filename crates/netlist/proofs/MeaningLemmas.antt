@@ -1,5 +1,5 @@
 -- The clauses that stay, one after another.
-use Rattle.std.proofs.Common.{◌≡◌, ◌≢◌, ℕ, zero, suc, ◌+◌, ◌-◌, ◌<◌, ◌≤◌, Bool, true, false, cond, Option, None, Some, List, [], ◌∷◌, ◌++◌, length, drop, refl, sym, ap, ◌∙◌, subst, arith, add-one}
+use Rattle.std.proofs.Common.{◌≡◌, ◌≢◌, ℕ, zero, suc, ◌+◌, ◌-◌, ◌≤◌, Bool, true, false, cond, Option, None, Some, List, [], ◌∷◌, length, drop, refl, sym, ap, ◌∙◌, subst, arith, add-one}
 use Rattle.std.specs.Prelude.{slice_get, option_and_then}
 use Rattle.std.specs.List.{cons_option}
 use Rattle.std.specs.Option.{is_some}
@@ -7,7 +7,8 @@ use Rattle.lits.specs.Clause.{firsts, has_pair}
 use Rattle.lits.specs.declared.literal.Lit.{Lit}
 use Rattle.netlist.specs.declared.meaning.Meaning.{Meaning}
 use Rattle.netlist.specs.declared.meaning.Meaning.TheVariants as meaning
-use Rattle.netlist.specs.Miter.{same_lit, opposite, kept}
+use Rattle.netlist.specs.Miter.{kept}
+use Rattle.lits.specs.Same.{same_lit, opposite}
 use Rattle.netlist.specs.Meaning.{kept_clause, clauses_that_say}
 
 kept-cons : (c : List Lit) (cs : List (List Lit)) → kept (c ∷ cs) ≡ cons_option (kept_clause c) (kept cs)

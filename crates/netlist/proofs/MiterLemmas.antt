@@ -1,24 +1,23 @@
 -- The numbered clauses of the miter.
 use Rattle.std.proofs.Common.{◌≡◌, ℕ, zero, suc, ◌+◌, ◌<◌, ◌≤◌, Bool, true, false, cond, not, Option, Some, None, List, [], ◌∷◌, ◌++◌, length, take, map, get_or, add-one, zero-add, refl, sym, ap, ◌∙◌, subst, arith}
-use Rattle.std.specs.Prelude.{◌==◌, ◌&&◌, ◌||◌, filter, slice_get, slice_set, IfSome}
+use Rattle.std.specs.Prelude.{◌&&◌, ◌||◌, filter, slice_get, slice_set, IfSome}
 use Rattle.std.specs.Option.{option_map, option_map_or}
 use Rattle.std.specs.List.{AllByRecursion, range_with_len, flat_map}
-use Rattle.std.specs.Cmp.{IsEquivalence}
 use Rattle.std.proofs.Math.Seq.{take-length, take-suc-set}
 use Rattle.std.proofs.lemmas.List.{map-append, take_more, length-set}
-use Rattle.std.proofs.lemmas.Option.{none-some, same_Some, slice_get-get_or, slice_get_within}
-use Rattle.std.proofs.lemmas.Bool.Decides.{nat_tests}
+use Rattle.std.proofs.lemmas.Option.{none-some, same_Some, slice_get-get_or}
 use Rattle.lits.specs.Clause.{has, firsts, no_repeat, has_pair, IsClause}
 use Rattle.lits.specs.Dimacs.{DimacsLiteral}
 use Rattle.lits.specs.declared.node.Node.{Node}
-use Rattle.lits.specs.declared.node.Node.TheVariants.{Const, Input, Gate, Xor}
+use Rattle.lits.specs.declared.node.Node.TheVariants.{Const, Xor}
 use Rattle.lits.specs.declared.literal.Lit.{Lit}
 use Rattle.lits.specs.contracts.dimacs.DimEq.TheImpl.Laws as dim_eq
-use Rattle.netlist.specs.Net.{AigPair, IsNet, same_node}
-use Rattle.netlist.specs.Miter.{same_lit, opposite, positive, kept, axioms_of, axiom_of, xors_of, variables_of, variable_of, numbered, clauses_of, miter_of}
+use Rattle.netlist.specs.Net.{AigPair, IsNet}
+use Rattle.lits.specs.Same.{same_node, same_lit, opposite, same_dim, opposite_dim}
+use Rattle.netlist.specs.Miter.{positive, kept, axioms_of, axiom_of, xors_of, variables_of, variable_of, numbered, miter_of}
 use Rattle.netlist.specs.Numbered.{AreThere, numbered_at, numbered_before}
 use Rattle.netlist.proofs.StartLemmas.{flat_next, take_next}
-use Rattle.netlist.proofs.LawNumbers.{same_number, opposite_number, numbered-same, numbered-opposite}
+use Rattle.netlist.proofs.LawNumbers.{numbered-same}
 use Rattle.netlist.proofs.LawOver.{over-variables, over-clauses}
 use Rattle.netlist.proofs.LawNodes.{all-parts, same-node_self, exact-lit, range-has}
 use Rattle.netlist.proofs.NetLemmas.{axioms_of-none, axioms_of-meaning}
@@ -45,11 +44,11 @@ has-get (x ∷ xs) (suc k) n e = or_true (same_node x n) (has same_node xs n) (h
     or_true false b h = h
 
 -- a list without repeats is its own clause
-firsts-once : (xs : List DimacsLiteral) → no_repeat same_number xs ≡ true → firsts same_number xs ≡ xs
+firsts-once : (xs : List DimacsLiteral) → no_repeat same_dim xs ≡ true → firsts same_dim xs ≡ xs
 firsts-once [] e = refl
 firsts-once (x ∷ xs) e =
-    ap (λ (ys : List DimacsLiteral). x ∷ filter (λ y. not (same_number x y)) ys) (firsts-once xs (right (has same_number xs x) (no_repeat same_number xs) e))
-    ∙ ap (λ (ys : List DimacsLiteral). x ∷ ys) (all xs (left (has same_number xs x) (no_repeat same_number xs) e))
+    ap (λ (ys : List DimacsLiteral). x ∷ filter (λ y. not (same_dim x y)) ys) (firsts-once xs (right (has same_dim xs x) (no_repeat same_dim xs) e))
+    ∙ ap (λ (ys : List DimacsLiteral). x ∷ ys) (all xs (left (has same_dim xs x) (no_repeat same_dim xs) e))
   where
     left : (a b : Bool) → (not a && b) ≡ true → a ≡ false
     left true b h = cc
@@ -63,36 +62,36 @@ firsts-once (x ∷ xs) e =
     both true b h = cc
     both false b h = (refl, h)
 
-    all : (ys : List DimacsLiteral) → has same_number ys x ≡ false → filter (λ y. not (same_number x y)) ys ≡ ys
+    all : (ys : List DimacsLiteral) → has same_dim ys x ≡ false → filter (λ y. not (same_dim x y)) ys ≡ ys
     all [] h = refl
     all (y ∷ ys) h =
-        let apart = both (same_number y x) (has same_number ys x) h in
+        let apart = both (same_dim y x) (has same_dim ys x) h in
         rw ((dim_eq.laws-law).symm x y ∙ apart.0) (ap (λ (zs : List DimacsLiteral). y ∷ zs) (all ys apart.1))
 
-pub clause_is : (xs : List DimacsLiteral) → IsClause same_number opposite_number xs → firsts same_number xs ≡ xs
+pub clause_is : (xs : List DimacsLiteral) → IsClause same_dim opposite_dim xs → firsts same_dim xs ≡ xs
 clause_is xs clause = firsts-once xs clause.once
 
 -- numbering keeps clauses
 has-numbered : (net : AigPair) (xs : List Lit) (x : Lit) → AreThere net xs → has same_node (variables_of net) x.node ≡ true
-    → has same_number (map (numbered net) xs) (numbered net x) ≡ has same_lit xs x
+    → has same_dim (map (numbered net) xs) (numbered net x) ≡ has same_lit xs x
 has-numbered net [] x all there = refl
 has-numbered net (y ∷ ys) x all there =
     rw (numbered-same net y x all.0 there) (ap (λ (b : Bool). same_lit y x || b) (has-numbered net ys x all.1 there))
 
-no_repeat-numbered : (net : AigPair) (xs : List Lit) → AreThere net xs → no_repeat same_number (map (numbered net) xs) ≡ no_repeat same_lit xs
+no_repeat-numbered : (net : AigPair) (xs : List Lit) → AreThere net xs → no_repeat same_dim (map (numbered net) xs) ≡ no_repeat same_lit xs
 no_repeat-numbered net [] all = refl
 no_repeat-numbered net (x ∷ xs) all =
     rw (has-numbered net xs x all.1 all.0) (ap (λ (b : Bool). not (has same_lit xs x) && b) (no_repeat-numbered net xs all.1))
 
 has_pair-numbered : (net : AigPair) (xs : List Lit) → AreThere net xs
-    → has_pair same_number opposite_number (map (numbered net) xs) ≡ has_pair same_lit opposite xs
+    → has_pair same_dim opposite_dim (map (numbered net) xs) ≡ has_pair same_lit opposite xs
 has_pair-numbered net [] all = refl
 has_pair-numbered net (x ∷ xs) all =
-    ap (λ (b : Bool). b || has_pair same_number opposite_number (map (numbered net) xs)) (has-numbered net xs (opposite x) all.1 all.0)
+    ap (λ (b : Bool). b || has_pair same_dim opposite_dim (map (numbered net) xs)) (has-numbered net xs (opposite x) all.1 all.0)
     ∙ ap (λ (b : Bool). has same_lit xs (opposite x) || b) (has_pair-numbered net xs all.1)
 
 pub clause-numbered : (net : AigPair) (xs : List Lit) → AreThere net xs → IsClause same_lit opposite xs
-    → IsClause same_number opposite_number (map (numbered net) xs)
+    → IsClause same_dim opposite_dim (map (numbered net) xs)
 clause-numbered net xs all clause = record {
   once = no_repeat-numbered net xs all ∙ clause.once;
   apart = has_pair-numbered net xs all ∙ clause.apart;
@@ -314,11 +313,11 @@ before_all net place e =
 
 -- the clause of all numbers of an array
 pub numbered_clause : (net : AigPair) (lits : List Lit) (numbers : List DimacsLiteral) (i : ℕ) → length lits ≡ i → AreThere net lits
-    → IsClause same_lit opposite lits → AreNumbered net lits numbers i → IsClause same_number opposite_number (take (length lits) numbers)
+    → IsClause same_lit opposite lits → AreNumbered net lits numbers i → IsClause same_dim opposite_dim (take (length lits) numbers)
 numbered_clause net lits numbers i e all clause done =
-    subst (λ (ds : List DimacsLiteral). IsClause same_number opposite_number ds) (sym (numbered_whole net lits numbers i e done)) (clause-numbered net lits all clause)
+    subst (λ (ds : List DimacsLiteral). IsClause same_dim opposite_dim ds) (sym (numbered_whole net lits numbers i e done)) (clause-numbered net lits all clause)
 
-pub xors_clause : (net : AigPair) (j : ℕ) → IsNet net → j ≡ length net.a.outputs → IsClause same_number opposite_number (numbered_xors net j)
+pub xors_clause : (net : AigPair) (j : ℕ) → IsNet net → j ≡ length net.a.outputs → IsClause same_dim opposite_dim (numbered_xors net j)
 xors_clause net j is e =
-    subst (λ (ds : List DimacsLiteral). IsClause same_number opposite_number ds) (sym (xors_all net j e))
+    subst (λ (ds : List DimacsLiteral). IsClause same_dim opposite_dim ds) (sym (xors_all net j e))
     (clause-numbered net (map positive (xors_of net)) (xors-there net is) (xors-clause net))

@@ -1,7 +1,7 @@
 -- Positions and CNF variables of the nodes of a net, kind by kind.
 use Rattle.std.proofs.Common.{◌≡◌, ℕ, zero, suc, ◌+◌, ◌<◌, ◌≤◌, Bool, true, false, cond, Option, None, Some, List, [], ◌∷◌, ◌++◌, length, map, get_or, zero-add, add-one, refl, sym, ap, ◌∙◌, subst, arith, length-append}
 use Rattle.std.specs.Prelude.{◌==◌, ◌&&◌, nat_lt, slice_get, option_and_then}
-use Rattle.std.specs.Option.{option_map, option_map_or, is_some}
+use Rattle.std.specs.Option.{option_map, option_map_or}
 use Rattle.std.specs.List.{range_with_len, list_all}
 use Rattle.std.proofs.lemmas.List.{length-map}
 use Rattle.std.proofs.lemmas.Option.{slice_get-map, slice_get_within, slice_get-get_or, slice_get_past, none-some, same_Some}
@@ -14,8 +14,9 @@ use Rattle.lits.specs.declared.node.Node.{Node}
 use Rattle.lits.specs.declared.node.Node.TheVariants.{Const, Input, Gate, Xor}
 use Rattle.netlist.specs.declared.gate.And.{And}
 use Rattle.netlist.specs.Place.{place_of}
-use Rattle.netlist.specs.Circuit.{Aig, IsCircuit, is_over, variables_in, gate_vars}
-use Rattle.netlist.specs.Net.{AigPair, IsNet, circuit_of, same_node, Definition, definition_of, definitions, nodes_of, position_of, lit_of, lit_named, output_of, gate_at}
+use Rattle.netlist.specs.Circuit.{IsCircuit, is_over, variables_in, gate_vars}
+use Rattle.netlist.specs.Net.{AigPair, IsNet, circuit_of, definition_of, definitions, nodes_of, position_of, lit_of, lit_named, output_of, gate_at}
+use Rattle.lits.specs.Same.{same_node}
 use Rattle.netlist.specs.Miter.{xors_of, variables_of, variable_of, kept, axioms_of, xor_axioms, gate_clauses}
 use Rattle.netlist.specs.declared.meaning.Meaning.{Meaning}
 use Rattle.netlist.specs.Meaning.{meaning_of, conjunction_of, difference, clauses_that_say}

@@ -1,7 +1,7 @@
 -- Nodes are compared exactly.
 use Rattle.std.proofs.Common.{◌≡◌, true, rules}
 use Rattle.lits.specs.declared.node.Node.{Node}
-use Rattle.netlist.specs.Net.{same_node}
+use Rattle.lits.specs.Same.{same_node}
 
 pub same_node-exact : (x y : Node) → same_node x y ≡ true → x ≡ y
 same_node-exact x y e = search rules

@@ -1,8 +1,8 @@
 -- The gates of a circuit give their values one after another.
-use Rattle.std.proofs.Common.{◌≡◌, ◌≢◌, ℕ, zero, suc, ◌+◌, ◌<◌, ◌≤◌, Bool, true, false, cond, not, Option, None, Some, List, [], ◌∷◌, ◌++◌, length, take, drop, map, get_or, refl, sym, ap, ◌∙◌, subst, arith, length-append, length-take}
+use Rattle.std.proofs.Common.{◌≡◌, ◌≢◌, ℕ, zero, suc, ◌+◌, ◌<◌, Bool, true, false, cond, not, Option, None, Some, List, [], ◌∷◌, ◌++◌, length, take, drop, get_or, refl, sym, ap, ◌∙◌, subst, arith, length-take}
 use Rattle.std.specs.Prelude.{◌==◌, ◌&&◌, ◌||◌, slice_set, slice_get}
-use Rattle.std.specs.List.{list_any, slice_index_or}
-use Rattle.std.specs.Option.{option_map, option_map_or, is_some}
+use Rattle.std.specs.List.{slice_index_or}
+use Rattle.std.specs.Option.{option_map_or, is_some}
 use Rattle.std.proofs.Common.{get_or-set_same, get_or-set_other}
 use Rattle.std.proofs.Math.Seq.{split_at, take-length}
 use Rattle.std.proofs.lemmas.Option.{none-some, get_or_from_slice_get}
@@ -16,7 +16,7 @@ use Rattle.netlist.specs.declared.source.Source.TheVariants.{Constant, Input, Ga
 use Rattle.netlist.specs.Place.{place_of}
 use Rattle.netlist.specs.Circuit.{Aig, IsCircuit, IsNext, AreOrdered, variables_in, gate_vars, var_of, is_over, lit_value, put, run, given, value_in}
 use Rattle.netlist.specs.Source.{input_or, source_of, value_at, read_in, IsComputed}
-use Rattle.netlist.proofs.PlaceLemmas.{or_place, place_of-append, place_of-map, place_none, is_some-place, at_place}
+use Rattle.netlist.proofs.PlaceLemmas.{place_of-append, place_none, is_some-place, at_place}
 use Rattle.netlist.proofs.VariableLemmas.{variables, new_gate, vars_more, list_any-vars}
 
 pub run-append : (xs ys : List And) (v : ℕ → Bool) → run (xs ++ ys) v ≡ run ys (run xs v)

@@ -1,11 +1,11 @@
 -- How a short clause grows.
-use Rattle.std.proofs.Common.{◌≡◌, ℕ, ◌+◌, ◌<◌, ◌≤◌, Bool, true, false, List, [], ◌∷◌, ◌++◌, zero, suc, length, take, get_or, Option, None, refl, sym, arith, ◌∙◌}
-use Rattle.lits.specs.Clause.{has, has_pair, IsClause, Adds}
+use Rattle.std.proofs.Common.{◌≡◌, ℕ, ◌+◌, ◌<◌, true, false, List, [], ◌∷◌, ◌++◌, zero, suc, length, take, get_or, None, refl, arith, ◌∙◌}
+use Rattle.lits.specs.Clause.{has, IsClause, Adds}
 use Rattle.lits.specs.contracts.literal.LitEq.TheImpl.Laws as lit_eq
 use Rattle.lits.specs.contracts.literal.LitLiteral.TheImpl.Laws as lit_laws
 use Rattle.lits.specs.declared.literal.Lit.{Lit}
 use Rattle.lits.proofs.ClauseLemmas.{IsLiteral, is_literal, no_repeat-push, has_pair-push, IsKept, kept-next, pair-next}
-use Rattle.netlist.specs.Miter.{same_lit, opposite}
+use Rattle.lits.specs.Same.{same_lit, opposite}
 use Rattle.netlist.specs.Meaning.{kept_clause}
 
 pub laws : IsLiteral same_lit opposite

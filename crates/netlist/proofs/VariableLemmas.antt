@@ -1,5 +1,5 @@
 -- A circuit's variables differ, so each is found at its own place, and there are few of them.
-use Rattle.std.proofs.Common.{◌≡◌, ℕ, suc, ◌+◌, ◌<◌, ◌≤◌, Bool, true, false, not, List, [], ◌∷◌, ◌++◌, length, take, drop, map, get_or, refl, sym, ap, ◌∙◌, subst, arith, length-append, length-take}
+use Rattle.std.proofs.Common.{◌≡◌, ℕ, suc, ◌+◌, ◌<◌, ◌≤◌, Bool, true, false, not, List, [], ◌∷◌, ◌++◌, length, take, drop, get_or, refl, sym, ap, ◌∙◌, subst, arith, length-append, length-take}
 use Rattle.std.specs.Prelude.{◌==◌, ◌&&◌, ◌||◌, nat_le}
 use Rattle.std.specs.List.{list_any, list_all, AllByRecursion, IsDistinct}
 use Rattle.std.proofs.lemmas.List.{append_assoc, append-nil, map-append, length-map, take_more}

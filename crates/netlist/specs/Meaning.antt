@@ -1,5 +1,5 @@
 -- What the clauses of a node say of it, and one clause of those that stay.
-use Rattle.std.specs.Prelude.{◌≡◌, ℕ, ◌≤◌, Bool, true, false, not, Option, None, Some, List, [], ◌∷◌, length, if◌then◌else◌}
+use Rattle.std.specs.Prelude.{ℕ, ◌≤◌, Bool, not, Option, None, Some, List, [], ◌∷◌, length, if◌then◌else◌}
 use Rattle.std.specs.Option.{option_map}
 use Rattle.lits.specs.Clause.{firsts, has_pair, IsClause}
 use Rattle.lits.specs.declared.node.Side.{Side}
@@ -13,8 +13,9 @@ use Rattle.netlist.specs.declared.source.Source.TheVariants as source
 use Rattle.netlist.specs.declared.meaning.Meaning.{Meaning}
 use Rattle.netlist.specs.declared.meaning.Meaning.TheVariants as meaning
 use Rattle.netlist.specs.Circuit.{Aig}
-use Rattle.netlist.specs.Net.{AigPair, Definition, circuit_of, lit_named, gate_at, output_of}
-use Rattle.netlist.specs.Miter.{same_lit, opposite, positive, gate_clauses, xor_clauses}
+use Rattle.netlist.specs.Net.{AigPair, circuit_of, lit_named, gate_at, output_of}
+use Rattle.netlist.specs.Miter.{positive, gate_clauses, xor_clauses}
+use Rattle.lits.specs.Same.{same_lit, opposite}
 
 -- the clause of the literals, as it stays; none where it is left out
 abbrev pub kept_clause : List Lit → Option (List Lit)

@@ -1,6 +1,6 @@
 -- The miter of two circuits in conjunctive normal form: the clauses of the gates and of one XOR per output (Tseitin
 -- 1968), and one clause that says that some XOR is true (Brand 1993). They are numbered for DIMACS files.
-use Rattle.std.specs.Prelude.{ℕ, ◌+◌, nat_lt, Bool, true, false, Option, None, Some, List, [], ◌∷◌, ◌++◌, length, map, slice_get, if◌then◌else◌}
+use Rattle.std.specs.Prelude.{ℕ, ◌+◌, nat_lt, true, false, Option, None, Some, List, [], ◌∷◌, ◌++◌, length, map, slice_get, if◌then◌else◌}
 use Rattle.std.specs.List.{flat_map, range_with_len}
 use Rattle.std.specs.Option.{option_map, option_map_or, unwrap_or}
 use Rattle.lits.specs.Clause.{firsts, has_pair}
@@ -9,17 +9,9 @@ use Rattle.lits.specs.declared.node.Side.TheVariants.{A, B}
 use Rattle.lits.specs.declared.node.Node.{Node}
 use Rattle.lits.specs.declared.node.Node.TheVariants.{Const, Input, Gate, Xor}
 use Rattle.lits.specs.declared.literal.Lit.{Lit}
-use Rattle.lits.specs.contracts.literal.LitPartialEq.TheImpl as lit_eq
-use Rattle.lits.specs.contracts.literal.LitLiteral.TheImpl as lit_literal
 use Rattle.netlist.specs.Place.{place_of, before}
-use Rattle.netlist.specs.Net.{AigPair, same_node, Definition, circuit_of, definition_of, gate_at, output_of, nodes_of}
-
--- literals are compared and negated as the program does it
-abbrev pub same_lit : Lit → Lit → Bool
-same_lit = (lit_eq.ghosts).eq
-
-abbrev pub opposite : Lit → Lit
-opposite = (lit_literal.ghosts).opposite
+use Rattle.netlist.specs.Net.{AigPair, Definition, circuit_of, definition_of, gate_at, output_of, nodes_of}
+use Rattle.lits.specs.Same.{same_node, same_lit, opposite}
 
 abbrev pub positive : Node → Lit
 positive node = record { node = node; neg = false }

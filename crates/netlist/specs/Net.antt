@@ -7,7 +7,7 @@ use Rattle.lits.specs.declared.node.Side.TheVariants.{A, B}
 use Rattle.lits.specs.declared.node.Node.{Node}
 use Rattle.lits.specs.declared.node.Node.TheVariants.{Const, Input, Gate, Xor}
 use Rattle.lits.specs.declared.literal.Lit.{Lit}
-use Rattle.lits.specs.contracts.node.NodePartialEq.TheImpl as node_eq
+use Rattle.lits.specs.Same.{same_node}
 use Rattle.netlist.specs.declared.gate.And.{And}
 use Rattle.netlist.specs.Place.{place_of}
 use Rattle.netlist.specs.Circuit.{var_of, is_negated, is_over, Aig, IsCircuit, variables_in, values_in, output_value}
@@ -27,10 +27,6 @@ pub record IsNet (net : AigPair) : Type 0 where
 abbrev pub circuit_of : AigPair → Side → Aig
 circuit_of net A = net.a
 circuit_of net B = net.b
-
--- nodes are compared as the program compares them
-abbrev pub same_node : Node → Node → Bool
-same_node = (node_eq.ghosts).eq
 
 -- the node of a variable: input k of both circuits is one node, and a gate is named by its side
 abbrev pub node_of : Side → Aig → ℕ → Node

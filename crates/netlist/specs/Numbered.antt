@@ -5,7 +5,8 @@ use Rattle.std.specs.Option.{option_map_or}
 use Rattle.lits.specs.Clause.{has}
 use Rattle.lits.specs.Dimacs.{DimacsLiteral}
 use Rattle.lits.specs.declared.literal.Lit.{Lit}
-use Rattle.netlist.specs.Net.{AigPair, same_node}
+use Rattle.netlist.specs.Net.{AigPair}
+use Rattle.lits.specs.Same.{same_node}
 use Rattle.netlist.specs.Miter.{variables_of, axioms_of, numbered}
 
 -- each literal's node has a CNF variable

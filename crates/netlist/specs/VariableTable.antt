@@ -1,5 +1,5 @@
 -- What the table of a circuit's variables keeps.
-use Rattle.std.specs.Prelude.{◌≡◌, ℕ, ◌==◌, ◌≤◌, nat_le, Bool, true, Option, None, Some, List, ◌∷◌, ◌++◌, length, slice_index, if◌then◌else◌}
+use Rattle.std.specs.Prelude.{◌≡◌, ℕ, ◌==◌, nat_le, true, Option, None, Some, List, ◌∷◌, ◌++◌, length, slice_index, if◌then◌else◌}
 use Rattle.std.specs.List.{list_all}
 use Rattle.lits.specs.Clause.{no_repeat}
 use Rattle.netlist.specs.declared.gate.And.{And}

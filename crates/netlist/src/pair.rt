@@ -1,7 +1,8 @@
 ghost use Rattle.std.specs.Prelude.{◌≡◌, ◌+◌, ◌*◌, ◌<◌, ◌≤◌, true, Some, IfSome, length, slice_get};
 ghost use Rattle.lits.specs.Clause.{has};
 ghost use Rattle.netlist.specs.Circuit.{most, is_over, variables_in};
-ghost use Rattle.netlist.specs.Net.{IsNet, circuit_of, lit_named, lit_of, nodes_of, output_of, position_of, same_node};
+ghost use Rattle.netlist.specs.Net.{IsNet, circuit_of, lit_named, lit_of, nodes_of, output_of, position_of};
+ghost use Rattle.lits.specs.Same.{same_node};
 ghost use Rattle.netlist.specs.Miter.{axiom_of, axioms_of, numbered, variable_of, variables_of};
 ghost use Rattle.netlist.specs.Meaning.{lit_from, meaning_of, difference};
 ghost use Rattle.netlist.specs.Starts.{first_clause};
@@ -42,6 +43,7 @@ impl CircuitPair {
         CircuitPair { a, b }
     }
 
+    /// The circuit of one side.
     pub fn circuit(&self, side: Side) -> &Circuit
         ensures circuit { result.now ≡ circuit_of self.now side }
         ensures net { IsNet self.now }
@@ -52,6 +54,7 @@ impl CircuitPair {
         }
     }
 
+    /// How many inputs, gates of each side and outputs there are.
     pub fn sizes(&self) -> Sizes
         ensures { AreSizes self.now result }
     {

@@ -1,6 +1,6 @@
 ghost use Rattle.std.specs.Prelude.{◌≡◌, ◌+◌, ◌<◌, ◌≤◌, true, false, [], length};
 ghost use Rattle.lits.specs.Clause.{has, Adds};
-ghost use Rattle.netlist.specs.Miter.{same_lit, opposite};
+ghost use Rattle.lits.specs.Same.{same_lit, opposite};
 ghost use Rattle.netlist.specs.Meaning.{kept_clause, IsShort};
 
 use lits::{Lit, Literal};
@@ -17,7 +17,7 @@ impl Model for Short {
     ghost use Rattle.std.specs.Prelude.{◌≤◌, List, take};
     ghost use Rattle.lits.specs.declared.literal.Lit.{Lit};
     ghost use Rattle.lits.specs.Clause.{IsClause};
-    ghost use Rattle.netlist.specs.Miter.{same_lit, opposite};
+    ghost use Rattle.lits.specs.Same.{same_lit, opposite};
 
     ghost Value = { List Lit };
 

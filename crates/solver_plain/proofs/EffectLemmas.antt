@@ -1,12 +1,12 @@
 -- What a clause does under a set, and what that makes of the state of a step.
-use Rattle.std.proofs.Common.{◌≡◌, Bool, true, false, not, ◌&&◌, ◌||◌, List, [], ◌∷◌, ◌++◌, Some, None, Ok, refl, sym, ap, ◌∙◌, subst, ◌⊎◌, inl, inr}
+use Rattle.std.proofs.Common.{◌≡◌, Bool, true, false, not, ◌||◌, List, [], ◌∷◌, ◌++◌, Some, None, Ok, refl, sym, ap, ◌∙◌, subst, ◌⊎◌, inl, inr}
 use Rattle.std.specs.Prelude.{filter}
-use Rattle.std.specs.List.{list_any, list_all, find}
+use Rattle.std.specs.List.{find}
 use Rattle.lits.specs.Clause.{has, firsts}
 use Rattle.lits.proofs.ClauseLemmas.{IsLiteral}
 use Rattle.unit_prop.specs.Closure.{forces, is_negated}
-use Rattle.unit_prop.specs.Propagation.{IsConsistent, IsFree}
-use Rattle.unit_prop.specs.Step.{State, open_in, is_satisfied, after_open, after_hint}
+use Rattle.unit_prop.specs.Propagation.{IsConsistent}
+use Rattle.unit_prop.specs.Step.{open_in, is_satisfied, after_hint}
 use Rattle.unit_prop.proofs.LiteralLemmas.{or_cases, and_both, both, contrary, witness, has-filter, all-true, all-at}
 use Rattle.solver_plain.specs.Effect.{IsUnit, IsQuiet}
 use Rattle.solver_plain.proofs.ListLemmas.{not_true, list_all-not, find-some, find-none, firsts-one}

@@ -1,15 +1,16 @@
 -- The variables of a base, and which literals are over it.
-use Rattle.std.proofs.Common.{◌≡◌, ℕ, ◌+◌, ◌<◌, ◌≤◌, length, take, get_or, arith, Bool, true, false, not, ◌&&◌, ◌||◌, List, [], ◌∷◌, ◌++◌, refl, sym, ap, ◌∙◌, subst, append_assoc, ◌⊎◌, inl, inr}
-use Rattle.std.specs.Prelude.{map, if◌then◌else◌}
-use Rattle.std.specs.List.{list_any, AllByRecursion}
-use Rattle.std.proofs.lemmas.List.{take_more, take_all, map-append, append-nil}
+use Rattle.std.proofs.Common.{◌≡◌, ℕ, ◌+◌, ◌<◌, length, take, get_or, Bool, true, false, not, ◌&&◌, ◌||◌, List, [], ◌∷◌, ◌++◌, refl, sym, ap, ◌∙◌, append_assoc, ◌⊎◌, inl, inr}
+use Rattle.std.specs.Prelude.{map}
+use Rattle.std.specs.List.{AllByRecursion}
+use Rattle.std.proofs.lemmas.List.{take_more, map-append, append-nil}
 use Rattle.lits.specs.Clause.{has, firsts}
 use Rattle.lits.specs.declared.literal.Lit.{Lit}
 use Rattle.lits.specs.declared.step.Named.{Named}
 use Rattle.lits.specs.declared.step.Step.{Step}
 use Rattle.lits.proofs.ClauseLemmas.{IsLiteral, has-append, has-firsts, firsts-push}
 use Rattle.unit_prop.specs.New.{occurs}
-use Rattle.unit_prop.specs.Log.{same_lit, opposite, base_clauses, clauses_of}
+use Rattle.unit_prop.specs.Log.{base_clauses, clauses_of}
+use Rattle.lits.specs.Same.{same_lit, opposite}
 use Rattle.unit_prop.specs.Refuter.{is_over, IsOver}
 use Rattle.unit_prop.proofs.LitLaws.{lit_laws}
 use Rattle.unit_prop.proofs.LiteralLemmas.{or_cases, or_left, or_right}

@@ -1,13 +1,14 @@
 -- What the tests' guards show.
-use Rattle.std.proofs.Common.{◌≡◌, Bool, true, false, not, ◌&&◌, ◌||◌, List, [], ◌∷◌, refl, sym, ap, ◌∙◌, subst}
+use Rattle.std.proofs.Common.{◌≡◌, Bool, true, false, ◌||◌, List, [], ◌∷◌, refl, sym, ap, ◌∙◌, subst}
 use Rattle.std.specs.Prelude.{map}
 use Rattle.std.specs.Bool.{OnTrue}
-use Rattle.std.specs.List.{list_any, AllByRecursion}
-use Rattle.lits.specs.Clause.{has, no_repeat}
+use Rattle.std.specs.List.{list_any}
+use Rattle.lits.specs.Clause.{has}
 use Rattle.lits.specs.declared.literal.Lit.{Lit}
 use Rattle.lits.specs.declared.step.Named.{Named}
-use Rattle.unit_prop.specs.Log.{same_lit, opposite, same_name, is_own, base_clauses, IsBase}
-use Rattle.unit_prop.specs.Refuter.{is_over, IsOver}
+use Rattle.unit_prop.specs.Log.{same_name, is_own, IsBase}
+use Rattle.lits.specs.Same.{same_lit, opposite}
+use Rattle.unit_prop.specs.Refuter.{IsOver}
 
 any-map : {X Y : Type 0} (p : Y → Bool) (f : X → Y) (xs : List X) → list_any p (map f xs) ≡ list_any (λ x. p (f x)) xs
 any-map p f [] = refl

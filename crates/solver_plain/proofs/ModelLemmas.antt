@@ -1,12 +1,13 @@
 -- A closure that has every variable of the base is a model of it.
-use Rattle.std.proofs.Common.{◌≡◌, Bool, true, false, not, ◌&&◌, ◌||◌, List, [], ◌∷◌, ◌++◌, Option, Some, None, refl, sym, ap, ◌∙◌, subst, ◌⊎◌, inl, inr}
-use Rattle.std.specs.Prelude.{map, if◌then◌else◌}
-use Rattle.std.specs.List.{list_any, list_all, find, AllByRecursion}
-use Rattle.lits.specs.Clause.{has, firsts, no_repeat, has_pair, IsClause}
+use Rattle.std.proofs.Common.{◌≡◌, Bool, true, false, ◌||◌, List, [], ◌∷◌, None, refl, sym, ap, ◌∙◌, ◌⊎◌, inl, inr}
+use Rattle.std.specs.Prelude.{map}
+use Rattle.std.specs.List.{list_any, find, AllByRecursion}
+use Rattle.lits.specs.Clause.{has, no_repeat, has_pair, IsClause}
 use Rattle.lits.specs.declared.literal.Lit.{Lit}
-use Rattle.lits.proofs.ClauseLemmas.{IsLiteral, has-append}
+use Rattle.lits.proofs.ClauseLemmas.{IsLiteral}
 use Rattle.unit_prop.specs.Closure.{is_negated}
-use Rattle.unit_prop.specs.Log.{same_lit, opposite, base_clauses, clauses_of}
+use Rattle.unit_prop.specs.Log.{base_clauses}
+use Rattle.lits.specs.Same.{same_lit, opposite}
 use Rattle.unit_prop.specs.Refuter.{is_over, IsOver, IsModel}
 use Rattle.unit_prop.proofs.LitLaws.{lit_laws}
 use Rattle.unit_prop.proofs.LiteralLemmas.{all-true, or_cases, or_left, or_right, and_both, has-head, has-map-opposite}

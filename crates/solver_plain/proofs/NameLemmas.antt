@@ -1,6 +1,6 @@
 -- What the clauses of names are.
 use Rattle.std.proofs.Common.{◌≡◌, ℕ, ◌+◌, ◌<◌, ◌≤◌, zero, suc, length, take, get_or, arith, Bool, true, false, not, List, [], ◌∷◌, ◌++◌, Option, Some, None, refl, sym, ap, ◌∙◌, subst}
-use Rattle.std.specs.Prelude.{map, option_map, if◌then◌else◌, IfSome, IfNone}
+use Rattle.std.specs.Prelude.{map, IfSome, IfNone}
 use Rattle.std.specs.List.{list_any, slice_get, AllByRecursion}
 use Rattle.std.proofs.lemmas.List.{take_more, take_all, map-append}
 use Rattle.std.proofs.lemmas.Option.{slice_get_read}
@@ -11,7 +11,7 @@ use Rattle.lits.specs.declared.step.Step.{Step}
 use Rattle.lits.specs.declared.step.Ref.{Ref}
 use Rattle.lits.specs.declared.step.Ref.TheVariants.{Axiom, Entry, Own}
 use Rattle.lits.specs.contracts.step.RefEq.TheImpl.Laws as ref_eq
-use Rattle.solver_plain.specs.Effect.{HasEffect, IsHint}
+use Rattle.solver_plain.specs.Effect.{IsHint}
 use Rattle.solver_plain.specs.declared.formula.Hint.{Hint}
 use Rattle.unit_prop.specs.Log.{same_name, is_own, IsBase, base_clause, base_clauses, with_own, clauses_of}
 use Rattle.unit_prop.proofs.LiteralLemmas.{and_both, or_left, or_right}

@@ -1,7 +1,7 @@
 -- The steps of a scan.
-use Rattle.std.proofs.Common.{◌≡◌, ℕ, ◌+◌, ◌<◌, length, take, get_or, Bool, true, false, not, ◌&&◌, ◌||◌, List, [], ◌∷◌, ◌++◌, Option, None, Ok, refl, sym, ap, ◌∙◌, subst}
+use Rattle.std.proofs.Common.{◌≡◌, ℕ, ◌+◌, ◌<◌, length, take, get_or, Bool, true, false, List, [], ◌∷◌, ◌++◌, Option, None, Ok, refl, sym, ap, ◌∙◌, subst}
 use Rattle.std.specs.Prelude.{map, filter, if◌then◌else◌}
-use Rattle.std.specs.List.{list_any, AllByRecursion}
+use Rattle.std.specs.List.{AllByRecursion}
 use Rattle.std.proofs.lemmas.List.{take_more, map-append}
 use Rattle.lits.specs.Clause.{has, firsts}
 use Rattle.lits.specs.declared.literal.Lit.{Lit}
@@ -12,7 +12,7 @@ use Rattle.lits.proofs.ClauseLemmas.{has-append, has-firsts, firsts-push}
 use Rattle.unit_prop.specs.Closure.{is_negated}
 use Rattle.unit_prop.specs.Propagation.{IsFree, is_forced_by, IsSettled}
 use Rattle.unit_prop.specs.Step.{State, after_found, fault_from}
-use Rattle.unit_prop.specs.Log.{same_lit, opposite}
+use Rattle.lits.specs.Same.{same_lit, opposite}
 use Rattle.unit_prop.specs.Refuter.{is_over, IsOver}
 use Rattle.unit_prop.proofs.LitLaws.{lit_laws}
 use Rattle.unit_prop.proofs.LiteralLemmas.{or_left, or_right, and_both, contrary, has-map-opposite}

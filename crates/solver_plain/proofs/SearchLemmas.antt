@@ -1,33 +1,33 @@
 -- The steps of a search, and what a clash teaches.
-use Rattle.std.proofs.Common.{◌≡◌, ℕ, ◌<◌, length, Bool, true, false, not, ◌&&◌, ◌||◌, List, [], ◌∷◌, ◌++◌, Option, Some, None, refl, sym, ap, ◌∙◌, subst, ◌⊎◌, inl, inr}
-use Rattle.std.specs.Prelude.{map, filter, if◌then◌else◌}
+use Rattle.std.proofs.Common.{◌≡◌, ◌<◌, length, Bool, true, false, not, ◌||◌, List, [], ◌∷◌, ◌++◌, Option, Some, None, refl, sym, ap, ◌∙◌, subst, ◌⊎◌, inl, inr}
+use Rattle.std.specs.Prelude.{map, filter}
 use Rattle.std.specs.Bool.{OnTrue, OnFalse}
 use Rattle.std.specs.Option.{is_some}
-use Rattle.std.specs.List.{list_any, find, AllByRecursion}
+use Rattle.std.specs.List.{find}
 use Rattle.std.proofs.lemmas.List.{map-append}
 use Rattle.std.proofs.lemmas.List.Folds.{list_any-append}
 use Rattle.lits.specs.Clause.{has, firsts, no_repeat, has_pair, IsClause}
 use Rattle.lits.specs.declared.literal.Lit.{Lit}
-use Rattle.lits.specs.declared.step.Named.{Named}
 use Rattle.lits.specs.declared.step.Ref.{Ref}
 use Rattle.lits.specs.declared.step.Step.{Step}
 use Rattle.lits.specs.contracts.literal.LitLiteral.TheImpl.Laws as lit
-use Rattle.lits.proofs.ClauseLemmas.{IsLiteral, has-append, no_repeat-push, has_pair-push}
-use Rattle.unit_prop.specs.Closure.{forces, IsClosed, IsClosure, Clashes, ClosureClashes, IsOpen}
+use Rattle.lits.proofs.ClauseLemmas.{has-append, no_repeat-push, has_pair-push}
+use Rattle.unit_prop.specs.Closure.{IsClosed}
 use Rattle.unit_prop.specs.Propagation.{IsConsistent, IsFree}
 use Rattle.unit_prop.specs.New.{occurs, others_negated, Lacks, IsNew}
 use Rattle.unit_prop.specs.Step.{IsStep}
-use Rattle.unit_prop.specs.Log.{same_lit, opposite, base_clause, base_clauses, clauses_of, with_own, IsLearned}
-use Rattle.unit_prop.specs.Refuter.{is_over, IsOver, IsUndecided}
+use Rattle.unit_prop.specs.Log.{base_clauses, clauses_of}
+use Rattle.lits.specs.Same.{same_lit, opposite}
+use Rattle.unit_prop.specs.Refuter.{is_over, IsOver}
 use Rattle.unit_prop.proofs.LitLaws.{lit_laws}
 use Rattle.unit_prop.proofs.LiteralLemmas.{or_cases, or_left, or_right, and_both, has-filter, has-map-opposite, contrary, alone}
 use Rattle.unit_prop.proofs.ChainLemmas.{all-append}
-use Rattle.solver_plain.specs.Literals.{variable_of, is_free}
+use Rattle.solver_plain.specs.Literals.{is_free}
 use Rattle.solver_plain.specs.Formula.{Clauses, clause_named, clauses_in, variables_of}
 use Rattle.solver_plain.specs.Scan.{IsSound, IsFreeVariable, IsOpenClosure, IsClash, IsScan, ClashesFrom}
 use Rattle.solver_plain.specs.Search.{IsLearnedFor}
 use Rattle.solver_plain.proofs.ListLemmas.{not_true, all-each, find-some, firsts-once}
-use Rattle.solver_plain.proofs.FormulaLemmas.{over-variables, variables-over, over-opposite}
+use Rattle.solver_plain.proofs.FormulaLemmas.{variables-over, over-opposite}
 use Rattle.solver_plain.proofs.ScanLemmas.{sound-push, free-less}
 
 consistent-cons : (x : Lit) (xs : List Lit) → has same_lit xs (opposite x) ≡ false → IsConsistent same_lit opposite xs

@@ -1,12 +1,11 @@
 -- The steps of a query: each learned step joins the log for one unit.
-use Rattle.std.proofs.Common.{◌≡◌, ℕ, ◌+◌, ◌-◌, ◌≤◌, ◌<◌, length, arith, length-append, List, [], ◌∷◌, ◌++◌, refl, sym, ◌∙◌, ap, subst, append_assoc}
+use Rattle.std.proofs.Common.{◌≡◌, ℕ, ◌+◌, ◌-◌, ◌<◌, length, arith, length-append, List, [], ◌∷◌, ◌++◌, refl, sym, ◌∙◌, ap, subst, append_assoc}
 use Rattle.std.proofs.lemmas.List.{append-nil}
 use Rattle.lits.specs.declared.literal.Lit.{Lit}
 use Rattle.lits.specs.declared.step.Named.{Named}
 use Rattle.lits.specs.declared.step.Step.{Step}
 use Rattle.unit_prop.specs.Log.{InTurn, IsLearned}
-use Rattle.unit_prop.specs.Refuter.{IsUndecided, StaysUndecided, IsAnswer, Answers}
-use Rattle.unit_prop.specs.declared.refuter.Refuted.{Refuted}
+use Rattle.unit_prop.specs.Refuter.{IsUndecided, StaysUndecided}
 use Rattle.unit_prop.proofs.ChainLemmas.{in_turn-append}
 use Rattle.solver_plain.specs.Formula.{Clauses}
 use Rattle.solver_plain.specs.Search.{IsLearnedFor}

@@ -6,7 +6,7 @@ use Rattle.lits.specs.declared.literal.Lit.{Lit}
 use Rattle.lits.specs.declared.step.Ref.{Ref}
 use Rattle.unit_prop.specs.Closure.{is_negated}
 use Rattle.unit_prop.specs.Propagation.{IsFree, is_forced_by, IsSettled}
-use Rattle.unit_prop.specs.Log.{same_lit, opposite}
+use Rattle.lits.specs.Same.{same_lit, opposite}
 use Rattle.solver_plain.specs.declared.effect.Effect.{Effect}
 use Rattle.solver_plain.specs.declared.effect.Effect.TheVariants.{Clashes, Forces}
 use Rattle.solver_plain.specs.declared.formula.Hint.{Hint}

@@ -6,7 +6,8 @@ use Rattle.lits.specs.declared.literal.Lit.{Lit}
 use Rattle.lits.specs.declared.step.Named.{Named}
 use Rattle.lits.specs.declared.step.Step.{Step}
 use Rattle.lits.specs.declared.step.Ref.{Ref}
-use Rattle.unit_prop.specs.Log.{same_lit, base_clause, with_own, clauses_of, IsBase}
+use Rattle.unit_prop.specs.Log.{base_clause, with_own, clauses_of, IsBase}
+use Rattle.lits.specs.Same.{same_lit}
 use Rattle.unit_prop.specs.Refuter.{IsOver}
 use Rattle.solver_plain.specs.Literals.{variable_of}
 

@@ -2,7 +2,7 @@
 use Rattle.std.specs.Prelude.{Bool, false, not, ◌&&◌, List, [], ◌∷◌, ◌++◌, if◌then◌else◌}
 use Rattle.lits.specs.Clause.{has}
 use Rattle.lits.specs.declared.literal.Lit.{Lit}
-use Rattle.unit_prop.specs.Log.{same_lit, opposite}
+use Rattle.lits.specs.Same.{same_lit, opposite}
 
 -- the variable of a literal
 abbrev pub variable_of : Lit → Lit

@@ -1,12 +1,12 @@
 -- What a scan finds: the hints of a clash, or the closure of the literals that it began with.
-use Rattle.std.specs.Prelude.{◌≡◌, Bool, true, false, List, Option, Some, None}
+use Rattle.std.specs.Prelude.{◌≡◌, true, false, List, Option, Some, None}
 use Rattle.lits.specs.Clause.{has}
 use Rattle.lits.specs.declared.literal.Lit.{Lit}
 use Rattle.lits.specs.declared.step.Ref.{Ref}
 use Rattle.unit_prop.specs.Closure.{Clashes, IsClosure, ClosureClashes}
 use Rattle.unit_prop.specs.Propagation.{IsConsistent, IsFree}
 use Rattle.unit_prop.specs.Step.{fault_from}
-use Rattle.unit_prop.specs.Log.{same_lit, opposite}
+use Rattle.lits.specs.Same.{same_lit, opposite}
 use Rattle.unit_prop.specs.Refuter.{is_over, IsOver}
 use Rattle.solver_plain.specs.Formula.{Clauses, clause_named, clauses_in}
 

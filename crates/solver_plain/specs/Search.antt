@@ -3,7 +3,8 @@ use Rattle.std.specs.Prelude.{List}
 use Rattle.lits.specs.declared.literal.Lit.{Lit}
 use Rattle.lits.specs.declared.step.Step.{Step}
 use Rattle.unit_prop.specs.Step.{IsStep}
-use Rattle.unit_prop.specs.Log.{same_lit, opposite, IsLearned}
+use Rattle.unit_prop.specs.Log.{IsLearned}
+use Rattle.lits.specs.Same.{same_lit, opposite}
 use Rattle.unit_prop.specs.Refuter.{IsOver, IsModel, IsUndecided}
 use Rattle.solver_plain.specs.Formula.{Clauses, clause_named}
 use Rattle.solver_plain.specs.declared.search.Found.{Found}

@@ -1,7 +1,7 @@
 ghost use Rattle.std.specs.Prelude.{◌≡◌, not};
 ghost use Rattle.std.specs.List.{find};
 ghost use Rattle.lits.specs.Clause.{has};
-ghost use Rattle.unit_prop.specs.Log.{same_lit, opposite};
+ghost use Rattle.lits.specs.Same.{same_lit, opposite};
 ghost use Rattle.unit_prop.specs.Closure.{forces};
 ghost use Rattle.solver_plain.specs.Effect.{HasEffects};
 

@@ -1,7 +1,7 @@
 ghost use Rattle.std.specs.Prelude.{◌≡◌, List, ◌++◌, map, IfOk, OnOk};
 ghost use Rattle.lits.specs.Clause.{firsts};
 ghost use Rattle.lits.specs.declared.literal.Lit.{Lit};
-ghost use Rattle.unit_prop.specs.Log.{same_lit, opposite};
+ghost use Rattle.lits.specs.Same.{same_lit, opposite};
 ghost use Rattle.solver_plain.specs.Literals.{variable_of, with_lit};
 
 use lits::{Lit, Literal, LiteralSet};

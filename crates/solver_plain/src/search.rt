@@ -2,7 +2,7 @@ ghost use Rattle.std.specs.Prelude.{◌≡◌, [], ◌∷◌, ◌++◌, map, IfO
 ghost use Rattle.std.specs.Bool.{OnTrue, OnFalse};
 ghost use Rattle.lits.specs.Clause.{IsClause};
 ghost use Rattle.unit_prop.specs.Step.{IsStep};
-ghost use Rattle.unit_prop.specs.Log.{same_lit, opposite};
+ghost use Rattle.lits.specs.Same.{same_lit, opposite};
 ghost use Rattle.unit_prop.specs.Refuter.{IsOver};
 ghost use Rattle.solver_plain.specs.Formula.{clause_named};
 ghost use Rattle.solver_plain.specs.Scan.{IsSound, IsFreeVariable, IsOpenClosure, ClashesFrom};

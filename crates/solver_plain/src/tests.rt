@@ -2,7 +2,8 @@ ghost use Rattle.std.specs.Prelude.{◌≡◌, ◌||◌, true, IfOk};
 ghost use Rattle.std.specs.Bool.{OnTrue};
 ghost use Rattle.std.specs.List.{list_any};
 ghost use Rattle.lits.specs.Clause.{has};
-ghost use Rattle.unit_prop.specs.Log.{IsBase, is_own, same_name, same_lit, opposite};
+ghost use Rattle.unit_prop.specs.Log.{IsBase, is_own, same_name};
+ghost use Rattle.lits.specs.Same.{same_lit, opposite};
 ghost use Rattle.unit_prop.specs.Refuter.{IsOver};
 
 use crate::PlainSolver;

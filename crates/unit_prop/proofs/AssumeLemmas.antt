@@ -9,7 +9,9 @@ use Rattle.unit_prop.specs.declared.why.StepErr.{StepErr}
 use Rattle.unit_prop.specs.declared.why.StepErr.TheVariants.{Bad, NoMemory}
 use Rattle.unit_prop.specs.Step.{IfBad}
 use Rattle.unit_prop.specs.StepCheck.{Assumes}
+use Rattle.unit_prop.specs.Propagation.{IsConsistent}
 use Rattle.unit_prop.proofs.LiteralLemmas.{has-map-opposite}
+use Rattle.unit_prop.proofs.ClosureLemmas.{consistent-push}
 
 map-append : {X Y : Type 0} (f : X → Y) (xs ys : List X) → map f (xs ++ ys) ≡ map f xs ++ map f ys
 map-append f [] ys = refl
@@ -65,6 +67,19 @@ module _ {L : Type 0} {eq : L → L → Bool} {opposite : L → L} (laws : IsLit
       let there : has_pair eq opposite (take (i + 1) lits) ≡ true = rw (seen-more lits i x below at) here in
       subst (λ (l : List L). has_pair eq opposite l ≡ true) (take-append-drop (i + 1) lits)
       (has_pair-append laws (take (i + 1) lits) (drop (i + 1) lits) there)
+
+module _ {L : Type 0} {eq : L → L → Bool} {opposite : L → L} (laws : IsLiteral eq opposite) (differs : (x : L) → eq x (opposite x) ≡ false) where
+  -- what is assumed stays without a literal beside its negation
+  pub assumed-consistent : (set : List L) (x : L) (new : List L) → IsConsistent eq opposite set → Assumes eq opposite set x new
+      → IsConsistent eq opposite new
+  assumed-consistent set x new is adds = go (has eq set (opposite x)) refl
+    where
+      apart : has eq set (opposite (opposite x)) ≡ false
+      apart = ap (has eq set) (laws.twice x) ∙ adds.apart
+
+      go : (b : Bool) → has eq set (opposite x) ≡ b → IsConsistent eq opposite new
+      go true e = rw (adds.kept, e) is
+      go false e = rw (adds.kept, e) (consistent-push laws differs [] [] set (opposite x) is (record { fresh = e; apart = apart }))
 
 -- one fact of a fault gives another
 pub if_bad-map : {P Q : Why → Type 0} (e : StepErr) → ((w : Why) → P w → Q w) → IfBad e P → IfBad e Q

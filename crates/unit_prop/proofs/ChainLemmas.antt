@@ -12,7 +12,8 @@ use Rattle.lits.proofs.ClauseLemmas.{IsLiteral}
 use Rattle.unit_prop.specs.Step.{IsStep, AllHold}
 use Rattle.unit_prop.specs.Proof.{is_empty}
 use Rattle.unit_prop.proofs.LiteralLemmas.{or_cases}
-use Rattle.unit_prop.specs.Log.{same_lit, opposite, same_name, base_clause, base_clauses, with_own, InTurn, IsStepAfter, IsChain, IsLearned, IsLog}
+use Rattle.unit_prop.specs.Log.{same_name, base_clause, base_clauses, with_own, InTurn, IsStepAfter, IsChain, IsLearned, IsLog}
+use Rattle.lits.specs.Same.{same_lit, opposite}
 use Rattle.unit_prop.specs.Refuter.{Answers}
 use Rattle.unit_prop.specs.declared.refuter.Refuted.{Refuted}
 use Rattle.unit_prop.proofs.StepLemmas.{step-holds}

@@ -4,8 +4,7 @@ use Rattle.lits.specs.contracts.literal.LitEq.TheImpl.Laws as lit_eq
 use Rattle.lits.specs.contracts.literal.LitLiteral.TheImpl.Laws as lit
 use Rattle.lits.specs.contracts.dimacs.DimEq.TheImpl.Laws as dim_eq
 use Rattle.lits.specs.contracts.dimacs.DimLiteral.TheImpl.Laws as dim
-use Rattle.unit_prop.specs.Log.{same_lit, opposite}
-use Rattle.unit_prop.specs.Proof.{same_dim, opposite_dim}
+use Rattle.lits.specs.Same.{same_lit, opposite, same_dim, opposite_dim}
 
 pub lit_laws : IsLiteral same_lit opposite
 lit_laws = is_literal lit_eq.laws-law lit.exact-law lit.twice-law

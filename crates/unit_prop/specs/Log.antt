@@ -8,19 +8,10 @@ use Rattle.lits.specs.declared.step.Named.{Named}
 use Rattle.lits.specs.declared.step.Step.{Step}
 use Rattle.lits.specs.declared.step.Ref.{Ref}
 use Rattle.lits.specs.declared.step.Ref.TheVariants.{Axiom, Entry, Own}
-use Rattle.lits.specs.contracts.literal.LitPartialEq.TheImpl as lit_eq
-use Rattle.lits.specs.contracts.literal.LitLiteral.TheImpl as lit
 use Rattle.lits.specs.contracts.step.RefPartialEq.TheImpl as ref_eq
+use Rattle.lits.specs.Same.{same_lit, opposite}
 use Rattle.unit_prop.specs.New.{IsNew}
 use Rattle.unit_prop.specs.Step.{IsStep}
-
--- the `==` of literals
-abbrev pub same_lit : Lit → Lit → Bool
-same_lit = lit_eq.ghosts.eq
-
--- the negation of a literal
-abbrev pub opposite : Lit → Lit
-opposite = lit.ghosts.opposite
 
 -- the `==` of names
 abbrev pub same_name : Ref → Ref → Bool

@@ -1,18 +1,7 @@
 -- Proofs as lists of steps over numbered or otherwise named clauses, of whatever kind of literal.
 use Rattle.std.specs.Prelude.{ℕ, Bool, true, false, List, [], ◌∷◌, Option, Some, None, zero, suc, if◌then◌else◌}
 use Rattle.std.specs.List.{list_any, slice_get}
-use Rattle.lits.specs.Dimacs.{DimacsLiteral}
-use Rattle.lits.specs.contracts.dimacs.DimPartialEq.TheImpl as dim_eq
-use Rattle.lits.specs.contracts.dimacs.DimLiteral.TheImpl as dim
 use Rattle.unit_prop.specs.Step.{IsStep}
-
--- the `==` of DIMACS literals
-abbrev pub same_dim : DimacsLiteral → DimacsLiteral → Bool
-same_dim = dim_eq.ghosts.eq
-
--- the negation of a DIMACS literal
-abbrev pub opposite_dim : DimacsLiteral → DimacsLiteral
-opposite_dim = dim.ghosts.opposite
 
 -- a step that adds a clause under a name
 pub record Added (N L : Type 0) : Type 0 where

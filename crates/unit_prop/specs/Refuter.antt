@@ -8,7 +8,8 @@ use Rattle.lits.specs.declared.step.Step.{Step}
 use Rattle.unit_prop.specs.Closure.{IsOpen}
 use Rattle.unit_prop.specs.New.{occurs}
 use Rattle.unit_prop.specs.Step.{IsStep}
-use Rattle.unit_prop.specs.Log.{same_lit, opposite, base_clause, base_clauses, with_own, clauses_of, InTurn, IsLearned}
+use Rattle.unit_prop.specs.Log.{base_clause, base_clauses, with_own, clauses_of, InTurn, IsLearned}
+use Rattle.lits.specs.Same.{same_lit, opposite}
 use Rattle.unit_prop.specs.declared.refuter.Refuted.{Refuted}
 use Rattle.unit_prop.specs.declared.refuter.Refuted.TheVariants.{Yes, No, Spent}
 

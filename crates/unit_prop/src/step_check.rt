@@ -1,5 +1,5 @@
-ghost use Rattle.std.specs.Prelude.{◌≡◌, Bool, true, false, not, ◌++◌, [], ◌∷◌, Ok, Err, OnOk, OnErr, IfOk, IfErr, ◌&&◌};
-ghost use Rattle.std.specs.List.{list_any, find};
+ghost use Rattle.std.specs.Prelude.{◌≡◌, Bool, true, false, not, ◌++◌, [], ◌∷◌, Ok, Err, OnOk, OnErr, IfErr, if◌then◌else◌, ◌&&◌};
+ghost use Rattle.std.specs.List.{list_any};
 ghost use Rattle.lits.specs.Clause.{has, has_pair};
 ghost use Rattle.unit_prop.specs.Step.{IfBad, start_of, open_in, is_satisfied, after_hint};
 ghost use Rattle.unit_prop.specs.StepCheck.{Assumes, IsOpenPart};
@@ -18,10 +18,13 @@ pub struct StepCheck<L: Literal> {
 
 impl<L: Literal> Model for StepCheck<L> {
     ghost use Rattle.unit_prop.specs.Step.{State};
+    ghost use Rattle.unit_prop.specs.Propagation.{IsConsistent};
 
     ghost Value = { State L };
 
     ghost view = { λ c. record { set = c.set; clashed = c.clashed } };
+
+    ghost invariant = { λ c. IsConsistent L.PartialEq.eq L.Literal.opposite c.set };
 }
 
 impl<L: Literal> StepCheck<L> {
@@ -65,15 +68,14 @@ impl<L: Literal> StepCheck<L> {
         if self.clashed {
             return Err(StepErr::Bad(Why::AfterFalse));
         }
-        if has_true(&self.set, clause) {
-            return Err(StepErr::Bad(Why::Satisfied));
-        }
         match open_part(&self.set, clause) {
-            OpenPart::Nothing => self.clashed = true,
-            OpenPart::One(lit) => self.set.push(lit)?,
-            OpenPart::More => return Err(StepErr::Bad(Why::TwoFree)),
+            OpenPart::Nothing => {
+                self.clashed = true;
+                Ok(())
+            }
+            OpenPart::One(lit) => take_open(&mut self.set, lit),
+            OpenPart::More => Err(StepErr::Bad(fault_of_more(&self.set, clause))),
         }
-        Ok(())
     }
 
     /// Ends the step, which shows its clause exactly if a hint's clause was wholly false. The next call is `begin`.
@@ -95,6 +97,7 @@ fn assume<L: Literal>(set: &mut LiteralSet<L>, lit: L) -> Result<(), StepErr>
     ensures ok { OnOk result (Assumes L.PartialEq.eq L.Literal.opposite set.old lit set.new) }
     ensures bad { IfErr result (λ e. IfBad e (λ w. w ≡ Why.Tautology)) }
     ensures pair { IfErr result (λ e. IfBad e (λ _. has L.PartialEq.eq set.old lit ≡ true)) }
+    ensures refused { OnErr result (set.new ≡ set.old) }
 {
     if set.has(lit) {
         return Err(StepErr::Bad(Why::Tautology));
@@ -104,6 +107,33 @@ fn assume<L: Literal>(set: &mut LiteralSet<L>, lit: L) -> Result<(), StepErr>
         set.push(negation)?;
     }
     Ok(())
+}
+
+/// Puts the only literal that a hint's clause leaves open into the set; it is true where the set has it.
+fn take_open<L: Literal>(set: &mut LiteralSet<L>, lit: L) -> Result<(), StepErr>
+    ensures ok { OnOk result
+        ((has L.PartialEq.eq set.old lit ≡ false) × (set.new ≡ set.old ++ lit ∷ [])) }
+    ensures bad { IfErr result (λ e. IfBad e (λ w.
+        (w ≡ Why.Satisfied) × (has L.PartialEq.eq set.old lit ≡ true))) }
+    ensures refused { OnErr result (set.new ≡ set.old) }
+{
+    if set.has(lit) {
+        return Err(StepErr::Bad(Why::Satisfied));
+    }
+    set.push(lit)?;
+    Ok(())
+}
+
+/// The fault of a hint whose clause leaves more than one literal open.
+fn fault_of_more<L: Literal>(set: &LiteralSet<L>, clause: &[L]) -> Why
+    ensures { result
+        ≡ (if is_satisfied L.PartialEq.eq set.now clause.now then Why.Satisfied else Why.TwoFree) }
+{
+    if has_true(set, clause) {
+        Why::Satisfied
+    } else {
+        Why::TwoFree
+    }
 }
 
 fn has_true<L: Literal>(set: &LiteralSet<L>, clause: &[L]) -> bool
@@ -119,32 +149,36 @@ pub(crate) enum OpenPart<L> {
     More,
 }
 
-/// The literals of the clause whose negations aren't in the set.
+/// The literals of the clause whose negations aren't in the set. Each literal is looked up once.
 pub(crate) fn open_part<L: Literal>(set: &LiteralSet<L>, clause: &[L]) -> OpenPart<L>
     ensures { IsOpenPart (open_in L.PartialEq.eq L.Literal.opposite set.now clause.now) result }
 {
-    let Some(first) = first_open(set, clause) else {
-        return OpenPart::Nothing;
-    };
-    if has_other_open(set, clause, first) {
-        return OpenPart::More;
+    for (i, lit) in clause.iter().enumerate() {
+        if !set.has(lit.not()) {
+            let (_, rest) = clause.split_at(i + 1);
+            return open_from(set, *lit, rest);
+        }
     }
-    OpenPart::One(first)
+    OpenPart::Nothing
 }
 
-fn first_open<L: Literal>(set: &LiteralSet<L>, clause: &[L]) -> Option<L>
-    ensures { result ≡ find
-        (λ l. not (has L.PartialEq.eq set.now (L.Literal.opposite l))) clause.now }
+/// The same of a clause that begins with a literal whose negation isn't in the set.
+fn open_from<L: Literal>(set: &LiteralSet<L>, first: L, rest: &[L]) -> OpenPart<L>
+    requires { has L.PartialEq.eq set.now (L.Literal.opposite first) ≡ false }
+    ensures { IsOpenPart
+        (open_in L.PartialEq.eq L.Literal.opposite set.now (first ∷ rest.now)) result }
 {
-    clause.iter().copied().find(|lit| !set.has(lit.not()))
+    if has_other_open(set, first, rest) {
+        OpenPart::More
+    } else {
+        OpenPart::One(first)
+    }
 }
 
-fn has_other_open<L: Literal>(set: &LiteralSet<L>, clause: &[L], first: L) -> bool
+fn has_other_open<L: Literal>(set: &LiteralSet<L>, first: L, rest: &[L]) -> bool
     ensures { result ≡ list_any
         (λ l. not (L.PartialEq.eq first l)
-        && not (has L.PartialEq.eq set.now (L.Literal.opposite l))) clause.now }
+        && not (has L.PartialEq.eq set.now (L.Literal.opposite l))) rest.now }
 {
-    clause
-        .iter()
-        .any(|lit| first != *lit && !set.has(lit.not()))
+    rest.iter().any(|lit| first != *lit && !set.has(lit.not()))
 }

@@ -4,7 +4,8 @@ ghost use Rattle.lits.specs.Assignment.{IsAssignment, IsSatisfiable, Holds, Meet
 ghost use Rattle.lits.specs.Dimacs.{DimacsLiteral};
 ghost use Rattle.unit_prop.specs.Closure.{IsClosure, ClosureClashes, AllTrue};
 ghost use Rattle.unit_prop.specs.New.{IsNew, SameLiterals};
-ghost use Rattle.unit_prop.specs.Proof.{same_dim, opposite_dim, Added, IsProof, adds_empty, clause_numbered};
+ghost use Rattle.unit_prop.specs.Proof.{Added, IsProof, adds_empty, clause_numbered};
+ghost use Rattle.lits.specs.Same.{same_dim, opposite_dim};
 ghost use Rattle.unit_prop.specs.Step.{IsStep, AllHold};
 
 /// A step's clause holds under each assignment under which the clauses hold that it is a step over.

@@ -9,7 +9,8 @@ ghost use Rattle.unit_prop.specs.Closure.{IsClosure, ClosureClashes, AllTrue};
 ghost use Rattle.unit_prop.specs.New.{IsNew, SameLiterals};
 ghost use Rattle.unit_prop.specs.Proof.{is_empty};
 ghost use Rattle.unit_prop.specs.Step.{IsStep, AllHold};
-ghost use Rattle.unit_prop.specs.Log.{same_lit, opposite, base_clause, base_clauses, with_own, IsChain, IsLog};
+ghost use Rattle.unit_prop.specs.Log.{base_clause, base_clauses, with_own, IsChain, IsLog};
+ghost use Rattle.lits.specs.Same.{same_lit, opposite};
 ghost use Rattle.unit_prop.specs.Refuter.{Answers};
 ghost use Rattle.unit_prop.specs.declared.refuter.Refuted.{Refuted};
 

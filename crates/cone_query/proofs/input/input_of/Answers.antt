@@ -1,5 +1,5 @@
 -- Each literal marks its input, which is one of the net's.
-use Rattle.std.proofs.Common.{◌≡◌, ap, sym, ◌∙◌, length, false}
+use Rattle.std.proofs.Common.{ap, ◌∙◌, length, false}
 use Rattle.lits.specs.declared.node.Node.TheVariants.{Const}
 use Rattle.netlist.specs.Circuit.{Aig}
 use Rattle.cone_query.proofs.InputLemmas.{length-input_from, input_from-nothing, input_from-next, below-at}

@@ -1,5 +1,5 @@
 -- A node has at most four clauses.
-use Rattle.std.proofs.Common.{◌≡◌, ◌≤◌, ap, sym, ◌∙◌, [], ◌∷◌, ◌++◌, List, length, arith}
+use Rattle.std.proofs.Common.{◌≤◌, ap, sym, ◌∙◌, [], ◌∷◌, ◌++◌, List, length, arith}
 use Rattle.std.proofs.lemmas.List.{take_all}
 use Rattle.lits.specs.declared.literal.Lit.{Lit}
 use Rattle.lits.specs.declared.step.Ref.TheVariants.{Axiom}

@@ -1,8 +1,7 @@
 -- The literals make a clause already.
-use Rattle.std.proofs.Common.{◌≡◌, List, ap, sym, ◌∙◌}
+use Rattle.std.proofs.Common.{ap, ◌∙◌}
 use Rattle.lits.specs.Clause.{firsts}
-use Rattle.lits.specs.declared.literal.Lit.{Lit}
-use Rattle.netlist.specs.Miter.{same_lit}
+use Rattle.lits.specs.Same.{same_lit}
 use Rattle.lemma_book.proofs.AxiomLemmas.{clause-once}
 use Rattle.lemma_book.proofs.cones.clause_of.Goals as goal
 

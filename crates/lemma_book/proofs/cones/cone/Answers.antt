@@ -1,9 +1,8 @@
 -- The walk's nodes, in the order of their CNF variables, are the reached ones in the order of the miter.
-use Rattle.std.proofs.Common.{◌≡◌, map, filter, flat_map, ap, ◌∙◌, rules}
+use Rattle.std.proofs.Common.{◌≡◌, map, flat_map, ap, ◌∙◌, rules}
 use Rattle.std.specs.Map.Iter.{deref}
 use Rattle.std.specs.BTreeMap.{values}
 use Rattle.std.proofs.lemmas.Map.Iter.{iter_end}
-use Rattle.netlist.specs.Miter.{variables_of}
 use Rattle.lemma_book.specs.Cone.{named_axioms}
 use Rattle.lemma_book.specs.Walk.{is_found}
 use Rattle.lemma_book.proofs.RisingLemmas.{values-filter}

@@ -1,4 +1,4 @@
-use Rattle.std.proofs.Common.{◌≡◌, ◌∙◌, ◌+◌, ℕ, Some, None, Option, true, false, List, [], length, take, map, ap, sym, subst, arith}
+use Rattle.std.proofs.Common.{◌∙◌}
 use Rattle.netlist.proofs.MiterLemmas.{clause_is}
 use Rattle.netlist.proofs.miter.clause_of.Goals as goal
 

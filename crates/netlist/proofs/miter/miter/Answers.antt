@@ -1,4 +1,4 @@
-use Rattle.std.proofs.Common.{◌≡◌, ◌∙◌, ◌+◌, ◌++◌, ◌∷◌, ◌<◌, ℕ, Some, None, Option, List, [], length, ap, sym, subst, arith}
+use Rattle.std.proofs.Common.{◌∙◌, ◌+◌, ◌++◌, ◌∷◌, List, [], ap, sym, arith}
 use Rattle.lits.specs.Dimacs.{DimacsLiteral}
 use Rattle.netlist.specs.Numbered.{numbered_at}
 use Rattle.netlist.proofs.MiterLemmas.{before_none, before_more, before_all}

@@ -1,5 +1,5 @@
-use Rattle.std.proofs.Common.{◌≡◌, ◌∙◌, ◌+◌, ◌++◌, ◌∷◌, ◌<◌, ℕ, Some, None, Option, List, [], length, ap, sym, subst, arith}
-use Rattle.netlist.proofs.MiterLemmas.{numbered_clause, numbered_whole}
+use Rattle.std.proofs.Common.{arith}
+use Rattle.netlist.proofs.MiterLemmas.{numbered_clause}
 use Rattle.netlist.proofs.miter.numbered.Goals as goal
 
 pub clause_of-requires : goal.clause_of-requires

@@ -1,8 +1,8 @@
-use Rattle.std.proofs.Common.{◌≡◌, ◌∙◌, ◌+◌, ◌++◌, ◌∷◌, ◌<◌, ℕ, Some, None, Option, List, [], length, ap, sym, subst, arith}
-use Rattle.std.specs.Prelude.{IfOk, map}
+use Rattle.std.proofs.Common.{◌≡◌, ◌∙◌, ◌+◌, ◌++◌, ◌∷◌, List, [], ap, sym, subst, arith}
+use Rattle.std.specs.Prelude.{IfOk}
 use Rattle.lits.specs.Clause.{IsClause}
 use Rattle.lits.specs.Dimacs.{DimacsLiteral}
-use Rattle.netlist.proofs.LawNumbers.{same_number, opposite_number}
+use Rattle.lits.specs.Same.{same_dim, opposite_dim}
 use Rattle.netlist.proofs.MiterLemmas.{xors_none, xors_more, xors_all, xor-there, xors_clause}
 use Rattle.netlist.proofs.miter.some_xor.Goals as goal
 
@@ -20,7 +20,7 @@ loop-j-preserved c =
 
 pub clause_of-requires : goal.clause_of-requires
 clause_of-requires c =
-    subst (λ (ds : List DimacsLiteral). IsClause same_number opposite_number ds) (sym (c.as_slice.ensures.value ∙ c.loop-j.invariant))
+    subst (λ (ds : List DimacsLiteral). IsClause same_dim opposite_dim ds) (sym (c.as_slice.ensures.value ∙ c.loop-j.invariant))
     (xors_clause c.args.pair.now c.loop-j.j c.sizes-j-end.ensures.net_is
     (omega (arith, c.sizes-j-end.ensures.outputs, c.loop-j-test.false)))
 

@@ -1,4 +1,4 @@
-use Rattle.std.proofs.Common.{◌≡◌, ◌∙◌, ◌+◌, ◌≤◌, ℕ, Some, None, List, length, ap, sym, arith}
+use Rattle.std.proofs.Common.{length, ap, arith}
 use Rattle.netlist.proofs.VariableLemmas.{few_inputs_of}
 use Rattle.netlist.proofs.net.unlike_of.Goals as goal
 

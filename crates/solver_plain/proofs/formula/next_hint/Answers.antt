@@ -1,4 +1,4 @@
-use Rattle.unit_prop.specs.Log.{same_lit, opposite}
+use Rattle.lits.specs.Same.{same_lit, opposite}
 use Rattle.solver_plain.specs.Effect.{IsQuiet}
 use Rattle.solver_plain.proofs.NameLemmas.{hint-base, hint-log, quiet-both}
 use Rattle.solver_plain.proofs.formula.next_hint.Goals as goal

@@ -1,7 +1,7 @@
 use Rattle.std.proofs.Common.{◌≡◌, take}
 use Rattle.std.specs.Prelude.{map}
 use Rattle.lits.specs.Clause.{firsts}
-use Rattle.unit_prop.specs.Log.{same_lit, opposite}
+use Rattle.lits.specs.Same.{same_lit, opposite}
 use Rattle.solver_plain.proofs.literals.negations.Given as goal
 
 abbrev pub invariant-loop-lit : goal.invariant-loop-lit

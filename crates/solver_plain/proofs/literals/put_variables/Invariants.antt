@@ -2,7 +2,7 @@ use Rattle.std.proofs.Common.{◌≡◌, List, ◌++◌, take}
 use Rattle.std.specs.Prelude.{map}
 use Rattle.lits.specs.Clause.{firsts}
 use Rattle.lits.specs.declared.literal.Lit.{Lit}
-use Rattle.unit_prop.specs.Log.{same_lit}
+use Rattle.lits.specs.Same.{same_lit}
 use Rattle.solver_plain.specs.Literals.{variable_of}
 use Rattle.solver_plain.proofs.literals.put_variables.Given as goal
 

@@ -1,5 +1,5 @@
 use Rattle.std.proofs.Common.{[], ◌∷◌, ◌++◌}
-use Rattle.unit_prop.specs.Log.{opposite}
+use Rattle.lits.specs.Same.{opposite}
 use Rattle.solver_plain.proofs.SearchLemmas.{decision-sound, decision-clashes}
 use Rattle.solver_plain.proofs.search.decide.Goals as goal
 

@@ -1,5 +1,5 @@
-use Rattle.std.proofs.Common.{◌∙◌, sym, subst, List, length, ◌<◌}
-use Rattle.solver_plain.proofs.SearchLemmas.{IsDeciding, free-first, decided-clause, decided-over, decided-clashes, deciding-next, deciding-less, learned-for}
+use Rattle.std.proofs.Common.{◌∙◌, sym}
+use Rattle.solver_plain.proofs.SearchLemmas.{free-first, decided-clause, decided-over, decided-clashes, deciding-next, deciding-less, learned-for}
 use Rattle.solver_plain.proofs.ModelLemmas.{model-full}
 use Rattle.solver_plain.proofs.search.decide_in_order.Goals as goal
 

@@ -1,4 +1,4 @@
-use Rattle.std.proofs.Common.{◌∙◌, sym, ap}
+use Rattle.std.proofs.Common.{◌∙◌}
 use Rattle.unit_prop.proofs.LitLaws.{lit_laws}
 use Rattle.solver_plain.proofs.ListLemmas.{firsts-once}
 use Rattle.solver_plain.proofs.SearchLemmas.{sound-negations, clash-not_open, step-reached}

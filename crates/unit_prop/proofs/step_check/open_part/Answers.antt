@@ -1,19 +1,12 @@
-use Rattle.std.proofs.Common.{sym, ◌∙◌}
+use Rattle.std.proofs.Common.{List, sym, subst, arith}
 use Rattle.lits.proofs.ClauseLemmas.{IsLiteral, is_literal}
-use Rattle.unit_prop.proofs.OpenLemmas.{open_in-none, open_in-one, open_in-more}
+use Rattle.unit_prop.proofs.OpenLemmas.{open_in-first}
+use Rattle.unit_prop.specs.StepCheck.{IsOpenPart}
 use Rattle.unit_prop.proofs.step_check.open_part.Goals as goal
 
-pub returns-in_default : goal.returns-in_default
-returns-in_default g c =
+pub returns-then-not-has : goal.returns-then-not-has
+returns-then-not-has g c =
     let laws : IsLiteral g.L.PartialEq.eq g.L.Literal.opposite = is_literal g.met.L.Eq.laws g.met.L.Literal.exact g.met.L.Literal.twice in
-    open_in-none laws c.args.set.now c.args.clause.now (sym c.first_open.ensures ∙ c.in_default.is)
-
-pub returns-then-has_other_open : goal.returns-then-has_other_open
-returns-then-has_other_open g c =
-    let laws : IsLiteral g.L.PartialEq.eq g.L.Literal.opposite = is_literal g.met.L.Eq.laws g.met.L.Literal.exact g.met.L.Literal.twice in
-    open_in-more laws c.args.set.now c.args.clause.now c.in-Some.first (sym c.in-Some.ensures) (sym c.if-has_other_open.ensures)
-
-pub returns : goal.returns
-returns g c =
-    let laws : IsLiteral g.L.PartialEq.eq g.L.Literal.opposite = is_literal g.met.L.Eq.laws g.met.L.Literal.exact g.met.L.Literal.twice in
-    open_in-one laws c.args.set.now c.args.clause.now c.in-Some.first (sym c.in-Some.ensures) (sym c.if-has_other_open.ensures)
+    subst (λ (ls : List g.row.L.Denot). IsOpenPart ls c.open_from.result)
+    (sym (open_in-first laws c.args.set.now c.args.clause.now c.loop-i.i c.index-clause-i.result (omega arith) c.index-clause-i.is c.loop-i.invariant))
+    (rw c.split_at.ensures.back at c.open_from.ensures)

@@ -1,5 +1,5 @@
 -- An insertion by the node's CNF variable finds the node, and the answer tells whether it is new.
-use Rattle.std.proofs.Common.{◌≡◌, ◌∙◌, ap, refl, sym, Bool, false, Some, length, ℕ, ◌+◌, arith}
+use Rattle.std.proofs.Common.{◌≡◌, ◌∙◌, ap, refl, sym, Bool, false, Some, length, ◌+◌, arith}
 use Rattle.std.specs.Prelude.{if◌then◌else◌}
 use Rattle.std.specs.Option.{is_some}
 use Rattle.netlist.specs.Miter.{variable_of}

@@ -1,5 +1,5 @@
 -- The walk begins with the seeds, and each round visits one node that is still to be visited.
-use Rattle.std.proofs.Common.{[], refl, sym, ◌∙◌}
+use Rattle.std.proofs.Common.{refl, sym, ◌∙◌}
 use Rattle.std.proofs.lemmas.List.{nil_from_length}
 use Rattle.lemma_book.specs.Cone.{nodes_in}
 use Rattle.lemma_book.specs.Walk.{nodes_named}

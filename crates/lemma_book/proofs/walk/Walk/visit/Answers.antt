@@ -1,5 +1,5 @@
 -- A node has at most four clauses, and each is over nodes that have variables.
-use Rattle.std.proofs.Common.{◌≡◌, ◌≤◌, ap, sym, ◌∙◌, subst, take, flat_map, List, length, Some, arith}
+use Rattle.std.proofs.Common.{◌≤◌, sym, ◌∙◌, subst, flat_map, List, length, arith}
 use Rattle.std.proofs.lemmas.List.{take_all}
 use Rattle.lits.specs.declared.literal.Lit.{Lit}
 use Rattle.netlist.specs.Miter.{axioms_of}

@@ -1,7 +1,5 @@
-use Rattle.std.proofs.Common.{◌≡◌, ◌∙◌, ℕ, Option, Some, None, ◌+◌, ap, sym, subst, arith}
-use Rattle.std.specs.Prelude.{◌==◌}
+use Rattle.std.proofs.Common.{◌∙◌, ap, subst}
 use Rattle.netlist.specs.Circuit.{Aig, IsCircuit}
-use Rattle.netlist.specs.Source.{source_of}
 use Rattle.netlist.specs.Pair.{gate_from}
 use Rattle.netlist.proofs.SourceLemmas.{gate_from-source}
 use Rattle.netlist.proofs.circuit.Circuit.gate.Goals as goal

@@ -1,7 +1,3 @@
-use Rattle.std.proofs.Common.{◌∷◌, ◌++◌, List, ℕ, sym, subst}
-use Rattle.netlist.specs.declared.gate.And.{And}
-use Rattle.netlist.specs.Circuit.{gate_vars}
-use Rattle.netlist.specs.VariableTable.{IsTable, AreVariables}
 use Rattle.netlist.proofs.VariableLemmas.{variables}
 use Rattle.netlist.proofs.circuit.Circuit.of.Goals as goal
 

@@ -1,4 +1,4 @@
-use Rattle.std.proofs.Common.{◌≡◌, ◌∙◌, ℕ, length, Option, Some, None, ap, sym, subst, arith}
+use Rattle.std.proofs.Common.{◌≡◌, ◌∙◌, ℕ, length, Some, None, ap, sym, subst, arith}
 use Rattle.netlist.specs.Circuit.{Aig}
 use Rattle.netlist.specs.Source.{source_of, source_at}
 use Rattle.netlist.proofs.SourceLemmas.{source_found, source_missing, within_found}

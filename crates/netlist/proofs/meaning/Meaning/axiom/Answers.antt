@@ -1,4 +1,4 @@
-use Rattle.std.proofs.Common.{◌≡◌, ◌∙◌, sym}
+use Rattle.std.proofs.Common.{◌∙◌, sym}
 use Rattle.netlist.specs.Meaning.{clauses_that_say}
 use Rattle.netlist.proofs.MeaningLemmas.{axiom_here, axiom_later, axiom_left_out}
 use Rattle.netlist.proofs.meaning.Meaning.axiom.Goals as goal

@@ -1,4 +1,4 @@
-use Rattle.std.proofs.Common.{◌≡◌, ◌∙◌, ◌+◌, ◌-◌, ◌≤◌, ◌<◌, ℕ, Some, None, List, length, ap, sym, subst, arith}
+use Rattle.std.proofs.Common.{◌≡◌, ◌∙◌, ◌+◌, ◌-◌, Some, None, sym, subst, arith}
 use Rattle.netlist.specs.Net.{AigPair}
 use Rattle.std.specs.Prelude.{slice_index}
 use Rattle.netlist.specs.Miter.{clause_number_of}

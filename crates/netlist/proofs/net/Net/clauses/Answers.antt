@@ -1,4 +1,4 @@
-use Rattle.std.proofs.Common.{◌≡◌, ◌∙◌, ◌+◌, ◌-◌, ◌≤◌, ◌<◌, ℕ, Some, None, List, length, ap, sym, subst, arith}
+use Rattle.std.proofs.Common.{◌≡◌, ◌∙◌, length, subst}
 use Rattle.netlist.specs.Net.{AigPair}
 use Rattle.std.specs.Prelude.{slice_index}
 use Rattle.netlist.specs.Miter.{miter_of}

@@ -1,4 +1,4 @@
-use Rattle.std.proofs.Common.{◌≡◌, ◌∙◌, ◌+◌, ◌≤◌, ℕ, Some, None, Option, List, length, ap, sym, subst}
+use Rattle.std.proofs.Common.{◌∙◌, Option, List, ap, sym, subst}
 use Rattle.std.specs.Prelude.{slice_get, IfSome}
 use Rattle.lits.specs.declared.literal.Lit.{Lit}
 use Rattle.netlist.specs.Net.{AigPair, IsNet}

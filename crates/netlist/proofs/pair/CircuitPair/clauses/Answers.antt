@@ -1,4 +1,4 @@
-use Rattle.std.proofs.Common.{◌≡◌, ◌∙◌, ◌+◌, ◌≤◌, ℕ, Some, None, List, length, ap, sym, arith}
+use Rattle.std.proofs.Common.{◌∙◌, length, ap, sym}
 use Rattle.netlist.proofs.NetLemmas.{axioms_of-some}
 use Rattle.netlist.proofs.pair.CircuitPair.clauses.Goals as goal
 

@@ -1,5 +1,4 @@
-use Rattle.std.proofs.Common.{◌≡◌, ◌∙◌, ℕ, Option, Some, None, ◌+◌, ap, sym, subst, arith}
-use Rattle.netlist.specs.declared.source.Source.{Source}
+use Rattle.std.proofs.Common.{◌∙◌, ap}
 use Rattle.netlist.specs.Circuit.{Aig, is_negated, var_of}
 use Rattle.netlist.specs.Source.{source_of}
 use Rattle.netlist.specs.Meaning.{lit_from}

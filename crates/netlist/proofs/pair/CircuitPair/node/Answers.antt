@@ -1,4 +1,4 @@
-use Rattle.std.proofs.Common.{◌≡◌, ◌∙◌, ℕ, Option, Some, None, ◌+◌, ap, sym, subst, arith}
+use Rattle.std.proofs.Common.{arith}
 use Rattle.netlist.proofs.NetLemmas.{length-nodes, length-variables, node_at-input, node_at-gate_a, node_at-gate_b, node_at-xor}
 use Rattle.netlist.proofs.pair.CircuitPair.node.Goals as goal
 

@@ -1,4 +1,4 @@
-use Rattle.std.proofs.Common.{◌≡◌, ◌∙◌, ◌+◌, ℕ, Some, None, Option, refl, sym, subst, arith}
+use Rattle.std.proofs.Common.{◌∙◌, ℕ, Option, refl, sym, subst}
 use Rattle.std.specs.Prelude.{IsSome}
 use Rattle.netlist.proofs.LawNumbers.{variable-some}
 use Rattle.netlist.proofs.pair.CircuitPair.number.Goals as goal

@@ -1,4 +1,4 @@
-use Rattle.std.proofs.Common.{◌≡◌, ◌∙◌, ℕ, Option, Some, None, ◌+◌, ap, sym, subst, arith}
+use Rattle.std.proofs.Common.{◌∙◌, ap, sym}
 use Rattle.netlist.specs.Net.{position_of}
 use Rattle.netlist.proofs.NetLemmas.{position-input_in, position-input_out, position_of-xor}
 use Rattle.netlist.proofs.pair.CircuitPair.position.Goals as goal

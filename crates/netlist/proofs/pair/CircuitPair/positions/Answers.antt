@@ -1,4 +1,4 @@
-use Rattle.std.proofs.Common.{◌≡◌, ◌+◌, ℕ, arith}
+use Rattle.std.proofs.Common.{arith}
 use Rattle.netlist.proofs.NetLemmas.{length-nodes}
 use Rattle.netlist.proofs.pair.CircuitPair.positions.Goals as goal
 

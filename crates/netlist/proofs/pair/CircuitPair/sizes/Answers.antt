@@ -1,4 +1,4 @@
-use Rattle.std.proofs.Common.{◌≡◌, ◌∙◌, ℕ, length, ap, arith}
+use Rattle.std.proofs.Common.{◌∙◌, length, ap, arith}
 use Rattle.netlist.specs.Circuit.{Aig}
 use Rattle.netlist.proofs.NetLemmas.{sizes_of}
 use Rattle.netlist.proofs.VariableLemmas.{few_gates_of}

@@ -1,6 +1,7 @@
-use Rattle.std.proofs.Common.{◌≡◌, ◌∙◌, ℕ, Option, Some, None, ◌+◌, ap, sym, subst, arith}
+use Rattle.std.proofs.Common.{◌∙◌, ◌+◌, ap, sym, arith}
 use Rattle.std.specs.Option.{option_map}
-use Rattle.netlist.specs.Net.{same_node, nodes_of}
+use Rattle.netlist.specs.Net.{nodes_of}
+use Rattle.lits.specs.Same.{same_node}
 use Rattle.netlist.specs.Miter.{variable_of}
 use Rattle.netlist.proofs.SourceLemmas.{place_within}
 use Rattle.netlist.proofs.NetLemmas.{length-nodes, variable-xor_in, variable-xor_out, variable-node}

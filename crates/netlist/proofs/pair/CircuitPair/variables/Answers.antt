@@ -1,4 +1,4 @@
-use Rattle.std.proofs.Common.{◌≡◌, ◌∙◌, ◌+◌, ◌≤◌, ℕ, Some, None, List, length, ap, sym, arith}
+use Rattle.std.proofs.Common.{arith}
 use Rattle.netlist.proofs.NetLemmas.{length-nodes, length-variables}
 use Rattle.netlist.proofs.pair.CircuitPair.variables.Goals as goal
 

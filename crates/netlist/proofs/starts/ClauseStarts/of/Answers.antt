@@ -1,4 +1,4 @@
-use Rattle.std.proofs.Common.{◌≡◌, ◌∙◌, ℕ, List, [], ap, sym, subst, arith}
+use Rattle.std.proofs.Common.{ℕ, List, sym, subst}
 use Rattle.netlist.proofs.StartLemmas.{AreFirst, first_none}
 use Rattle.netlist.proofs.starts.ClauseStarts.of.Goals as goal
 

@@ -1,6 +1,3 @@
-use Rattle.std.proofs.Common.{◌≡◌, ◌+◌, ◌*◌, ◌≤◌, ◌<◌, ℕ, length}
-use Rattle.std.specs.Prelude.{slice_index}
-use Rattle.netlist.specs.Starts.{first_clause}
 use Rattle.netlist.proofs.StartLemmas.{AreFirst}
 use Rattle.netlist.proofs.starts.ClauseStarts.of.Given as goal
 

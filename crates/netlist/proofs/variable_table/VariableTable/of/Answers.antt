@@ -1,6 +1,5 @@
-use Rattle.std.proofs.Common.{◌≡◌, ℕ, ◌<◌, ◌≤◌, List, ◌∷◌, ◌++◌, length, take, sym, ap, subst, arith}
+use Rattle.std.proofs.Common.{◌∷◌, sym, subst, arith}
 use Rattle.std.proofs.lemmas.List.{take_more}
-use Rattle.netlist.specs.Circuit.{gate_vars, most}
 use Rattle.netlist.specs.VariableTable.{IsTable}
 use Rattle.netlist.proofs.VariableLemmas.{few_inputs, few_gates, new_input, new_gate, vars_more}
 use Rattle.netlist.proofs.variable_table.VariableTable.of.Goals as goal

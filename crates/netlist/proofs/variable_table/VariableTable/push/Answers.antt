@@ -1,4 +1,4 @@
-use Rattle.std.proofs.Common.{ℕ, ◌<◌, length, sym, subst}
+use Rattle.std.proofs.Common.{◌<◌, length, sym, subst}
 use Rattle.netlist.specs.VariableTable.{Places, IsTable}
 use Rattle.netlist.proofs.TableLemmas.{push_table}
 use Rattle.netlist.proofs.variable_table.VariableTable.push.Goals as goal

@@ -1,4 +1,4 @@
-use Rattle.unit_prop.specs.Proof.{same_dim, opposite_dim}
+use Rattle.lits.specs.Same.{same_dim, opposite_dim}
 use Rattle.unit_prop.proofs.LawLemmas.{step-more}
 use Rattle.unit_prop.proofs.laws.dimacs.step_over_more.Goals as goal
 

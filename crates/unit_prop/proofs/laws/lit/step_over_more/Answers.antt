@@ -1,4 +1,4 @@
-use Rattle.unit_prop.specs.Log.{same_lit, opposite}
+use Rattle.lits.specs.Same.{same_lit, opposite}
 use Rattle.unit_prop.proofs.LawLemmas.{step-more}
 use Rattle.unit_prop.proofs.laws.lit.step_over_more.Goals as goal
 

@@ -1,7 +1,7 @@
 use Rattle.std.proofs.Common.{arith}
 use Rattle.std.proofs.lemmas.Result.{err_from_is_err_and}
 use Rattle.lits.proofs.ClauseLemmas.{IsLiteral, is_literal}
-use Rattle.unit_prop.proofs.AssumeLemmas.{assumed-next, assumed-pair, if_bad-map}
+use Rattle.unit_prop.proofs.AssumeLemmas.{assumed-next, assumed-pair, assumed-consistent, if_bad-map}
 use Rattle.unit_prop.proofs.step_check.StepCheck.begin.Goals as goal
 
 pub loop-lit-preserved : goal.loop-lit-preserved
@@ -10,6 +10,7 @@ loop-lit-preserved g c =
     record {
       quiet = c.loop-lit.invariant.quiet;
       assumed = assumed-next laws _ _ _ _ _ (omega arith) c.lit-item.is c.loop-lit.invariant.assumed c.in_ok-assume.ensures.ok;
+      consistent = assumed-consistent laws g.met.L.Literal.differs _ _ _ c.loop-lit.invariant.consistent c.in_ok-assume.ensures.ok;
     }
 
 pub returns-in_err-assume-clause-tautology : goal.returns-in_err-assume-clause-tautology
