@@ -1,11 +1,15 @@
 -- The text of a CNF in the format of the DIMACS challenge (1993), one clause a line, with one space between numbers.
-use Rattle.std.specs.Prelude.{ℕ, List, [], ◌∷◌, ◌++◌, length, codes, decimal, if◌then◌else◌}
+use Rattle.std.specs.Prelude.{ℕ, ◌≤◌, List, [], ◌∷◌, ◌++◌, length, codes, decimal, if◌then◌else◌}
 use Rattle.std.specs.List.{flat_map}
 use Rattle.lits.specs.Dimacs.{DimacsLiteral}
 
 -- a literal: its variable, behind a minus sign where it is negated
 unfoldable pub literal_text : DimacsLiteral → List ℕ
 literal_text d = if d.neg then 45 ∷ decimal d.var else decimal d.var
+
+-- a literal of a variable from 1 to this one
+abbrev pub IsOver : ℕ → DimacsLiteral → Type 0
+IsOver variables literal = (1 ≤ literal.var) × (literal.var ≤ variables)
 
 -- a clause: its literals, each with a space behind it, then 0 and the line's end
 unfoldable pub clause_text : List DimacsLiteral → List ℕ

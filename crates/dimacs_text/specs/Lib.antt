@@ -1,1 +1,5 @@
 pub mod CnfText
+pub mod Words
+pub mod Numbers
+pub mod Reading
+pub mod Clauses
