@@ -1,0 +1,7 @@
+use Rattle.std.proofs.Common.{nat_eq, rules}
+use Rattle.std.specs.HashMap.{get}
+use Rattle.lrat_checker.proofs.LiveLemmas.{slots-formula}
+use Rattle.lrat_checker.proofs.live.LiveClauses.of.Goals as goal
+
+pub returns : goal.returns
+returns c = λ id. rw c.in_ok-slots_of.ensures (slots-formula c.args.formula (get nat_eq c.new.result id) id (search rules))

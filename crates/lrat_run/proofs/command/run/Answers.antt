@@ -1,0 +1,14 @@
+use Rattle.std.proofs.Common.{subst}
+use Rattle.lrat_checker.specs.declared.verdict.Verdict.{Verdict}
+use Rattle.lrat_run.specs.Causes.{Says}
+use Rattle.lrat_run.proofs.SayingLemmas.{verifies}
+use Rattle.lrat_run.proofs.command.run.Goals as goal
+
+pub returns-in-Ok-Refuted-clause-answers : goal.returns-in-Ok-Refuted-clause-answers
+returns-in-Ok-Refuted-clause-answers g c =
+    let cnf = c.args.cnf.now in
+    let proof = c.args.proof.now in
+    let old = g.D.Desk.state c.args.desk.now in
+    let new = g.D.Desk.state c.judge.new.desk in
+    verifies cnf proof old new
+    (subst (λ (v : Verdict). Says cnf proof old new v) c.in-Ok-Refuted.field-0-is c.in-Ok-Refuted.ensures.answer)

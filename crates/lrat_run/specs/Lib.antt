@@ -1,0 +1,4 @@
+pub mod Stops
+pub mod Lines
+pub mod Causes
+pub mod Answers
