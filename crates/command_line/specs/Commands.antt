@@ -1,0 +1,46 @@
+-- The commands of the program, in the words by which `clap` says what a parse reads of a command.
+use Rattle.std.specs.Prelude.{ℕ, true, List, [], ◌∷◌, Some, codes}
+use Rattle.clap.specs.Walk.{Rule, Text, is_empty}
+use Rattle.clap.specs.Simple.{App, Shape, new_rule, new_shape}
+use Rattle.clap.specs.declared.builder.value_parser.ValueParser.TheVariants.{Unsigned}
+
+-- an argument without a name, which has to be there
+abbrev pub place : Text → Rule
+place id = record (new_rule id) { required = true; value_names = 1 }
+
+-- `--ID` with any text, which may be left out
+abbrev pub text_option : Text → Rule
+text_option id = record (new_rule id) { long = Some id; value_names = 1 }
+
+-- `--ID` with a number from least to most, which is `default` where the words have no such option
+abbrev pub number_option : Text → ℕ → ℕ → Text → Rule
+number_option id least most default =
+    record (text_option id) { parser = Some (Unsigned least most); defaults = default ∷ [] }
+
+-- a command with these arguments
+abbrev pub command : Text → List Rule → Shape
+command name rules = record (new_shape name) { rules = rules }
+
+-- `cec check A B [--out PREFIX] [--budget N]`
+abbrev pub check_command : Shape
+check_command = command (codes "check")
+    (place (codes "a") ∷ place (codes "b") ∷ text_option (codes "out")
+    ∷ number_option (codes "budget") 1 1000000000 (codes "100000") ∷ [])
+
+-- `cec lrat CNF PROOF`
+abbrev pub lrat_command : Shape
+lrat_command = command (codes "lrat") (place (codes "cnf") ∷ place (codes "proof") ∷ [])
+
+-- the program with these commands, of which one has to be there; `help` is none of its own
+abbrev pub program : List Shape → App
+program commands = record {
+  top = record (new_shape (codes "cec")) {
+    is_leaf = is_empty commands;
+    disable_help_subcommand = true;
+    subcommand_required = true;
+  };
+  subs = commands;
+}
+
+abbrev pub cec_app : App
+cec_app = program (check_command ∷ lrat_command ∷ [])

@@ -1,0 +1,5 @@
+pub mod Commands
+pub mod Table
+pub mod Words
+pub mod Answers
+pub mod Parsing

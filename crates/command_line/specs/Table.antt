@@ -1,0 +1,27 @@
+-- What a row of the table means to a parse.
+use Rattle.std.specs.Prelude.{[], map}
+use Rattle.clap.specs.Walk.{Rule, Text}
+use Rattle.clap.specs.Simple.{App, Shape}
+use Rattle.command_line.specs.Commands.{command, number_option, place, text_option}
+use Rattle.command_line.specs.declared.table.ArgumentRow.{ArgumentRow}
+use Rattle.command_line.specs.declared.table.CommandRow.{CommandRow}
+use Rattle.command_line.specs.declared.table.Takes.{Takes}
+use Rattle.command_line.specs.declared.table.Takes.TheVariants as takes
+
+abbrev pub rule_of_takes : Takes → Text → Rule
+rule_of_takes takes.Place id = place id
+rule_of_takes takes.Text id = text_option id
+rule_of_takes (takes.Number least most default) id = number_option id least most default.now
+
+abbrev pub rule_in : ArgumentRow → Rule
+rule_in row = rule_of_takes row.takes row.name.now
+
+abbrev pub shape_in : CommandRow → Shape
+shape_in row = command row.name.now (map rule_in row.arguments.now)
+
+-- a command without subcommands
+abbrev pub leaf : Shape → App
+leaf shape = record { top = shape; subs = [] }
+
+abbrev pub leaf_in : CommandRow → App
+leaf_in row = leaf (shape_in row)

@@ -1,0 +1,97 @@
+-- What the words of a command line ask for, and which of them are refused. A word is the list of its bytes, and the
+-- first word is the program's name.
+use Rattle.std.specs.Prelude.{◌≡◌, ◌⊎◌, ℕ, Bool, true, false, not, ◌&&◌, List, [], ◌∷◌, Option, Some, None, option_and_then, codes, if◌then◌else◌}
+use Rattle.std.specs.List.{list_any}
+use Rattle.std.specs.Str.{bytes_eq}
+use Rattle.std.specs.Str.Parse.{digits_value, without_leading_plus}
+use Rattle.clap.specs.Faults.{fault_of}
+use Rattle.clap.specs.Kinds.{Kinds}
+use Rattle.clap.specs.Simple.{subcommand_of}
+use Rattle.clap.specs.ValueTests.{is_unsigned_in}
+use Rattle.clap.specs.Walk.{Row, Text, first_of, is_empty}
+use Rattle.clap.specs.declared.error.kind.ErrorKind.{ErrorKind}
+use Rattle.clap.specs.declared.error.kind.ErrorKind.TheVariants.{DisplayHelp}
+use Rattle.command_line.specs.Commands.{cec_app}
+
+-- `check A B`: the names of the two circuits' files, what the names of the written files begin with, if any are to be
+-- written, and how many clauses a solver may learn for an output
+pub record CheckCommand : Type 0 where
+  pub a : List ℕ
+  pub b : List ℕ
+  pub out : Option (List ℕ)
+  pub budget : ℕ
+
+-- `lrat CNF PROOF`: the names of the files of a formula and of its proof
+pub record LratCommand : Type 0 where
+  pub cnf : List ℕ
+  pub proof : List ℕ
+
+-- what the program is asked to do
+pub data Request : Type 0 where
+  CheckIt : CheckCommand → Request
+  LratIt : LratCommand → Request
+
+-- the number that a text spells, if it is a budget: decimal digits, which zeros and one + may precede
+abbrev pub budget_in : Text → Option ℕ
+budget_in text =
+    if is_unsigned_in 1 1000000000 text then Some (digits_value 10 (without_leading_plus text)) else None
+
+abbrev pub check_of : Option Text → Option Text → Option Text → Option ℕ → Option Request
+check_of (Some a) (Some b) out (Some budget) = Some (CheckIt (record { a = a; b = b; out = out; budget = budget }))
+check_of a b out budget = None
+
+abbrev pub lrat_of : Option Text → Option Text → Option Request
+lrat_of (Some cnf) (Some proof) = Some (LratIt (record { cnf = cnf; proof = proof }))
+lrat_of cnf proof = None
+
+-- the value of `--budget`
+abbrev pub budget_of : List Row → Option ℕ
+budget_of rows = option_and_then budget_in (first_of (codes "budget") rows)
+
+-- the requests that the values of the arguments make
+abbrev pub check_in : List Row → Option Request
+check_in rows =
+    check_of (first_of (codes "a") rows) (first_of (codes "b") rows) (first_of (codes "out") rows) (budget_of rows)
+
+abbrev pub lrat_in : List Row → Option Request
+lrat_in rows = lrat_of (first_of (codes "cnf") rows) (first_of (codes "proof") rows)
+
+-- the one that the command of this name makes
+abbrev pub request_in : Text → List Row → Option Request
+request_in name rows =
+    if bytes_eq name (codes "check") then check_in rows
+    else if bytes_eq name (codes "lrat") then lrat_in rows
+    else None
+
+-- the second word is `help`, which is no command of the program
+abbrev pub names_help : List Text → Bool
+names_help (program ∷ command ∷ words) = bytes_eq command (codes "help")
+names_help words = false
+
+-- The kinds of fault of which `clap` finds one in the words: none where it takes them, and two only where it may call a
+-- word one thing or the other.
+unfoldable pub faults : List Text → Kinds
+faults words = fault_of cec_app words
+
+abbrev pub is_help : ErrorKind → Bool
+is_help DisplayHelp = true
+is_help kind = false
+
+-- what the words ask for, where they have no fault
+unfoldable pub request_of : List Text → Option Request
+request_of words =
+    if not (names_help words) && is_empty (faults words)
+    then option_and_then (λ p. request_in p.0 p.1) (subcommand_of cec_app words) else None
+
+abbrev pub Asks : List Text → Request → Type 0
+Asks words request = request_of words ≡ Some request
+
+-- the words ask for help, by `--help` or `-h`
+abbrev pub WantHelp : List Text → Type 0
+WantHelp words = (names_help words ≡ false) × (faults words ≡ DisplayHelp ∷ [])
+
+-- the words ask neither for help nor for what the program does: they name the command `help`, or have another fault than
+-- that they ask for help
+abbrev pub AreRefused : List Text → Type 0
+AreRefused words = (names_help words ≡ true)
+    ⊎ ((is_empty (faults words) ≡ false) × (list_any is_help (faults words) ≡ false))

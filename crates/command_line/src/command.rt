@@ -1,0 +1,59 @@
+ghost use Rattle.std.specs.Prelude.{◌≡◌, IfOk, [], false};
+ghost use Rattle.clap.specs.Words.{app_of, rule_of};
+ghost use Rattle.clap.specs.declared.builder.command.Command.TheViews.{out-Command as fields_of};
+ghost use Rattle.command_line.specs.Commands.{cec_app};
+ghost use Rattle.command_line.specs.Table.{leaf_in, rule_in};
+
+use crate::table::{ArgumentRow, COMMANDS, CommandRow, PROGRAM_HELP, PROGRAM_NOTES, Takes};
+use clap::builder::ValueParser;
+use clap::{Arg, Command};
+use std::alloc::{AllocError, Global};
+
+/// The program's command, with all that the table has.
+pub(crate) fn cec_command<'a>(alloc: Global) -> Result<Command<'a>, AllocError>
+    ensures { IfOk result (λ c. app_of c ≡ cec_app) }
+{
+    let mut cec = Command::new(alloc, "cec")
+        .about(PROGRAM_HELP)
+        .after_help(PROGRAM_NOTES)
+        .subcommand_required(true)
+        .disable_help_subcommand(true);
+    for row in &COMMANDS {
+        cec = cec.subcommand(command_of(alloc, row)?)?;
+    }
+    Ok(cec)
+}
+
+fn command_of<'a>(alloc: Global, row: &CommandRow) -> Result<Command<'a>, AllocError>
+    ensures app { IfOk result (λ c. app_of c ≡ leaf_in row.now) }
+    ensures local { IfOk result (λ c. (fields_of c).has_globals ≡ false) }
+{
+    let mut command = Command::new(alloc, row.name)
+        .about(row.help)
+        .after_help(row.notes);
+    for argument in row.arguments {
+        command = command.arg(argument_of(alloc, argument))?;
+    }
+    Ok(command)
+}
+
+fn argument_of<'a>(alloc: Global, row: &ArgumentRow) -> Arg<'a>
+    ensures rule { rule_of result ≡ rule_in row.now }
+    ensures local { result.global ≡ false }
+{
+    let arg = Arg::new(alloc, row.name)
+        .value_name(row.value_name)
+        .help(row.help);
+    match row.takes {
+        Takes::Place => arg.required(true),
+        Takes::Text => arg.long(row.name),
+        Takes::Number {
+            least,
+            most,
+            default,
+        } => arg
+            .long(row.name)
+            .value_parser(ValueParser::Unsigned(least, most))
+            .default_value(default),
+    }
+}

@@ -1,0 +1,22 @@
+//! The words of the program's command line, read with `clap`.
+//!
+//! `read` answers with what the words ask for, with the text of help exactly where they ask for that, or with what is
+//! wrong with them. All commands, arguments and options stand in one table, from which the parser and help are made. The
+//! law `words_are_one_of` says that words are exactly one of the three.
+//!
+//! Definitions: `specs/Words.antt` (what words ask for, by `clap`'s own definition of what it takes and what it finds),
+//! `specs/Commands.antt` (the commands), `specs/Answers.antt` (what `read` may answer). Begin to read at `table.rt`.
+#![tactic(auto)]
+
+pub use asked::{Asked, CheckWords, LratWords};
+pub use laws::words_are_one_of;
+pub use reading::{Refusal, read};
+
+mod asked;
+mod command;
+mod laws;
+mod matches;
+mod reading;
+mod table;
+#[cfg(test)]
+mod tests;

@@ -1,0 +1,130 @@
+//! All that the command line can say. A new option is a row here, a rule in `specs/Commands.antt` and a field of what
+//! `read` hands out.
+
+/// What an argument takes.
+#[derive(Clone, Copy)]
+pub(crate) enum Takes {
+    /// Any text, without a name, which has to be there.
+    Place,
+    /// Any text behind `--NAME`, which may be left out.
+    Text,
+    /// A number from `least` to `most` behind `--NAME`, and the one in `default` where it is left out.
+    Number {
+        least: u64,
+        most: u64,
+        default: &'static str,
+    },
+}
+
+/// An argument of a command.
+#[derive(Clone, Copy)]
+pub(crate) struct ArgumentRow {
+    /// The name of an option, and what the value is asked for by.
+    pub(crate) name: &'static str,
+    /// What help calls the value.
+    pub(crate) value_name: &'static str,
+    pub(crate) takes: Takes,
+    pub(crate) help: &'static str,
+}
+
+/// A command of the program.
+#[derive(Clone, Copy)]
+pub(crate) struct CommandRow {
+    pub(crate) name: &'static str,
+    /// What the command does, in one line.
+    pub(crate) help: &'static str,
+    /// What it says and leaves, at the end of its help.
+    pub(crate) notes: &'static str,
+    /// In the order of help, and those without a name in the order of the words.
+    pub(crate) arguments: &'static [ArgumentRow],
+}
+
+/// What the program does, in one line.
+pub(crate) const PROGRAM_HELP: &str =
+    "Decide whether circuits compute the same, and leave a proof that others can check";
+
+pub(crate) static COMMANDS: [CommandRow; 2] = [
+    CommandRow {
+        name: "check",
+        help: "Decide whether two circuits compute the same outputs",
+        notes: CHECK_NOTES,
+        arguments: &[
+            ArgumentRow {
+                name: "a",
+                value_name: "A",
+                takes: Takes::Place,
+                help: "A combinational circuit, as an AIGER file",
+            },
+            ArgumentRow {
+                name: "b",
+                value_name: "B",
+                takes: Takes::Place,
+                help: "Another one, with as many inputs and outputs",
+            },
+            ArgumentRow {
+                name: "out",
+                value_name: "PREFIX",
+                takes: Takes::Text,
+                help: "Leave the question and its proof in files whose names begin with PREFIX",
+            },
+            ArgumentRow {
+                name: "budget",
+                value_name: "N",
+                takes: Takes::Number {
+                    least: 1,
+                    most: 1_000_000_000,
+                    default: "100000",
+                },
+                help: "Give up on an output after N learned clauses, from 1 to 1000000000",
+            },
+        ],
+    },
+    CommandRow {
+        name: "lrat",
+        help: "Check a proof that a formula has no model",
+        notes: LRAT_NOTES,
+        arguments: &[
+            ArgumentRow {
+                name: "cnf",
+                value_name: "CNF",
+                takes: Takes::Place,
+                help: "The formula, as a DIMACS file",
+            },
+            ArgumentRow {
+                name: "proof",
+                value_name: "PROOF",
+                takes: Takes::Place,
+                help: "The proof, as an LRAT file",
+            },
+        ],
+    },
+];
+
+/// The statuses that are the same for each command, at the end of the program's help.
+pub(crate) const PROGRAM_NOTES: &str = "\
+Status:
+  0  EQUIVALENT or VERIFIED was said, or help
+  1  DIFFERENT or REFUSED was said
+  2  UNDECIDED was said
+  3  the words are not as above
+  4  a file is not of its format, or the circuits are not alike
+  5  a file cannot be read
+  6  a file cannot be written, or an answer cannot be said
+  7  memory was refused";
+
+const CHECK_NOTES: &str = "\
+Says, and ends with the status before it:
+  0  EQUIVALENT
+  1  DIFFERENT, with an output and inputs on which it differs
+  2  UNDECIDED, with the outputs that are left open
+Other statuses tell of a fault: see cec --help.
+
+Files, with --out:
+  PREFIX.0.cnf   the miter of the circuits, which has a model exactly if they differ (DIMACS)
+  PREFIX.0.lrat  the proof that it has none, or as much of it as was found (LRAT)";
+
+const LRAT_NOTES: &str = "\
+Says, and ends with the status before it:
+  0  VERIFIED
+  1  REFUSED, with the first line that does not follow, or for want of an empty clause
+Other statuses tell of a fault: see cec --help.";

@@ -1,0 +1,208 @@
+use crate::{Asked, Refusal, read};
+use std::alloc::Global;
+use std::process::Abort;
+use std::test::Fail;
+
+const PROGRAM_HELP: &str = "help: \
+Decide whether circuits compute the same, and leave a proof that others can check
+
+Usage: cec <COMMAND>
+
+Commands:
+  check  Decide whether two circuits compute the same outputs
+  lrat   Check a proof that a formula has no model
+
+Options:
+  -h, --help  Print help
+
+Status:
+  0  EQUIVALENT or VERIFIED was said, or help
+  1  DIFFERENT or REFUSED was said
+  2  UNDECIDED was said
+  3  the words are not as above
+  4  a file is not of its format, or the circuits are not alike
+  5  a file cannot be read
+  6  a file cannot be written, or an answer cannot be said
+  7  memory was refused
+";
+
+const CHECK_HELP: &str = "help: \
+Decide whether two circuits compute the same outputs
+
+Usage: cec check [OPTIONS] <A> <B>
+
+Arguments:
+  <A>  A combinational circuit, as an AIGER file
+  <B>  Another one, with as many inputs and outputs
+
+Options:
+      --out <PREFIX>  Leave the question and its proof in files whose names begin with PREFIX
+      --budget <N>    Give up on an output after N learned clauses, from 1 to 1000000000 [default: 100000]
+  -h, --help          Print help
+
+Says, and ends with the status before it:
+  0  EQUIVALENT
+  1  DIFFERENT, with an output and inputs on which it differs
+  2  UNDECIDED, with the outputs that are left open
+Other statuses tell of a fault: see cec --help.
+
+Files, with --out:
+  PREFIX.0.cnf   the miter of the circuits, which has a model exactly if they differ (DIMACS)
+  PREFIX.0.lrat  the proof that it has none, or as much of it as was found (LRAT)
+";
+
+const LRAT_HELP: &str = "help: \
+Check a proof that a formula has no model
+
+Usage: cec lrat <CNF> <PROOF>
+
+Arguments:
+  <CNF>    The formula, as a DIMACS file
+  <PROOF>  The proof, as an LRAT file
+
+Options:
+  -h, --help  Print help
+
+Says, and ends with the status before it:
+  0  VERIFIED
+  1  REFUSED, with the first line that does not follow, or for want of an empty clause
+Other statuses tell of a fault: see cec --help.
+";
+
+const NO_COMMAND: &str = "usage: \
+error: 'cec' requires a subcommand but one was not provided
+  [subcommands: check, lrat]
+
+Usage: cec <COMMAND>
+
+For more information, try '--help'.
+";
+
+const NO_HELP: &str = "usage: cec: no command help\n";
+
+/// Words, and what they are told.
+const TAKEN: [(&str, &str); 12] = [
+    ("cec check x y", "x and y, to nowhere, by 100000"),
+    ("cec check x y --out p", "x and y, to p, by 100000"),
+    ("cec check x y --budget 7", "x and y, to nowhere, by 7"),
+    ("cec check x y --budget 7 --out p", "x and y, to p, by 7"),
+    ("cec check --out p --budget 7 x y", "x and y, to p, by 7"),
+    ("cec check x --budget=7 y --out=p", "x and y, to p, by 7"),
+    ("cec check x y --budget 1", "x and y, to nowhere, by 1"),
+    (
+        "cec check x y --budget 1000000000",
+        "x and y, to nowhere, by 1000000000",
+    ),
+    ("cec check x y --budget +007", "x and y, to nowhere, by 7"),
+    (
+        "cec check help check",
+        "help and check, to nowhere, by 100000",
+    ),
+    (
+        "cec check -- -x --out",
+        "-x and --out, to nowhere, by 100000",
+    ),
+    ("cec lrat f p", "p of f"),
+];
+
+/// Words, and how the text of their refusal begins.
+const REFUSED: [(&str, &str); 12] = [
+    (
+        "cec check x y --budget 0",
+        "invalid value '0' for '--budget <N>': 0 is not in 1..=1000000000\n",
+    ),
+    (
+        "cec check x y --budget 1000000001",
+        "invalid value '1000000001' for '--budget <N>': 1000000001 is not in 1..=1000000000\n",
+    ),
+    (
+        "cec check x y --budget x",
+        "invalid value 'x' for '--budget <N>': invalid digit found in string\n",
+    ),
+    (
+        "cec check x y --budget -1",
+        "unexpected argument '-1' found\n",
+    ),
+    (
+        "cec check x y --budget 7 --budget 7",
+        "the argument '--budget <N>' cannot be used multiple times\n",
+    ),
+    (
+        "cec check x y --out",
+        "a value is required for '--out <PREFIX>' but none was supplied\n",
+    ),
+    (
+        "cec check x",
+        "the following required arguments were not provided:\n  <B>\n",
+    ),
+    (
+        "cec lrat",
+        "the following required arguments were not provided:\n  <CNF>\n  <PROOF>\n",
+    ),
+    ("cec check x y z", "unexpected argument 'z' found\n"),
+    (
+        "cec check x y --seed 1",
+        "unexpected argument '--seed' found\n",
+    ),
+    ("cec --version", "unexpected argument '--version' found\n"),
+    ("cec self adder 4", "unrecognized subcommand 'self'\n"),
+];
+
+/// What `read` answers to the words of a line: the request, or the text of the refusal with its kind before it.
+fn told(alloc: Global, line: &str) -> Result<String, Fail> {
+    let mut words = Vec::new(alloc);
+    for word in line.split(' ') {
+        words.push(String::from_str(alloc, word)?)?;
+    }
+    let text = match read(alloc, words.as_slice()) {
+        Ok(Asked::Check(check)) => {
+            let out = check.out.unwrap_or("nowhere");
+            format!(in alloc;
+                "{} and {}, to {out}, by {}",
+                check.a, check.b, check.budget
+            )?
+        }
+        Ok(Asked::Lrat(lrat)) => format!(in alloc; "{} of {}", lrat.proof, lrat.cnf)?,
+        Err(Refusal::Help(text)) => format!(in alloc; "help: {text}")?,
+        Err(Refusal::Usage(text)) => format!(in alloc; "usage: {text}")?,
+        Err(Refusal::NoMemory) => return Err(Fail::from("out of memory")),
+    };
+    Ok(text)
+}
+
+fn check_told(rt: &impl Abort, alloc: Global, line: &str, expected: &str) -> Result<(), Fail> {
+    let text = told(alloc, line)?;
+    assert!(rt; text.as_str() == expected, "{line}: {text}");
+    Ok(())
+}
+
+#[test]
+fn help_and_usage_texts(rt: HostRuntime) -> Result<(), Fail> {
+    let alloc = rt.alloc();
+    check_told(&rt, alloc, "cec --help", PROGRAM_HELP)?;
+    check_told(&rt, alloc, "cec -h", PROGRAM_HELP)?;
+    check_told(&rt, alloc, "cec check --help", CHECK_HELP)?;
+    check_told(&rt, alloc, "cec check x y -h", CHECK_HELP)?;
+    check_told(&rt, alloc, "cec lrat --help", LRAT_HELP)?;
+    check_told(&rt, alloc, "cec", NO_COMMAND)?;
+    check_told(&rt, alloc, "cec help", NO_HELP)?;
+    check_told(&rt, alloc, "cec help check", NO_HELP)
+}
+
+#[test]
+fn taken_words(rt: HostRuntime) -> Result<(), Fail> {
+    for (line, expected) in TAKEN {
+        check_told(&rt, rt.alloc(), line, expected)?;
+    }
+    Ok(())
+}
+
+#[test]
+fn refused_words(rt: HostRuntime) -> Result<(), Fail> {
+    for (line, expected) in REFUSED {
+        let text = told(rt.alloc(), line)?;
+        let cause = text.as_str().strip_prefix("usage: error: ").unwrap_or("");
+        assert!(rt; cause.starts_with(expected), "{line}: {text}");
+    }
+    Ok(())
+}
