@@ -1,6 +1,7 @@
 //! Whole checks: what is said, warned and left, and with which status.
 use crate::desk::{Ran, run_words};
 use cec_top::Status;
+use lemma_book::Entry;
 use std::test::Fail;
 
 const SWAPPED_A: &[u8] = b"aag 3 2 0 1 1\n2\n4\n6\n6 2 4\n";
@@ -14,6 +15,17 @@ const SWAPPED_CNF: &[u8] =
 const EMPTY: &[u8] = b"aag 0 0 0 0 0\n";
 
 const EMPTY_CNF: &[u8] = b"p cnf 1 2\n1 0\n0\n";
+
+const XOR_X: &[u8] = b"aag 5 2 0 1 3\n2\n4\n11\n6 2 5\n8 3 4\n10 7 9\n";
+
+const XOR_Y: &[u8] = b"aag 5 2 0 1 3\n2\n4\n10\n6 2 4\n8 3 5\n10 7 9\n";
+
+const AGAINST_FALSE_CNF: &[u8] =
+    b"p cnf 5 9\n1 0\n-4 2 0\n-4 3 0\n4 -2 -3 0\n-5 4 -1 0\n-5 -4 1 0\n5 -4 -1 0\n5 4 1 0\n5 0\n";
+
+const CONSTANTS_CNF: &[u8] = b"p cnf 2 4\n1 0\n2 1 0\n2 -1 0\n2 0\n";
+
+const NOTHING: &[u8] = b"";
 
 const WORDS: [&str; 5] = ["check", "A", "B", "--out", "p"];
 
@@ -39,6 +51,108 @@ fn empty_circuits(rt: HostRuntime) -> Result<(), Fail> {
     assert!(rt; ran.status == Status::Done);
     assert_eq!(rt; ran.desk.file("p.0.cnf"), Some(EMPTY_CNF));
     assert_eq!(rt; ran.desk.file("p.0.lrat"), Some(b"3 0 2 0\n".as_slice()));
+    Ok(())
+}
+
+/// The AND of both inputs against the constant false.
+#[test]
+fn and_against_false(rt: HostRuntime) -> Result<(), Fail> {
+    let files = [
+        ("A", SWAPPED_A),
+        ("B", b"aag 2 2 0 1 0\n2\n4\n0\n".as_slice()),
+    ];
+    let ran = run_words(&rt, rt.alloc(), &files, &WORDS, &[])?;
+    assert!(rt; ran.status == Status::No);
+    assert_eq!(rt; ran.status.code(), 1);
+    assert_eq!(rt;
+        ran.desk.said(),
+        b"DIFFERENT\noutput 0\ninput 11\n".as_slice()
+    );
+    assert_eq!(rt; ran.desk.warned(), b"".as_slice());
+    assert_eq!(rt; ran.desk.file("p.0.cnf"), Some(AGAINST_FALSE_CNF));
+    assert_eq!(rt; ran.desk.file("p.0.lrat"), Some(NOTHING));
+    assert_eq!(rt; ran.kept.len(), 1);
+    Ok(())
+}
+
+#[test]
+fn two_xors(rt: HostRuntime) -> Result<(), Fail> {
+    let files = [("A", XOR_X), ("B", XOR_Y)];
+    let ran = run_words(&rt, rt.alloc(), &files, &WORDS, &[])?;
+    assert!(rt; ran.status == Status::Done);
+    assert_eq!(rt; ran.desk.said(), b"EQUIVALENT\n".as_slice());
+    let header = ran.desk.file("p.0.cnf").and_then(|cnf| cnf.get(..12));
+    assert_eq!(rt; header, Some(b"p cnf 10 24\n".as_slice()));
+    Ok(())
+}
+
+#[test]
+fn tight_budgets(rt: HostRuntime) -> Result<(), Fail> {
+    let files = [("A", XOR_X), ("B", XOR_Y)];
+    let words = ["check", "A", "B", "--budget", "1", "--out", "p"];
+    let ran = run_words(&rt, rt.alloc(), &files, &words, &[])?;
+    assert!(rt; ran.status == Status::Undecided);
+    assert_eq!(rt; ran.status.code(), 2);
+    assert_eq!(rt;
+        ran.desk.said(),
+        b"UNDECIDED\noutput 0 lines 25-25\n".as_slice()
+    );
+    let proof = ran.desk.file("p.0.lrat").unwrap_or(NOTHING);
+    assert_eq!(rt; proof.iter().filter(|byte| **byte == b'\n').count(), 1);
+    assert!(rt; proof.starts_with(b"25 "));
+    assert_eq!(rt; ran.kept.len(), 1);
+    let logs = match ran.kept.first().map(|kept| kept.book.entries()) {
+        Some([Entry::OutSpent { output: 0, log, .. }]) => log.len(),
+        _ => 0,
+    };
+    assert_eq!(rt; logs, 1);
+    Ok(())
+}
+
+#[test]
+fn tight_budget_without_files(rt: HostRuntime) -> Result<(), Fail> {
+    let files = [("A", XOR_X), ("B", XOR_Y)];
+    let words = ["check", "A", "B", "--budget", "1"];
+    let ran = run_words(&rt, rt.alloc(), &files, &words, &[])?;
+    assert!(rt; ran.status == Status::Undecided);
+    assert_eq!(rt; ran.desk.said(), b"UNDECIDED\noutput 0\n".as_slice());
+    assert!(rt; ran.desk.file("p.0.cnf").is_none());
+    let ran = run_words(&rt, rt.alloc(), &files, &["check", "A", "B"], &[])?;
+    assert!(rt; ran.status == Status::Done);
+    assert_eq!(rt; ran.desk.said(), b"EQUIVALENT\n".as_slice());
+    Ok(())
+}
+
+#[test]
+fn constants_differ(rt: HostRuntime) -> Result<(), Fail> {
+    let files = [
+        ("A", b"aag 0 0 0 1 0\n0\n".as_slice()),
+        ("B", b"aag 0 0 0 1 0\n1\n".as_slice()),
+    ];
+    let ran = run_words(&rt, rt.alloc(), &files, &WORDS, &[])?;
+    assert!(rt; ran.status == Status::No);
+    assert_eq!(rt;
+        ran.desk.said(),
+        b"DIFFERENT\noutput 0\ninput none\n".as_slice()
+    );
+    assert_eq!(rt; ran.desk.file("p.0.cnf"), Some(CONSTANTS_CNF));
+    assert_eq!(rt; ran.desk.file("p.0.lrat"), Some(NOTHING));
+    Ok(())
+}
+
+/// Two outputs are equal and two differ, the second and the fourth.
+#[test]
+fn least_output_that_differs(rt: HostRuntime) -> Result<(), Fail> {
+    let files = [
+        ("A", b"aag 1 1 0 4 0\n2\n2\n2\n0\n1\n".as_slice()),
+        ("B", b"aag 1 1 0 4 0\n2\n2\n0\n0\n0\n".as_slice()),
+    ];
+    let ran = run_words(&rt, rt.alloc(), &files, &WORDS, &[])?;
+    assert!(rt; ran.status == Status::No);
+    assert_eq!(rt;
+        ran.desk.said(),
+        b"DIFFERENT\noutput 1\ninput 1\n".as_slice()
+    );
     Ok(())
 }
 
@@ -95,13 +209,16 @@ fn missing_file(rt: HostRuntime) -> Result<(), Fail> {
 
 #[test]
 fn words_that_are_refused(rt: HostRuntime) -> Result<(), Fail> {
-    let cases: [&[&str]; 6] = [
+    let cases: [&[&str]; 9] = [
         &[],
         &["help"],
         &["check", "A"],
         &["check", "A", "B", "--out"],
         &["check", "A", "B", "--in", "p"],
-        &["lrat", "A", "B"],
+        &["check", "A", "B", "--budget", "0"],
+        &["check", "A", "B", "--budget", "1000000001"],
+        &["check", "A", "B", "C"],
+        &["lrat", "A"],
     ];
     for words in cases {
         let ran = run_words(
@@ -112,12 +229,27 @@ fn words_that_are_refused(rt: HostRuntime) -> Result<(), Fail> {
             &[],
         )?;
         assert!(rt; ran.status == Status::BadUsage, "{words:?}");
-        assert_eq!(rt;
-            ran.desk.warned(),
-            b"cec: bad usage\n".as_slice(),
-            "{words:?}"
-        );
+        assert!(rt; !ran.desk.warned().is_empty(), "{words:?}");
+        assert_eq!(rt; ran.desk.said(), NOTHING, "{words:?}");
         assert_eq!(rt; ran.desk.asked().len(), 0, "{words:?}");
     }
+    let ran = run_words(&rt, rt.alloc(), &[], &["help"], &[])?;
+    assert_eq!(rt; ran.desk.warned(), b"cec: no command help\n".as_slice());
+    Ok(())
+}
+
+#[test]
+fn words_that_want_help(rt: HostRuntime) -> Result<(), Fail> {
+    let cases: [&[&str]; 3] = [&["--help"], &["check", "--help"], &["lrat", "-h"]];
+    for words in cases {
+        let ran = run_words(&rt, rt.alloc(), &[], words, &[])?;
+        assert!(rt; ran.status == Status::Done, "{words:?}");
+        assert!(rt; !ran.desk.said().is_empty(), "{words:?}");
+        assert_eq!(rt; ran.desk.warned(), NOTHING, "{words:?}");
+        assert_eq!(rt; ran.desk.asked().len(), 0, "{words:?}");
+    }
+    let ran = run_words(&rt, rt.alloc(), &[], &["--help"], &[0])?;
+    assert!(rt; ran.status == Status::CannotWrite);
+    assert_eq!(rt; ran.desk.warned(), b"cec: cannot write\n".as_slice());
     Ok(())
 }

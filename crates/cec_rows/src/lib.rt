@@ -7,4 +7,6 @@ mod cases;
 #[cfg(test)]
 mod desk;
 #[cfg(test)]
+mod proofs;
+#[cfg(test)]
 mod readers;

@@ -1,5 +1,6 @@
 pub mod SettledLemmas
+pub mod FindingLemmas
 pub mod WritingLemmas
 pub mod FinishLemmas
 pub mod CheckLemmas
-pub mod DecidedLemmas
+pub mod AnswerLemmas

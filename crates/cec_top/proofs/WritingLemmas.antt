@@ -1,20 +1,25 @@
 -- What calls that put bytes touch, one after another.
-use Rattle.std.proofs.Common.{◌≡◌, ℕ, ◌<◌, ◌≤◌, ◌⊎◌, inl, inr, List, [], ◌∷◌, ◌++◌, Option, Some, None, Ok, Err, Result, true, false, Bool, refl, sym, ap, ◌∙◌, subst, arith}
+use Rattle.std.proofs.Common.{◌≡◌, ℕ, ◌≤◌, inl, inr, List, [], ◌∷◌, ◌++◌, Option, Some, None, Err, true, false, Bool, refl, sym, ap, ◌∙◌, subst, arith}
+use Rattle.std.proofs.Math.Path.{fun_ext}
 use Rattle.std.specs.Prelude.{◌||◌, unwrap_or, if◌then◌else◌}
 use Rattle.std.specs.List.{list_any}
 use Rattle.std.specs.Option.{option_map}
 use Rattle.std.specs.Str.{bytes_eq}
-use Rattle.desk_port.specs.Desk.{DeskState, Files, put, extended, Rose, last_count, WriteFault, NoCountFalls, after_start, after_emptying, after_write, after_close, Starts, Writes, Closes}
+use Rattle.desk_port.specs.Desk.{DeskState, Files, put, extended, Rose, WriteFault, after_start, after_emptying, after_write, after_close, Starts, Writes, Closes}
 use Rattle.desk_port.specs.declared.errors.PutErr.{PutErr}
 use Rattle.desk_port.specs.declared.errors.PutErr.TheVariants as put_err
 use Rattle.netlist.specs.Net.{AigPair}
 use Rattle.proof_stitch.specs.declared.stitch_err.StitchErr.{StitchErr}
 use Rattle.proof_stitch.specs.declared.stitch_err.StitchErr.TheVariants as stitch_err
 use Rattle.proof_stitch.specs.Stitch.{WritesRefutation}
+use Rattle.proof_stitch.specs.Derivation.{WritesDerivation, after_put}
+use Rattle.lemma_book.specs.Entry.{Entries}
+use Rattle.lemma_book.specs.declared.entry.Entry.{Entry}
 use Rattle.cec_top.specs.declared.stop.Stop.{Stop}
-use Rattle.cec_top.specs.declared.stop.Stop.TheVariants.{CannotRead, TooLong, BadFile, Unlike, NotEqual, CannotWrite, OutOfMemory}
+use Rattle.cec_top.specs.declared.stop.Stop.TheVariants.{CannotRead, TooLong, BadFile, Unlike, CannotWrite, OutOfMemory}
 use Rattle.cec_top.specs.Stops.{stop_of_put}
-use Rattle.cec_top.specs.Causes.{TouchesOnly, StopsPut}
+use Rattle.cec_top.specs.Finding.{Finding}
+use Rattle.cec_top.specs.Causes.{TouchesOnly, StopsPut, PutsProof, WritesProof, after_file}
 
 pub touches-same : (names : List (List ℕ)) (s : DeskState) → TouchesOnly names s s
 touches-same names s = record {
@@ -158,7 +163,6 @@ stops-after names a b c (CannotRead side) p le q = q
 stops-after names a b c (TooLong side) p le q = q
 stops-after names a b c (BadFile side e) p le q = q
 stops-after names a b c (Unlike u) p le q = q
-stops-after names a b c (NotEqual j) p le q = q
 
 -- the same under more names
 pub stops-more : (names more : List (List ℕ)) (a b : DeskState) (stop : Stop)
@@ -170,7 +174,6 @@ stops-more names more a b (CannotRead side) sub q = q
 stops-more names more a b (TooLong side) sub q = q
 stops-more names more a b (BadFile side e) sub q = q
 stops-more names more a b (Unlike u) sub q = q
-stops-more names more a b (NotEqual j) sub q = q
 
 -- a file's bytes are put after it was started, and then it is closed
 module _ (name : List ℕ) (a b c d : DeskState) (started : b ≡ after_start a name) where
@@ -184,19 +187,67 @@ module _ (name : List ℕ) (a b c d : DeskState) (started : b ≡ after_start a 
   stops-second stop le p = stops-after (name ∷ []) a b c stop touches-started le
       (subst (λ (n : List ℕ). StopsPut (n ∷ []) b c stop) same_name p)
 
-  pub stops-third : (bytes : List ℕ) (stop : Stop) → c ≡ after_write b bytes → a.write_faults ≤ c.write_faults → StopsPut [] c d stop
+  pub stops-third : (stop : Stop) → TouchesOnly (unwrap_or b.started [] ∷ []) b c → a.write_faults ≤ c.write_faults → StopsPut [] c d stop
       → StopsPut (name ∷ []) a d stop
-  stops-third bytes stop wrote le p = stops-after (name ∷ []) a c d stop
+  stops-third stop wrote le p = stops-after (name ∷ []) a c d stop
       (touches-then (name ∷ []) a b c touches-started
-      (subst (λ (s : DeskState). TouchesOnly (name ∷ []) b s) (sym wrote)
-      (touches-write (name ∷ []) b bytes (λ q e. ap (λ (n : List ℕ). bytes_eq n q) same_name ∙ alone name q e)))) le
+      (subst (λ (n : List ℕ). TouchesOnly (n ∷ []) b c) same_name wrote)) le
       (stops-more [] (name ∷ []) c d stop (λ q e. refl) p)
 
 pub touches-equal : (names : List (List ℕ)) (old new : DeskState) → new ≡ old → TouchesOnly names old new
 touches-equal names old new e = subst (λ (s : DeskState). TouchesOnly names old s) (sym e) (touches-same names old)
 
--- a proof that isn't put touches the started file alone
-pub touches-refused : (net : AigPair) (old new : DeskState) (e : StitchErr) → e ≡ stitch_err.NoMemory → WritesRefutation net old new (Err e)
+-- bytes that were put touch the started file alone
+pub touches-wrote : (b c : DeskState) (bytes : List ℕ) → c ≡ after_write b bytes → TouchesOnly (unwrap_or b.started [] ∷ []) b c
+touches-wrote b c bytes wrote = subst (λ (s : DeskState). TouchesOnly (unwrap_or b.started [] ∷ []) b s) (sym wrote)
+    (touches-write (unwrap_or b.started [] ∷ []) b bytes (alone (unwrap_or b.started [])))
+
+pub touches-put : (b c : DeskState) (bytes : List ℕ) → c ≡ after_put b bytes → TouchesOnly (unwrap_or b.started [] ∷ []) b c
+touches-put b c [] put = touches-equal (unwrap_or b.started [] ∷ []) b c put
+touches-put b c (x ∷ xs) put = touches-wrote b c (x ∷ xs) put
+
+-- a file that was started, written and closed
+file-wrote : (a : DeskState) (name bytes : List ℕ) → after_close (after_write (after_start a name) bytes) ≡ after_file a name bytes
+file-wrote a name bytes = ap (λ (o : Option Files). record a { files = o; started = None }) (files a.files)
+  where
+    at : (b : Bool) (o : Option (List ℕ)) → (if b then option_map (λ old. old ++ bytes) (if b then Some [] else o) else (if b then Some [] else o))
+        ≡ (if b then Some bytes else o)
+    at true o = refl
+    at false o = refl
+
+    files : (o : Option Files) → option_map (extended name bytes) (option_map (put name []) o) ≡ option_map (put name bytes) o
+    files None = refl
+    files (Some f) = ap Some (fun_ext (λ q. at (bytes_eq name q) (f q)))
+
+file-put : (a : DeskState) (name bytes : List ℕ) → after_close (after_put (after_start a name) bytes) ≡ after_file a name bytes
+file-put a name [] = refl
+file-put a name (x ∷ xs) = file-wrote a name (x ∷ xs)
+
+-- the lines of a finding are put into a file that was started
+module _ (net : AigPair) (book : Entries) (finding : Finding) (b c : DeskState) (p : PutsProof net book finding b c) where
+  pub touches-proof : TouchesOnly (unwrap_or b.started [] ∷ []) b c
+  touches-proof = elim p.puts [
+    | inl wrote ↦ touches-wrote b c p.proof wrote
+    | inr put ↦ touches-put b c p.proof put
+  ]
+
+  pub proof-written : (a d : DeskState) (name : List ℕ) → b ≡ after_start a name → d ≡ after_close c → WritesProof net book finding a d name
+  proof-written a d name started closed = record {
+    proof = p.proof;
+    is_proof = p.is_proof;
+    writes = elim p.puts [
+      | inl wrote ↦ closed ∙ ap after_close (wrote ∙ ap (λ (s : DeskState). after_write s p.proof) started) ∙ file-wrote a name p.proof
+      | inr put ↦ closed ∙ ap after_close (put ∙ ap (λ (s : DeskState). after_put s p.proof) started) ∙ file-put a name p.proof
+    ];
+  }
+
+-- a refutation or a derivation that isn't put touches the started file alone
+pub refutation-unwritten : (net : AigPair) (old new : DeskState) (e : StitchErr) → e ≡ stitch_err.NoMemory → WritesRefutation net old new (Err e)
     → TouchesOnly (unwrap_or old.started [] ∷ []) old new
-touches-refused net old new stitch_err.NoMemory same p = touches-equal (unwrap_or old.started [] ∷ []) old new p
-touches-refused net old new stitch_err.Write same p = cc
+refutation-unwritten net old new stitch_err.NoMemory same p = touches-equal (unwrap_or old.started [] ∷ []) old new p
+refutation-unwritten net old new stitch_err.Write same p = cc
+
+pub derivation-unwritten : (net : AigPair) (entries : List Entry) (old new : DeskState) (e : StitchErr) → e ≡ stitch_err.NoMemory
+    → WritesDerivation net entries old new (Err e) → TouchesOnly (unwrap_or old.started [] ∷ []) old new
+derivation-unwritten net entries old new stitch_err.NoMemory same p = touches-equal (unwrap_or old.started [] ∷ []) old new p
+derivation-unwritten net entries old new stitch_err.Write same p = cc

@@ -1,28 +1,31 @@
 -- How a check goes, step by step: what each part of it makes of the desk, and the cause of each end without a verdict.
-use Rattle.std.specs.Prelude.{◌≡◌, ◌↔◌, ◌⊎◌, ℕ, ◌≤◌, List, [], ◌∷◌, ◌++◌, length, Option, Some, None, IfSome, IsSomeAnd, Result, Ok, Err, false, codes}
+use Rattle.std.specs.Prelude.{◌≡◌, ◌⊎◌, ℕ, ◌≤◌, ◌+◌, All, List, [], ◌∷◌, length, Option, Some, None, IfSome, IsSomeAnd, Result, Ok, Err, false}
 use Rattle.std.specs.List.{list_any}
 use Rattle.std.specs.Option.{option_map}
 use Rattle.std.specs.Str.{bytes_eq}
+use Rattle.fault_lines.specs.Faults.{limit, IsLong}
 use Rattle.lits.specs.declared.node.Side.{Side}
 use Rattle.lits.specs.declared.node.Side.TheVariants.{A, B}
-use Rattle.desk_port.specs.Desk.{DeskState, Files, HasMore, ReadFault, WriteFault, OfSomePrefix, Rose, put, after_read, after_write, after_say}
+use Rattle.desk_port.specs.Desk.{DeskState, Files, ReadFault, WriteFault, OfSomePrefix, Rose, put, after_read, after_write, after_say}
 use Rattle.netlist.specs.Circuit.{Aig}
-use Rattle.lits.specs.Assignment.{IsSatisfiable}
-use Rattle.lrat_text.specs.Derivation.{opposite_literal}
-use Rattle.netlist.specs.Net.{AigPair, Agree, Differ}
+use Rattle.netlist.specs.Net.{AigPair}
 use Rattle.netlist.specs.Miter.{miter_of, variables_of}
 use Rattle.dimacs_text.specs.CnfText.{cnf_text}
 use Rattle.netlist.specs.Unlike.{unlike_of}
 use Rattle.byte_scan.specs.declared.errors.AigerErr.{AigerErr}
 use Rattle.aiger_ascii.specs.Ascii.{SpellsAscii, first_fault}
-use Rattle.proof_stitch.specs.Stitch.{IsRefutation}
+use Rattle.lemma_book.specs.declared.entry.Entry.{Entry}
+use Rattle.lemma_book.specs.Entry.{Entries}
+use Rattle.proof_stitch.specs.declared.span.Span.{Span}
+use Rattle.lrat_text.specs.Writing.{text_from}
+use Rattle.proof_stitch.specs.Stitch.{IsRefutation, refutation_of}
+use Rattle.proof_stitch.specs.Derivation.{IsDerivation, spans_of, after_put}
 use Rattle.cec_top.specs.declared.stop.Stop.{Stop}
-use Rattle.cec_top.specs.declared.stop.Stop.TheVariants.{CannotRead, TooLong, BadFile, Unlike, NotEqual, CannotWrite, OutOfMemory}
-use Rattle.cec_top.specs.Command.{CheckCommand, cnf_name, proof_name}
-
--- the greatest length of a file that is read
-abbrev pub limit : ℕ
-limit = 1073741824
+use Rattle.cec_top.specs.declared.stop.Stop.TheVariants.{CannotRead, TooLong, BadFile, Unlike, CannotWrite, OutOfMemory}
+use Rattle.command_line.specs.Words.{CheckCommand}
+use Rattle.cec_top.specs.Names.{cnf_name, proof_name}
+use Rattle.cec_top.specs.Finding.{Finding, AllEqual, Apart, Open}
+use Rattle.cec_top.specs.Texts.{verdict_text}
 
 -- the named file has at most that many bytes and spells the circuit, where the desk tells its files
 abbrev pub HasCircuit : DeskState → List ℕ → Aig → Type 0
@@ -31,10 +34,6 @@ HasCircuit s name c = IfSome s.files (λ files. IsSomeAnd (files name) (λ bytes
 -- the named file has at most that many bytes and this first fault, where the desk tells its files
 abbrev pub HasFault : DeskState → List ℕ → AigerErr → Type 0
 HasFault s name e = IfSome s.files (λ files. IsSomeAnd (files name) (λ bytes. (length bytes ≤ limit) × (first_fault bytes ≡ Some e)))
-
--- the named file is longer than the limit, where the desk tells its files
-abbrev pub IsLong : DeskState → List ℕ → Type 0
-IsLong s name = IfSome s.files (λ files. HasMore files name limit)
 
 -- one circuit is read
 abbrev pub ReadsCircuit : DeskState → DeskState → List ℕ → Side → Result Aig Stop → Type 0
@@ -101,44 +100,75 @@ WritesFile old new name bytes (Err stop) = StopsPut (name ∷ []) old new stop
 abbrev pub IsProof : AigPair → List ℕ → Type 0
 IsProof net proof = (count : ℕ) × IsRefutation net proof count
 
--- a proof that refutes the pair's miter is put at the end of the started file
-pub record PutsProof (net : AigPair) (old new : DeskState) : Type 0 where
-  pub proof : List ℕ
-  pub is_proof : IsProof net proof
-  pub puts : new ≡ after_write old proof
+-- the text of the book's refutation: the steps of its entries, in order, and then the empty clause
+unfoldable pub refutation_text : AigPair → List Entry → List ℕ
+refutation_text net entries = text_from (length (miter_of net)) (refutation_of net entries)
 
--- the named file is written with such a proof
-pub record WritesProof (net : AigPair) (old new : DeskState) (name : List ℕ) : Type 0 where
+-- the bytes of a proof's file: lines that refute the miter where all outputs are equal, those of the book; none where an
+-- output differs; and where outputs are open the lines that the book derives, in which each log has a line for each unit
+-- of the budget
+abbrev pub IsProofOf : AigPair → Entries → Finding → List ℕ → Type 0
+IsProofOf net book AllEqual bytes = IsProof net bytes × (bytes ≡ refutation_text net book.entries)
+IsProofOf net book (Apart j input) bytes = bytes ≡ []
+IsProofOf net book Open bytes =
+    IsDerivation net book.entries bytes × All (λ s. s.last + 1 ≡ s.first + book.out_budget) (spans_of net book.entries)
+
+-- those bytes are put at the end of the started file, or none where there are none
+pub record PutsProof (net : AigPair) (book : Entries) (finding : Finding) (old new : DeskState) : Type 0 where
   pub proof : List ℕ
-  pub is_proof : IsProof net proof
+  pub is_proof : IsProofOf net book finding proof
+  pub puts : (new ≡ after_write old proof) ⊎ (new ≡ after_put old proof)
+
+-- the named file is written with such bytes
+pub record WritesProof (net : AigPair) (book : Entries) (finding : Finding) (old new : DeskState) (name : List ℕ) : Type 0 where
+  pub proof : List ℕ
+  pub is_proof : IsProofOf net book finding proof
   pub writes : new ≡ after_file old name proof
 
--- the line of the verdict
-abbrev pub verdict_line : List ℕ
-verdict_line = codes "EQUIVALENT\n"
-
--- the verdict is said
-abbrev pub SaysVerdict : DeskState → DeskState → Result (Unit {0}) Stop → Type 0
-SaysVerdict old new (Ok _) = new ≡ after_say old verdict_line
-SaysVerdict old new (Err CannotWrite) = OfSomePrefix verdict_line (λ part. WriteFault (after_say old part) new)
-SaysVerdict old new (Err OutOfMemory) = new ≡ old
-SaysVerdict old new (Err _) = ⊥
+-- the spans are those of the logs, where outputs are open
+abbrev pub HasSpans : AigPair → Entries → Finding → List Span → Type 0
+HasSpans net book AllEqual spans = Unit {0}
+HasSpans net book (Apart j input) spans = Unit {0}
+HasSpans net book Open spans = spans ≡ spans_of net book.entries
 
 -- the desk after the CNF and then the proof were written under their names
 abbrev pub after_files : DeskState → List ℕ → List ℕ → AigPair → List ℕ → DeskState
 after_files s cnf proof net bytes = after_file (after_file s cnf (cnf_text_of net)) proof bytes
 
--- both files are written and closed, and then the verdict is said; where a file isn't written nothing is said
-abbrev pub Finishes : List ℕ → List ℕ → AigPair → DeskState → DeskState → Result (Unit {0}) Stop → Type 0
-Finishes cnf proof net old new (Ok _) =
-    (bytes : List ℕ) × IsProof net bytes × (new ≡ after_say (after_files old cnf proof net bytes) verdict_line)
-Finishes cnf proof net old new (Err CannotWrite) =
-    StopsPut (cnf ∷ proof ∷ []) old new CannotWrite
-    ⊎ ((bytes : List ℕ) × IsProof net bytes × SaysVerdict (after_files old cnf proof net bytes) new (Err CannotWrite))
-Finishes cnf proof net old new (Err OutOfMemory) = TouchesOnly (cnf ∷ proof ∷ []) old new
-Finishes cnf proof net old new (Err _) = ⊥
+-- both files are written and closed under these names
+pub record LeavesFiles (cnf proof : List ℕ) (net : AigPair) (book : Entries) (finding : Finding) (old new : DeskState) : Type 0 where
+  pub bytes : List ℕ
+  pub is_proof : IsProofOf net book finding bytes
+  pub writes : new ≡ after_files old cnf proof net bytes
 
--- the circuits agree on every input, and the pair's miter is satisfiable exactly if they differ
-pub record IsDecided (net : AigPair) : Type 0 where
-  pub agree : Agree net
-  pub exact : IsSatisfiable opposite_literal (miter_of net) ↔ Differ net
+-- the names of the files that are written under the prefix, if there is one
+abbrev pub names_under : Option (List ℕ) → List (List ℕ)
+names_under None = []
+names_under (Some prefix) = cnf_name prefix ∷ proof_name prefix ∷ []
+
+-- the files of a check are left, if there is a prefix for them
+abbrev pub Leaves : Option (List ℕ) → AigPair → Entries → Finding → DeskState → DeskState → Type 0
+Leaves None net book finding old new = new ≡ old
+Leaves (Some prefix) net book finding old new = LeavesFiles (cnf_name prefix) (proof_name prefix) net book finding old new
+
+-- the text is said; where that failed, a first part of it
+abbrev pub SaysText : List ℕ → DeskState → DeskState → Result (Unit {0}) Stop → Type 0
+SaysText text old new (Ok _) = new ≡ after_say old text
+SaysText text old new (Err CannotWrite) = OfSomePrefix text (λ part. WriteFault (after_say old part) new)
+SaysText text old new (Err OutOfMemory) = new ≡ old
+SaysText text old new (Err _) = ⊥
+
+-- the files are left, and then the verdict is said
+pub record Tells (out : Option (List ℕ)) (net : AigPair) (book : Entries) (finding : Finding) (old new : DeskState)
+    (result : Result (Unit {0}) Stop) : Type 0 where
+  pub mid : DeskState
+  pub leaves : Leaves out net book finding old mid
+  pub says : SaysText (verdict_text out net book.entries finding) mid new result
+
+-- the files are written and closed, and then the verdict is said; where a file isn't written nothing is said
+abbrev pub Finishes : Option (List ℕ) → AigPair → Entries → Finding → DeskState → DeskState → Result (Unit {0}) Stop → Type 0
+Finishes out net book finding old new (Ok u) = Tells out net book finding old new (Ok u)
+Finishes out net book finding old new (Err CannotWrite) =
+    StopsPut (names_under out) old new CannotWrite ⊎ Tells out net book finding old new (Err CannotWrite)
+Finishes out net book finding old new (Err OutOfMemory) = TouchesOnly (names_under out) old new
+Finishes out net book finding old new (Err _) = ⊥

@@ -1,10 +1,12 @@
 -- The status numbers of the process.
 use Rattle.std.specs.Prelude.{ℕ}
 use Rattle.cec_top.specs.declared.status.Status.{Status}
-use Rattle.cec_top.specs.declared.status.Status.TheVariants.{Done, BadUsage, BadInput, CannotRead, CannotWrite, OutOfMemory}
+use Rattle.cec_top.specs.declared.status.Status.TheVariants.{Done, No, Undecided, BadUsage, BadInput, CannotRead, CannotWrite, OutOfMemory}
 
 abbrev pub code_of : Status → ℕ
 code_of Done = 0
+code_of No = 1
+code_of Undecided = 2
 code_of BadUsage = 3
 code_of BadInput = 4
 code_of CannotRead = 5

@@ -1,7 +1,10 @@
 pub mod Exit
-pub mod Command
+pub mod Names
 pub mod Stops
 pub mod Lines
 pub mod Causes
 pub mod Settled
+pub mod Finding
+pub mod Found
+pub mod Texts
 pub mod Answers

@@ -1,5 +1,6 @@
 -- The lines by which the program names a fault on standard error.
 use Rattle.std.specs.Prelude.{ℕ, List, ◌++◌, codes, decimal, encode_utf8}
+use Rattle.fault_lines.specs.Faults.{fault_line, file_line}
 use Rattle.lits.specs.declared.node.Side.{Side}
 use Rattle.lits.specs.declared.node.Side.TheVariants.{A, B}
 use Rattle.byte_scan.specs.declared.errors.AigerErr.{AigerErr}
@@ -7,8 +8,8 @@ use Rattle.byte_scan.specs.declared.errors.AigerErr.TheVariants as aiger
 use Rattle.netlist.specs.declared.unlike.Unlike.{Unlike}
 use Rattle.netlist.specs.declared.unlike.Unlike.TheVariants as unlike
 use Rattle.cec_top.specs.declared.stop.Stop.{Stop}
-use Rattle.cec_top.specs.declared.stop.Stop.TheVariants.{CannotRead, TooLong, BadFile, Unlike as NotAlike, NotEqual, CannotWrite, OutOfMemory}
-use Rattle.cec_top.specs.Command.{CheckCommand}
+use Rattle.cec_top.specs.declared.stop.Stop.TheVariants.{CannotRead, TooLong, BadFile, Unlike as NotAlike, CannotWrite, OutOfMemory}
+use Rattle.command_line.specs.Words.{CheckCommand}
 
 -- a fault of a file that isn't an AIGER file of the kind that the program takes
 unfoldable pub aiger_text : AigerErr → List ℕ
@@ -37,18 +38,11 @@ abbrev pub name_of : CheckCommand → Side → List ℕ
 name_of c A = c.a
 name_of c B = c.b
 
-abbrev pub fault_line : List ℕ → List ℕ
-fault_line text = codes "cec: " ++ text ++ codes "\n"
-
-abbrev pub file_line : List ℕ → List ℕ → List ℕ
-file_line name text = codes "cec: " ++ name ++ codes ": " ++ text ++ codes "\n"
-
 -- the line of a check that ends without a verdict
 unfoldable pub stop_line : CheckCommand → Stop → List ℕ
 stop_line c (CannotRead side) = file_line (name_of c side) (codes "cannot read")
 stop_line c (TooLong side) = file_line (name_of c side) (codes "longer than 1073741824 bytes")
 stop_line c (BadFile side e) = file_line (name_of c side) (aiger_text e)
 stop_line c (NotAlike u) = fault_line (unlike_text u)
-stop_line c (NotEqual j) = fault_line (codes "output " ++ decimal j ++ codes " is not shown equal")
 stop_line c CannotWrite = fault_line (codes "cannot write")
 stop_line c OutOfMemory = fault_line (codes "out of memory")

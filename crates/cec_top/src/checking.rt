@@ -1,86 +1,29 @@
-ghost use Rattle.std.specs.Prelude.{◌≡◌, [], ◌++◌, None, IfOk, OnOk, length, string_bytes};
+ghost use Rattle.std.specs.Prelude.{◌≡◌, ◌≤◌, [], ◌∷◌, ◌++◌, None, IfOk, IfErr, OnOk, length, option_map, string_bytes};
 ghost use Rattle.desk_port.specs.Desk.{NoCountFalls};
-ghost use Rattle.lemma_book.specs.Book.{IsLegal};
-ghost use Rattle.cec_top.specs.Causes.{Finishes, IsDecided};
-ghost use Rattle.cec_top.specs.Settled.{AreOuts};
-ghost use Rattle.cec_top.specs.Answers.{Checks, ChecksPair};
+ghost use Rattle.cec_top.specs.Causes.{Finishes, LeavesFiles, Leaves, HasSpans, StopsPut, names_under};
+ghost use Rattle.cec_top.specs.Names.{cnf_name, proof_name};
+ghost use Rattle.cec_top.specs.Finding.{IsBookOf, Means, finding_of};
+ghost use Rattle.cec_top.specs.Found.{finding_in};
+ghost use Rattle.cec_top.specs.Texts.{verdict_text};
+ghost use Rattle.cec_top.specs.Answers.{EndsPair, StopsPair, Ends, Stops};
+ghost use Rattle.command_line.specs.Answers.{check_texts};
 
-use crate::command::CheckWords;
+use crate::finding::Finding;
 use crate::kept::Kept;
+use crate::law::means;
+use crate::proof_file::write_proof;
 use crate::reading::read_pair;
 use crate::settling::settle;
+use crate::status::Status;
 use crate::stop::Stop;
-use crate::writing::{say_verdict, write_cnf, write_proof};
+use crate::texts::{plain_text, text_with_lines};
+use crate::writing::{say, write_cnf};
+use command_line::CheckWords;
 use desk_port::Desk;
 use lemma_book::Book;
 use netlist::Net;
+use proof_stitch::Span;
 use std::alloc::{AllocError, Global};
-
-/// How many learned clauses each output's query may spend.
-const OUT_BUDGET: u64 = 100_000;
-
-impl From<AllocError> for Stop {
-    ghost use Rattle.std.specs.Prelude.{◌≡◌};
-    ghost use Rattle.cec_top.specs.declared.stop.Stop.TheVariants.{OutOfMemory};
-
-    ghost from_gives = { λ _ stop. stop ≡ OutOfMemory };
-
-    fn from(_error: AllocError) -> Stop {
-        Stop::OutOfMemory
-    }
-}
-
-/// Writes both files, and then says the verdict.
-fn finish<D: Desk>(
-    alloc: Global,
-    net: &Net,
-    book: &Book,
-    desk: &mut D,
-    cnf: &str,
-    proof: &str,
-) -> Result<(), Stop>
-    requires started { (D.state desk.old).started ≡ None }
-    requires legal { IsLegal net.now book.now }
-    requires outs { AreOuts 0 book.now.entries × (length book.now.entries ≡ length net.now.a.outputs) }
-    ensures answer { Finishes cnf.now proof.now net.now (D.state desk.old) (D.state desk.new) result }
-    ensures decided { OnOk result (IsDecided net.now) }
-    ensures counts { NoCountFalls (D.state desk.old) (D.state desk.new) }
-{
-    // What the proof that is written means for the circuits: laws, which do nothing when they run.
-    netlist::satisfiable_if_different(net);
-    netlist::unsatisfiable_if_equal(net);
-    lrat_text::derived_lines();
-
-    write_cnf(alloc, net, desk, cnf)?;
-    write_proof(alloc, net, book, desk, proof)?;
-    say_verdict(desk)
-}
-
-/// Settles the pair, and where each output is shown equal writes the files and says the verdict.
-fn check_pair<D: Desk>(
-    alloc: Global,
-    desk: &mut D,
-    net: &Net,
-    cnf: &str,
-    proof: &str,
-    kept: &mut Vec<Kept>,
-) -> Result<(), Stop>
-    requires started { (D.state desk.old).started ≡ None }
-    requires empty { kept.old.items ≡ [] }
-    ensures answer { ChecksPair cnf.now proof.now net.now (D.state desk.old) (D.state desk.new) kept.new.items result }
-    ensures counts { NoCountFalls (D.state desk.old) (D.state desk.new) }
-{
-    kept.reserve(1)?;
-    let mut book = Book::new(alloc, OUT_BUDGET);
-    let settled = settle(alloc, net, &mut book);
-    let result = match settled {
-        Ok(()) => finish(alloc, net, &book, desk, cnf, proof),
-        Err(Stop::OutOfMemory) => return Err(Stop::OutOfMemory),
-        Err(stop) => Err(stop),
-    };
-    kept.push_reserved(Kept { check: 0, book });
-    result
-}
 
 /// The name of a file of the first check.
 fn named(alloc: Global, prefix: &str, ending: &str) -> Result<String, AllocError>
@@ -91,21 +34,135 @@ fn named(alloc: Global, prefix: &str, ending: &str) -> Result<String, AllocError
     Ok(name)
 }
 
+/// Writes both files of a finding under these names.
+fn write_both<D: Desk>(
+    alloc: Global,
+    net: &Net,
+    book: &Book,
+    found: Finding<'_>,
+    desk: &mut D,
+    cnf: &str,
+    proof: &str,
+) -> Result<Vec<Span>, Stop>
+    requires started { (D.state desk.old).started ≡ None }
+    requires book { IsBookOf net.now book.now.out_budget book.now }
+    requires means { Means net.now book.now.entries (finding_in found) }
+    ensures ok { OnOk result (LeavesFiles cnf.now proof.now net.now book.now (finding_in found.entry) (D.state desk.old) (D.state desk.new)) }
+    ensures spans { IfOk result (λ v. HasSpans net.now book.now (finding_in found.entry) v.items) }
+    ensures err { IfErr result (StopsPut (cnf.now ∷ proof.now ∷ []) (D.state desk.old) (D.state desk.new)) }
+    ensures counts { NoCountFalls (D.state desk.old) (D.state desk.new) }
+{
+    write_cnf(alloc, net, desk, cnf)?;
+    write_proof(alloc, net, book, found, desk, proof)
+}
+
+/// Writes both files of a finding under the prefix.
+fn write_files<D: Desk>(
+    alloc: Global,
+    net: &Net,
+    book: &Book,
+    found: Finding<'_>,
+    desk: &mut D,
+    prefix: &str,
+) -> Result<Vec<Span>, Stop>
+    requires started { (D.state desk.old).started ≡ None }
+    requires book { IsBookOf net.now book.now.out_budget book.now }
+    requires means { Means net.now book.now.entries (finding_in found) }
+    ensures ok { OnOk result (LeavesFiles (cnf_name prefix.now) (proof_name prefix.now) net.now book.now (finding_in found.entry) (D.state desk.old) (D.state desk.new)) }
+    ensures spans { IfOk result (λ v. HasSpans net.now book.now (finding_in found.entry) v.items) }
+    ensures err { IfErr result (StopsPut (cnf_name prefix.now ∷ proof_name prefix.now ∷ []) (D.state desk.old) (D.state desk.new)) }
+    ensures counts { NoCountFalls (D.state desk.old) (D.state desk.new) }
+{
+    let cnf = named(alloc, prefix, ".0.cnf")?;
+    let proof = named(alloc, prefix, ".0.lrat")?;
+    write_both(alloc, net, book, found, desk, cnf.as_str(), proof.as_str())
+}
+
+/// Leaves the files of a finding, if they have a prefix, and gives the text of the verdict.
+fn leave_files<D: Desk>(
+    alloc: Global,
+    net: &Net,
+    book: &Book,
+    found: Finding<'_>,
+    desk: &mut D,
+    out: Option<&str>,
+) -> Result<Vec<u8>, Stop>
+    requires started { (D.state desk.old).started ≡ None }
+    requires book { IsBookOf net.now book.now.out_budget book.now }
+    requires means { Means net.now book.now.entries (finding_in found) }
+    ensures ok { OnOk result (Leaves (option_map (λ s. s.now) out.entry) net.now book.now (finding_in found.entry) (D.state desk.old) (D.state desk.new)) }
+    ensures text { IfOk result (λ v. v.items ≡ verdict_text (option_map (λ s. s.now) out.entry) net.now book.now.entries (finding_in found.entry)) }
+    ensures err { IfErr result (StopsPut (names_under (option_map (λ s. s.now) out.entry)) (D.state desk.old) (D.state desk.new)) }
+    ensures counts { NoCountFalls (D.state desk.old) (D.state desk.new) }
+{
+    match out {
+        None => Ok(plain_text(alloc, book.entries(), found)?),
+        Some(prefix) => {
+            let spans = write_files(alloc, net, book, found, desk, prefix)?;
+            Ok(text_with_lines(alloc, spans.as_slice(), found)?)
+        }
+    }
+}
+
+/// Leaves the files of a finding, and then says the verdict.
+fn finish<D: Desk>(
+    alloc: Global,
+    net: &Net,
+    book: &Book,
+    found: Finding<'_>,
+    desk: &mut D,
+    out: Option<&str>,
+) -> Result<(), Stop>
+    requires started { (D.state desk.old).started ≡ None }
+    requires book { IsBookOf net.now book.now.out_budget book.now }
+    requires means { Means net.now book.now.entries (finding_in found) }
+    ensures answer { Finishes (option_map (λ s. s.now) out.entry) net.now book.now (finding_in found.entry) (D.state desk.old) (D.state desk.new) result }
+    ensures counts { NoCountFalls (D.state desk.old) (D.state desk.new) }
+{
+    let text = leave_files(alloc, net, book, found, desk, out)?;
+    say(desk, text.as_slice())
+}
+
+/// Settles the pair, and then leaves the files and says the verdict.
+fn check_pair<D: Desk>(
+    alloc: Global,
+    desk: &mut D,
+    net: &Net,
+    words: CheckWords<'_>,
+    kept: &mut Vec<Kept>,
+) -> Result<Status, Stop>
+    requires started { (D.state desk.old).started ≡ None }
+    requires empty { kept.old.items ≡ [] }
+    ensures ok { IfOk result (λ status. EndsPair (check_texts words.entry) net.now (D.state desk.old) (D.state desk.new) kept.new.items status) }
+    ensures err { IfErr result (λ stop. StopsPair (check_texts words.entry) net.now (D.state desk.old) (D.state desk.new) kept.new.items stop) }
+    ensures counts { NoCountFalls (D.state desk.old) (D.state desk.new) }
+{
+    kept.reserve(1)?;
+    let book = settle(alloc, net, words.budget)?;
+    means(net, &book);
+    let found = Finding::of(book.entries());
+    let result = finish(alloc, net, &book, found, desk, words.out);
+    let status = found.status();
+    kept.push_reserved(Kept { check: 0, book });
+    match result {
+        Ok(()) => Ok(status),
+        Err(stop) => Err(stop),
+    }
+}
+
 /// Reads the pair and checks it. The book of a check that has a verdict is kept.
 pub(crate) fn check<D: Desk>(
     alloc: Global,
     desk: &mut D,
     words: CheckWords<'_>,
     kept: &mut Vec<Kept>,
-) -> Result<(), Stop>
+) -> Result<Status, Stop>
     requires started { (D.state desk.old).started ≡ None }
     requires empty { kept.old.items ≡ [] }
-    ensures answer { Checks (record { a = words.entry.a.now; b = words.entry.b.now; prefix = words.entry.prefix.now })
-        (D.state desk.old) (D.state desk.new) kept.new.items result }
+    ensures ok { IfOk result (λ status. Ends (check_texts words.entry) (D.state desk.old) (D.state desk.new) kept.new.items status) }
+    ensures err { IfErr result (λ stop. Stops (check_texts words.entry) (D.state desk.old) (D.state desk.new) kept.new.items stop) }
     ensures counts { NoCountFalls (D.state desk.old) (D.state desk.new) }
 {
     let net = read_pair(alloc, desk, words)?;
-    let cnf = named(alloc, words.prefix, ".0.cnf")?;
-    let proof = named(alloc, words.prefix, ".0.lrat")?;
-    check_pair(alloc, desk, &net, cnf.as_str(), proof.as_str(), kept)
+    check_pair(alloc, desk, &net, words, kept)
 }

@@ -1,9 +1,11 @@
 ghost use Rattle.std.specs.Prelude.{◌≡◌, ◌++◌, IfOk, string_bytes, codes, decimal};
-ghost use Rattle.cec_top.specs.Lines.{aiger_text, unlike_text, name_of, fault_line, file_line, stop_line};
+ghost use Rattle.command_line.specs.Answers.{check_texts};
+ghost use Rattle.cec_top.specs.Lines.{aiger_text, unlike_text, name_of, stop_line};
 
-use crate::command::CheckWords;
 use crate::stop::Stop;
 use byte_scan::AigerErr;
+use command_line::CheckWords;
+use fault_lines::{line_of_fault, line_of_file};
 use itoa::Buffer;
 use lits::Side;
 use netlist::Unlike;
@@ -57,30 +59,8 @@ fn differing(alloc: Global, what: &str, a: u32, b: u32) -> Result<String, AllocE
     Ok(text)
 }
 
-/// The line of a fault that is of no file.
-fn line_of_fault(alloc: Global, text: &str) -> Result<String, AllocError>
-    ensures { IfOk result (λ s. string_bytes s ≡ fault_line text.now) }
-{
-    let mut line = String::from_str(alloc, "cec: ")?;
-    line.push_str(text)?;
-    line.push_str("\n")?;
-    Ok(line)
-}
-
-/// The line of a fault of a file.
-fn line_of_file(alloc: Global, name: &str, text: &str) -> Result<String, AllocError>
-    ensures { IfOk result (λ s. string_bytes s ≡ file_line name.now text.now) }
-{
-    let mut line = String::from_str(alloc, "cec: ")?;
-    line.push_str(name)?;
-    line.push_str(": ")?;
-    line.push_str(text)?;
-    line.push_str("\n")?;
-    Ok(line)
-}
-
 fn name_of_side<'a>(words: CheckWords<'a>, side: Side) -> &'a str
-    ensures { result.now ≡ name_of (record { a = words.entry.a.now; b = words.entry.b.now; prefix = words.entry.prefix.now }) side }
+    ensures { result.now ≡ name_of (check_texts words.entry) side }
 {
     match side {
         Side::A => words.a,
@@ -95,7 +75,7 @@ pub(crate) fn line_of_stop(
     words: CheckWords<'_>,
     stop: Stop,
 ) -> Result<String, AllocError>
-    ensures { IfOk result (λ s. string_bytes s ≡ stop_line (record { a = words.entry.a.now; b = words.entry.b.now; prefix = words.entry.prefix.now }) stop) }
+    ensures { IfOk result (λ s. string_bytes s ≡ stop_line (check_texts words.entry) stop) }
 {
     match stop {
         Stop::CannotRead(side) => line_of_file(alloc, name_of_side(words, side), "cannot read"),
@@ -112,10 +92,6 @@ pub(crate) fn line_of_stop(
         }
         Stop::Unlike(fault) => {
             let text = unlike_fault(alloc, fault)?;
-            line_of_fault(alloc, text.as_str())
-        }
-        Stop::NotEqual(output) => {
-            let text = format!(in alloc; "output {output} is not shown equal")?;
             line_of_fault(alloc, text.as_str())
         }
         Stop::CannotWrite => line_of_fault(alloc, "cannot write"),

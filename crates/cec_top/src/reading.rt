@@ -1,17 +1,16 @@
 ghost use Rattle.std.specs.Prelude.{◌≡◌, Ok, Err, IfOk, IfErr};
 ghost use Rattle.desk_port.specs.Desk.{NoCountFalls};
+ghost use Rattle.command_line.specs.Answers.{check_texts};
 ghost use Rattle.cec_top.specs.Causes.{ReadsCircuit, ReadsPair};
 
-use crate::command::CheckWords;
 use crate::stop::Stop;
 use byte_scan::AigerErr;
+use command_line::CheckWords;
 use desk_port::{Desk, ReadErr};
+use fault_lines::READ_LIMIT;
 use lits::Side;
 use netlist::{Circuit, Net, Unlike};
 use std::alloc::Global;
-
-/// No file is read past so many bytes.
-const LIMIT: u64 = 1_073_741_824;
 
 /// The circuit of one side's file.
 fn read_circuit<D: Desk>(
@@ -23,7 +22,7 @@ fn read_circuit<D: Desk>(
     ensures answer { ReadsCircuit (D.state desk.old) (D.state desk.new) name.now side result }
     ensures counts { NoCountFalls (D.state desk.old) (D.state desk.new) }
 {
-    let bytes = match desk.read(alloc, name, LIMIT) {
+    let bytes = match desk.read(alloc, name, READ_LIMIT) {
         Ok(bytes) => bytes,
         Err(ReadErr::Failed) => return Err(Stop::CannotRead(side)),
         Err(ReadErr::TooLong) => return Err(Stop::TooLong(side)),
@@ -42,7 +41,7 @@ pub(crate) fn read_pair<D: Desk>(
     desk: &mut D,
     words: CheckWords<'_>,
 ) -> Result<Net, Stop>
-    ensures answer { ReadsPair (record { a = words.entry.a.now; b = words.entry.b.now; prefix = words.entry.prefix.now })
+    ensures answer { ReadsPair (check_texts words.entry)
         (D.state desk.old) (D.state desk.new) result }
     ensures counts { NoCountFalls (D.state desk.old) (D.state desk.new) }
 {

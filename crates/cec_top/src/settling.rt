@@ -1,27 +1,26 @@
-ghost use Rattle.std.specs.Prelude.{◌≡◌, ◌<◌, [], false, length};
+ghost use Rattle.std.specs.Prelude.{◌≡◌, ◌<◌, ◌≤◌, false, length, IfOk, OnOk};
 ghost use Rattle.lemma_book.specs.Book.{IsLegal};
 ghost use Rattle.lemma_book.specs.Entry.{has_output};
-ghost use Rattle.cec_top.specs.Settled.{AppendsOut, Settles, shows_equal};
+ghost use Rattle.cec_top.specs.Finding.{IsBookOf};
+ghost use Rattle.cec_top.specs.Settled.{Appends};
 
-use crate::stop::Stop;
-use lemma_book::{Book, Entry};
+use lemma_book::Book;
 use netlist::Net;
 use solver_plain::PlainSolver;
-use std::alloc::Global;
+use std::alloc::{AllocError, Global};
 use unit_prop::Refuter;
 
-/// Settles the outputs in order, up to the first that isn't shown equal.
-pub(crate) fn settle(alloc: Global, net: &Net, book: &mut Book) -> Result<(), Stop>
-    requires { book.old.entries ≡ [] }
-    ensures legal { IsLegal net.now book.new }
-    ensures budget { book.new.out_budget ≡ book.old.out_budget }
-    ensures answer { Settles net.now book.new.entries result }
+/// A book with an entry for each output, in order, each from a query of at most so many learned clauses.
+pub(crate) fn settle(alloc: Global, net: &Net, budget: u64) -> Result<Book, AllocError>
+    requires { (1 ≤ budget) × (budget ≤ 1000000000) }
+    ensures { IfOk result (λ book. IsBookOf net.now budget book) }
 {
+    let mut book = Book::new(alloc, budget);
     let mut solver = PlainSolver::new(alloc);
     for j in 0..net.outputs() {
-        settle_output(alloc, net, j, book, &mut solver)?;
+        settle_output(alloc, net, j, &mut book, &mut solver)?;
     }
-    Ok(())
+    Ok(book)
 }
 
 /// Puts the entry of one output into the book.
@@ -31,31 +30,15 @@ fn settle_output<R: Refuter + Send>(
     j: u32,
     book: &mut Book,
     refuter: &mut R,
-) -> Result<(), Stop>
+) -> Result<(), AllocError>
     requires legal { IsLegal net.now book.old }
     requires output { j < length net.now.a.outputs }
     requires unsettled { has_output book.old.entries j ≡ false }
-    ensures legal { IsLegal net.now book.new }
-    ensures budget { book.new.out_budget ≡ book.old.out_budget }
-    ensures answer { AppendsOut j book.old.entries book.new.entries result }
+    ensures legal { OnOk result (IsLegal net.now book.new) }
+    ensures budget { OnOk result (book.new.out_budget ≡ book.old.out_budget) }
+    ensures appends { OnOk result (Appends j book.old.entries book.new.entries) }
 {
-    let Ok(entry) = cone_query::output(alloc, net, book, j, refuter) else {
-        return Err(Stop::OutOfMemory);
-    };
-    let equal = is_equal(&entry);
-    if book.push(entry).is_err() {
-        return Err(Stop::OutOfMemory);
-    }
-    if equal {
-        Ok(())
-    } else {
-        Err(Stop::NotEqual(j))
-    }
-}
-
-/// Whether the entry shows that its output is equal.
-fn is_equal(entry: &Entry) -> bool
-    ensures { result ≡ shows_equal entry.now }
-{
-    matches!(entry, Entry::Out { .. })
+    let entry = cone_query::output(alloc, net, book, j, refuter)?;
+    book.push(entry)?;
+    Ok(())
 }

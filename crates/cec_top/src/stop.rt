@@ -15,8 +15,6 @@ pub(crate) enum Stop {
     TooLong(Side),
     BadFile(Side, AigerErr),
     Unlike(Unlike),
-    /// The output isn't shown equal.
-    NotEqual(u32),
     CannotWrite,
     OutOfMemory,
 }
@@ -30,9 +28,7 @@ impl Stop {
             Stop::CannotRead(_) => Status::CannotRead,
             Stop::CannotWrite => Status::CannotWrite,
             Stop::OutOfMemory => Status::OutOfMemory,
-            Stop::TooLong(_) | Stop::BadFile(_, _) | Stop::Unlike(_) | Stop::NotEqual(_) => {
-                Status::BadInput
-            }
+            Stop::TooLong(_) | Stop::BadFile(_, _) | Stop::Unlike(_) => Status::BadInput,
         }
     }
 }

@@ -1,20 +1,20 @@
 -- An axiom is the clause of the miter that has its number.
-use Rattle.std.proofs.Common.{◌≡◌, ℕ, zero, suc, ◌+◌, ◌-◌, ◌<◌, ◌≤◌, Bool, true, false, ◌||◌, eqb, Option, None, Some, List, [], ◌∷◌, ◌++◌, length, map, refl, sym, ap, ◌∙◌, subst, arith, zero-add, add_assoc, length-append}
-use Rattle.std.specs.Prelude.{slice_get, nat_lt, IsSome, if◌then◌else◌}
-use Rattle.std.specs.List.{list_any, find, flat_map, range_with_len, AllByRecursion}
-use Rattle.std.specs.Option.{option_map_or, unwrap_or}
+use Rattle.std.proofs.Common.{◌≡◌, ℕ, ◌+◌, ◌-◌, ◌<◌, ◌≤◌, Bool, true, false, eqb, Option, None, Some, List, [], ◌∷◌, ◌++◌, length, map, refl, sym, ap, ◌∙◌, subst, arith, zero-add, length-append}
+use Rattle.std.specs.Prelude.{slice_get, nat_lt}
+use Rattle.std.specs.List.{flat_map, AllByRecursion}
+use Rattle.std.specs.Option.{option_map_or}
 use Rattle.std.proofs.lemmas.Bool.Decides.{nat_tests}
-use Rattle.std.proofs.lemmas.Option.{none-some, same_Some, slice_get_within}
+use Rattle.std.proofs.lemmas.Option.{none-some, slice_get_within}
 use Rattle.lits.specs.Clause.{has}
-use Rattle.lits.specs.declared.node.Side.{Side}
 use Rattle.lits.specs.declared.node.Side.TheVariants.{A, B}
 use Rattle.lits.specs.declared.node.Node.{Node}
 use Rattle.lits.specs.declared.node.Node.TheVariants.{Const, Input, Gate, Xor}
 use Rattle.lits.specs.declared.literal.Lit.{Lit}
 use Rattle.netlist.specs.declared.gate.And.{And}
 use Rattle.netlist.specs.Place.{before}
-use Rattle.netlist.specs.Net.{AigPair, IsNet, same_node, circuit_of, definition_of, gate_at, output_of, nodes_of}
-use Rattle.netlist.specs.Miter.{gate_clauses, kept, xor_axioms, axioms_of, axiom_of, variables_of, variable_of, clauses_of, clause_number_of, positive, xors_of}
+use Rattle.netlist.specs.Net.{AigPair, IsNet, circuit_of, definition_of, gate_at, output_of}
+use Rattle.lits.specs.Same.{same_node}
+use Rattle.netlist.specs.Miter.{gate_clauses, kept, xor_axioms, axioms_of, axiom_of, variables_of, clauses_of, clause_number_of, positive, xors_of}
 use Rattle.netlist.proofs.PlaceLemmas.{slice_get-left, slice_get-right}
 use Rattle.netlist.proofs.LawNodes.{exact-node, any_from_find, range-has}
 use Rattle.netlist.proofs.LawThere.{has-gate, has-xor, has-variable}

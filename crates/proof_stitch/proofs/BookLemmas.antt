@@ -1,7 +1,7 @@
 -- What the entries of a legal book say, each by itself, and how much they are.
-use Rattle.std.proofs.Common.{◌≡◌, ℕ, ◌+◌, ◌*◌, ◌-◌, ◌<◌, ◌≤◌, Bool, true, false, not, ◌&&◌, ◌||◌, eqb, Option, Some, None, List, [], ◌∷◌, ◌++◌, length, map, refl, sym, ap, ◌∙◌, subst, arith, rules, append_assoc, length-append}
+use Rattle.std.proofs.Common.{◌≡◌, ℕ, ◌+◌, ◌*◌, ◌-◌, ◌<◌, ◌≤◌, Bool, true, false, ◌||◌, eqb, Some, List, [], ◌∷◌, ◌++◌, length, map, refl, sym, ap, ◌∙◌, subst, arith, rules, append_assoc, length-append}
 use Rattle.std.specs.Prelude.{nat_le, filter, slice_get}
-use Rattle.std.specs.List.{list_any, list_all, flat_map, AllByRecursion}
+use Rattle.std.specs.List.{list_all, flat_map, AllByRecursion}
 use Rattle.std.proofs.lemmas.Option.{none-some}
 use Rattle.std.proofs.lemmas.Bool.Decides.{nat_tests}
 use Rattle.std.proofs.lemmas.List.{length-map}
@@ -24,8 +24,7 @@ use Rattle.unit_prop.proofs.ChainLemmas.{all-append, in_turn-map}
 use Rattle.lemma_book.specs.Cone.{named_from, named_axioms, IsCone}
 use Rattle.lemma_book.specs.declared.entry.Entry.{Entry}
 use Rattle.lemma_book.specs.declared.entry.Entry.TheVariants.{Out, OutApart, OutSpent}
-use Rattle.lemma_book.specs.Entry.{Entries, output_of, has_output, axiom_named, EndsEqual, IsGood}
-use Rattle.lemma_book.specs.Book.{IsLegal}
+use Rattle.lemma_book.specs.Entry.{output_of, has_output, axiom_named, EndsEqual, IsGood}
 use Rattle.proof_stitch.specs.Stitch.{is_out, out_steps}
 use Rattle.proof_stitch.specs.Derivation.{is_spent, log_of}
 use Rattle.proof_stitch.proofs.StepLemmas.{IsDerived}

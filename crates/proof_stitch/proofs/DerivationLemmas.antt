@@ -1,6 +1,6 @@
 -- What a legal book's derivation is.
-use Rattle.std.proofs.Common.{◌≡◌, ℕ, ◌+◌, ◌<◌, ◌≤◌, ◌^◌, Err, List, [], ◌∷◌, ◌++◌, length, map, refl, sym, ap, ap₂, ◌∙◌, subst, arith, add-zero, append_assoc, length-append}
-use Rattle.std.specs.List.{range_with_len, AllByRecursion}
+use Rattle.std.proofs.Common.{◌≡◌, ℕ, ◌+◌, ◌<◌, ◌≤◌, ◌^◌, Err, List, [], ◌∷◌, ◌++◌, length, map, refl, sym, ap, ap₂, ◌∙◌, subst, arith, add-zero, append_assoc}
+use Rattle.std.specs.List.{AllByRecursion}
 use Rattle.std.proofs.lemmas.List.{append-nil}
 use Rattle.lits.specs.declared.step.Step.{Step}
 use Rattle.netlist.specs.Net.{AigPair, IsNet}
@@ -20,7 +20,7 @@ use Rattle.proof_stitch.specs.Derivation.{spent_log, outputs_of, derivation_of, 
 use Rattle.proof_stitch.proofs.GrowLemmas.{Grows, grows-derives, grows-writable}
 use Rattle.proof_stitch.proofs.StepLemmas.{HasMiter, IsDerived, grows-lists}
 use Rattle.proof_stitch.proofs.BookLemmas.{IsSound, IsGoodAfter, legal-sound, total, total-few}
-use Rattle.proof_stitch.proofs.RefutationLemmas.{Spelling, fits_dimacs, all-derived, length-additions_from, length-additions}
+use Rattle.proof_stitch.proofs.RefutationLemmas.{Spelling, fits_dimacs, all-derived, length-additions}
 use Rattle.proof_stitch.proofs.WriterLemmas.{text_from-lists}
 use Rattle.proof_stitch.proofs.LogLemmas.{log-derived, logs-few}
 

@@ -1,11 +1,11 @@
 -- The step that adds the empty clause: units that make literals true one after the other, and then the clause of their
 -- negations.
-use Rattle.std.proofs.Common.{◌≡◌, ℕ, ◌+◌, ◌<◌, Bool, true, false, not, ◌||◌, Option, Some, None, Result, Ok, Err, List, [], ◌∷◌, ◌++◌, map, refl, sym, ap, ap₂, ◌∙◌, subst, append_assoc, suc, zero}
-use Rattle.std.specs.Prelude.{filter, if◌then◌else◌}
-use Rattle.std.specs.List.{list_any, AllByRecursion}
+use Rattle.std.proofs.Common.{◌≡◌, ℕ, ◌+◌, Bool, true, false, not, Option, Some, None, Ok, List, [], ◌∷◌, ◌++◌, map, refl, sym, subst, append_assoc}
+use Rattle.std.specs.Prelude.{filter}
+use Rattle.std.specs.List.{AllByRecursion}
 use Rattle.std.proofs.lemmas.List.{append-nil}
-use Rattle.lits.specs.Clause.{has, firsts}
-use Rattle.unit_prop.specs.Step.{State, open_in, is_satisfied, after_open, after_hint, fault_from, IsStep}
+use Rattle.lits.specs.Clause.{has}
+use Rattle.unit_prop.specs.Step.{State, is_satisfied, after_hint, fault_from, IsStep}
 
 -- the literals and their negations aren't in the set or before in the list
 abbrev pub AreFresh : {L : Type 0} → (L → L → Bool) → (L → L) → List L → List L → Type 0

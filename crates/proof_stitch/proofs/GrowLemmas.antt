@@ -1,6 +1,6 @@
 -- A formula that grows by what is derived: additions under ids without gaps, each a step over the formula so far.
 use Rattle.std.proofs.Common.{◌≡◌, ℕ, ◌+◌, ◌-◌, ◌<◌, ◌≤◌, ◌^◌, Bool, true, false, eqb, Option, None, Some, Result, Ok, Err, List, [], ◌∷◌, ◌++◌, length, refl, sym, ap, ◌∙◌, subst, arith, length-append, ◌⊎◌, inl, inr}
-use Rattle.std.specs.Prelude.{slice_get, if◌then◌else◌}
+use Rattle.std.specs.Prelude.{slice_get}
 use Rattle.std.specs.List.{AllByRecursion}
 use Rattle.std.proofs.lemmas.Bool.{cases_lt}
 use Rattle.std.proofs.lemmas.Bool.Decides.{nat_tests}
@@ -11,11 +11,11 @@ use Rattle.lits.specs.Clause.{has_pair}
 use Rattle.unit_prop.specs.declared.why.Why.{Why}
 use Rattle.unit_prop.specs.Step.{State, start_of, after_hint, fault_from, IsStep}
 use Rattle.netlist.proofs.PlaceLemmas.{slice_get-left, slice_get-right}
-use Rattle.lrat_text.specs.declared.line.Line.{Line}
 use Rattle.lrat_text.specs.declared.step.LratStep.{LratStep}
 use Rattle.lrat_text.specs.declared.step.LratStep.TheVariants.{Add, Del}
-use Rattle.lrat_text.specs.Writing.{numbered, IsId, IsInRange, IsWritable, AreWritable}
-use Rattle.lrat_text.specs.Derivation.{same_literal, opposite_literal, Live, formula_live, after_step, DerivesFrom, Derives}
+use Rattle.lrat_text.specs.Writing.{numbered, IsId, IsInRange, AreWritable}
+use Rattle.lrat_text.specs.Derivation.{Live, formula_live, after_step, DerivesFrom, Derives}
+use Rattle.lits.specs.Same.{same_dim, opposite_dim}
 
 abbrev pub Formula : Type 0
 Formula = List (List DimacsLiteral)
@@ -23,7 +23,7 @@ Formula = List (List DimacsLiteral)
 -- the addition under the next id is a step over the formula, with literals in range
 pub record IsNext (formula : Formula) (id : ℕ) (clause : List DimacsLiteral) (hints : List ℕ) : Type 0 where
   pub id_is : id ≡ length formula + 1
-  pub step : IsStep same_literal opposite_literal (formula_live formula) clause hints
+  pub step : IsStep same_dim opposite_dim (formula_live formula) clause hints
   pub range : AllByRecursion IsInRange clause
 
 -- each of the additions is the next one over the formula and the clauses that were added before it
@@ -148,7 +148,7 @@ grows-writable formula (Add id clause hints ∷ steps) few g = (
     omega (arith, g.0.id_is),
     omega (arith, g.0.id_is),
     g.0.range,
-    ids formula hints (omega arith) (step-found same_literal opposite_literal (formula_live formula) clause hints g.0.step),
+    ids formula hints (omega arith) (step-found same_dim opposite_dim (formula_live formula) clause hints g.0.step),
   ),
   subst (λ (n : ℕ). AreWritable n steps) next
       (grows-writable (formula ++ clause ∷ []) steps (omega (arith, length-append formula (clause ∷ []))) g.1),

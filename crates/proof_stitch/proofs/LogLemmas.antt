@@ -1,13 +1,11 @@
 -- What a writer of a book's logs has written at each output.
-use Rattle.std.proofs.Common.{◌≡◌, ℕ, zero, suc, ◌+◌, ◌*◌, ◌-◌, ◌<◌, ◌≤◌, ◌^◌, Bool, true, false, not, ◌&&◌, ◌||◌, eqb, get_or, Option, Some, None, List, [], ◌∷◌, ◌++◌, length, map, refl, sym, ap, ap₂, ◌∙◌, subst, arith, add-zero, append_assoc}
-use Rattle.std.specs.Prelude.{slice_get, All, if◌then◌else◌}
-use Rattle.std.specs.List.{list_any, range_with_len, AllByRecursion}
+use Rattle.std.proofs.Common.{◌≡◌, ℕ, zero, suc, ◌+◌, ◌*◌, ◌-◌, ◌<◌, ◌≤◌, ◌^◌, Bool, true, false, not, ◌&&◌, ◌||◌, eqb, get_or, Option, Some, None, List, [], ◌∷◌, ◌++◌, length, map, refl, sym, ap, ◌∙◌, subst, arith, append_assoc}
+use Rattle.std.specs.Prelude.{slice_get, All}
+use Rattle.std.specs.List.{range_with_len, AllByRecursion}
 use Rattle.std.proofs.lemmas.List.{append-nil}
 use Rattle.std.proofs.lemmas.List.Elements.{All-from_recursion}
 use Rattle.std.proofs.lemmas.Option.{none-some, same_Some, get_or_from_slice_get}
 use Rattle.lits.specs.Clause.{has, no_repeat}
-use Rattle.lits.specs.declared.step.Step.{Step}
-use Rattle.netlist.specs.Circuit.{most}
 use Rattle.netlist.specs.Net.{AigPair, IsNet}
 use Rattle.netlist.proofs.LawNodes.{equal-number, same-number}
 use Rattle.unit_prop.specs.Log.{InTurn}

@@ -1,7 +1,6 @@
 -- How the places of entries with logs are found, and what stands there.
-use Rattle.std.proofs.Common.{◌≡◌, ◌≢◌, ℕ, ◌+◌, ◌<◌, ◌≤◌, Bool, true, false, ◌||◌, eqb, get_or, set, take, drop, replicate, Option, Some, None, List, [], ◌∷◌, ◌++◌, length, refl, sym, ap, ◌∙◌, subst, arith}
+use Rattle.std.proofs.Common.{◌≡◌, ◌≢◌, ℕ, ◌+◌, ◌<◌, Bool, true, false, eqb, get_or, set, take, replicate, Option, Some, None, List, [], ◌∷◌, ◌++◌, length, refl, sym, ap, ◌∙◌, subst, arith}
 use Rattle.std.specs.Prelude.{slice_get}
-use Rattle.std.specs.List.{list_any}
 use Rattle.std.proofs.lemmas.Bool.Decides.{nat_tests}
 use Rattle.std.proofs.lemmas.List.{take_more, length-take-le, length-replicate, get_or-replicate, get_or-set_same, get_or-set_other}
 use Rattle.std.proofs.lemmas.List.Folds.{list_any-append}
@@ -12,8 +11,8 @@ use Rattle.netlist.proofs.LawNodes.{equal-number, same-number}
 use Rattle.lemma_book.specs.declared.entry.Entry.{Entry}
 use Rattle.lemma_book.specs.declared.entry.Entry.TheVariants.{Out, OutApart, OutSpent}
 use Rattle.lemma_book.specs.Entry.{output_of}
-use Rattle.proof_stitch.specs.Derivation.{is_spent, has_spent}
-use Rattle.proof_stitch.specs.Places.{HasLog, IsPlace, ArePlaces, with_place}
+use Rattle.proof_stitch.specs.Derivation.{is_spent}
+use Rattle.proof_stitch.specs.Places.{IsPlace, ArePlaces, with_place}
 
 -- an entry without a log of the output changes no place
 place-other : (entries : List Entry) (e : Entry) (j : ℕ) (o : Option ℕ) → is_spent j e ≡ false → IsPlace entries j o → IsPlace (entries ++ e ∷ []) j o

@@ -3,30 +3,28 @@ use Rattle.std.proofs.Common.{◌≡◌, ℕ, suc, ◌+◌, ◌*◌, ◌-◌, �
 use Rattle.std.specs.Prelude.{slice_get, option_map, unwrap_or}
 use Rattle.std.specs.List.{list_any, range_with_len, AllByRecursion}
 use Rattle.std.proofs.lemmas.List.{length-map, append-nil}
-use Rattle.std.proofs.lemmas.Option.{none-some, same_Some, slice_get_within, slice_get-map}
-use Rattle.lits.specs.Dimacs.{DimacsLiteral}
-use Rattle.lits.specs.declared.node.Node.{Node}
+use Rattle.std.proofs.lemmas.Option.{none-some, same_Some, slice_get-map}
 use Rattle.lits.specs.declared.node.Node.TheVariants.{Input, Xor}
 use Rattle.lits.specs.declared.node.Side.TheVariants.{A, B}
 use Rattle.lits.specs.declared.literal.Lit.{Lit}
 use Rattle.lits.specs.declared.step.Step.{Step}
 use Rattle.netlist.specs.Place.{place_of}
 use Rattle.netlist.specs.Circuit.{most}
-use Rattle.netlist.specs.Net.{AigPair, IsNet, same_node, definition_of, definitions, nodes_of}
+use Rattle.netlist.specs.Net.{AigPair, IsNet, definition_of, definitions, nodes_of}
+use Rattle.lits.specs.Same.{same_node, same_dim, opposite_dim}
 use Rattle.netlist.specs.Miter.{variable_of, variables_of, xors_of, numbered, miter_of}
 use Rattle.netlist.proofs.PlaceLemmas.{slice_get-left, slice_get-right, length-range}
 use Rattle.netlist.proofs.LawNodes.{at-place}
 use Rattle.netlist.proofs.LawNumbers.{variable-some}
-use Rattle.netlist.proofs.VariableLemmas.{few_inputs_of, few_gates_of}
+use Rattle.netlist.proofs.VariableLemmas.{few_gates_of}
 use Rattle.unit_prop.specs.Log.{InTurn}
 use Rattle.lemma_book.specs.declared.entry.Entry.{Entry}
 use Rattle.lemma_book.specs.Entry.{EndsEqual}
-use Rattle.lrat_text.specs.declared.line.Line.{Line}
 use Rattle.lrat_text.specs.declared.step.LratStep.{LratStep}
 use Rattle.lrat_text.specs.declared.step.LratStep.TheVariants.{Add}
 use Rattle.lrat_text.specs.Writing.{text_from, AreWritable, numbered as lines_from}
 use Rattle.lrat_text.specs.Reading.{SpellsLrat}
-use Rattle.lrat_text.specs.Derivation.{same_literal, opposite_literal, formula_live, adds_empty, Refutes}
+use Rattle.lrat_text.specs.Derivation.{formula_live, adds_empty}
 use Rattle.proof_stitch.specs.Steps.{additions_from, additions}
 use Rattle.proof_stitch.specs.Stitch.{is_out, HasOut, out_steps, unit_id, out_additions, empty_addition, refutation_of, IsRefutation, WritesRefutation}
 use Rattle.proof_stitch.specs.Refused.{refusal_of}
@@ -35,7 +33,7 @@ use Rattle.desk_port.specs.declared.errors.PutErr.{PutErr}
 use Rattle.desk_port.specs.declared.errors.PutErr.TheVariants as not_put
 use Rattle.proof_stitch.proofs.AxiomLemmas.{there}
 use Rattle.proof_stitch.proofs.GrowLemmas.{Formula, live-is, Grows, grows-derives, grows-writable}
-use Rattle.proof_stitch.proofs.StepLemmas.{IsThere, clause_of, clauses_in, HasMiter, IsDerived, FitsDimacs, grows-lists}
+use Rattle.proof_stitch.proofs.StepLemmas.{clause_of, clauses_in, HasMiter, IsDerived, FitsDimacs, grows-lists}
 use Rattle.proof_stitch.proofs.EmptyLemmas.{IsWhole, empty-step}
 use Rattle.proof_stitch.proofs.XorLemmas.{all-in, equal_number, numbers-fresh, numbers-apart, numbers-inside, last-live}
 use Rattle.proof_stitch.proofs.BookLemmas.{IsSound, IsGoodAfter, legal-sound, total, total-few}
@@ -190,7 +188,7 @@ module _ (net : AigPair) (budget : ℕ) (entries : List Entry) (proved : IsProve
   begins = record { more = []; is = sym (append-nil (miter_of net)) }
 
   whole : (f : Formula) → f ≡ miter_of net ++ clauses_in net (map out_steps entries)
-      → IsWhole same_literal opposite_literal (formula_live f) (unit_id (m + 1) entries) (equal_number net) outputs m
+      → IsWhole same_dim opposite_dim (formula_live f) (unit_id (m + 1) entries) (equal_number net) outputs m
   whole f e = record {
     fresh = numbers-fresh net (length net.a.outputs) 0 (omega arith);
     units =
@@ -214,7 +212,7 @@ module _ (net : AigPair) (budget : ℕ) (entries : List Entry) (proved : IsProve
             length-clauses_in net (map out_steps entries),
             length-additions net (m + 1) (map out_steps entries),
           );
-      step = empty-step same_literal opposite_literal (formula_live f) (unit_id (m + 1) entries) (equal_number net) outputs m (whole f e);
+      step = empty-step same_dim opposite_dim (formula_live f) (unit_id (m + 1) entries) (equal_number net) outputs m (whole f e);
       range = tt;
     },
     tt,

@@ -1,13 +1,13 @@
 -- A step stays a step where its literals and the names of its hints are renamed, one to one on the literals that stand
 -- in it, and also where there are more clauses than it needs.
 use Rattle.std.proofs.Common.{◌≡◌, ℕ, ◌+◌, Bool, true, false, not, ◌||◌, List, [], ◌∷◌, ◌++◌, Option, Some, None, Result, Ok, Err, refl, sym, ap, ap₂, ◌∙◌, subst}
-use Rattle.std.specs.Prelude.{filter, map, if◌then◌else◌}
-use Rattle.std.specs.List.{list_any, AllByRecursion}
+use Rattle.std.specs.Prelude.{filter, map}
+use Rattle.std.specs.List.{AllByRecursion}
 use Rattle.std.proofs.lemmas.List.{map-append}
 use Rattle.lits.specs.Clause.{has, has_pair, firsts}
 use Rattle.unit_prop.specs.declared.why.Why.{Why}
 use Rattle.unit_prop.specs.declared.why.Why.TheVariants.{AfterFalse, Satisfied}
-use Rattle.unit_prop.specs.Step.{State, start_of, open_in, is_satisfied, after_open, after_hint, after_found, go_on, fault_from, first_fault, IsStep}
+use Rattle.unit_prop.specs.Step.{State, start_of, open_in, is_satisfied, after_open, after_hint, fault_from, IsStep}
 use Rattle.unit_prop.proofs.ChainLemmas.{all-append}
 
 -- f tells the literals apart that P holds of, and negates as they are negated

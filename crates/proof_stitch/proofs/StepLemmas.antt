@@ -1,5 +1,5 @@
 -- Lists of steps over the axioms of a net, written as additions, grow the miter.
-use Rattle.std.proofs.Common.{◌≡◌, ℕ, ◌+◌, ◌-◌, ◌<◌, ◌≤◌, ◌^◌, Bool, true, false, Option, None, Some, List, [], ◌∷◌, ◌++◌, length, map, refl, sym, ap, ap₂, ◌∙◌, subst, arith, length-append, append_assoc}
+use Rattle.std.proofs.Common.{◌≡◌, ℕ, ◌+◌, ◌-◌, true, Option, None, Some, List, [], ◌∷◌, ◌++◌, length, map, refl, sym, ap, ◌∙◌, subst, arith, length-append, append_assoc}
 use Rattle.std.specs.Prelude.{slice_get, IsSome, option_map}
 use Rattle.std.specs.List.{AllByRecursion}
 use Rattle.std.proofs.lemmas.List.{append-nil, map-append, length-map}
@@ -11,7 +11,8 @@ use Rattle.lits.specs.declared.step.Ref.TheVariants.{Axiom, Entry as Shown, Own}
 use Rattle.lits.specs.declared.step.Step.{Step}
 use Rattle.lits.specs.Dimacs.{DimacsLiteral}
 use Rattle.netlist.specs.Net.{AigPair, IsNet}
-use Rattle.netlist.specs.Miter.{same_lit, opposite, axiom_of, variable_of, clauses_of, clause_number_of, numbered, miter_of}
+use Rattle.netlist.specs.Miter.{axiom_of, variable_of, clauses_of, numbered, miter_of}
+use Rattle.lits.specs.Same.{same_lit, opposite, same_dim, opposite_dim}
 use Rattle.netlist.proofs.PlaceLemmas.{slice_get-left, slice_get-right}
 use Rattle.netlist.proofs.LawNumbers.{variable-has, numbered-same}
 use Rattle.unit_prop.specs.Step.{IsStep}
@@ -21,8 +22,8 @@ use Rattle.proof_stitch.proofs.RenameLemmas.{IsRenaming, step-renamed}
 use Rattle.lemma_book.specs.Entry.{axiom_named, AreOver}
 use Rattle.lrat_text.specs.declared.step.LratStep.{LratStep}
 use Rattle.lrat_text.specs.Writing.{IsInRange}
-use Rattle.lrat_text.specs.Derivation.{same_literal, opposite_literal, formula_live}
-use Rattle.proof_stitch.specs.Steps.{id_of, addition, additions_from, additions}
+use Rattle.lrat_text.specs.Derivation.{formula_live}
+use Rattle.proof_stitch.specs.Steps.{id_of, additions_from, additions}
 use Rattle.proof_stitch.proofs.AxiomLemmas.{there, axiom-over, axiom-numbered}
 use Rattle.proof_stitch.proofs.GrowLemmas.{Formula, live-is, Grows}
 
@@ -30,7 +31,7 @@ use Rattle.proof_stitch.proofs.GrowLemmas.{Formula, live-is, Grows}
 abbrev pub IsThere : AigPair → Lit → Type 0
 IsThere net l = there net l.node ≡ true
 
-numbering : (net : AigPair) → IsRenaming same_lit opposite same_literal opposite_literal (numbered net) (IsThere net)
+numbering : (net : AigPair) → IsRenaming same_lit opposite same_dim opposite_dim (numbered net) (IsThere net)
 numbering net = record { same = λ x y. numbered-same net x y; flips = λ x. refl; closed = λ x h. h }
 
 is_there : (net : AigPair) (l : Lit) → IsSome (variable_of net l.node) → IsThere net l
@@ -127,7 +128,7 @@ module _ (net : AigPair) (is : IsNet net) (fits : FitsDimacs net) where
     grows-from before (s ∷ ss) rest id formula e f over left_over chain cont = (
       record {
         id_is = id_is;
-        step = subst (λ (g : Formula). IsStep same_literal opposite_literal (formula_live g) (clause_of net s) (map (id_of net (length base + 1)) s.hints)) (sym f) step;
+        step = subst (λ (g : Formula). IsStep same_dim opposite_dim (formula_live g) (clause_of net s) (map (id_of net (length base + 1)) s.hints)) (sym f) step;
         range = range s.clause (all_there net s.clause left_over.0);
       },
       grows-from (before ++ s ∷ []) ss rest (id + 1) (formula ++ clause_of net s ∷ []) next grown
@@ -136,7 +137,7 @@ module _ (net : AigPair) (is : IsNet net) (fits : FitsDimacs net) where
           (λ g h. cont g (h ∙ ap (λ (l : List Step). base ++ map (clause_of net) l) (append_assoc before (s ∷ []) ss))),
     )
       where
-        step : IsStep same_literal opposite_literal (formula_live (base ++ map (clause_of net) before)) (clause_of net s) (map (id_of net (length base + 1)) s.hints)
+        step : IsStep same_dim opposite_dim (formula_live (base ++ map (clause_of net) before)) (clause_of net s) (map (id_of net (length base + 1)) s.hints)
         step =
             step-renamed (numbering net) (id_of net (length base + 1)) (with_own derived.find before)
             (formula_live (base ++ map (clause_of net) before)) (finds before over) s.clause s.hints (all_there net s.clause left_over.0) chain.0

@@ -1,21 +1,18 @@
 -- The definitions computed on a small net: two outputs, the input and its negation, the same on both sides. Its miter is
 -- 1: (1), 2: (-3 2), 3: (-3 -2), 4: (-4 -2), 5: (-4 2), 6: (3 4), by hand from the text of the definitions.
-use Rattle.std.proofs.Common.{◌≡◌, ℕ, zero, suc, ◌<◌, true, false, List, [], ◌∷◌, length, refl, arith, lit<, lit≤}
+use Rattle.std.proofs.Common.{◌≡◌, ℕ, zero, suc, ◌<◌, true, false, List, [], ◌∷◌, refl, arith, lit<, lit≤}
 use Rattle.lits.specs.Dimacs.{DimacsLiteral}
 use Rattle.lits.specs.declared.node.Node.TheVariants.{Input, Xor}
-use Rattle.lits.specs.declared.literal.Lit.{Lit}
 use Rattle.lits.specs.declared.step.Ref.TheVariants.{Axiom, Own}
 use Rattle.lits.specs.declared.step.Step.{Step}
 use Rattle.netlist.specs.Circuit.{Aig, IsCircuit}
 use Rattle.netlist.specs.Net.{AigPair}
 use Rattle.netlist.specs.Miter.{positive, negative}
-use Rattle.lrat_text.specs.declared.step.LratStep.{LratStep}
 use Rattle.lrat_text.specs.declared.step.LratStep.TheVariants.{Add}
 use Rattle.lemma_book.specs.declared.entry.Entry.{Entry}
 use Rattle.lemma_book.specs.declared.entry.Entry.TheVariants.{Out, OutSpent}
 use Rattle.lemma_book.specs.Entry.{Entries}
 use Rattle.lemma_book.specs.Book.{IsLegal}
-use Rattle.proof_stitch.specs.declared.span.Span.{Span}
 use Rattle.proof_stitch.specs.Stitch.{HasOut, refutation_of}
 use Rattle.proof_stitch.specs.Derivation.{derivation_of, spans_of}
 

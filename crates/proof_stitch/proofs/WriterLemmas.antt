@@ -1,8 +1,8 @@
 -- What a writer of a book's Out entries has written at each entry, and which ids it has noted.
-use Rattle.std.proofs.Common.{◌≡◌, ℕ, zero, suc, ◌+◌, ◌*◌, ◌-◌, ◌<◌, ◌≤◌, ◌^◌, Bool, true, false, ◌||◌, eqb, get_or, set, replicate, drop, Option, Some, None, List, [], ◌∷◌, ◌++◌, length, map, refl, sym, ap, ap₂, ◌∙◌, subst, arith, add-zero, add-one, append_assoc, take, length-append, ◌≢◌}
-use Rattle.std.specs.Prelude.{slice_get, slice_set, IsSome, All, if◌then◌else◌}
+use Rattle.std.proofs.Common.{◌≡◌, ℕ, ◌+◌, ◌-◌, ◌<◌, ◌≤◌, ◌^◌, Bool, true, false, eqb, get_or, set, replicate, drop, Option, Some, None, List, [], ◌∷◌, ◌++◌, length, map, refl, sym, ap, ap₂, ◌∙◌, subst, arith, add-zero, add-one, append_assoc, take, length-append, ◌≢◌}
+use Rattle.std.specs.Prelude.{slice_get, IsSome, All, if◌then◌else◌}
 use Rattle.std.specs.List.{list_any, range_with_len, AllByRecursion}
-use Rattle.std.proofs.lemmas.List.{length-map, append-nil, length-replicate, get_or-replicate, get_or-set_same, get_or-set_other, ext_get_or}
+use Rattle.std.proofs.lemmas.List.{append-nil, length-replicate, get_or-replicate, get_or-set_same, get_or-set_other, ext_get_or}
 use Rattle.std.proofs.Math.ListN.{length-set, drop_of_length-le}
 use Rattle.std.proofs.Math.Seq.{drop-cons, take-length}
 use Rattle.std.proofs.lemmas.List.FromFn.{length-map-range_with_len, get_or-map-range_with_len}
@@ -15,7 +15,8 @@ use Rattle.lits.specs.declared.step.Ref.{Ref}
 use Rattle.lits.specs.declared.step.Ref.TheVariants.{Axiom, Entry as Shown, Own}
 use Rattle.lits.specs.declared.step.Step.{Step}
 use Rattle.netlist.specs.Net.{AigPair, IsNet}
-use Rattle.netlist.specs.Miter.{same_lit, opposite, variable_of, cnf_number_of, clause_number_of, miter_of}
+use Rattle.netlist.specs.Miter.{variable_of, cnf_number_of, miter_of}
+use Rattle.lits.specs.Same.{same_lit, opposite}
 use Rattle.netlist.proofs.LawNodes.{equal-number}
 use Rattle.unit_prop.specs.Log.{with_own, InTurn, IsStepAfter}
 use Rattle.lemma_book.specs.declared.entry.Entry.{Entry}

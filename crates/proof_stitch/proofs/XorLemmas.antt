@@ -1,32 +1,31 @@
 -- The literals of the XORs by number: they differ, and the miter's last clause has them all.
-use Rattle.std.proofs.Common.{◌≡◌, ℕ, zero, suc, ◌+◌, ◌-◌, ◌<◌, ◌≤◌, Bool, true, false, ◌||◌, eqb, Option, Some, List, [], ◌∷◌, ◌++◌, length, map, refl, sym, ap, ◌∙◌, subst, arith, length-append}
+use Rattle.std.proofs.Common.{◌≡◌, ℕ, zero, suc, ◌+◌, ◌-◌, ◌<◌, ◌≤◌, Bool, true, false, ◌||◌, eqb, Some, List, [], ◌∷◌, ◌++◌, length, map, refl, sym, ap, ◌∙◌, subst, arith, length-append}
 use Rattle.std.specs.Prelude.{slice_get, option_map}
 use Rattle.std.specs.List.{list_any, flat_map, range_with_len, AllByRecursion}
-use Rattle.std.proofs.lemmas.Bool.{or_cases}
 use Rattle.std.proofs.lemmas.List.{length-map}
 use Rattle.std.proofs.lemmas.List.FromFn.{map-range_with_len_more}
-use Rattle.std.proofs.lemmas.Option.{slice_get_within, slice_get-map}
+use Rattle.std.proofs.lemmas.Option.{slice_get-map}
 use Rattle.lits.specs.Clause.{has}
 use Rattle.lits.specs.Dimacs.{DimacsLiteral}
 use Rattle.lits.specs.contracts.dimacs.DimEq.TheImpl.Laws as dim_eq
 use Rattle.lits.specs.contracts.dimacs.DimLiteral.TheImpl.Laws as dim
-use Rattle.lits.specs.declared.node.Node.{Node}
 use Rattle.lits.specs.declared.node.Node.TheVariants.{Xor}
 use Rattle.lits.specs.declared.literal.Lit.{Lit}
 use Rattle.lits.proofs.ClauseLemmas.{IsLiteral, is_literal}
 use Rattle.netlist.specs.Net.{AigPair}
-use Rattle.netlist.specs.Miter.{same_lit, positive, negative, axioms_of, variables_of, xors_of, clauses_of, numbered, miter_of}
+use Rattle.netlist.specs.Miter.{positive, negative, axioms_of, variables_of, xors_of, clauses_of, numbered, miter_of}
+use Rattle.lits.specs.Same.{same_lit, same_dim, opposite_dim}
 use Rattle.netlist.proofs.PlaceLemmas.{slice_get-left, slice_get-right}
 use Rattle.netlist.proofs.LawNodes.{exact-lit, equal-number, list_any-map, range-has}
 use Rattle.netlist.proofs.LawThere.{has-xor}
 use Rattle.netlist.proofs.LawNumbers.{numbered-same}
-use Rattle.lrat_text.specs.Derivation.{same_literal, opposite_literal, formula_live}
+use Rattle.lrat_text.specs.Derivation.{formula_live}
 use Rattle.proof_stitch.proofs.AxiomLemmas.{there}
 use Rattle.proof_stitch.proofs.GrowLemmas.{Formula, live-is}
 use Rattle.proof_stitch.proofs.StepLemmas.{HasMiter}
 use Rattle.proof_stitch.proofs.EmptyLemmas.{AreFresh}
 
-literal_laws : IsLiteral same_literal opposite_literal
+literal_laws : IsLiteral same_dim opposite_dim
 literal_laws = is_literal dim_eq.laws-law dim.exact-law dim.twice-law
 
 false_from : (b : Bool) → (b ≡ true → ⊥) → b ≡ false
@@ -71,7 +70,7 @@ module _ (net : AigPair) where
   xor-there j below = has-xor net j ∙ range-has 0 count j (omega arith) (omega arith)
 
   -- the numbers differ
-  differ : (i j : ℕ) → i < count → j < count → (i ≡ j → ⊥) → same_literal (equal_number i) (equal_number j) ≡ false
+  differ : (i j : ℕ) → i < count → j < count → (i ≡ j → ⊥) → same_dim (equal_number i) (equal_number j) ≡ false
   differ i j li lj apart =
       numbered-same net (negative (Xor i)) (negative (Xor j)) (xor-there i li) (xor-there j lj)
       ∙ false_from (same_lit (negative (Xor i)) (negative (Xor j)))
@@ -80,24 +79,24 @@ module _ (net : AigPair) where
       apart cc)
 
   -- and none is the negation of another
-  opposed : (i j : ℕ) → same_literal (equal_number i) (opposite_literal (equal_number j)) ≡ false
+  opposed : (i j : ℕ) → same_dim (equal_number i) (opposite_dim (equal_number j)) ≡ false
   opposed i j =
-      false_from (same_literal (equal_number i) (opposite_literal (equal_number j)))
-      (λ e. let same = literal_laws.exact (equal_number i) (opposite_literal (equal_number j)) e in
+      false_from (same_dim (equal_number i) (opposite_dim (equal_number j)))
+      (λ e. let same = literal_laws.exact (equal_number i) (opposite_dim (equal_number j)) e in
       let sign : true ≡ false = ap (λ (d : DimacsLiteral). d.neg) same in cc)
 
   abbrev pub numbers : ℕ → ℕ → List DimacsLiteral
   numbers a n = map equal_number (range_with_len a n)
 
-  pub numbers-fresh : (n a : ℕ) → a + n ≡ count → AreFresh same_literal opposite_literal (numbers 0 a) (numbers a n)
+  pub numbers-fresh : (n a : ℕ) → a + n ≡ count → AreFresh same_dim opposite_dim (numbers 0 a) (numbers a n)
   numbers-fresh zero a e = tt
   numbers-fresh (suc n) a e = (
-    list_any-map (λ y. same_literal y (equal_number a)) equal_number (range_with_len 0 a)
-        ∙ none-in (λ i. same_literal (equal_number i) (equal_number a)) 0 a a
+    list_any-map (λ y. same_dim y (equal_number a)) equal_number (range_with_len 0 a)
+        ∙ none-in (λ i. same_dim (equal_number i) (equal_number a)) 0 a a
         (λ i below. differ i a (omega arith) (omega arith) (λ (same : i ≡ a). omega arith)) (omega arith),
-    list_any-map (λ y. same_literal y (opposite_literal (equal_number a))) equal_number (range_with_len 0 a)
-        ∙ none-in (λ i. same_literal (equal_number i) (opposite_literal (equal_number a))) 0 a a (λ i below. opposed i a) (omega arith),
-    subst (λ (set : List DimacsLiteral). AreFresh same_literal opposite_literal set (numbers (a + 1) n))
+    list_any-map (λ y. same_dim y (opposite_dim (equal_number a))) equal_number (range_with_len 0 a)
+        ∙ none-in (λ i. same_dim (equal_number i) (opposite_dim (equal_number a))) 0 a a (λ i below. opposed i a) (omega arith),
+    subst (λ (set : List DimacsLiteral). AreFresh same_dim opposite_dim set (numbers (a + 1) n))
         (map-range_with_len_more equal_number 0 a a (omega arith))
         (numbers-fresh n (a + 1) (omega arith)),
   )
@@ -105,35 +104,35 @@ module _ (net : AigPair) where
   abbrev pub all_numbers : List DimacsLiteral
   all_numbers = numbers 0 count
 
-  pub numbers-apart : AllByRecursion (λ y. has same_literal all_numbers (opposite_literal y) ≡ false) all_numbers
+  pub numbers-apart : AllByRecursion (λ y. has same_dim all_numbers (opposite_dim y) ≡ false) all_numbers
   numbers-apart =
-      all-mapped (λ y. has same_literal all_numbers (opposite_literal y) ≡ false) equal_number (range_with_len 0 count)
-      (all-in (λ j. has same_literal all_numbers (opposite_literal (equal_number j)) ≡ false) 0 count count
-      (λ j below. list_any-map (λ y. same_literal y (opposite_literal (equal_number j))) equal_number (range_with_len 0 count)
-      ∙ none-in (λ i. same_literal (equal_number i) (opposite_literal (equal_number j))) 0 count count (λ i l. opposed i j) (omega arith))
+      all-mapped (λ y. has same_dim all_numbers (opposite_dim y) ≡ false) equal_number (range_with_len 0 count)
+      (all-in (λ j. has same_dim all_numbers (opposite_dim (equal_number j)) ≡ false) 0 count count
+      (λ j below. list_any-map (λ y. same_dim y (opposite_dim (equal_number j))) equal_number (range_with_len 0 count)
+      ∙ none-in (λ i. same_dim (equal_number i) (opposite_dim (equal_number j))) 0 count count (λ i l. opposed i j) (omega arith))
       (omega arith))
 
-  pub numbers-inside : AllByRecursion (λ y. has same_literal all_numbers (opposite_literal (opposite_literal y)) ≡ true) all_numbers
+  pub numbers-inside : AllByRecursion (λ y. has same_dim all_numbers (opposite_dim (opposite_dim y)) ≡ true) all_numbers
   numbers-inside =
-      all-mapped (λ y. has same_literal all_numbers (opposite_literal (opposite_literal y)) ≡ true) equal_number (range_with_len 0 count)
-      (all-in (λ j. has same_literal all_numbers (opposite_literal (opposite_literal (equal_number j))) ≡ true) 0 count count
-      (λ j below. subst (λ (y : DimacsLiteral). has same_literal all_numbers y ≡ true) (sym (literal_laws.twice (equal_number j))) (here j below))
+      all-mapped (λ y. has same_dim all_numbers (opposite_dim (opposite_dim y)) ≡ true) equal_number (range_with_len 0 count)
+      (all-in (λ j. has same_dim all_numbers (opposite_dim (opposite_dim (equal_number j))) ≡ true) 0 count count
+      (λ j below. subst (λ (y : DimacsLiteral). has same_dim all_numbers y ≡ true) (sym (literal_laws.twice (equal_number j))) (here j below))
       (omega arith))
     where
-      here : (j : ℕ) → j < count → has same_literal all_numbers (equal_number j) ≡ true
+      here : (j : ℕ) → j < count → has same_dim all_numbers (equal_number j) ≡ true
       here j below =
-          list_any-map (λ y. same_literal y (equal_number j)) equal_number (range_with_len 0 count)
-          ∙ any-more (λ i. eqb i j) (λ i. same_literal (equal_number i) (equal_number j)) (range_with_len 0 count)
-          (λ i e. subst (λ (k : ℕ). same_literal (equal_number k) (equal_number j) ≡ true) (sym (equal-number i j e)) (literal_laws.equivalence.refl (equal_number j)))
+          list_any-map (λ y. same_dim y (equal_number j)) equal_number (range_with_len 0 count)
+          ∙ any-more (λ i. eqb i j) (λ i. same_dim (equal_number i) (equal_number j)) (range_with_len 0 count)
+          (λ i e. subst (λ (k : ℕ). same_dim (equal_number k) (equal_number j) ≡ true) (sym (equal-number i j e)) (literal_laws.equivalence.refl (equal_number j)))
           (range-has 0 count j (omega arith) (omega arith))
 
   -- the last clause, by numbers
-  negations : (ks : List ℕ) → map (numbered net) (map positive (map Xor ks)) ≡ map opposite_literal (map equal_number ks)
+  negations : (ks : List ℕ) → map (numbered net) (map positive (map Xor ks)) ≡ map opposite_dim (map equal_number ks)
   negations [] = refl
   negations (k ∷ ks) = ap (λ (l : List DimacsLiteral). numbered net (positive (Xor k)) ∷ l) (negations ks)
 
   pub last-live : (formula : Formula) → HasMiter net formula
-      → formula_live formula (length (miter_of net)) ≡ Some (map opposite_literal all_numbers)
+      → formula_live formula (length (miter_of net)) ≡ Some (map opposite_dim all_numbers)
   last-live formula begins =
       live-is formula (length (miter_of net)) (omega (arith, whole))
       ∙ ap (λ (f : Formula). slice_get f (length (miter_of net) - 1)) begins.is

@@ -1,5 +1,5 @@
 -- Where in a book the entries with logs stand.
-use Rattle.std.specs.Prelude.{◌≡◌, ℕ, ◌<◌, Bool, true, false, Option, None, Some, List, length, slice_get, slice_set}
+use Rattle.std.specs.Prelude.{◌≡◌, ℕ, ◌<◌, true, false, Option, None, Some, List, length, slice_get, slice_set}
 use Rattle.std.specs.List.{slice_index_or}
 use Rattle.lemma_book.specs.declared.entry.Entry.{Entry}
 use Rattle.lemma_book.specs.declared.entry.Entry.TheVariants.{Out, OutApart, OutSpent}

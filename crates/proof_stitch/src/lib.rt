@@ -11,12 +11,14 @@
 #![tactic(auto)]
 
 pub use derived::derivation;
+pub use law::refutes;
 pub use refuted::refutation;
 pub use span::Span;
 pub use stitch_err::StitchErr;
 
 mod addition;
 mod derived;
+mod law;
 mod logs;
 mod outs;
 mod places;

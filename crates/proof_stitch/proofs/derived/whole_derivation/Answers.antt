@@ -1,4 +1,4 @@
-use Rattle.std.proofs.Common.{◌≡◌, ◌+◌, ◌<◌, ◌≤◌, ◌^◌, List, ℕ, length, All, refl, ◌∙◌, arith, subst, sym}
+use Rattle.std.proofs.Common.{◌≡◌, ◌+◌, ◌<◌, ◌^◌, List, length, All, refl, ◌∙◌, arith, subst, sym}
 use Rattle.netlist.specs.Miter.{miter_of}
 use Rattle.lrat_text.specs.Writing.{text_from}
 use Rattle.proof_stitch.specs.declared.span.Span.{Span}

@@ -1,4 +1,4 @@
-use Rattle.std.proofs.Common.{◌≡◌, ◌-◌, [], length, arith, sym}
+use Rattle.std.proofs.Common.{◌≡◌, ◌-◌, [], length, arith}
 use Rattle.proof_stitch.proofs.BookLemmas.{legal-distinct}
 use Rattle.proof_stitch.proofs.LogLemmas.{outputs-below, log-start, log-range, log-room, log-ids, log-next}
 use Rattle.proof_stitch.proofs.logs.push_logs.Goals as goal

@@ -1,6 +1,5 @@
-use Rattle.std.proofs.Common.{List, ℕ, ◌+◌, subst, sym, ap, ◌∙◌, All}
+use Rattle.std.proofs.Common.{List, ◌+◌, subst, sym, ap, ◌∙◌, All}
 use Rattle.lits.specs.declared.step.Step.{Step}
-use Rattle.lemma_book.specs.declared.entry.Entry.{Entry}
 use Rattle.proof_stitch.specs.Ids.{HasIds}
 use Rattle.proof_stitch.specs.Stitch.{out_steps}
 use Rattle.proof_stitch.proofs.outs.push_out.Goals as goal

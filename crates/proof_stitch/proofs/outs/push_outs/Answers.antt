@@ -1,6 +1,5 @@
-use Rattle.std.proofs.Common.{◌≡◌, ◌+◌, ◌++◌, length, drop, take, replicate, List, ℕ, sym, ap, ◌∙◌, subst, arith}
-use Rattle.lemma_book.specs.declared.entry.Entry.{Entry}
-use Rattle.proof_stitch.proofs.WriterLemmas.{IsAt, at-start, at-drop, at-room, at-ids, at-output, at-next, at-done, written_back, length-with_unit}
+use Rattle.std.proofs.Common.{◌≡◌, length, List, ℕ, ap, ◌∙◌, arith}
+use Rattle.proof_stitch.proofs.WriterLemmas.{at-start, at-drop, at-room, at-ids, at-output, at-next, at-done, written_back, length-with_unit}
 use Rattle.proof_stitch.specs.Ids.{with_unit}
 use Rattle.proof_stitch.proofs.outs.push_outs.Goals as goal
 

@@ -1,9 +1,9 @@
-use Rattle.std.proofs.Common.{◌≡◌, ◌+◌, ◌-◌, ◌<◌, ◌^◌, ◌++◌, [], ◌∷◌, List, ℕ, length, map, refl, sym, ap, ◌∙◌, arith, length-append, subst}
+use Rattle.std.proofs.Common.{◌≡◌, ◌+◌, ◌-◌, ◌<◌, ◌^◌, ◌++◌, [], ◌∷◌, length, map, refl, ◌∙◌, arith, length-append}
 use Rattle.std.specs.List.{range_with_len}
 use Rattle.netlist.specs.Miter.{miter_of}
 use Rattle.lrat_text.specs.Writing.{text_from, line_text}
 use Rattle.lrat_text.specs.declared.step.LratStep.TheVariants.{Add}
-use Rattle.proof_stitch.specs.Stitch.{unit_id, out_additions, empty_addition, refutation_of, IsRefutation}
+use Rattle.proof_stitch.specs.Stitch.{unit_id, out_additions, empty_addition, refutation_of}
 use Rattle.proof_stitch.proofs.WriterLemmas.{whole-text}
 use Rattle.proof_stitch.proofs.RefutationLemmas.{IsProved, refutation-refutes}
 use Rattle.proof_stitch.proofs.refuted.whole_proof.Goals as goal

@@ -1,0 +1,79 @@
+ghost use Rattle.std.specs.Prelude.{◌≡◌};
+ghost use Rattle.std.specs.List.{find, list_any};
+ghost use Rattle.std.specs.Option.{option_copied};
+ghost use Rattle.cec_top.specs.Finding.{is_apart, is_open, unless_open, finding_of};
+ghost use Rattle.cec_top.specs.Found.{finding_in, ending};
+
+use crate::status::Status;
+use lemma_book::Entry;
+
+/// What a check finds out about the outputs.
+#[derive(Clone, Copy)]
+pub(crate) enum Finding<'a> {
+    /// Each output is the same in both circuits.
+    AllEqual,
+    /// The output differs on these truth values of the inputs.
+    Apart { output: u32, input: &'a [bool] },
+    /// No output differs as far as is known, and queries of some spent their budgets.
+    Open,
+}
+
+impl<'a> Finding<'a> {
+    /// What the entries of a book show. Of the outputs that differ it is the first one.
+    pub(crate) fn of(entries: &'a [Entry]) -> Finding<'a>
+        ensures { finding_in result ≡ finding_of entries.now }
+    {
+        match first_apart(entries) {
+            Some(Entry::OutApart { output, input }) => Finding::Apart {
+                output: *output,
+                input: input.as_slice(),
+            },
+            _ => Finding::of_none_apart(entries),
+        }
+    }
+
+    fn of_none_apart(entries: &'a [Entry]) -> Finding<'a>
+        ensures { finding_in result ≡ unless_open (list_any is_open entries.now) }
+    {
+        if has_open(entries) {
+            Finding::Open
+        } else {
+            Finding::AllEqual
+        }
+    }
+
+    /// The status with which the program ends where the finding was said.
+    pub(crate) fn status(self) -> Status
+        ensures { result ≡ ending (finding_in self.entry) }
+    {
+        match self {
+            Finding::AllEqual => Status::Done,
+            Finding::Apart { .. } => Status::No,
+            Finding::Open => Status::Undecided,
+        }
+    }
+}
+
+fn first_apart(entries: &[Entry]) -> Option<&Entry>
+    ensures { option_copied result ≡ find is_apart entries.now }
+{
+    entries.iter().find(|entry| is_apart(entry))
+}
+
+fn has_open(entries: &[Entry]) -> bool
+    ensures { result ≡ list_any is_open entries.now }
+{
+    entries.iter().any(|entry| is_open(entry))
+}
+
+fn is_apart(entry: &Entry) -> bool
+    ensures { result ≡ is_apart entry.now }
+{
+    matches!(entry, Entry::OutApart { .. })
+}
+
+fn is_open(entry: &Entry) -> bool
+    ensures { result ≡ is_open entry.now }
+{
+    matches!(entry, Entry::OutSpent { .. })
+}

@@ -1,0 +1,137 @@
+ghost use Rattle.std.specs.Prelude.{◌≡◌, ◌++◌, map, IfOk, OnOk};
+ghost use Rattle.cec_top.specs.Found.{finding_in};
+ghost use Rattle.cec_top.specs.Texts.{text_of, digit_of, input_text, output_line, span_line, different_text, open_text, open_text_with, line_if_open};
+
+use crate::finding::Finding;
+use itoa::Buffer;
+use lemma_book::Entry;
+use proof_stitch::Span;
+use std::alloc::{AllocError, Global};
+
+/// The text of a finding that leaves no files.
+pub(crate) fn plain_text(
+    alloc: Global,
+    entries: &[Entry],
+    finding: Finding<'_>,
+) -> Result<Vec<u8>, AllocError>
+    ensures { IfOk result (λ v. v.items ≡ text_of (finding_in finding.entry) (open_text entries.now)) }
+{
+    match finding {
+        Finding::AllEqual => Vec::from_slice(alloc, b"EQUIVALENT\n"),
+        Finding::Apart { output, input } => different_text(alloc, output, input),
+        Finding::Open => open_text(alloc, entries),
+    }
+}
+
+/// The text of a finding whose proof's file has the logs of open outputs at these lines.
+pub(crate) fn text_with_lines(
+    alloc: Global,
+    spans: &[Span],
+    finding: Finding<'_>,
+) -> Result<Vec<u8>, AllocError>
+    ensures { IfOk result (λ v. v.items ≡ text_of (finding_in finding.entry) (open_text_with spans.now)) }
+{
+    match finding {
+        Finding::AllEqual => Vec::from_slice(alloc, b"EQUIVALENT\n"),
+        Finding::Apart { output, input } => different_text(alloc, output, input),
+        Finding::Open => open_text_with(alloc, spans),
+    }
+}
+
+/// The text of an output that differs on an input.
+#[tactic(auto, unfolding(crate::specs::Texts::different_text))]
+fn different_text(alloc: Global, output: u32, input: &[bool]) -> Result<Vec<u8>, AllocError>
+    ensures { IfOk result (λ v. v.items ≡ different_text output input.now) }
+{
+    let mut text = Vec::new(alloc);
+    text.extend_from_slice(b"DIFFERENT\n")?;
+    push_output(&mut text, output)?;
+    text.extend_from_slice(b"input ")?;
+    push_input(&mut text, input)?;
+    text.extend_from_slice(b"\n")?;
+    Ok(text)
+}
+
+/// The text of the outputs that a book leaves open.
+#[tactic(auto, unfolding(crate::specs::Texts::open_text))]
+fn open_text(alloc: Global, entries: &[Entry]) -> Result<Vec<u8>, AllocError>
+    ensures { IfOk result (λ v. v.items ≡ open_text entries.now) }
+{
+    let mut text = Vec::from_slice(alloc, b"UNDECIDED\n")?;
+    for entry in entries {
+        push_open(&mut text, entry)?;
+    }
+    Ok(text)
+}
+
+/// The text of the outputs that a book leaves open, with the lines of their logs.
+#[tactic(auto, unfolding(crate::specs::Texts::open_text_with))]
+fn open_text_with(alloc: Global, spans: &[Span]) -> Result<Vec<u8>, AllocError>
+    ensures { IfOk result (λ v. v.items ≡ open_text_with spans.now) }
+{
+    let mut text = Vec::from_slice(alloc, b"UNDECIDED\n")?;
+    for span in spans {
+        push_span(&mut text, *span)?;
+    }
+    Ok(text)
+}
+
+fn push_open(text: &mut Vec<u8>, entry: &Entry) -> Result<(), AllocError>
+    ensures { OnOk result (text.new.items ≡ text.old.items ++ line_if_open entry.now) }
+{
+    if let Entry::OutSpent { output, .. } = entry {
+        push_output(text, *output)?;
+    }
+    Ok(())
+}
+
+#[tactic(auto, unfolding(crate::specs::Texts::output_line))]
+fn push_output(text: &mut Vec<u8>, output: u32) -> Result<(), AllocError>
+    ensures { OnOk result (text.new.items ≡ text.old.items ++ output_line output) }
+{
+    text.extend_from_slice(b"output ")?;
+    text.extend_from_slice(Buffer::new().format(output).as_bytes())?;
+    text.extend_from_slice(b"\n")?;
+    Ok(())
+}
+
+#[tactic(auto, unfolding(crate::specs::Texts::span_line))]
+fn push_span(text: &mut Vec<u8>, span: Span) -> Result<(), AllocError>
+    ensures { OnOk result (text.new.items ≡ text.old.items ++ span_line span) }
+{
+    text.extend_from_slice(b"output ")?;
+    text.extend_from_slice(Buffer::new().format(span.output).as_bytes())?;
+    text.extend_from_slice(b" lines ")?;
+    text.extend_from_slice(Buffer::new().format(span.first).as_bytes())?;
+    text.extend_from_slice(b"-")?;
+    text.extend_from_slice(Buffer::new().format(span.last).as_bytes())?;
+    text.extend_from_slice(b"\n")?;
+    Ok(())
+}
+
+/// Puts the inputs' truth values, input 0 first.
+#[tactic(auto, unfolding(crate::specs::Texts::input_text))]
+fn push_input(text: &mut Vec<u8>, input: &[bool]) -> Result<(), AllocError>
+    ensures { OnOk result (text.new.items ≡ text.old.items ++ input_text input.now) }
+{
+    if input.is_empty() {
+        text.extend_from_slice(b"none")?;
+        return Ok(());
+    }
+    push_digits(text, input)
+}
+
+fn push_digits(text: &mut Vec<u8>, input: &[bool]) -> Result<(), AllocError>
+    ensures { OnOk result (text.new.items ≡ text.old.items ++ map digit_of input.now) }
+{
+    for bit in input {
+        text.push(digit_of(*bit))?;
+    }
+    Ok(())
+}
+
+fn digit_of(bit: bool) -> u8
+    ensures { result ≡ digit_of bit }
+{
+    if bit { b'1' } else { b'0' }
+}
