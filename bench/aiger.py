@@ -28,9 +28,13 @@ def swapped(rng, gates):
     return [(lhs, right, left) if rng.randrange(2) else (lhs, left, right) for lhs, left, right in gates]
 
 
-def make_pair(seed, inputs, gates, outputs):
-    """Texts of a circuit and of one that computes the same, with the last gates as outputs."""
+def make_pair(seed, inputs, gates, outputs, turned=False):
+    """Texts of a circuit and of one that computes the same, with the last gates as outputs; or one sign is turned."""
     rng = random.Random(seed)
     first = random_gates(rng, inputs, gates)
     ends = [lhs for lhs, _, _ in first[len(first) - outputs:]]
-    return text(inputs, ends, first), text(inputs, ends, swapped(rng, first))
+    second = swapped(rng, first)
+    if turned:
+        lhs, left, right = second[-1]
+        second[-1] = (lhs, left ^ 1, right)
+    return text(inputs, ends, first), text(inputs, ends, second)

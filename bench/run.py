@@ -6,7 +6,8 @@ Usage: run.py PROGRAM [--sizes N ..] [--folder DIR]
 big pairs:    two circuits of N gates a side and no output: seconds to read A alone (the run ends at a B that is missing),
               its bytes a second, the seconds of `wc -l` on it as a yardstick of the machine, seconds of the whole check,
               and its peak memory a gate
-solved pairs: small circuits with outputs that the solver decides: verdict, seconds, clauses and proof lines
+solved pairs: small circuits with outputs that the solver decides, some with one sign turned and some within a budget of one
+              learned clause: verdict, seconds, clauses and proof lines
 """
 import argparse
 import os
@@ -52,16 +53,17 @@ def big_pairs(program, sizes, folder):
 
 
 def solved_pairs(program, folder):
-    print(f"{'inputs':>6} {'gates':>6} {'outputs':>7} {'seconds':>8} {'clauses':>8} {'lines':>7}  verdict")
+    print(f"{'inputs':>6} {'gates':>6} {'outputs':>7} {'pair':>10} {'seconds':>8} {'clauses':>8} {'lines':>7}  verdict")
     for inputs, gates, outputs in [(2, 4, 1), (3, 8, 2), (4, 12, 2), (5, 16, 4), (6, 24, 4), (8, 40, 8)]:
-        a, b = make_pair(SEED + gates, inputs, gates, outputs)
-        Path(folder, "A").write_text(a)
-        Path(folder, "B").write_text(b)
-        status, said, seconds, _ = measured([program, "check", "A", "B", "--out", "p"], folder)
-        header = Path(folder, "p.0.cnf").read_text().split("\n")[0].split()
-        lines = Path(folder, "p.0.lrat").read_text().count("\n")
-        print(f"{inputs:>6} {gates:>6} {outputs:>7} {seconds:>8.3f} {header[3]:>8} {lines:>7}  {status} "
-              f"{said.split(chr(10))[0]}")
+        for kind, turned, options in [("equal", False, []), ("one sign", True, []), ("budget 1", False, ["--budget", "1"])]:
+            a, b = make_pair(SEED + gates, inputs, gates, outputs, turned)
+            Path(folder, "A").write_text(a)
+            Path(folder, "B").write_text(b)
+            status, said, seconds, _ = measured([program, "check", "A", "B", "--out", "p"] + options, folder)
+            header = Path(folder, "p.0.cnf").read_text().split("\n")[0].split()
+            lines = Path(folder, "p.0.lrat").read_text().count("\n")
+            print(f"{inputs:>6} {gates:>6} {outputs:>7} {kind:>10} {seconds:>8.3f} {header[3]:>8} {lines:>7}  {status} "
+                  f"{said.split(chr(10))[0]}")
 
 
 def main():

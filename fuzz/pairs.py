@@ -3,9 +3,11 @@
 
 Usage: pairs.py PROGRAM CHECKER [--runs N] [--seed N]
 
-CHECKER is a strict LRAT checker that is called as `CHECKER CNF PROOF` and prints VERIFIED for a refutation. For each pair
-the circuits are evaluated on every input here. EQUIVALENT must be true and its proof VERIFIED; an output that is not shown
-equal must be the first that differs. Status 1 where anything is wrong.
+CHECKER is a strict LRAT checker that is called as `CHECKER [--steps] CNF PROOF` and prints VERIFIED for a refutation, and
+with --steps `STEPS COUNT` for lines that are all steps and add no empty clause. For each pair the circuits are evaluated
+on every input here. EQUIVALENT must be true and its proof VERIFIED. DIFFERENT must name an output and an input on which it
+differs, and with the whole budget the first output that differs. UNDECIDED may list only outputs whose logs stand at
+those lines of the file, as long as the budget, and each other output must be equal. Status 1 where anything is wrong.
 """
 import itertools
 import random
@@ -67,18 +69,72 @@ def evaluated(circuit, bits):
     return [value(literal) for literal in outputs]
 
 
-def judged(ran, a, b, folder, checker):
+def differing_outputs(a, b):
+    """The outputs that differ on some input."""
+    found = set()
+    for bits in itertools.product([False, True], repeat=len(a[0])):
+        found |= {j for j, (x, y) in enumerate(zip(evaluated(a, bits), evaluated(b, bits))) if x != y}
+    return found
+
+
+def checked(checker, folder, *options):
+    """What the checker prints of the files that were left."""
+    files = [str(Path(folder, name)) for name in ("p.0.cnf", "p.0.lrat")]
+    return subprocess.run(checker + list(options) + files, capture_output=True, text=True).stdout.strip()
+
+
+def judged_equal(said, differing, folder, checker):
+    if said != "EQUIVALENT\n" or differing:
+        return "a wrong yes"
+    strict = checked(checker, folder)
+    return None if strict == "VERIFIED" else "its proof is " + strict
+
+
+def judged_different(said, a, b, differing, folder, budget):
+    match = re.fullmatch(r"DIFFERENT\noutput (\d+)\ninput (none|[01]+)\n", said)
+    if not match:
+        return "no such verdict"
+    output, digits = int(match[1]), match[2].replace("none", "")
+    if len(digits) != len(a[0]) or (match[2] == "none") != (not a[0]):
+        return "an input of another length"
+    bits = [digit == "1" for digit in digits]
+    if evaluated(a, bits)[output] == evaluated(b, bits)[output]:
+        return "a wrong no"
+    if budget is None and output != min(differing):
+        return "another output than the first that differs"
+    return "a proof that isn't empty" if Path(folder, "p.0.lrat").read_bytes() else None
+
+
+def judged_open(said, differing, folder, checker, budget):
+    first, *lines = said.splitlines()
+    spans = [re.fullmatch(r"output (\d+) lines (\d+)-(\d+)", line) for line in lines]
+    if first != "UNDECIDED" or not spans or not all(spans):
+        return "no such verdict"
+    spans = [tuple(map(int, span.groups())) for span in spans]
+    listed = [output for output, _, _ in spans]
+    if listed != sorted(set(listed)) or any(j not in listed for j in differing):
+        return "another list of outputs"
+    if any(last - begin + 1 != budget for _, begin, last in spans):
+        return "a log of another length"
+    clauses = int(Path(folder, "p.0.cnf").read_text().split()[3])
+    ends = [begin - 1 for _, begin, _ in spans[1:]] + [spans[-1][2]]
+    if ends != [last for _, _, last in spans]:
+        return "logs with gaps"
+    strict = checked(checker, folder, "--steps")
+    return None if strict == f"STEPS {spans[-1][2] - clauses}" else "its lines are " + strict
+
+
+def judged(ran, a, b, folder, checker, budget):
     """None where the answer is right, else what is wrong."""
-    inputs = len(a[0])
-    differing = [j for bits in itertools.product([False, True], repeat=inputs)
-                 for j, (x, y) in enumerate(zip(evaluated(a, bits), evaluated(b, bits))) if x != y]
+    differing = differing_outputs(a, b)
+    if ran.stderr:
+        return "a warning"
     if ran.returncode == 0:
-        files = [str(Path(folder, name)) for name in ("p.0.cnf", "p.0.lrat")]
-        strict = subprocess.run(checker + files, capture_output=True, text=True).stdout.strip()
-        return None if ran.stdout == "EQUIVALENT\n" and not differing and strict == "VERIFIED" else "a wrong yes: " + strict
-    open_output = re.fullmatch(r"cec: output (\d+) is not shown equal\n", ran.stderr)
-    if ran.returncode == 4 and open_output:
-        return None if differing and int(open_output[1]) == min(differing) and not ran.stdout else "a wrong no"
+        return judged_equal(ran.stdout, differing, folder, checker)
+    if ran.returncode == 1:
+        return judged_different(ran.stdout, a, b, differing, folder, budget)
+    if ran.returncode == 2 and budget is not None:
+        return judged_open(ran.stdout, differing, folder, checker, budget)
     return "no answer"
 
 
@@ -91,9 +147,11 @@ def main():
             b = rewritten(rng, a)
             Path(folder, "A").write_text(text(a))
             Path(folder, "B").write_text(text(b))
+            budget = rng.choice([None, None, 1, 2, 3])
             command = [words.program, "check", "A", "B", "--out", "p"]
+            command += [] if budget is None else ["--budget", str(budget)]
             ran = subprocess.run(command, cwd=folder, capture_output=True, text=True)
-            fault = judged(ran, a, b, folder, words.checker.split())
+            fault = judged(ran, a, b, folder, words.checker.split(), budget)
             tally.add(ran.returncode, fault and f"{fault}: {ran!r}, on {text(a)!r} and {text(b)!r}")
     tally.end()
 
