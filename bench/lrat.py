@@ -1,9 +1,9 @@
 #!/usr/bin/env python3
 """Measures the built program's check of LRAT proofs beside a reference checker.
 
-Usage: lrat.py PROGRAM REFERENCE.c [--lines N ..] [--kinds WORD ..] [--rounds N] [--seed N] [--folder DIR]
+Usage: lrat.py [PROGRAM [REFERENCE.c]] [--lines N ..] [--kinds WORD ..] [--rounds N] [--seed N] [--folder DIR]
 
-REFERENCE.c is a checker in one file of C, which is compiled by `cc -O2` and run as `reference CNF PROOF`; the program is run
+PROGRAM is the repository's own where it is left out. REFERENCE.c (else tools/lrat_strict.c) is a checker in one file of C, which is compiled by `cc -O2` and run as `reference CNF PROOF`; the program is run
 as `PROGRAM lrat CNF PROOF`. Both check the same files in turn, and the least time of the rounds is taken for each: seconds of
 the processor, so that other work on the machine counts little. Each proof is right by construction and made from the seed:
 
@@ -26,6 +26,8 @@ import tempfile
 from pathlib import Path
 
 sys.path.insert(0, str(Path(__file__).resolve().parent))
+sys.path.insert(0, str(Path(__file__).resolve().parents[1] / "tools"))
+import house
 from run import SEED
 
 WIDEST = 100_000
@@ -219,20 +221,19 @@ def measure(program, reference, kind, lines, words, folder):
 
 def main():
     parser = argparse.ArgumentParser(description=__doc__, formatter_class=argparse.RawDescriptionHelpFormatter)
-    parser.add_argument("program", help="the built program")
-    parser.add_argument("reference", help="a checker in one file of C")
+    parser.add_argument("program", nargs="?", help="the built program")
+    parser.add_argument("reference", nargs="?", default=house.REFERENCE, help="a checker in one file of C")
     parser.add_argument("--lines", type=int, nargs="*", default=[10_000, 100_000, 1_000_000])
     parser.add_argument("--kinds", nargs="*", choices=KINDS, default=list(KINDS))
     parser.add_argument("--rounds", type=int, default=3)
     parser.add_argument("--seed", type=int, default=SEED)
     parser.add_argument("--folder", help="where the files are made (else a folder that is removed)")
     words = parser.parse_args()
-    program = str(Path(words.program).resolve())
+    program = house.program(words.program)
     print(f"{'kind':>9} {'lines':>8} {'MB':>8} {'seconds':>8} {'reference':>10} {'ratio':>6} {'literals':>9} {'peak B/lit':>10}"
           "  answer")
     with tempfile.TemporaryDirectory() as made:
-        reference = os.path.join(made, "reference")
-        subprocess.run(["cc", "-O2", "-o", reference, words.reference], check=True)
+        reference = house.compiled(made, words.reference)
         folder = words.folder or made
         right = [measure(program, reference, kind, lines, words, folder) for kind in words.kinds for lines in words.lines]
     sys.exit(0 if all(right) else 1)

@@ -1,7 +1,7 @@
 #!/usr/bin/env python3
 """Measures the built program.
 
-Usage: run.py PROGRAM [--sizes N ..] [--folder DIR]
+Usage: run.py [PROGRAM] [--sizes N ..] [--folder DIR]
 
 big pairs:    two circuits of N gates a side and no output: seconds to read A alone (the run ends at a B that is missing),
               its bytes a second, the seconds of `wc -l` on it as a yardstick of the machine, seconds of the whole check,
@@ -18,6 +18,8 @@ import time
 from pathlib import Path
 
 sys.path.insert(0, str(Path(__file__).resolve().parent))
+sys.path.insert(0, str(Path(__file__).resolve().parents[1] / "tools"))
+import house
 from aiger import make_pair
 
 SEED = 20261126
@@ -68,11 +70,11 @@ def solved_pairs(program, folder):
 
 def main():
     parser = argparse.ArgumentParser(description=__doc__, formatter_class=argparse.RawDescriptionHelpFormatter)
-    parser.add_argument("program", help="the built program")
+    parser.add_argument("program", nargs="?", help="the built program, else the repository's own")
     parser.add_argument("--sizes", type=int, nargs="*", default=[10_000, 100_000, 1_000_000])
     parser.add_argument("--folder", help="where the files are made (else a folder that is removed)")
     words = parser.parse_args()
-    program = str(Path(words.program).resolve())
+    program = house.program(words.program)
     with tempfile.TemporaryDirectory() as made:
         folder = words.folder or made
         big_pairs(program, words.sizes, folder)

@@ -1,9 +1,9 @@
 #!/usr/bin/env python3
 """Random small pairs of circuits, judged apart from the program.
 
-Usage: pairs.py PROGRAM CHECKER [--runs N] [--seed N]
+Usage: pairs.py [PROGRAM [CHECKER]] [--runs N] [--seed N]
 
-CHECKER is a strict LRAT checker that is called as `CHECKER [--steps] CNF PROOF` and prints VERIFIED for a refutation, and
+PROGRAM is the repository's own where it is left out. CHECKER (else tools/lrat_strict.py) is a strict LRAT checker that is called as `CHECKER [--steps] CNF PROOF` and prints VERIFIED for a refutation, and
 with --steps `STEPS COUNT` for lines that are all steps and add no empty clause. For each pair the circuits are evaluated
 on every input here. EQUIVALENT must be true and its proof VERIFIED. DIFFERENT must name an output and an input on which it
 differs, and with the whole budget the first output that differs. UNDECIDED may list only outputs whose logs stand at
@@ -16,7 +16,7 @@ import subprocess
 import tempfile
 from pathlib import Path
 
-from rounds import Tally, words_of
+from rounds import Tally, house, words_of
 
 
 def random_circuit(rng, inputs, outputs, gates):
@@ -140,7 +140,7 @@ def judged(ran, a, b, folder, checker, budget):
 
 def main():
     words = words_of(__doc__, 400, "checker")
-    rng, tally = random.Random(words.seed), Tally(words.seed)
+    rng, tally, checker = random.Random(words.seed), Tally(words.seed), house.checker(words.checker)
     with tempfile.TemporaryDirectory() as folder:
         for _ in range(words.runs):
             a = random_circuit(rng, rng.randrange(0, 5), rng.randrange(0, 4), rng.randrange(0, 9))
@@ -151,7 +151,7 @@ def main():
             command = [words.program, "check", "A", "B", "--out", "p"]
             command += [] if budget is None else ["--budget", str(budget)]
             ran = subprocess.run(command, cwd=folder, capture_output=True, text=True)
-            fault = judged(ran, a, b, folder, words.checker.split(), budget)
+            fault = judged(ran, a, b, folder, checker, budget)
             tally.add(ran.returncode, fault and f"{fault}: {ran!r}, on {text(a)!r} and {text(b)!r}")
     tally.end()
 

@@ -1,9 +1,9 @@
 #!/usr/bin/env python3
 """Random small proofs and mutations of them, judged by the program and by two checkers that were written apart from it.
 
-Usage: proofs.py PROGRAM CHECKER.py REFERENCE.c [--runs N] [--seed N]
+Usage: proofs.py [PROGRAM [CHECKER.py [REFERENCE.c]]] [--runs N] [--seed N]
 
-The program is run as `PROGRAM lrat CNF PROOF`. CHECKER.py has `check(cnf, proof)`, which answers the line that it would print
+What is left out is the repository's own program, and the checkers under tools/. The program is run as `PROGRAM lrat CNF PROOF`. CHECKER.py has `check(cnf, proof)`, which answers the line that it would print
 and a status, or raises `Malformed` or ValueError where a file isn't of its format. REFERENCE.c is compiled by `cc -O2`, run as
 `reference CNF PROOF`, and prints the same lines, and `FAULT CNF text` or `FAULT PROOF text` where a file isn't of its format.
 
@@ -23,7 +23,7 @@ import tempfile
 from collections import Counter
 from pathlib import Path
 
-from rounds import Tally, words_of
+from rounds import Tally, house, words_of
 
 NUMBERS = ["0", "-0", "00", "007", "+1", "1_0", "-", "--1", "1-", "x", "d", "dd", "1e3", "2147483647", "-2147483647", "2147483648",
            "-2147483648", "999999999999999999", "1000000000000000000", "99999999999999999999999999", "-1", "1", "2"]
@@ -207,13 +207,12 @@ def judged(checker, folder):
 
 def main():
     words = words_of(__doc__, 4000, "checker", "reference")
-    spec = importlib.util.spec_from_file_location("checker", words.checker)
+    spec = importlib.util.spec_from_file_location("checker", words.checker or house.CHECKER)
     checker = importlib.util.module_from_spec(spec)
     spec.loader.exec_module(checker)
     rng, tally, said_of = random.Random(words.seed), Tally(words.seed), Counter()
     with tempfile.TemporaryDirectory() as folder:
-        reference = os.path.join(folder, "reference")
-        subprocess.run(["cc", "-O2", "-o", reference, words.reference], check=True)
+        reference = house.compiled(folder, words.reference or house.REFERENCE)
         for _ in range(words.runs):
             cnf, proof = made(rng)
             Path(folder, "f.cnf").write_bytes(cnf)

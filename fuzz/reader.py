@@ -1,7 +1,7 @@
 #!/usr/bin/env python3
 """Hostile input: byte-level mutations of valid ASCII AIGER files, run through the built program.
 
-Usage: reader.py PROGRAM [--runs N] [--seed N]
+Usage: reader.py [PROGRAM] [--runs N] [--seed N]
 
 Each run has to end by itself with status 0, 1, 2 or 4, and with exactly one line of warning where the status is 4 and none
 elsewhere. Prints what it found and the seed; status 1 where a run did otherwise.

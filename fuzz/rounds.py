@@ -1,21 +1,24 @@
 """What the rounds here share: their words, and the count of what the program answered."""
 import argparse
+import sys
 from collections import Counter
 from pathlib import Path
+
+sys.path.insert(0, str(Path(__file__).resolve().parents[1] / "tools"))
+import house
 
 SEED = 20261126
 
 
 def words_of(usage, runs, *others):
-    """The words of the command line: PROGRAM, the others, --runs and --seed."""
+    """The words of the command line: PROGRAM and the others, each of which may be left out, --runs and --seed."""
     parser = argparse.ArgumentParser(description=usage, formatter_class=argparse.RawDescriptionHelpFormatter)
-    parser.add_argument("program")
-    for name in others:
-        parser.add_argument(name)
+    for name in ("program", *others):
+        parser.add_argument(name, nargs="?")
     parser.add_argument("--runs", type=int, default=runs)
     parser.add_argument("--seed", type=int, default=SEED)
     words = parser.parse_args()
-    words.program = str(Path(words.program).resolve())
+    words.program = house.program(words.program)
     return words
 
 

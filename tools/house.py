@@ -1,0 +1,29 @@
+"""What the scripts of bench/, fuzz/ and tools/ find in the repository: the built program, and the checkers of proofs."""
+import os
+import subprocess
+import sys
+from pathlib import Path
+
+TOP = Path(__file__).resolve().parents[1]
+CHECKER = TOP / "tools" / "lrat_strict.py"
+REFERENCE = TOP / "tools" / "lrat_strict.c"
+
+
+def program(given=None):
+    """The path of the program: the one that is given, else the repository's own, which `./cec` proves and builds."""
+    if given:
+        return str(Path(given).resolve())
+    subprocess.run([str(TOP / "cec"), "--help"], stdout=subprocess.DEVNULL, check=True)
+    return str(TOP / "crates" / "cec" / "out" / "cec")
+
+
+def compiled(folder, source=REFERENCE):
+    """The path of the checker in C, compiled into the folder."""
+    made = os.path.join(folder, "reference")
+    subprocess.run(["cc", "-O2", "-o", made, str(source)], check=True)
+    return made
+
+
+def checker(given=None):
+    """The words that call the checker in Python, or the one that is given."""
+    return given.split() if given else [sys.executable, str(CHECKER)]
