@@ -1,0 +1,4 @@
+pub mod Status
+pub mod Stops
+pub mod Reading
+pub mod Writing

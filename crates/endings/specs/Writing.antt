@@ -1,0 +1,65 @@
+-- How a command leaves its files, one after another, and then says its verdict; and what stands where that fails.
+use Rattle.std.specs.Prelude.{◌≡◌, ◌⊎◌, ℕ, List, [], ◌∷◌, Some, None, Result, Ok, Err}
+use Rattle.std.specs.Option.{option_map}
+use Rattle.desk_port.specs.Desk.{DeskState, WriteFault, OfSomePrefix, put, after_emptying, after_write, after_say}
+use Rattle.desk_port.specs.declared.errors.PutErr.{PutErr}
+use Rattle.desk_port.specs.declared.errors.PutErr.TheVariants as not_put
+use Rattle.endings.specs.declared.stop.Stop.{Stop}
+use Rattle.endings.specs.declared.stop.Stop.TheVariants.{CannotRead, TooLong, BadFile, NotAlike, CannotWrite, OutOfMemory}
+
+-- A file that a command leaves.
+pub record Output : Type 0 where
+  pub name : List ℕ
+  pub bytes : List ℕ
+
+-- the desk after the file was written whole and closed
+abbrev pub after_file : DeskState → Output → DeskState
+after_file s o = record s { files = option_map (put o.name o.bytes) s.files; started = None }
+
+-- the desk while the named file is started and holds these bytes
+abbrev pub while_writing : DeskState → List ℕ → List ℕ → DeskState
+while_writing s name part = record s { files = option_map (put name part) s.files; started = Some name }
+
+-- The file isn't written whole. Starting it failed, and it is as before or empty; writing failed, and a first part of its bytes
+-- stands in it, which is still started; closing failed, and it is whole. Or memory ran out: before it was started, or while it is
+-- started and holds a first part.
+abbrev pub StopsIn : Output → DeskState → DeskState → Stop → Type 0
+StopsIn o old new CannotWrite =
+    WriteFault old new
+    ⊎ WriteFault (after_emptying old o.name) new
+    ⊎ OfSomePrefix o.bytes (λ part. WriteFault (while_writing old o.name part) new)
+    ⊎ WriteFault (after_file old o) new
+StopsIn o old new OutOfMemory =
+    (new ≡ old) ⊎ OfSomePrefix o.bytes (λ part. new ≡ while_writing old o.name part)
+StopsIn o old new (CannotRead file) = ⊥
+StopsIn o old new (TooLong file) = ⊥
+StopsIn o old new (BadFile file text) = ⊥
+StopsIn o old new (NotAlike text) = ⊥
+
+-- the file is written whole and closed, or not
+abbrev pub WritesFile : {A : Type 0} → Output → DeskState → DeskState → Result A Stop → Type 0
+WritesFile o old new (Ok a) = new ≡ after_file old o
+WritesFile o old new (Err stop) = StopsIn o old new stop
+
+-- the bytes are put at the end of the started file, in any number of pieces, also in none where there are no bytes
+abbrev pub Puts : {A : Type 0} → List ℕ → DeskState → DeskState → Result A PutErr → Type 0
+Puts bytes old new (Ok a) = (new ≡ after_write old bytes) ⊎ ((bytes ≡ []) × (new ≡ old))
+Puts bytes old new (Err not_put.Failed) = OfSomePrefix bytes (λ part. WriteFault (after_write old part) new)
+Puts bytes old new (Err not_put.NoMemory) = (new ≡ old) ⊎ OfSomePrefix bytes (λ part. new ≡ after_write old part)
+
+-- the text is said; where that failed, a first part of it
+abbrev pub Says : List ℕ → DeskState → DeskState → Result (Unit {0}) Stop → Type 0
+Says text old new (Ok _) = new ≡ after_say old text
+Says text old new (Err CannotWrite) = OfSomePrefix text (λ part. WriteFault (after_say old part) new)
+Says text old new (Err OutOfMemory) = new ≡ old
+Says text old new (Err (CannotRead file)) = ⊥
+Says text old new (Err (TooLong file)) = ⊥
+Says text old new (Err (BadFile file why)) = ⊥
+Says text old new (Err (NotAlike why)) = ⊥
+
+-- The files are written in order, each closed before the next is started, and then the text is said. Behind a file that isn't
+-- written whole none is touched, and nothing is said.
+abbrev pub Leaves : List Output → List ℕ → DeskState → DeskState → Result (Unit {0}) Stop → Type 0
+Leaves [] text old new result = Says text old new result
+Leaves (o ∷ os) text old new (Ok u) = Leaves os text (after_file old o) new (Ok u)
+Leaves (o ∷ os) text old new (Err stop) = StopsIn o old new stop ⊎ Leaves os text (after_file old o) new (Err stop)

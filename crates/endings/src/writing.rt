@@ -1,0 +1,50 @@
+ghost use Rattle.std.specs.Prelude.{◌≡◌, ℕ, List, None, IsSome, IfOk};
+ghost use Rattle.endings.specs.Writing.{Puts, Says, WritesFile};
+
+use crate::stop::Stop;
+use desk_port::{Desk, PutErr};
+use std::alloc::Global;
+
+/// What a command leaves in a file.
+pub trait Content {
+    /// What whoever puts the bytes tells besides.
+    type Told: Drop;
+
+    ghost bytes: { Self → List ℕ };
+
+    ghost tells: { Self → Self.Told → Type 0 };
+
+    /// Puts the bytes into the started file.
+    fn put<D: Desk>(&self, alloc: Global, desk: &mut D) -> Result<Self::Told, PutErr>
+        requires { IsSome (D.state desk.old).started }
+        ensures puts { Puts (bytes self.now) (D.state desk.old) (D.state desk.new) result }
+        ensures tells { IfOk result (tells self.now) };
+}
+
+/// Writes the named file: starts it, puts its content and closes it.
+pub fn write_file<D: Desk, C: Content>(
+    alloc: Global,
+    desk: &mut D,
+    name: &str,
+    content: &C,
+) -> Result<C::Told, Stop>
+    requires { (D.state desk.old).started ≡ None }
+    ensures writes { WritesFile (record { name = name.now; bytes = C.bytes content.now }) (D.state desk.old) (D.state desk.new) result }
+    ensures tells { IfOk result (C.tells content.now) }
+{
+    desk.start(name)?;
+    let told = content.put(alloc, desk)?;
+    desk.close()?;
+    Ok(told)
+}
+
+/// Says the text of a verdict.
+pub fn say<D: Desk>(desk: &mut D, text: &[u8]) -> Result<(), Stop>
+    ensures { Says text.now (D.state desk.old) (D.state desk.new) result }
+{
+    match desk.say(text) {
+        Ok(()) => Ok(()),
+        Err(PutErr::Failed) => Err(Stop::CannotWrite),
+        Err(PutErr::NoMemory) => Err(Stop::OutOfMemory),
+    }
+}
