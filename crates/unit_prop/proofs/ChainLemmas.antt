@@ -1,8 +1,8 @@
 -- What a chain of steps shows: each of its clauses holds wherever the clauses that it stands on hold.
-use Rattle.std.proofs.Common.{◌≡◌, ℕ, Bool, true, false, List, [], ◌∷◌, ◌++◌, Option, Some, None, refl, sym, subst, append_assoc, zero, suc, inl, inr}
+use Rattle.std.proofs.Common.{◌≡◌, ℕ, Bool, true, false, List, [], ◌∷◌, ◌++◌, Option, Some, None, refl, sym, subst, append_assoc, zero, suc}
 use Rattle.std.proofs.lemmas.List.{append-nil}
-use Rattle.std.specs.List.{list_any, slice_get, AllByRecursion}
-use Rattle.lits.specs.Assignment.{IsAssignment, Holds, Meets, Follows, IsSatisfiable}
+use Rattle.std.specs.List.{slice_get, AllByRecursion}
+use Rattle.lits.specs.Assignment.{IsAssignment, Holds, Meets, Follows}
 use Rattle.lits.specs.declared.literal.Lit.{Lit}
 use Rattle.lits.specs.declared.step.Named.{Named}
 use Rattle.lits.specs.declared.step.Step.{Step}
@@ -10,8 +10,6 @@ use Rattle.lits.specs.declared.step.Ref.{Ref}
 use Rattle.lits.specs.declared.step.Ref.TheVariants.{Axiom, Entry, Own}
 use Rattle.lits.proofs.ClauseLemmas.{IsLiteral}
 use Rattle.unit_prop.specs.Step.{IsStep, AllHold}
-use Rattle.unit_prop.specs.Proof.{is_empty}
-use Rattle.unit_prop.proofs.LiteralLemmas.{or_cases}
 use Rattle.unit_prop.specs.Log.{same_name, base_clause, base_clauses, with_own, InTurn, IsStepAfter, IsChain, IsLearned, IsLog}
 use Rattle.lits.specs.Same.{same_lit, opposite}
 use Rattle.unit_prop.specs.Refuter.{Answers}
@@ -100,23 +98,3 @@ module _ (laws : IsLiteral same_lit opposite) where
   pub steps-hold : (find : Ref → Option (List Lit)) (steps : List Step) (v : Lit → Bool) → IsAssignment opposite v → AllHold v find
       → IsChain find steps → AllByRecursion (λ s. Holds v s.clause) steps
   steps-hold find steps v assigns holds chain = chain-holds laws v assigns find holds [] steps tt chain
-
-  -- a base over which a chain shows the empty clause isn't satisfiable
-  pub chain-refutes : (base : List Named) (steps : List Step) → IsChain (base_clause base) steps
-      → list_any (λ s. is_empty s.clause) steps ≡ true → ¬ IsSatisfiable opposite (base_clauses base)
-  chain-refutes base steps chain e s = none steps (steps-hold (base_clause base) steps s.values s.assigns found chain) e
-    where
-      found : AllHold s.values (base_clause base)
-      found = base_clause-holds s.values base (all-base s.values base s.meets)
-
-      filled : (c : List Lit) → Holds s.values c → is_empty c ≡ true → ⊥
-      filled [] h f = cc
-      filled (x ∷ xs) h f = cc
-
-      none : (ss : List Step) → AllByRecursion (λ t. Holds s.values t.clause) ss → list_any (λ t. is_empty t.clause) ss ≡ true → ⊥
-      none [] all f = cc
-      none (t ∷ ts) all f =
-          elim (or_cases (is_empty t.clause) (list_any (λ u. is_empty u.clause) ts) f) [
-            | inl g ↦ filled t.clause all.0 g
-            | inr g ↦ none ts all.1 g
-          ]

@@ -1,4 +1,4 @@
--- What proofs, closures and new clauses come to under assignments.
+-- What closures and new clauses come to under assignments, and steps over more clauses.
 use Rattle.std.proofs.Common.{◌≡◌, ℕ, ◌+◌, Bool, true, false, not, ◌||◌, List, [], ◌∷◌, Option, Some, None, Result, Ok, Err, refl, sym, ap, ◌∙◌, subst, inl, inr, zero, suc}
 use Rattle.std.specs.Prelude.{filter}
 use Rattle.std.specs.List.{AllByRecursion}
@@ -10,37 +10,11 @@ use Rattle.unit_prop.specs.New.{IsNew, others_negated, SameLiterals}
 use Rattle.unit_prop.specs.declared.why.Why.{Why}
 use Rattle.unit_prop.specs.declared.why.Why.TheVariants.{Tautology, NoClause}
 use Rattle.unit_prop.specs.Step.{State, IsStep, AllHold, start_of, after_hint, fault_from}
-use Rattle.unit_prop.specs.Proof.{Added, extended, IsProof, is_empty, adds_empty, clause_numbered}
 use Rattle.unit_prop.proofs.LiteralLemmas.{contrary, both, or_cases, or_left, or_right, has-head, has-filter, has-map-opposite, witness, all-at, all-true}
-use Rattle.unit_prop.proofs.StepLemmas.{step-holds}
-use Rattle.unit_prop.proofs.ChainLemmas.{all-slice_get}
 use Rattle.unit_prop.proofs.ClosureLemmas.{any-all}
 
 module _ {L : Type 0} {eq : L → L → Bool} {opposite : L → L} (laws : IsLiteral eq opposite) (v : L → Bool)
     (assigns : IsAssignment opposite v) where
-  extended-holds : {N : Type 0} (same : N → N → Bool) (find : N → Option (List L)) (name : N) (clause : List L) → AllHold v find
-      → Holds v clause → AllHold v (extended same find name clause)
-  extended-holds same find name clause all here = λ n c e. go n c (same name n) refl e
-    where
-      go : (n : _) (c : List L) (b : Bool) → same name n ≡ b → extended same find name clause n ≡ Some c → Holds v c
-      go n c true f e = let g : Some clause ≡ Some c = rw f at e in let h : clause ≡ c = cc in subst (λ (l : List L). Holds v l) h here
-      go n c false f e = all n c (rw f at e)
-
-  -- no proof over clauses that hold adds the empty clause
-  pub proof-no_empty : {N : Type 0} (same : N → N → Bool) (find : N → Option (List L)) (steps : List (Added N L)) → AllHold v find
-      → IsProof same eq opposite find steps → adds_empty steps ≡ true → ⊥
-  proof-no_empty same find [] all proof e = cc
-  proof-no_empty same find (s ∷ ss) all proof e =
-      let here = step-holds laws v assigns find all s.clause s.hints proof.0 in
-      elim (or_cases (is_empty s.clause) (adds_empty ss) e) [
-        | inl f ↦ filled s.clause here f
-        | inr f ↦ proof-no_empty same (extended same find s.name s.clause) ss (extended-holds same find s.name s.clause all here) proof.1 f
-      ]
-    where
-      filled : (c : List L) → Holds v c → is_empty c ≡ true → ⊥
-      filled [] h f = cc
-      filled (x ∷ xs) h f = cc
-
   -- a literal and its negation aren't both true
   pub one_true : (l : L) → v l ≡ true → v (opposite l) ≡ true → ⊥
   one_true l e f = let g = assigns.negates l in let h : not (v l) ≡ false = ap not e in cc
@@ -105,19 +79,6 @@ new-differs {L} {eq} {opposite} laws clauses clause new = go clauses new.missed.
     go (c ∷ cs) all = (each c all.0, go cs all.1)
 
 module _ {L : Type 0} {eq : L → L → Bool} {opposite : L → L} (laws : IsLiteral eq opposite) where
-  numbered-holds : (v : L → Bool) (clauses : List (List L)) → Meets v clauses → AllHold v (clause_numbered clauses)
-  numbered-holds v clauses meets = go
-    where
-      go : (n : ℕ) (c : List L) → clause_numbered clauses n ≡ Some c → Holds v c
-      go zero c e = let f : None ≡ Some c = e in cc
-      go (suc n) c e = all-slice_get (Holds v) clauses n c meets e
-
-  -- clauses over which a proof adds the empty one aren't satisfiable
-  pub refuted : (same : ℕ → ℕ → Bool) (clauses : List (List L)) (steps : List (Added ℕ L))
-      → IsProof same eq opposite (clause_numbered clauses) steps → adds_empty steps ≡ true → ¬ IsSatisfiable opposite clauses
-  refuted same clauses steps proof e s =
-      proof-no_empty laws s.values s.assigns same (clause_numbered clauses) steps (numbered-holds s.values clauses s.meets) proof e
-
   -- what the closure adds is true where the clauses hold and what is given is true
   pub closure-true : (clauses : List (List L)) (given lits : List L) → IsClosure eq opposite clauses given lits → (v : L → Bool)
       → IsAssignment opposite v → Meets v clauses → AllTrue v given → AllTrue v lits

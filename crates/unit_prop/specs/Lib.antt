@@ -3,6 +3,5 @@ pub mod Propagation
 pub mod New
 pub mod Step
 pub mod StepCheck
-pub mod Proof
 pub mod Log
 pub mod Refuter

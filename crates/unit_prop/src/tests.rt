@@ -1,4 +1,4 @@
-use crate::{BadStep, Closure, StepCheck, StepErr, Why};
+use crate::{BadStep, Clauses, Closure, StepCheck, Why};
 use lits::{Clause, Dim, Lit, Literal, Node, Side};
 use std::alloc::Global;
 use std::process::Abort;
@@ -52,55 +52,62 @@ fn close_under(rt: HostRuntime) -> Result<(), Fail> {
     Ok(())
 }
 
-fn fault_at(hint: u64, error: StepErr) -> Result<Option<BadStep>, Fail> {
-    match error {
-        StepErr::Bad(why) => Ok(Some(BadStep { hint, why })),
-        StepErr::NoMemory => Err("out of memory".into()),
-    }
-}
+/// The clauses of a step's hints, by their places from 0.
+#[derive(Drop)]
+struct Hints<'a, L: Literal>(&'a [Clause<L>]);
 
-/// The first fault of a step, by its clause and the clauses of its hints.
-fn fault_of<L: Literal>(
-    check: &mut StepCheck<L>,
-    clause: &[L],
-    hints: &[Clause<L>],
-) -> Result<Option<BadStep>, Fail> {
-    if let Err(error) = check.begin(clause) {
-        return fault_at(0, error);
+impl<L: Literal> Clauses<usize, L> for Hints<'_, L> {
+    ghost use Rattle.std.specs.Prelude.{slice_get};
+
+    ghost find = { λ hints k. slice_get hints.0.now k };
+
+    fn clause(&self, place: usize) -> Option<&[L]> {
+        self.0.get(place).map(|clause| clause.lits())
     }
-    for (place, hint) in (1..).zip(hints) {
-        if let Err(error) = check.hint(hint.lits()) {
-            return fault_at(place, error);
-        }
-    }
-    Ok(check.end().err().map(|why| BadStep { hint: 0, why }))
 }
 
 #[test]
 fn step_check(rt: HostRuntime) -> Result<(), Fail> {
     let alloc = rt.alloc();
     let mut check = StepCheck::new(alloc);
-    let cases: [(&[i32], &[&[i32]], Option<(u64, Why)>); 10] = [
-        (&[], &[&[]], None),
-        (&[1], &[], Some((0, Why::NotFalse))),
+    let cases: [(&[i32], &[&[i32]], &[usize], Option<(u64, Why)>); 11] = [
+        (&[], &[&[]], &[0], None),
+        (&[1], &[], &[], Some((0, Why::NotFalse))),
         // Two gates that compute the same: the first step of their proof, and the same without its last hint.
-        (&[-5, 4], &[&[-5, 3], &[4, -2, -3], &[-5, 2]], None),
+        (
+            &[-5, 4],
+            &[&[-5, 3], &[4, -2, -3], &[-5, 2]],
+            &[0, 1, 2],
+            None,
+        ),
         (
             &[-5, 4],
             &[&[-5, 3], &[4, -2, -3]],
+            &[0, 1],
             Some((0, Why::NotFalse)),
         ),
-        (&[-5, 4, 4], &[&[-5, 3], &[4, -2, -3], &[-5, 2]], None),
-        (&[1, -1], &[&[]], Some((0, Why::Tautology))),
-        (&[1], &[&[2], &[2, 3]], Some((2, Why::Satisfied))),
-        (&[1], &[&[2, 3]], Some((1, Why::TwoFree))),
-        (&[1], &[&[1], &[2]], Some((2, Why::AfterFalse))),
-        (&[1], &[&[2, 1], &[-2, 3]], Some((0, Why::NotFalse))),
+        (
+            &[-5, 4, 4],
+            &[&[-5, 3], &[4, -2, -3], &[-5, 2]],
+            &[0, 1, 2],
+            None,
+        ),
+        (&[1, -1], &[&[]], &[0], Some((0, Why::Tautology))),
+        (&[1], &[&[2], &[2, 3]], &[0, 1], Some((2, Why::Satisfied))),
+        (&[1], &[&[2, 3]], &[0], Some((1, Why::TwoFree))),
+        (&[1], &[&[1], &[2]], &[0, 1], Some((2, Why::AfterFalse))),
+        (
+            &[1],
+            &[&[2, 1], &[-2, 3]],
+            &[0, 1],
+            Some((0, Why::NotFalse)),
+        ),
+        (&[1], &[&[2, 1]], &[0, 1], Some((2, Why::NoClause))),
     ];
-    for (clause, hints, want) in cases {
+    for (clause, clauses_named, names, want) in cases {
         let clause = dims(&rt, alloc, clause)?;
-        let hints = clauses(&rt, alloc, hints)?;
-        let fault = fault_of(&mut check, clause.as_slice(), hints.as_slice())?;
+        let hints = clauses(&rt, alloc, clauses_named)?;
+        let fault = check.fault_of(&Hints(hints.as_slice()), clause.as_slice(), names)?;
         let want = want.map(|(hint, why)| BadStep { hint, why });
         assert_eq!(rt; fault, want);
     }
@@ -123,7 +130,7 @@ fn steps_over_nodes(rt: HostRuntime) -> Result<(), Fail> {
     }
     let mut check = StepCheck::new(alloc);
     assert_eq!(rt;
-        fault_of(&mut check, &[b.not(), a], axioms.as_slice())?,
+        check.fault_of(&Hints(axioms.as_slice()), &[b.not(), a], &[0, 1, 2])?,
         None
     );
     let found = match crate::close_under(alloc, axioms.as_slice(), &[b])? {

@@ -1,10 +1,9 @@
-ghost use Rattle.std.specs.Prelude.{◌≡◌, ℕ, nat_eq, Bool, true, List, Option, Some};
+ghost use Rattle.std.specs.Prelude.{◌≡◌, ℕ, Bool, List, Option, Some};
 ghost use Rattle.std.specs.List.{AllByRecursion};
-ghost use Rattle.lits.specs.Assignment.{IsAssignment, IsSatisfiable, Holds, Meets};
+ghost use Rattle.lits.specs.Assignment.{IsAssignment, Holds, Meets};
 ghost use Rattle.lits.specs.Dimacs.{DimacsLiteral};
 ghost use Rattle.unit_prop.specs.Closure.{IsClosure, ClosureClashes, AllTrue};
 ghost use Rattle.unit_prop.specs.New.{IsNew, SameLiterals};
-ghost use Rattle.unit_prop.specs.Proof.{Added, IsProof, adds_empty, clause_numbered};
 ghost use Rattle.lits.specs.Same.{same_dim, opposite_dim};
 ghost use Rattle.unit_prop.specs.Step.{IsStep, AllHold};
 
@@ -23,13 +22,6 @@ pub fn step_over_more()
         → ((name : ℕ) (c : List DimacsLiteral) → find name ≡ Some c → more name ≡ Some c)
         → IsStep same_dim opposite_dim find clause hints
         → IsStep same_dim opposite_dim more clause hints }
-{}
-
-/// The clauses of a CNF file over which a proof comes to the empty clause aren't satisfiable.
-pub fn empty_step_refutes()
-    ensures { (clauses : List (List DimacsLiteral)) (steps : List (Added ℕ DimacsLiteral))
-        → IsProof nat_eq same_dim opposite_dim (clause_numbered clauses) steps
-        → adds_empty steps ≡ true → ¬ IsSatisfiable opposite_dim clauses }
 {}
 
 /// What the closure adds is true wherever the clauses hold and what is given is true.

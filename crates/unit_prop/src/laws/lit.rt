@@ -1,13 +1,12 @@
-ghost use Rattle.std.specs.Prelude.{◌≡◌, ℕ, Bool, true, List, Option, Some};
-ghost use Rattle.std.specs.List.{list_any, AllByRecursion};
-ghost use Rattle.lits.specs.Assignment.{IsAssignment, IsSatisfiable, Holds, Meets, Follows};
+ghost use Rattle.std.specs.Prelude.{◌≡◌, ℕ, Bool, List, Option, Some};
+ghost use Rattle.std.specs.List.{AllByRecursion};
+ghost use Rattle.lits.specs.Assignment.{IsAssignment, Holds, Meets, Follows};
 ghost use Rattle.lits.specs.declared.literal.Lit.{Lit};
 ghost use Rattle.lits.specs.declared.step.Named.{Named};
 ghost use Rattle.lits.specs.declared.step.Ref.{Ref};
 ghost use Rattle.lits.specs.declared.step.Step.{Step};
 ghost use Rattle.unit_prop.specs.Closure.{IsClosure, ClosureClashes, AllTrue};
 ghost use Rattle.unit_prop.specs.New.{IsNew, SameLiterals};
-ghost use Rattle.unit_prop.specs.Proof.{is_empty};
 ghost use Rattle.unit_prop.specs.Step.{IsStep, AllHold};
 ghost use Rattle.unit_prop.specs.Log.{base_clause, base_clauses, with_own, IsChain, IsLog};
 ghost use Rattle.lits.specs.Same.{same_lit, opposite};
@@ -35,13 +34,6 @@ pub fn steps_hold()
     ensures { (find : Ref → Option (List Lit)) (steps : List Step) (v : Lit → Bool)
         → IsAssignment opposite v → AllHold v find
         → IsChain find steps → AllByRecursion (λ s. Holds v s.clause) steps }
-{}
-
-/// A base over which a chain of steps comes to the empty clause isn't satisfiable.
-pub fn empty_step_refutes()
-    ensures { (base : List Named) (steps : List Step) → IsChain (base_clause base) steps
-        → list_any (λ s. is_empty s.clause) steps ≡ true
-        → ¬ IsSatisfiable opposite (base_clauses base) }
 {}
 
 /// What is a step over a base and a log that was learned over it follows from the base.
