@@ -54,15 +54,18 @@ fn close_under(rt: HostRuntime) -> Result<(), Fail> {
 
 /// The clauses of a step's hints, by their places from 0.
 #[derive(Drop)]
-struct Hints<'a, L: Literal>(&'a [Clause<L>]);
+struct Hints<'a>(&'a [Clause<Dim>]);
 
-impl<L: Literal> Clauses<usize, L> for Hints<'_, L> {
+impl Clauses<usize, Dim> for Hints<'_> {
     ghost use Rattle.std.specs.Prelude.{slice_get};
 
     ghost find = { λ hints k. slice_get hints.0.now k };
 
-    fn clause(&self, place: usize) -> Option<&[L]> {
-        self.0.get(place).map(|clause| clause.lits())
+    fn clause(&self, place: usize) -> Option<&[Dim]> {
+        match self.0.get(place) {
+            Some(clause) => Some(clause.lits()),
+            None => None,
+        }
     }
 }
 
@@ -129,10 +132,11 @@ fn steps_over_nodes(rt: HostRuntime) -> Result<(), Fail> {
         axioms.push(Clause::of(alloc, lits).map_err(|_| "a clause")?)?;
     }
     let mut check = StepCheck::new(alloc);
-    assert_eq!(rt;
-        check.fault_of(&Hints(axioms.as_slice()), &[b.not(), a], &[0, 1, 2])?,
-        None
-    );
+    check.begin(&[b.not(), a]).map_err(|_| "the clause")?;
+    for axiom in &axioms {
+        check.hint(axiom.lits()).map_err(|_| "a hint")?;
+    }
+    assert_eq!(rt; check.end(), Ok(()));
     let found = match crate::close_under(alloc, axioms.as_slice(), &[b])? {
         Closure::Clash => return Err("a clash".into()),
         Closure::Free(lits) => lits.into_vec(),
