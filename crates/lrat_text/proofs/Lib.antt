@@ -1,10 +1,7 @@
-mod GrowingLemmas
-mod NumberLemmas
 mod PartLemmas
 mod SplitLemmas
 mod TextLemmas
 mod DerivationLemmas
-mod WordLemmas
 mod PlaceLemmas
 mod ReadLemmas
 mod LoopLemmas

@@ -6,13 +6,14 @@ use Rattle.std.proofs.lemmas.Bool.{lt-ltb}
 use Rattle.std.proofs.lemmas.List.Folds.{list_any-append}
 use Rattle.byte_scan.specs.Scanning.{value_from}
 use Rattle.lits.specs.Dimacs.{DimacsLiteral}
-use Rattle.lrat_text.specs.declared.number.Number.{Number}
+use Rattle.tokens.specs.declared.number.Number.{Number}
+use Rattle.tokens.specs.Numbers.{number_in, numbers_in, plain}
+use Rattle.tokens.specs.Text.{literal_text, number_of, IsInRange}
+use Rattle.tokens.proofs.Facts.{number_in-decimal, number_in-literal}
 use Rattle.lrat_text.specs.declared.step.LratStep.TheVariants.{Add, Del}
-use Rattle.lrat_text.specs.Numbers.{number_in, numbers_in, is_zero, is_id, is_literal, is_hint, literal_of, up_to_zero, past_zero}
+use Rattle.lrat_text.specs.Numbers.{is_zero, is_id, is_literal, is_hint, literal_of, up_to_zero, past_zero}
 use Rattle.lrat_text.specs.Reading.{addition, deletion}
-use Rattle.lrat_text.specs.Writing.{literal_text, IsId, IsInRange, IsWritable}
-use Rattle.lrat_text.specs.Parts.{zero_number}
-use Rattle.lrat_text.proofs.NumberLemmas.{plain, number_of, number_in-decimal, number_in-literal}
+use Rattle.lrat_text.specs.Writing.{IsId, IsWritable}
 
 pub up_to_zero-append : (xs ys : List Number) → up_to_zero (xs ++ ys) ≡ (if list_any is_zero xs then up_to_zero xs else xs ++ up_to_zero ys)
 up_to_zero-append [] ys = refl
@@ -109,19 +110,19 @@ pub numbers_in-both : (ws vs : List (List ℕ)) (ns ms : List Number) → number
 numbers_in-both ws vs ns ms e f = numbers_in-append ws vs ∙ rw (e, f) refl
 
 -- the word 0, and others behind it
-pub numbers_in-zero : (words : List (List ℕ)) (ns : List Number) → numbers_in words ≡ Some ns → numbers_in ((48 ∷ []) ∷ words) ≡ Some (zero_number ∷ ns)
+pub numbers_in-zero : (words : List (List ℕ)) (ns : List Number) → numbers_in words ≡ Some ns → numbers_in ((48 ∷ []) ∷ words) ≡ Some (plain 0 ∷ ns)
 unfolding value_from
 numbers_in-zero words ns e = rw e refl
 
 -- the numbers up to a written zero, and those behind it
-up_to : (xs ys : List Number) → list_any is_zero xs ≡ false → up_to_zero (xs ++ zero_number ∷ ys) ≡ xs
-up_to xs ys e = up_to_zero-append xs (zero_number ∷ ys) ∙ rw e (append-nil xs)
+up_to : (xs ys : List Number) → list_any is_zero xs ≡ false → up_to_zero (xs ++ plain 0 ∷ ys) ≡ xs
+up_to xs ys e = up_to_zero-append xs (plain 0 ∷ ys) ∙ rw e (append-nil xs)
 
-past : (xs ys : List Number) → list_any is_zero xs ≡ false → past_zero (xs ++ zero_number ∷ ys) ≡ ys
-past xs ys e = past_zero-append xs (zero_number ∷ ys) ∙ rw e refl
+past : (xs ys : List Number) → list_any is_zero xs ≡ false → past_zero (xs ++ plain 0 ∷ ys) ≡ ys
+past xs ys e = past_zero-append xs (plain 0 ∷ ys) ∙ rw e refl
 
-any_zero : (xs ys : List Number) → list_any is_zero (xs ++ zero_number ∷ ys) ≡ true
-any_zero xs ys = list_any-append is_zero xs (zero_number ∷ ys) ∙ or_true (list_any is_zero xs)
+any_zero : (xs ys : List Number) → list_any is_zero (xs ++ plain 0 ∷ ys) ≡ true
+any_zero xs ys = list_any-append is_zero xs (plain 0 ∷ ys) ∙ or_true (list_any is_zero xs)
   where
     or_true : (b : Bool) → (b || true) ≡ true
     or_true true = refl
@@ -129,11 +130,11 @@ any_zero xs ys = list_any-append is_zero xs (zero_number ∷ ys) ∙ or_true (li
 
 -- the numbers of a written addition spell it
 pub addition-written : (at last id : ℕ) (clause : List DimacsLiteral) (hints : List ℕ) → IsWritable last (Add id clause hints)
-    → addition at last (plain id) (map number_of clause ++ zero_number ∷ (map plain hints ++ zero_number ∷ [])) ≡ Ok (Add id clause hints)
+    → addition at last (plain id) (map number_of clause ++ plain 0 ∷ (map plain hints ++ plain 0 ∷ [])) ≡ Ok (Add id clause hints)
 addition-written at last id clause hints can =
     let ls = are_literals clause can.2 in
     let hs = are_ids hints can.3 in
-    let more = map plain hints ++ zero_number ∷ [] in
+    let more = map plain hints ++ plain 0 ∷ [] in
     let lits = up_to (map number_of clause) more ls.no_zero in
     let past1 = past (map number_of clause) more ls.no_zero in
     let any1 = any_zero (map number_of clause) more in
@@ -145,7 +146,7 @@ addition-written at last id clause hints can =
     rw (past1, lits, any1, up2, past2, any2, ls.in_range, hs.as_hints, id_fits, above, hs.no_minus, ls.back, hs.back) refl
 
 -- and those of a written deletion
-pub deletion-written : (at : ℕ) (ids : List ℕ) → AllByRecursion IsId ids → deletion at (map plain ids ++ zero_number ∷ []) ≡ Ok (Del ids)
+pub deletion-written : (at : ℕ) (ids : List ℕ) → AllByRecursion IsId ids → deletion at (map plain ids ++ plain 0 ∷ []) ≡ Ok (Del ids)
 deletion-written at ids can =
     let hs = are_ids ids can in
     let up1 = up_to (map plain ids) [] hs.no_zero in

@@ -8,11 +8,12 @@ use Rattle.std.proofs.lemmas.List.Folds.{list_any-append, list_all-append}
 use Rattle.lits.specs.Dimacs.{DimacsLiteral}
 use Rattle.lrat_text.specs.declared.error.LratErr.{LratErr}
 use Rattle.lrat_text.specs.declared.error.LratErr.TheVariants.{BadNumber, Truncated, Order, Rat, NoMemory}
-use Rattle.lrat_text.specs.declared.number.Number.{Number}
+use Rattle.tokens.specs.declared.number.Number.{Number}
+use Rattle.tokens.specs.Numbers.{number_in, numbers_in}
+use Rattle.tokens.specs.Words.{is_empty}
 use Rattle.lrat_text.specs.declared.parts.Parts.{Parts}
 use Rattle.lrat_text.specs.declared.parts.Place.TheVariants.{Literals, Hints, End}
-use Rattle.lrat_text.specs.Numbers.{is_empty, number_in, numbers_in, is_zero, is_literal, is_hint, literal_of, up_to_zero, past_zero}
-use Rattle.lrat_text.specs.Reading.{in_place}
+use Rattle.lrat_text.specs.Numbers.{is_zero, is_literal, is_hint, literal_of, up_to_zero, past_zero, in_place}
 use Rattle.lrat_text.specs.Parts.{AreRead, IsParts, IsBadNumber}
 use Rattle.lrat_text.proofs.PartLemmas.{up_to_zero-append, past_zero-append}
 

@@ -6,53 +6,55 @@ use Rattle.std.proofs.lemmas.List.Concat.{flat_map-append}
 use Rattle.std.proofs.lemmas.List.Folds.{list_any-append}
 use Rattle.lrat_text.specs.declared.error.LratErr.{LratErr}
 use Rattle.lrat_text.specs.declared.line.Line.{Line}
-use Rattle.lrat_text.specs.declared.number.Number.{Number}
+use Rattle.tokens.specs.declared.number.Number.{Number}
+use Rattle.tokens.specs.Numbers.{number_in, numbers_in, plain}
+use Rattle.tokens.specs.Reading.{◌>>=◌}
+use Rattle.tokens.specs.Text.{literal_text, number_of, ended}
+use Rattle.tokens.specs.Words.{lines_in}
+use Rattle.tokens.proofs.Facts.{number_in-decimal, number_in-any, lines-ended}
 use Rattle.lrat_text.specs.declared.step.LratStep.{LratStep}
 use Rattle.lrat_text.specs.declared.step.LratStep.TheVariants.{Add, Del}
-use Rattle.lrat_text.specs.Numbers.{number_in, numbers_in}
 use Rattle.lrat_text.specs.Steps.{id_after, last_id}
-use Rattle.lrat_text.specs.Reading.{lines_in, words_in, is_d, ◌>>=◌, step_in, addition_in, line_and, steps_from, SpellsLrat}
-use Rattle.lrat_text.specs.Writing.{literal_text, words_of, first_of, step_text, ended, line_text, text_from, numbered, IsWritable, AreWritable, IsWritten}
-use Rattle.lrat_text.specs.Parts.{zero_number}
-use Rattle.lrat_text.proofs.NumberLemmas.{plain, number_of, number_in-decimal, number_in-any}
+use Rattle.lrat_text.specs.Reading.{words_in, begins_d, step_of, id_behind, with_step, steps_from, SpellsLrat}
+use Rattle.lrat_text.specs.Writing.{words_of, first_of, step_text, line_text, text_from, numbered, IsWritable, AreWritable, IsWritten}
 use Rattle.lrat_text.proofs.PartLemmas.{numbers_in-both, numbers_in-zero, are_literals, are_ids, addition-written, deletion-written}
-use Rattle.lrat_text.proofs.SplitLemmas.{lines_in-ended, words_in-step, step_text-one_line}
+use Rattle.lrat_text.proofs.SplitLemmas.{words_in-step, step_text-one_line}
 
--- no number is the word that marks a deletion
-not_d : (word : List ℕ) (n : Number) → number_in word ≡ Some n → is_d word ≡ false
-not_d [] n e = refl
-not_d (b ∷ []) n e = go (eqb b 100) refl
+-- numbers aren't the word that marks a deletion
+begins_d-numbers : (words : List (List ℕ)) (ns : List Number) → numbers_in words ≡ Some ns → begins_d words ≡ false
+begins_d-numbers [] ns e = refl
+begins_d-numbers ([] ∷ words) ns e = refl
+begins_d-numbers ((b ∷ c ∷ bs) ∷ words) ns e = refl
+begins_d-numbers ((b ∷ []) ∷ words) ns e = go (eqb b 100) refl
   where
-    go : (t : Bool) → eqb b 100 ≡ t → is_d (b ∷ []) ≡ false
+    go : (t : Bool) → eqb b 100 ≡ t → eqb b 100 ≡ false
     go false f = f
     go true f =
         let same : b ≡ 100 = eqb-true b 100 f in
-        let none : number_in (100 ∷ []) ≡ Some n = subst (λ (x : ℕ). number_in (x ∷ []) ≡ Some n) same e in cc
-not_d (b ∷ c ∷ bs) n e = refl
-
-step_in-addition : (at last : ℕ) (first : List ℕ) (words : List (List ℕ)) (ns : List Number) → numbers_in words ≡ Some ns → step_in at last first words ≡ addition_in at last first words
-step_in-addition at last first [] ns e = refl
-step_in-addition at last first (word ∷ words) ns e = go (number_in word) refl
-  where
-    go : (n : Option Number) → number_in word ≡ n → step_in at last first (word ∷ words) ≡ addition_in at last first (word ∷ words)
-    go None f = let g : numbers_in (word ∷ words) ≡ None = rw f refl in cc
-    go (Some n) f = rw (not_d word n f) refl
+        let none : numbers_in ((100 ∷ []) ∷ words) ≡ Some ns =
+        subst (λ (x : ℕ). numbers_in ((x ∷ []) ∷ words) ≡ Some ns) same e in cc
 
 -- the words of a written step spell it
-step_in-written : (at last d : ℕ) (step : LratStep) → IsWritable last step → d < 2 ^ 64 → step_in at last (decimal (first_of d step)) (words_of step) ≡ Ok step
-step_in-written at last d (Add id clause hints) can lt =
+step_of-written : (at last d : ℕ) (step : LratStep) → IsWritable last step → d < 2 ^ 64
+    → step_of at last (decimal (first_of d step) ∷ words_of step) ≡ Ok (Some step)
+step_of-written at last d (Add id clause hints) can lt =
     let ls = are_literals clause can.2 in
     let end = numbers_in-zero [] [] refl in
-    let hints_are = numbers_in-both (map decimal hints) ((48 ∷ []) ∷ []) (map plain hints) (zero_number ∷ []) (are_ids hints can.3).numbers end in
-    let behind = numbers_in-zero (map decimal hints ++ (48 ∷ []) ∷ []) (map plain hints ++ zero_number ∷ []) hints_are in
-    let ns = map number_of clause ++ zero_number ∷ (map plain hints ++ zero_number ∷ []) in
-    let numbers : numbers_in (words_of (Add id clause hints)) ≡ Some ns =
-    numbers_in-both (map literal_text clause) ((48 ∷ []) ∷ (map decimal hints ++ (48 ∷ []) ∷ [])) (map number_of clause) (zero_number ∷ (map plain hints ++ zero_number ∷ [])) ls.numbers behind in
-    step_in-addition at last (decimal id) (words_of (Add id clause hints)) ns numbers
-    ∙ rw (number_in-decimal id can.1, numbers) (addition-written at last id clause hints can)
-step_in-written at last d (Del ids) can lt =
-    let numbers = numbers_in-both (map decimal ids) ((48 ∷ []) ∷ []) (map plain ids) (zero_number ∷ []) (are_ids ids can).numbers (numbers_in-zero [] [] refl) in
-    rw (number_in-any d lt, numbers) (deletion-written at ids can)
+    let hints_are =
+    numbers_in-both (map decimal hints) ((48 ∷ []) ∷ []) (map plain hints) (plain 0 ∷ []) (are_ids hints can.3).numbers end in
+    let behind = numbers_in-zero (map decimal hints ++ (48 ∷ []) ∷ []) (map plain hints ++ plain 0 ∷ []) hints_are in
+    let ns = map number_of clause ++ plain 0 ∷ (map plain hints ++ plain 0 ∷ []) in
+    let words = words_of (Add id clause hints) in
+    let numbers : numbers_in words ≡ Some ns =
+    numbers_in-both (map literal_text clause) ((48 ∷ []) ∷ (map decimal hints ++ (48 ∷ []) ∷ [])) (map number_of clause)
+    (plain 0 ∷ (map plain hints ++ plain 0 ∷ [])) ls.numbers behind in
+    let adds = begins_d-numbers words ns numbers in
+    rw (number_in-decimal id can.1, adds, numbers, addition-written at last id clause hints can) refl
+step_of-written at last d (Del ids) can lt =
+    let numbers =
+    numbers_in-both (map decimal ids) ((48 ∷ []) ∷ []) (map plain ids) (plain 0 ∷ []) (are_ids ids can).numbers
+    (numbers_in-zero [] [] refl) in
+    rw (number_in-any d lt, numbers, deletion-written at ids can) refl
 
 -- goes on behind some lines
 abbrev pub followed : Result (List Line) LratErr → (List Line → Result (List Line) LratErr) → Result (List Line) LratErr
@@ -62,41 +64,51 @@ followed-nothing : (read : Result (List Line) LratErr) → read ≡ (read >>= λ
 followed-nothing (Ok more) = refl
 followed-nothing (Err e) = refl
 
--- one step more in front of all
-followed-step : (line : Line) (read : Result (List Line) LratErr) (rest : List Line → Result (List Line) LratErr)
-    → (followed read (λ lines. rest (line ∷ lines)) >>= λ lines. Ok (line ∷ lines)) ≡ followed (read >>= λ lines. Ok (line ∷ lines)) rest
-followed-step line (Err e) rest = refl
-followed-step line (Ok lines) rest = go (rest (line ∷ lines))
+-- what one line more says in front of all
+followed-step : (at : ℕ) (said : Option LratStep) (read : Result (List Line) LratErr)
+    (rest : List Line → Result (List Line) LratErr)
+    → (followed read (λ lines. rest (with_step at said lines)) >>= λ lines. Ok (with_step at said lines))
+    ≡ followed (read >>= λ lines. Ok (with_step at said lines)) rest
+followed-step at said (Err e) rest = refl
+followed-step at said (Ok lines) rest = go said (rest (with_step at said lines))
   where
-    go : (more : Result (List Line) LratErr) → ((more >>= λ m. Ok (lines ++ m)) >>= λ l. Ok (line ∷ l)) ≡ (more >>= λ m. Ok ((line ∷ lines) ++ m))
-    go (Ok more) = refl
-    go (Err e) = refl
+    go : (said : Option LratStep) (more : Result (List Line) LratErr)
+        → ((more >>= λ m. Ok (lines ++ m)) >>= λ l. Ok (with_step at said l)) ≡ (more >>= λ m. Ok (with_step at said lines ++ m))
+    go said (Err e) = refl
+    go None (Ok more) = refl
+    go (Some step) (Ok more) = refl
 
 pub steps_from-append : (n at last : ℕ) (xs ys : List (List ℕ)) → n ≡ at + length xs
     → steps_from at last (xs ++ ys) ≡ followed (steps_from at last xs) (λ lines. steps_from n (last_id last lines) ys)
 steps_from-append n at last [] ys e =
     let same : n ≡ at = omega arith in
     rw same (followed-nothing (steps_from at last ys))
-steps_from-append n at last (x ∷ xs) ys e = by_words (words_in x) refl (λ l. steps_from-append n (at + 1) l xs ys (omega arith))
+steps_from-append n at last (x ∷ xs) ys e =
+    go (step_of at last (words_in x)) refl (λ l. steps_from-append n (at + 1) l xs ys (omega arith))
   where
     Rest : Type 0
-    Rest = (l : ℕ) → steps_from (at + 1) l (xs ++ ys) ≡ followed (steps_from (at + 1) l xs) (λ lines. steps_from n (last_id l lines) ys)
+    Rest = (l : ℕ)
+        → steps_from (at + 1) l (xs ++ ys) ≡ followed (steps_from (at + 1) l xs) (λ lines. steps_from n (last_id l lines) ys)
 
-    by_step : (first : List ℕ) (words : List (List ℕ)) (read : Result LratStep LratErr) → step_in at last first words ≡ read → Rest
-        → line_and at last (first ∷ words) (λ l. steps_from (at + 1) l (xs ++ ys)) ≡ followed (line_and at last (first ∷ words) (λ l. steps_from (at + 1) l xs)) (λ lines. steps_from n (last_id last lines) ys)
-    by_step first words (Err d) f rest = rw f refl
-    by_step first words (Ok step) f rest =
+    behind : (said : Option LratStep) (lines : List Line) → last_id (id_behind last said) lines ≡ last_id last (with_step at said lines)
+    behind None lines = refl
+    behind (Some step) lines = refl
+
+    go : (read : Result (Option LratStep) LratErr) → step_of at last (words_in x) ≡ read → Rest
+        → steps_from at last ((x ∷ xs) ++ ys)
+        ≡ followed (steps_from at last (x ∷ xs)) (λ lines. steps_from n (last_id last lines) ys)
+    go (Err d) f rest = rw f refl
+    go (Ok None) f rest =
+        rw (f, rest last)
+        (followed-step at None (steps_from (at + 1) last xs) (λ lines. steps_from n (last_id last lines) ys))
+    go (Ok (Some step)) f rest =
         rw (f, rest (id_after last step))
-        (followed-step (record { at = at; step = step }) (steps_from (at + 1) (id_after last step) xs) (λ lines. steps_from n (last_id last lines) ys))
-
-    by_words : (words : List (List ℕ)) → words_in x ≡ words → Rest
-        → steps_from at last ((x ∷ xs) ++ ys) ≡ followed (steps_from at last (x ∷ xs)) (λ lines. steps_from n (last_id last lines) ys)
-    by_words [] f rest = rw (f) (rest last)
-    by_words (first ∷ words) f rest = rw (f) (by_step first words (step_in at last first words) refl rest)
+        (followed-step at (Some step) (steps_from (at + 1) (id_after last step) xs) (λ lines. steps_from n (last_id last lines) ys))
 
 -- a written line is its step
-steps_from-line : (at last d : ℕ) (step : LratStep) → IsWritable last step → d < 2 ^ 64 → steps_from at last (step_text d step ∷ []) ≡ Ok (record { at = at; step = step } ∷ [])
-steps_from-line at last d step can lt = rw (words_in-step last d step can lt, step_in-written at last d step can lt) refl
+steps_from-line : (at last d : ℕ) (step : LratStep) → IsWritable last step → d < 2 ^ 64
+    → steps_from at last (step_text d step ∷ []) ≡ Ok (record { at = at; step = step } ∷ [])
+steps_from-line at last d step can lt = rw (words_in-step last d step can lt, step_of-written at last d step can lt) refl
 
 pub written_nothing : (m : ℕ) → IsWritten m [] []
 written_nothing m = record { texts = []; whole = refl; single = refl; spells = refl; count = refl }
@@ -118,7 +130,7 @@ written_line m d text lines step w can lt =
 pub written_spells : (m : ℕ) (text : List ℕ) (lines : List Line) → IsWritten m text lines → SpellsLrat m text lines
 written_spells m text lines w =
     ap (λ (t : List ℕ). steps_from 1 m (lines_in t)) w.whole
-    ∙ ap (steps_from 1 m) (lines_in-ended w.texts w.single)
+    ∙ ap (steps_from 1 m) (lines-ended w.texts w.single)
     ∙ steps_from-append (1 + length w.texts) 1 m w.texts ([] ∷ []) refl
     ∙ rw w.spells (ap (λ (l : List Line). Ok l) (append-nil lines))
 

@@ -10,7 +10,7 @@ use Rattle.unit_prop.specs.declared.why.BadStep.{BadStep}
 use Rattle.lrat_text.specs.declared.line.Line.{Line}
 use Rattle.lrat_text.specs.declared.step.LratStep.{LratStep}
 use Rattle.lrat_text.specs.declared.step.LratStep.TheVariants.{Add, Del}
-use Rattle.lrat_text.specs.Numbers.{is_empty}
+use Rattle.tokens.specs.Words.{is_empty}
 
 -- the clauses that are live, by their ids
 abbrev pub Live : Type 0

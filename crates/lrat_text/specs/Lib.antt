@@ -2,6 +2,5 @@ pub mod Numbers
 pub mod Steps
 pub mod Reading
 pub mod Writing
-pub mod Growing
 pub mod Derivation
 pub mod Parts

@@ -1,20 +1,12 @@
 -- The one text by which each step is written.
-use Rattle.std.specs.Prelude.{◌≡◌, ℕ, ◌+◌, ◌<◌, ◌≤◌, ◌^◌, false, List, [], ◌∷◌, ◌++◌, map, length, decimal, Ok, if◌then◌else◌, ◌==◌}
+use Rattle.std.specs.Prelude.{◌≡◌, ℕ, ◌+◌, ◌<◌, ◌≤◌, ◌^◌, false, List, [], ◌∷◌, ◌++◌, map, length, decimal, Ok, ◌==◌}
 use Rattle.std.specs.List.{flat_map, list_any, AllByRecursion}
-use Rattle.lits.specs.Dimacs.{DimacsLiteral}
 use Rattle.lrat_text.specs.declared.line.Line.{Line}
 use Rattle.lrat_text.specs.declared.step.LratStep.{LratStep}
 use Rattle.lrat_text.specs.declared.step.LratStep.TheVariants.{Add, Del}
 use Rattle.lrat_text.specs.Steps.{id_after}
 use Rattle.lrat_text.specs.Reading.{steps_from}
-
--- a literal: its variable, with a minus sign in front where it is negated
-abbrev pub literal_text : DimacsLiteral → List ℕ
-literal_text literal = if literal.neg then 45 ∷ decimal literal.var else decimal literal.var
-
--- each word with a space in front
-abbrev pub spaced : List (List ℕ) → List ℕ
-spaced words = flat_map (λ word. 32 ∷ word) words
+use Rattle.tokens.specs.Text.{literal_text, spaced, ended, IsInRange}
 
 -- the words of a step behind its first one
 abbrev pub words_of : LratStep → List (List ℕ)
@@ -29,10 +21,6 @@ first_of last (Del ids) = last
 -- the step in a line, without its end: an addition is `id literals 0 hints 0`, and a deletion `last d ids 0`
 abbrev pub step_text : ℕ → LratStep → List ℕ
 step_text last step = decimal (first_of last step) ++ spaced (words_of step)
-
--- a line with its end
-abbrev pub ended : List ℕ → List ℕ
-ended line = line ++ 10 ∷ []
 
 abbrev pub line_text : ℕ → LratStep → List ℕ
 line_text last step = ended (step_text last step)
@@ -50,10 +38,6 @@ numbered at (step ∷ steps) = record { at = at; step = step } ∷ numbered (at 
 -- an id, from 1 to below 10 ^ 18
 abbrev pub IsId : ℕ → Type 0
 IsId id = (1 ≤ id) × (id < 10 ^ 18)
-
--- a literal of DIMACS, its variable from 1 to 2,147,483,647
-abbrev pub IsInRange : DimacsLiteral → Type 0
-IsInRange literal = (1 ≤ literal.var) × (literal.var < 2 ^ 31)
 
 -- what the text of a step can say behind additions with ids up to `last`
 abbrev pub IsWritable : ℕ → LratStep → Type 0

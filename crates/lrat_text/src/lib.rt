@@ -20,11 +20,9 @@ pub use writing::push_line;
 mod error;
 mod laws;
 mod line;
-mod number;
 mod parts;
 mod reading;
 mod step;
 #[cfg(test)]
 mod tests;
-mod words;
 mod writing;

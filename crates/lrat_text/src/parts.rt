@@ -1,12 +1,12 @@
 ghost use Rattle.std.specs.Prelude.{◌≡◌, ◌≤◌, ◌^◌, ◌<◌, false, List, [], ◌∷◌, ◌++◌, OnOk, IfOk, IfErr, IfSome, IsSomeAnd};
-ghost use Rattle.lrat_text.specs.Numbers.{numbers_in, literal_of};
-ghost use Rattle.lrat_text.specs.Reading.{words_in, in_place};
+ghost use Rattle.tokens.specs.Numbers.{numbers_in};
+ghost use Rattle.lrat_text.specs.Numbers.{in_place, literal_of};
+ghost use Rattle.lrat_text.specs.Reading.{words_in};
 
 use crate::error::LratErr;
-use crate::number::{Number, number_in};
-use crate::words::Words;
 use lits::Dim;
 use std::alloc::Global;
+use tokens::{Number, Space, Words, number_in};
 
 /// No id and no hint is as large.
 pub(crate) const TOO_LARGE: u64 = 1_000_000_000_000_000_000;
@@ -30,7 +30,7 @@ pub(crate) struct Parts {
 }
 
 impl Parts {
-    ghost use Rattle.lrat_text.specs.declared.number.Number.{Number};
+    ghost use Rattle.tokens.specs.declared.number.Number.{Number};
     ghost use Rattle.lrat_text.specs.Parts.{zeros_before, is_past_hints, IsParts, IsBadNumber};
 
     /// Nothing but that the line is read from this place on.
@@ -53,7 +53,7 @@ impl Parts {
             (λ ns. in_place (zeros_before place ++ ns) ≡ false))) }
     {
         let mut parts = Parts::new(alloc, place);
-        for word in Words(line) {
+        for word in Words::<Space>::new(line) {
             let number = number_in(word).ok_or(LratErr::BadNumber(at))?;
             parts.add(at, number)?;
         }

@@ -1,24 +1,20 @@
-ghost use Rattle.std.specs.Prelude.{◌≡◌, IfOk, IfErr};
+ghost use Rattle.std.specs.Prelude.{◌≡◌};
 ghost use Rattle.lrat_text.specs.Steps.{id_after};
-ghost use Rattle.lrat_text.specs.Reading.{words_in, addition_behind, deletion_behind, steps_in, IsFault, SpellsLrat};
-ghost use Rattle.lrat_text.specs.Parts.{addition_of, deletion_of, step_of, Gives};
+ghost use Rattle.lrat_text.specs.Reading.{addition_in, deletion_in, step_of, steps_in, words_in, listed, Gives};
+ghost use Rattle.lrat_text.specs.Parts.{addition_of, deletion_of};
 
 use crate::error::LratErr;
 use crate::line::Line;
-use crate::number::{Number, number_in};
 use crate::parts::{Parts, Place, TOO_LARGE};
 use crate::step::LratStep;
-use crate::words::first_word;
 use byte_scan::Scan;
 use lits::Listed;
 use std::alloc::Global;
+use tokens::{Number, Space, first_word, number_in};
 
 /// Reads a proof text, for a formula of `m` clauses. Lines are ended by LF or by the end of the bytes.
 pub fn read(alloc: Global, bytes: &[u8], m: u64) -> Result<Vec<Line>, LratErr>
-    ensures lines { IfOk result (λ lines. SpellsLrat m bytes.now lines.items) }
-
-    // The first fault of the text, unless memory ran out.
-    ensures fault { IfErr result (λ e. IsFault e (steps_in m bytes.now)) }
+    ensures { Gives (listed result) (steps_in m bytes.now) }
 {
     let mut lines = Vec::new(alloc);
     let mut scan = Scan::new(bytes);
@@ -38,11 +34,11 @@ pub fn read(alloc: Global, bytes: &[u8], m: u64) -> Result<Vec<Line>, LratErr>
 fn step_of(alloc: Global, at: u64, last: u64, line: &[u8]) -> Result<Option<LratStep>, LratErr>
     ensures { Gives result (step_of at last (words_in line.now)) }
 {
-    let Some((first, rest)) = first_word(line) else {
+    let Some((first, rest)) = first_word::<Space>(line) else {
         return Ok(None);
     };
     let number = number_in(first).ok_or(LratErr::BadNumber(at))?;
-    let step = match first_word(rest) {
+    let step = match first_word::<Space>(rest) {
         Some(([b'd'], ids)) => deletion(alloc, at, ids)?,
         _ => addition(alloc, at, last, number, rest)?,
     };
@@ -51,7 +47,7 @@ fn step_of(alloc: Global, at: u64, last: u64, line: &[u8]) -> Result<Option<Lrat
 
 /// The addition with this id, of the rest of its line.
 fn addition(alloc: Global, at: u64, last: u64, id: Number, rest: &[u8]) -> Result<LratStep, LratErr>
-    ensures { Gives result (addition_behind at last id (words_in rest.now)) }
+    ensures { Gives result (addition_in at last id (words_in rest.now)) }
 {
     if id.minus || id.size == 0 || id.size >= TOO_LARGE {
         return Err(LratErr::BadNumber(at));
@@ -84,7 +80,7 @@ fn addition_of(at: u64, last: u64, id: u64, parts: Parts) -> Result<LratStep, Lr
 
 /// The deletion, of the part of its line behind the `d`.
 fn deletion(alloc: Global, at: u64, rest: &[u8]) -> Result<LratStep, LratErr>
-    ensures { Gives result (deletion_behind at (words_in rest.now)) }
+    ensures { Gives result (deletion_in at (words_in rest.now)) }
 {
     let parts = Parts::read(alloc, at, Place::Hints, rest)?;
     deletion_of(at, parts)

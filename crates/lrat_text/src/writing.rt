@@ -1,13 +1,13 @@
 ghost use Rattle.std.specs.Prelude.{◌≡◌, ◌++◌, [], ◌∷◌, OnOk, OnErr, decimal, map};
 ghost use Rattle.std.specs.List.{AllByRecursion};
 ghost use Rattle.lits.specs.Dimacs.{DimacsLiteral};
-ghost use Rattle.lrat_text.specs.Growing.{Begins};
-ghost use Rattle.lrat_text.specs.Writing.{literal_text, spaced, line_text, IsInRange, LiteralsFit};
+ghost use Rattle.tokens.specs.Text.{literal_text, spaced, Begins, IsInRange};
+ghost use Rattle.lrat_text.specs.Writing.{line_text, LiteralsFit};
 
 use crate::step::LratStep;
-use itoa::Buffer;
 use lits::Dim;
 use std::alloc::AllocError;
+use tokens::push_number;
 
 /// Appends the line of a step, with its LF. An addition begins with its id, and a deletion with `last`, by convention
 /// the id of the last addition.
@@ -48,14 +48,6 @@ fn append_line(buf: &mut Vec<u8>, last: u64, step: &LratStep) -> Result<(), Allo
     Ok(())
 }
 
-fn push_number(buf: &mut Vec<u8>, number: u64) -> Result<(), AllocError>
-    ensures ok { OnOk result (buf.new.items ≡ buf.old.items ++ decimal number) }
-    ensures err { OnErr result (buf.new.items ≡ buf.old.items) }
-{
-    let mut digits = Buffer::new();
-    buf.extend_from_slice(digits.format(number).as_bytes())
-}
-
 /// Appends the numbers, each behind a space.
 fn push_ids(buf: &mut Vec<u8>, ids: &[u64]) -> Result<(), AllocError>
     ensures ok { OnOk result (buf.new.items ≡ buf.old.items ++ spaced (map decimal ids.now)) }
@@ -94,8 +86,5 @@ fn push_literal(buf: &mut Vec<u8>, literal: Dim) -> Result<(), AllocError>
     ensures range { OnOk result (IsInRange literal) }
 {
     buf.push(b' ')?;
-    if literal.is_negated() {
-        buf.push(b'-')?;
-    }
-    push_number(buf, u64::from(literal.var()))
+    tokens::push_literal(buf, literal)
 }

@@ -1,5 +1,5 @@
 use Rattle.std.proofs.lemmas.Result.{err_from_is_err_and}
-use Rattle.lrat_text.proofs.GrowingLemmas.{begins_after}
+use Rattle.tokens.proofs.Facts.{begins_after}
 use Rattle.lrat_text.proofs.writing.push_ids.Goals as goal
 
 pub returns-in_err-push_id-clause-err : goal.returns-in_err-push_id-clause-err

@@ -1,5 +1,5 @@
 use Rattle.std.proofs.Common.{◌≡◌, ◌++◌, take, map, decimal}
-use Rattle.lrat_text.specs.Writing.{spaced}
+use Rattle.tokens.specs.Text.{spaced}
 use Rattle.lrat_text.proofs.writing.push_ids.Given as goal
 
 abbrev pub invariant-loop-id : goal.invariant-loop-id

@@ -1,6 +1,6 @@
 use Rattle.std.proofs.Common.{◌≡◌, ◌++◌, take, map}
 use Rattle.std.specs.List.{AllByRecursion}
-use Rattle.lrat_text.specs.Writing.{literal_text, spaced, IsInRange}
+use Rattle.tokens.specs.Text.{literal_text, spaced, IsInRange}
 use Rattle.lrat_text.proofs.writing.push_literals.Given as goal
 
 abbrev pub invariant-loop-literal : goal.invariant-loop-literal

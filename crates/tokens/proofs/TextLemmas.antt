@@ -1,6 +1,6 @@
 -- A text that grows at its end, step by step.
 use Rattle.std.proofs.Common.{◌≡◌, ℕ, List, ◌++◌, ap, ◌∙◌, append_assoc}
-use Rattle.lrat_text.specs.Growing.{Begins}
+use Rattle.tokens.specs.Text.{Begins}
 
 pub begins_after : (old mid new text : List ℕ) → mid ≡ old ++ text → Begins mid new → Begins old new
 begins_after old mid new text e b = record {

@@ -1,17 +1,17 @@
 ghost use Rattle.std.specs.Prelude.{◌≡◌};
-ghost use Rattle.lrat_text.specs.Numbers.{size_in, number_in};
+ghost use Rattle.tokens.specs.Numbers.{size_in, number_in};
 
 use byte_scan::Scan;
 
-/// A number as a proof text writes it: digits, with a minus sign in front where it is negative.
+/// A number as a word writes it: digits, with a minus sign in front where it is negative.
 #[derive(Clone, Copy)]
-pub(crate) struct Number {
-    pub(crate) minus: bool,
-    pub(crate) size: u64,
+pub struct Number {
+    pub minus: bool,
+    pub size: u64,
 }
 
 /// The number that the word writes, if it writes one.
-pub(crate) fn number_in(word: &[u8]) -> Option<Number>
+pub fn number_in(word: &[u8]) -> Option<Number>
     ensures { result ≡ number_in word.now }
 {
     let (minus, digits) = match word {
@@ -26,7 +26,7 @@ pub(crate) fn number_in(word: &[u8]) -> Option<Number>
 }
 
 /// The size that the word writes, if it is one digit or more and nothing else.
-fn size_in(word: &[u8]) -> Option<u64>
+pub fn size_in(word: &[u8]) -> Option<u64>
     ensures { result ≡ size_in word.now }
 {
     let mut scan = Scan::new(word);

@@ -1,7 +1,0 @@
--- A text that grows at its end.
-use Rattle.std.specs.Prelude.{◌≡◌, ℕ, List, ◌++◌}
-
--- new is old with more behind it
-pub record Begins (old new : List ℕ) : Type 0 where
-  pub more : List ℕ
-  pub is : new ≡ old ++ more

@@ -1,0 +1,8 @@
+pub mod Facts
+mod WordLemmas
+mod NumberLemmas
+mod NumeralLemmas
+mod TokenLemmas
+mod LineLemmas
+mod GivesLemmas
+mod TextLemmas
