@@ -3,9 +3,10 @@ use Rattle.std.proofs.Common.{◌≡◌, ℕ, List, [], ◌∷◌, ◌++◌, Opt
 use Rattle.lits.specs.Dimacs.{DimacsLiteral}
 use Rattle.dimacs_text.specs.declared.clauses.Clauses.{Clauses}
 use Rattle.dimacs_text.specs.declared.error.CnfErr.{CnfErr}
-use Rattle.dimacs_text.specs.declared.error.CnfErr.TheVariants.{BadHeader, BadNumber, Var, Count, Truncated, NoMemory}
-use Rattle.dimacs_text.specs.Words.{Part}
-use Rattle.dimacs_text.specs.Reading.{◌>>=◌, IsFault, entry_in, entries_in}
+use Rattle.dimacs_text.specs.Reading.{entry_in, entries_in, is_refusal, Gives}
+use Rattle.tokens.specs.Reading.{◌>>=◌}
+use Rattle.tokens.specs.Words.{Part}
+use Rattle.tokens.proofs.Facts.{gives-same}
 use Rattle.dimacs_text.specs.Clauses.{AreRead}
 
 -- entries that were read before
@@ -42,16 +43,7 @@ read_more variables words word left entry clauses new e grows r = record {
 pub read_all : (variables : ℕ) (words : List Part) (clauses : Clauses) → (r : ReadSoFar variables words [] clauses) → entries_in variables words ≡ Ok (r.seen ++ [])
 read_all variables words clauses r = r.found
 
--- what is read has this fault
-pub is_fault : {A : Type 0} (e : CnfErr) (read : Result A CnfErr) → read ≡ Err e → IsFault e read
-is_fault BadHeader read f = f
-is_fault (BadNumber at) read f = f
-is_fault (Var n) read f = f
-is_fault (Count said found) read f = f
-is_fault (Truncated size) read f = f
-is_fault NoMemory read f = tt
-
 -- the next word has a fault
 pub read_fault : (variables : ℕ) (words : List Part) (word : Part) (left : List Part) (d : CnfErr) (clauses : Clauses) → Err d ≡ entry_in variables word
-    → ReadSoFar variables words (word ∷ left) clauses → IsFault d (entries_in variables words)
-read_fault variables words word left d clauses e r = is_fault d (entries_in variables words) (r.found ∙ rw (sym e) refl)
+    → ReadSoFar variables words (word ∷ left) clauses → Gives (Err d) (entries_in variables words)
+read_fault variables words word left d clauses e r = gives-same is_refusal (Err d) (entries_in variables words) (r.found ∙ rw (sym e) refl)

@@ -1,10 +1,5 @@
-mod NumberLemmas
-mod WordLemmas
 mod LineLemmas
 mod DistinctLemmas
 mod ClauseLemmas
 mod EntryLemmas
-mod DecimalLemmas
-mod SpacedLemmas
-mod PlaceLemmas
 mod TextLemmas

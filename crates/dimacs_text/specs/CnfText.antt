@@ -1,11 +1,8 @@
 -- The text of a CNF in the format of the DIMACS challenge (1993), one clause a line, with one space between numbers.
-use Rattle.std.specs.Prelude.{ℕ, ◌≤◌, List, [], ◌∷◌, ◌++◌, length, codes, decimal, if◌then◌else◌}
+use Rattle.std.specs.Prelude.{ℕ, ◌≤◌, List, [], ◌∷◌, ◌++◌, length, codes, decimal}
 use Rattle.std.specs.List.{flat_map}
 use Rattle.lits.specs.Dimacs.{DimacsLiteral}
-
--- a literal: its variable, behind a minus sign where it is negated
-unfoldable pub literal_text : DimacsLiteral → List ℕ
-literal_text d = if d.neg then 45 ∷ decimal d.var else decimal d.var
+use Rattle.tokens.specs.Text.{literal_text}
 
 -- a literal of a variable from 1 to this one
 abbrev pub IsOver : ℕ → DimacsLiteral → Type 0

@@ -1,5 +1,4 @@
 pub mod CnfText
 pub mod Words
-pub mod Numbers
 pub mod Reading
 pub mod Clauses

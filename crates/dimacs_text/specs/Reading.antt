@@ -2,7 +2,7 @@
 -- then the clauses, each its literals and a 0. A line's end parts words as a blank does, so a clause may span lines, and
 -- comments may stand between any two lines. The first fault of a text is that of its first word that is out of place;
 -- then its end is judged, and the number of its clauses last.
-use Rattle.std.specs.Prelude.{◌≡◌, ℕ, ◌&&◌, codes, List, [], ◌∷◌, length, map, drop, Option, Some, None, option_map, option_and_then, ok_or, Result, Ok, Err, nat_lt, ◌==◌, if◌then◌else◌}
+use Rattle.std.specs.Prelude.{◌≡◌, ℕ, ◌^◌, Bool, true, false, ◌&&◌, codes, List, [], ◌∷◌, length, map, drop, Option, Some, None, option_map, option_and_then, ok_or, Result, Ok, Err, nat_lt, ◌==◌, if◌then◌else◌}
 use Rattle.std.specs.Str.{bytes_eq}
 use Rattle.lits.specs.Clause.{firsts}
 use Rattle.lits.specs.Dimacs.{DimacsLiteral}
@@ -11,20 +11,15 @@ use Rattle.dimacs_text.specs.declared.cnf.Cnf.{Cnf}
 use Rattle.dimacs_text.specs.declared.error.CnfErr.{CnfErr}
 use Rattle.dimacs_text.specs.declared.error.CnfErr.TheVariants.{BadHeader, BadNumber, Var, Count, Truncated, NoMemory}
 use Rattle.dimacs_text.specs.declared.header.Header.{Header}
-use Rattle.dimacs_text.specs.declared.number.Number.{Number}
-use Rattle.dimacs_text.specs.Words.{Part, words_in}
-use Rattle.dimacs_text.specs.Numbers.{announced_in, number_in}
+use Rattle.dimacs_text.specs.Words.{words_in}
+use Rattle.tokens.specs.declared.number.Number.{Number}
+use Rattle.tokens.specs.Numbers.{size_in, number_in}
+use Rattle.tokens.specs.Reading.{◌>>=◌, GivesUnless}
+use Rattle.tokens.specs.Words.{Part}
 
--- what is found where nothing is wrong, and else the first fault
-infixl 10 ◌>>=◌
-abbrev pub ◌>>=◌ : {A B : Type 0} → Result A CnfErr → (A → Result B CnfErr) → Result B CnfErr
-(Ok x) >>= f = f x
-(Err e) >>= f = Err e
-
--- the error is the first fault of what is read, or memory ran out
-abbrev pub IsFault : {A : Type 0} → CnfErr → Result A CnfErr → Type 0
-IsFault NoMemory read = Unit {0}
-IsFault error read = read ≡ Err error
+-- the number that a word of the header announces: digits alone, and at most 2,147,483,647
+abbrev pub announced_in : List ℕ → Option ℕ
+announced_in word = option_and_then (λ n. if nat_lt n (2 ^ 31) then Some n else None) (size_in word)
 
 -- The header that four words are: `p`, `cnf`, the greatest variable and the number of clauses.
 abbrev pub header_of : Part → Part → Part → Part → Option Header
@@ -91,3 +86,12 @@ formula_in text = formula_from (length text) (words_in text)
 -- the text is a CNF of this formula
 abbrev pub SpellsCnf : List ℕ → Cnf → Type 0
 SpellsCnf text cnf = formula_in text ≡ Ok cnf
+
+-- whether memory was refused
+abbrev pub is_refusal : CnfErr → Bool
+is_refusal NoMemory = true
+is_refusal error = false
+
+-- the answer is what is read, unless memory was refused
+abbrev pub Gives : {A : Type 0} → Result A CnfErr → Result A CnfErr → Type 0
+Gives answer read = GivesUnless is_refusal answer read

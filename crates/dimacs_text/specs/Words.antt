@@ -1,29 +1,12 @@
 -- The words of a CNF text, each with the place of its first byte.
-use Rattle.std.specs.Prelude.{ℕ, ◌+◌, ◌-◌, Bool, true, false, not, ◌||◌, List, [], ◌∷◌, ◌++◌, length, filter, ◌==◌, if◌then◌else◌}
-use Rattle.std.specs.List.{slice_split, flat_map}
+use Rattle.std.specs.Prelude.{ℕ, ◌-◌, Bool, false, List, [], ◌∷◌, ◌++◌, length, ◌==◌, if◌then◌else◌}
+use Rattle.std.specs.List.{flat_map}
 use Rattle.byte_scan.specs.Scanning.{Place, ahead}
+use Rattle.tokens.specs.Words.{Part, placed, placed_words, is_whitespace, lines_in}
 
--- a part of a text, and the place of its first byte, from 0
-pub record Part : Type 0 where
-  pub at : ℕ
-  pub bytes : List ℕ
-
--- parts that stand one behind the other from a place on, with one byte between
-abbrev pub placed : ℕ → List (List ℕ) → List Part
-placed at [] = []
-placed at (bytes ∷ parts) = record { at = at; bytes = bytes } ∷ placed (at + length bytes + 1) parts
-
--- space, tab, CR and LF
-abbrev pub is_blank : ℕ → Bool
-is_blank b = b == 32 || b == 9 || b == 13 || b == 10
-
-abbrev pub is_empty : List ℕ → Bool
-is_empty [] = true
-is_empty (b ∷ bs) = false
-
--- the words of a line, which blanks part
+-- the words of a line, which space, tab, CR and LF part
 abbrev pub words_of : Part → List Part
-words_of line = filter (λ word. not (is_empty word.bytes)) (placed line.at (slice_split is_blank line.bytes))
+words_of line = placed_words is_whitespace line.at line.bytes
 
 -- a comment is a line whose first byte is `c`
 abbrev pub is_comment : List ℕ → Bool
@@ -37,7 +20,7 @@ without_comment line = if is_comment line then [] else line
 -- the words of a text that begins at a place: those of its lines, which LF parts
 abbrev pub words_from : ℕ → List ℕ → List Part
 words_from at text =
-    flat_map (λ line. words_of (record { at = line.at; bytes = without_comment line.bytes })) (placed at (slice_split (λ b. b == 10) text))
+    flat_map (λ line. words_of (record { at = line.at; bytes = without_comment line.bytes })) (placed at (lines_in text))
 
 -- the words of a text, in order
 abbrev pub words_in : List ℕ → List Part

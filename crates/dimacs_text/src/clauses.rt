@@ -1,16 +1,16 @@
-ghost use Rattle.std.specs.Prelude.{◌≡◌, ◌<◌, ◌^◌, List, [], ◌∷◌, ◌++◌, Option, OnOk, IfOk, IfErr, IsOkAnd};
+ghost use Rattle.std.specs.Prelude.{◌≡◌, ◌<◌, ◌^◌, List, [], ◌∷◌, ◌++◌, Option, Err, OnOk, IfOk, IfErr, IsOkAnd};
 ghost use Rattle.lits.specs.Dimacs.{DimacsLiteral};
 ghost use Rattle.dimacs_text.specs.Words.{words_left};
-ghost use Rattle.dimacs_text.specs.Reading.{IsFault, entry_in, entries_in, clauses_in, formula_of};
+ghost use Rattle.dimacs_text.specs.Reading.{entry_in, entries_in, clauses_in, formula_of, Gives};
 
 use crate::cnf::Cnf;
 use crate::distinct::distinct;
 use crate::error::CnfErr;
 use crate::header::Header;
-use crate::number::number_in;
 use crate::words::{Word, Words};
 use lits::{Dim, Listed};
 use std::alloc::Global;
+use tokens::number_in;
 
 /// The clauses of a text, as far as they are read.
 #[derive(Drop)]
@@ -37,7 +37,7 @@ impl Clauses {
     pub(crate) fn read(alloc: Global, variables: u32, words: Words) -> Result<Clauses, CnfErr>
         requires { variables < 2 ^ 31 }
         ensures ok { IfOk result (λ clauses. IsOkAnd (entries_in variables (words_left words.entry)) (λ entries. AreRead entries clauses)) }
-        ensures err { IfErr result (λ e. IsFault e (entries_in variables (words_left words.entry))) }
+        ensures err { IfErr result (λ e. Gives (Err e) (entries_in variables (words_left words.entry))) }
     {
         let mut clauses = Clauses::new(alloc);
         for word in words {

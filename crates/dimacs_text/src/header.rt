@@ -1,9 +1,9 @@
 ghost use Rattle.std.specs.Prelude.{◌≡◌, ◌<◌, ◌^◌, drop, IfSome, OnSome};
 ghost use Rattle.dimacs_text.specs.Words.{words_left};
-ghost use Rattle.dimacs_text.specs.Reading.{header_in};
+ghost use Rattle.dimacs_text.specs.Reading.{announced_in, header_in};
 
-use crate::number::announced_in;
 use crate::words::Words;
+use tokens::size_in;
 
 /// What a header announces.
 #[derive(Clone, Copy)]
@@ -31,4 +31,17 @@ pub(crate) fn header_in(words: &mut Words) -> Option<Header>
         variables: announced_in(variables.bytes())?,
         clauses: announced_in(clauses.bytes())?,
     })
+}
+
+/// The number of variables or of clauses that the word announces, if it announces one.
+fn announced_in(word: &[u8]) -> Option<u32>
+    ensures number { result ≡ announced_in word.now }
+    ensures bound { IfSome result (λ n. n < 2 ^ 31) }
+{
+    let size = size_in(word)?;
+    if size < 1 << 31 {
+        Some(size as u32)
+    } else {
+        None
+    }
 }

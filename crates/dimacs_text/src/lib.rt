@@ -9,11 +9,10 @@
 //! `cnf.rt`.
 #![tactic(auto)]
 
-pub use cnf::Cnf;
+pub use cnf::{Cnf, read};
 pub use error::CnfErr;
 pub use laws::written_formula;
-pub use reading::read;
-pub use write::print;
+pub use writing::print;
 
 mod clauses;
 mod cnf;
@@ -21,9 +20,7 @@ mod distinct;
 mod error;
 mod header;
 mod laws;
-mod number;
-mod reading;
 #[cfg(test)]
 mod tests;
 mod words;
-mod write;
+mod writing;

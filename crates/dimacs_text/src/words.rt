@@ -1,10 +1,11 @@
-ghost use Rattle.std.specs.Prelude.{◌≡◌, ◌+◌, ◌<◌, ◌≤◌, [], ◌∷◌, not, length, position, IfSome, IfNone};
+ghost use Rattle.std.specs.Prelude.{◌≡◌, ◌<◌, ◌≤◌, [], ◌∷◌, length, IfSome, IfNone};
 ghost use Rattle.std.specs.Bool.{OnTrue, OnFalse};
 ghost use Rattle.std.specs.Iterator.{YieldsFirst, item_count};
-ghost use Rattle.dimacs_text.specs.Words.{is_blank, lines_left, without_comment, words_of, words_in, words_left};
+ghost use Rattle.dimacs_text.specs.Words.{lines_left, without_comment, words_of, words_in, words_left};
 
 use byte_scan::Scan;
 use std::marker::Model;
+use tokens::{Whitespace, first_word};
 
 /// A word of a text, and the place of its first byte, from 0.
 #[derive(Drop)]
@@ -14,7 +15,7 @@ pub(crate) struct Word<'a> {
 }
 
 impl<'a> Model for Word<'a> {
-    ghost use Rattle.dimacs_text.specs.Words.{Part};
+    ghost use Rattle.tokens.specs.Words.{Part};
 
     ghost Value = { Part };
 
@@ -76,10 +77,9 @@ impl<'a> Words<'a> {
         ensures same { IfNone result (words_left self.new ≡ words_left self.old) }
         ensures lines { self.new.lines ≡ self.old.lines }
     {
-        let (_, rest) = self.line.split_at(first_letter(self.line)?);
-        let (bytes, behind) = rest.split_at(first_blank(rest).unwrap_or(rest.len()));
-        let at = self.at + (self.line.len() - rest.len()) as u64;
-        self.at = at + bytes.len() as u64;
+        let (bytes, behind) = first_word::<Whitespace>(self.line)?;
+        let at = self.at + (self.line.len() - bytes.len() - behind.len()) as u64;
+        self.at += (self.line.len() - behind.len()) as u64;
         self.line = behind;
         Some(Word { at, bytes })
     }
@@ -129,23 +129,4 @@ fn without_comment(line: &[u8]) -> &[u8]
         [b'c', ..] => &[],
         _ => line,
     }
-}
-
-/// Whether the byte parts words.
-fn is_blank(byte: u8) -> bool
-    ensures { result ≡ is_blank byte }
-{
-    matches!(byte, b' ' | b'\t' | b'\r' | b'\n')
-}
-
-fn first_letter(line: &[u8]) -> Option<usize>
-    ensures { result ≡ position (λ b. not (is_blank b)) line.now }
-{
-    line.iter().position(|b| !is_blank(*b))
-}
-
-fn first_blank(line: &[u8]) -> Option<usize>
-    ensures { result ≡ position is_blank line.now }
-{
-    line.iter().position(|b| is_blank(*b))
 }

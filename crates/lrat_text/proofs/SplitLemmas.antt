@@ -4,15 +4,11 @@ use Rattle.std.specs.List.{list_any, AllByRecursion}
 use Rattle.lits.specs.Dimacs.{DimacsLiteral}
 use Rattle.tokens.specs.Words.{is_space}
 use Rattle.tokens.specs.Text.{literal_text, IsInRange}
-use Rattle.tokens.proofs.Facts.{IsToken, IsToken-decimal, IsToken-literal, PartsTokens-space, words_by-spaced, spaced-one_line}
+use Rattle.tokens.proofs.Facts.{IsToken, IsToken-decimal, IsToken-literal, PartsTokens-space, words_by-joined, joined-one_line, all-append}
 use Rattle.lrat_text.specs.declared.step.LratStep.{LratStep}
 use Rattle.lrat_text.specs.declared.step.LratStep.TheVariants.{Add, Del}
 use Rattle.lrat_text.specs.Reading.{words_in}
 use Rattle.lrat_text.specs.Writing.{words_of, first_of, step_text, IsId, IsWritable}
-
-words-append : (xs ys : List (List ℕ)) → AllByRecursion IsToken xs → AllByRecursion IsToken ys → AllByRecursion IsToken (xs ++ ys)
-words-append [] ys all more = more
-words-append (x ∷ xs) ys all more = (all.0, words-append xs ys all.1 more)
 
 ids-words : (ids : List ℕ) → AllByRecursion IsId ids → AllByRecursion IsToken (map decimal ids)
 ids-words [] all = tt
@@ -30,10 +26,10 @@ d-word = record { filled = refl; printed = refl }
 
 pub words_of-words : (last : ℕ) (step : LratStep) → IsWritable last step → AllByRecursion IsToken (words_of step)
 words_of-words last (Add id clause hints) can =
-    words-append (map literal_text clause) ((48 ∷ []) ∷ (map decimal hints ++ (48 ∷ []) ∷ [])) (literals-words clause can.2)
-    (zero-word, words-append (map decimal hints) ((48 ∷ []) ∷ []) (ids-words hints can.3) (zero-word, tt))
+    all-append IsToken (map literal_text clause) ((48 ∷ []) ∷ (map decimal hints ++ (48 ∷ []) ∷ [])) (literals-words clause can.2)
+    (zero-word, all-append IsToken (map decimal hints) ((48 ∷ []) ∷ []) (ids-words hints can.3) (zero-word, tt))
 words_of-words last (Del ids) can =
-    (d-word, words-append (map decimal ids) ((48 ∷ []) ∷ []) (ids-words ids can) (zero-word, tt))
+    (d-word, all-append IsToken (map decimal ids) ((48 ∷ []) ∷ []) (ids-words ids can) (zero-word, tt))
 
 pub first_of-fits : (last d : ℕ) (step : LratStep) → IsWritable last step → d < 2 ^ 64 → first_of d step < 2 ^ 64
 first_of-fits last d (Add id clause hints) can lt = omega (arith, can.1)
@@ -42,9 +38,10 @@ first_of-fits last d (Del ids) can lt = lt
 -- the words of a written step
 pub words_in-step : (last d : ℕ) (step : LratStep) → IsWritable last step → d < 2 ^ 64 → words_in (step_text d step) ≡ decimal (first_of d step) ∷ words_of step
 words_in-step last d step can lt =
-    words_by-spaced is_space (decimal (first_of d step)) (words_of step) PartsTokens-space
-    (IsToken-decimal (first_of d step) (first_of-fits last d step can lt)) (words_of-words last step can)
+    words_by-joined is_space (decimal (first_of d step) ∷ words_of step) PartsTokens-space
+    (IsToken-decimal (first_of d step) (first_of-fits last d step can lt), words_of-words last step can)
 
 pub step_text-one_line : (last d : ℕ) (step : LratStep) → IsWritable last step → d < 2 ^ 64 → list_any (λ b. eqb b 10) (step_text d step) ≡ false
 step_text-one_line last d step can lt =
-    spaced-one_line (decimal (first_of d step)) (words_of step) (IsToken-decimal (first_of d step) (first_of-fits last d step can lt)) (words_of-words last step can)
+    joined-one_line (decimal (first_of d step) ∷ words_of step)
+    (IsToken-decimal (first_of d step) (first_of-fits last d step can lt), words_of-words last step can)

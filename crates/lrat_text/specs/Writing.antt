@@ -6,7 +6,7 @@ use Rattle.lrat_text.specs.declared.step.LratStep.{LratStep}
 use Rattle.lrat_text.specs.declared.step.LratStep.TheVariants.{Add, Del}
 use Rattle.lrat_text.specs.Steps.{id_after}
 use Rattle.lrat_text.specs.Reading.{steps_from}
-use Rattle.tokens.specs.Text.{literal_text, spaced, ended, IsInRange}
+use Rattle.tokens.specs.Text.{literal_text, joined, ended, IsInRange}
 
 -- the words of a step behind its first one
 abbrev pub words_of : LratStep → List (List ℕ)
@@ -20,7 +20,7 @@ first_of last (Del ids) = last
 
 -- the step in a line, without its end: an addition is `id literals 0 hints 0`, and a deletion `last d ids 0`
 abbrev pub step_text : ℕ → LratStep → List ℕ
-step_text last step = decimal (first_of last step) ++ spaced (words_of step)
+step_text last step = joined (decimal (first_of last step) ∷ words_of step)
 
 abbrev pub line_text : ℕ → LratStep → List ℕ
 line_text last step = ended (step_text last step)

@@ -23,6 +23,9 @@ pub use Rattle.tokens.proofs.WordLemmas.{bytes_of}
 -- where a line stands changes nothing but the places of its words
 pub use Rattle.tokens.proofs.WordLemmas.{placed_words-bytes}
 
+-- and a line without words has none anywhere
+pub use Rattle.tokens.proofs.WordLemmas.{placed_words-none}
+
 -- ---- words that are written
 
 -- a word as it is written: one byte or more, all of them behind the space
@@ -31,14 +34,20 @@ pub use Rattle.tokens.proofs.TokenLemmas.{IsToken}
 -- the text of a number, and of a literal
 pub use Rattle.tokens.proofs.TokenLemmas.{IsToken-decimal, IsToken-literal}
 
+-- what holds of the elements of two lists holds of those of both together
+pub use Rattle.tokens.proofs.TokenLemmas.{all-append}
+
 -- a test that takes the space for a blank, and no byte behind it: both tests of this crate do
 pub use Rattle.tokens.proofs.TokenLemmas.{PartsTokens, PartsTokens-space, PartsTokens-whitespace}
 
 -- words with one space between are the words of their line
-pub use Rattle.tokens.proofs.TokenLemmas.{words_by-spaced}
+pub use Rattle.tokens.proofs.TokenLemmas.{words_by-joined}
 
 -- and no line ends among them
-pub use Rattle.tokens.proofs.TokenLemmas.{spaced-one_line}
+pub use Rattle.tokens.proofs.TokenLemmas.{joined-one_line}
+
+-- what has a space behind each word but the last has one space between
+pub use Rattle.tokens.proofs.TokenLemmas.{trailed-joined}
 
 -- lines that are ended are the lines of their text, and an empty one stands behind them
 pub use Rattle.tokens.proofs.TokenLemmas.{lines-ended}

@@ -1,5 +1,5 @@
 -- Written words: how a line of them comes apart again, and a text into such lines.
-use Rattle.std.proofs.Common.{◌≡◌, ℕ, ◌^◌, ◌<◌, Bool, true, false, not, eqb, ltb, List, [], ◌∷◌, ◌++◌, map, filter, decimal, length, refl, ap, ◌∙◌, append_assoc, append-nil, ne_eqb, lt-ltb, arith}
+use Rattle.std.proofs.Common.{◌≡◌, ℕ, ◌^◌, ◌<◌, Bool, true, false, not, eqb, ltb, List, [], ◌∷◌, ◌++◌, map, filter, decimal, length, refl, sym, ap, ◌∙◌, append_assoc, append-nil, ne_eqb, lt-ltb, arith}
 use Rattle.std.specs.Char.{is_ascii_digit}
 use Rattle.std.specs.List.{slice_split, flat_map, list_any, list_all, join_with_byte, AllByRecursion}
 use Rattle.std.proofs.lemmas.Bool.{and_parts, or_parts, leb-true, ltb-true}
@@ -7,7 +7,7 @@ use Rattle.std.proofs.lemmas.Fmt.{decimal_nonempty}
 use Rattle.std.proofs.lemmas.List.Folds.{list_any-append}
 use Rattle.lits.specs.Dimacs.{DimacsLiteral}
 use Rattle.tokens.specs.Words.{is_empty, is_space, is_whitespace, words_by}
-use Rattle.tokens.specs.Text.{literal_text, IsInRange, spaced, ended}
+use Rattle.tokens.specs.Text.{literal_text, IsInRange, spaced, joined, ended}
 use Rattle.tokens.proofs.NumeralLemmas.{digits-decimal}
 
 -- a word as it is written: one byte or more, all of them behind the space
@@ -56,6 +56,11 @@ none-printed p (b ∷ bs) other all =
 no_end : (word : List ℕ) → IsToken word → list_any (λ b. eqb b 10) word ≡ false
 no_end word is = none-printed (λ b. eqb b 10) word (λ b lt. ne_eqb b 10 (λ e. omega arith)) is.printed
 
+pub all-append : {X : Type 0} (P : X → Type 0) (xs ys : List X) → AllByRecursion P xs → AllByRecursion P ys
+    → AllByRecursion P (xs ++ ys)
+all-append P [] ys all more = more
+all-append P (x ∷ xs) ys all more = (all.0, all-append P xs ys all.1 more)
+
 kept : (words : List (List ℕ)) → AllByRecursion IsToken words → filter (λ word. not (is_empty word)) words ≡ words
 kept [] all = refl
 kept (w ∷ ws) all = let filled = all.0.filled in rw (filled, kept ws all.1) refl
@@ -68,17 +73,33 @@ split-spaced p word (next ∷ words) parts is all =
     split-first p word 32 (next ++ spaced words) (none-printed p word parts.printed is.printed) parts.space
     ∙ ap (λ (l : List (List ℕ)). word ∷ l) (split-spaced p next words parts all.0 all.1)
 
-pub words_by-spaced : (p : ℕ → Bool) (word : List ℕ) (words : List (List ℕ)) → PartsTokens p → IsToken word
-    → AllByRecursion IsToken words → words_by p (word ++ spaced words) ≡ word ∷ words
-words_by-spaced p word words parts is all =
-    rw (split-spaced p word words parts is all) (kept (word ∷ words) (is, all))
+pub words_by-joined : (p : ℕ → Bool) (words : List (List ℕ)) → PartsTokens p → AllByRecursion IsToken words
+    → words_by p (joined words) ≡ words
+words_by-joined p [] parts all = refl
+words_by-joined p (word ∷ words) parts all =
+    rw (split-spaced p word words parts all.0 all.1) (kept (word ∷ words) all)
 
-pub spaced-one_line : (word : List ℕ) (words : List (List ℕ)) → IsToken word → AllByRecursion IsToken words
-    → list_any (λ b. eqb b 10) (word ++ spaced words) ≡ false
-spaced-one_line word [] is all = rw (append-nil word) (no_end word is)
-spaced-one_line word (next ∷ words) is all =
+pub joined-one_line : (words : List (List ℕ)) → AllByRecursion IsToken words
+    → list_any (λ b. eqb b 10) (joined words) ≡ false
+joined-one_line [] all = refl
+joined-one_line (word ∷ []) all = rw (append-nil word) (no_end word all.0)
+joined-one_line (word ∷ next ∷ words) all =
     list_any-append (λ b. eqb b 10) word (32 ∷ (next ++ spaced words))
-    ∙ rw (no_end word is, spaced-one_line next words all.0 all.1) refl
+    ∙ rw (no_end word all.0, joined-one_line (next ∷ words) all.1) refl
+
+-- words with a space in front of each, the last of them apart
+spaced-joined : (words : List (List ℕ)) (last : List ℕ) → 32 ∷ joined (words ++ last ∷ []) ≡ spaced (words ++ last ∷ [])
+spaced-joined [] last = refl
+spaced-joined (w ∷ ws) last = refl
+
+pub trailed-joined : {X : Type 0} (text : X → List ℕ) (xs : List X) (last : List ℕ)
+    → flat_map (λ x. text x ++ 32 ∷ []) xs ++ last ≡ joined (map text xs ++ last ∷ [])
+trailed-joined text [] last = sym (append-nil last)
+trailed-joined text (x ∷ xs) last =
+    append_assoc (text x ++ 32 ∷ []) (flat_map (λ y. text y ++ 32 ∷ []) xs) last
+    ∙ append_assoc (text x) (32 ∷ []) (flat_map (λ y. text y ++ 32 ∷ []) xs ++ last)
+    ∙ ap (λ (line : List ℕ). text x ++ 32 ∷ line) (trailed-joined text xs last)
+    ∙ ap (λ (line : List ℕ). text x ++ line) (spaced-joined (map text xs) last)
 
 pub lines-ended : (lines : List (List ℕ)) → list_any (list_any (λ b. eqb b 10)) lines ≡ false
     → slice_split (λ b. eqb b 10) (flat_map ended lines) ≡ lines ++ [] ∷ []

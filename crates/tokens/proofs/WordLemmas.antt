@@ -32,6 +32,14 @@ filled-bytes at (p ∷ ps) = go (is_empty p) refl (filled-bytes (at + length p +
 pub placed_words-bytes : (p : ℕ → Bool) (at : ℕ) (line : List ℕ) → bytes_of (placed_words p at line) ≡ words_by p line
 placed_words-bytes p at line = filled-bytes at (slice_split p line)
 
+-- A line without words has none anywhere.
+pub placed_words-none : (p : ℕ → Bool) (at : ℕ) (line : List ℕ) → words_by p line ≡ [] → placed_words p at line ≡ []
+placed_words-none p at line e = go (placed_words p at line) (placed_words-bytes p at line ∙ e)
+  where
+    go : (ws : List Part) → bytes_of ws ≡ [] → ws ≡ []
+    go [] f = refl
+    go (w ∷ ws) f = cc
+
 -- what the place of the first that passes says
 found_at : (p : ℕ → Bool) (xs : List ℕ) (i : ℕ) → position p xs ≡ Some i
     → (position_or_len p xs < length xs) × (i ≡ position_or_len p xs)

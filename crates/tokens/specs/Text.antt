@@ -8,6 +8,11 @@ use Rattle.tokens.specs.declared.number.Number.{Number}
 abbrev pub spaced : List (List ℕ) → List ℕ
 spaced words = flat_map (λ word. 32 ∷ word) words
 
+-- words with one space between
+abbrev pub joined : List (List ℕ) → List ℕ
+joined [] = []
+joined (word ∷ words) = word ++ spaced words
+
 -- a line with its end
 abbrev pub ended : List ℕ → List ℕ
 ended line = line ++ 10 ∷ []

@@ -1,8 +1,8 @@
 -- The literals so far are written.
 use Rattle.std.proofs.Common.{◌≡◌, ◌++◌, ◌∷◌, [], take}
 use Rattle.std.specs.List.{flat_map}
-use Rattle.dimacs_text.specs.CnfText.{literal_text}
-use Rattle.dimacs_text.proofs.write.push_clause.Given as goal
+use Rattle.tokens.specs.Text.{literal_text}
+use Rattle.dimacs_text.proofs.writing.push_clause.Given as goal
 
 abbrev pub invariant-loop-dim : goal.invariant-loop-dim
 invariant-loop-dim l =

@@ -1,12 +1,12 @@
 ghost use Rattle.std.specs.Prelude.{◌≡◌, ◌++◌, IfOk, IsSome, OnOk};
 ghost use Rattle.std.specs.List.{flat_map};
 ghost use Rattle.desk_port.specs.Desk.{Writes, NoCountFalls};
-ghost use Rattle.dimacs_text.specs.CnfText.{literal_text, clause_text, header_text, cnf_text};
+ghost use Rattle.dimacs_text.specs.CnfText.{clause_text, header_text, cnf_text};
 
 use desk_port::{Desk, PutErr};
-use itoa::Buffer;
 use lits::{Clause, Dim};
 use std::alloc::{AllocError, Global};
+use tokens::{push_literal, push_number};
 
 /// Writes the CNF of the clauses, over variables from 1 to `variables`, to the started file in one piece.
 pub fn print<D: Desk>(
@@ -42,9 +42,9 @@ fn push_header(text: &mut Vec<u8>, variables: u32, count: usize) -> Result<(), A
     ensures { OnOk result (text.new.items ≡ text.old.items ++ header_text variables count) }
 {
     text.extend_from_slice(b"p cnf ")?;
-    text.extend_from_slice(Buffer::new().format(variables).as_bytes())?;
+    push_number(text, u64::from(variables))?;
     text.extend_from_slice(b" ")?;
-    text.extend_from_slice(Buffer::new().format(count).as_bytes())?;
+    push_number(text, count as u64)?;
     text.extend_from_slice(b"\n")?;
     Ok(())
 }
@@ -58,16 +58,5 @@ fn push_clause(text: &mut Vec<u8>, clause: &Clause<Dim>) -> Result<(), AllocErro
         text.push(b' ')?;
     }
     text.extend_from_slice(b"0\n")?;
-    Ok(())
-}
-
-#[tactic(auto, unfolding(crate::specs::CnfText::literal_text))]
-fn push_literal(text: &mut Vec<u8>, dim: Dim) -> Result<(), AllocError>
-    ensures { OnOk result (text.new.items ≡ text.old.items ++ literal_text dim) }
-{
-    if dim.is_negated() {
-        text.push(b'-')?;
-    }
-    text.extend_from_slice(Buffer::new().format(dim.var()).as_bytes())?;
     Ok(())
 }

@@ -2,7 +2,7 @@
 use Rattle.std.proofs.Common.{◌≡◌, ◌++◌, take}
 use Rattle.std.specs.List.{flat_map}
 use Rattle.dimacs_text.specs.CnfText.{clause_text}
-use Rattle.dimacs_text.proofs.write.text.Given as goal
+use Rattle.dimacs_text.proofs.writing.text.Given as goal
 
 abbrev pub invariant-loop-clause : goal.invariant-loop-clause
 invariant-loop-clause l =
