@@ -10,7 +10,7 @@ use Rattle.lits.specs.Same.{opposite_dim}
 use Rattle.netlist.specs.Net.{AigPair, Agree, Differ}
 use Rattle.netlist.specs.Miter.{miter_of}
 use Rattle.unit_prop.specs.Log.{InTurn}
-use Rattle.lrat_text.specs.declared.line.Line.{Line}
+use Rattle.lrat_text.specs.declared.step.Line.{Line}
 use Rattle.lrat_text.specs.Writing.{text_from}
 use Rattle.lrat_text.specs.Derivation.{Refutes}
 use Rattle.lemma_book.specs.Entry.{Entries, IsGood, output_of}

@@ -1,12 +1,16 @@
 //! The text of DIMACS CNF files: a header `p cnf VARIABLES CLAUSES`, then the clauses, each literal as a signed number
 //! and each clause ended by 0.
 //!
-//! `print` writes the text of a list of clauses to a desk's started file, and `read` answers the formula that a text
-//! spells, or its first fault. The law says that what is written is read back.
+//! `read` answers the formula that a text spells, or its first fault, and `print` writes the text of a list of clauses to
+//! a desk's started file. The law says that what is written is read back.
 //!
-//! Definitions: `specs/Reading.antt` (the grammar, with the first fault of a text that isn't in it), `specs/Words.antt`
-//! (comments, and the words of a text), `specs/CnfText.antt` (the one text of each list of clauses). Begin to read at
-//! `cnf.rt`.
+//! Begin to read at `cnf.rt` and with the grammar, `specs/Reading.antt`. Then, as data flows: `words.rt` (the words of a
+//! text, without comments), `header.rt`, `clauses.rt`, `distinct.rt` (a repeated literal counts once), `writing.rt`,
+//! `laws.rt`, and `error.rt`.
+//!
+//! Definitions: `specs/Reading.antt` (the grammar, with the first fault of a text that isn't in it) stands on
+//! `specs/Words.antt` (comments, and the words of a text); `specs/CnfText.antt` has the one text of each list of clauses,
+//! `specs/Clauses.antt` the clauses as far as they are read.
 #![tactic(auto)]
 
 pub use cnf::{Cnf, read};

@@ -3,7 +3,7 @@ use Rattle.std.specs.Prelude.{◌≡◌, ℕ, false, List, ◌∷◌, ◌++◌, 
 use Rattle.std.specs.List.{list_any}
 use Rattle.lits.specs.Dimacs.{DimacsLiteral}
 use Rattle.unit_prop.specs.declared.why.BadStep.{BadStep}
-use Rattle.lrat_text.specs.declared.line.Line.{Line}
+use Rattle.lrat_text.specs.declared.step.Line.{Line}
 use Rattle.lrat_text.specs.Derivation.{formula_live, live_after, fault_over, Derives, adds_empty, Refutes}
 use Rattle.lrat_checker.specs.declared.verdict.Verdict.{Verdict}
 use Rattle.lrat_checker.specs.declared.verdict.Verdict.TheVariants.{Refuted, NoEmpty, Bad}

@@ -1,6 +1,6 @@
 ghost use Rattle.std.specs.Prelude.{◌≡◌, List};
 ghost use Rattle.lits.specs.Dimacs.{DimacsLiteral};
-ghost use Rattle.lrat_text.specs.declared.line.Line.{Line};
+ghost use Rattle.lrat_text.specs.declared.step.Line.{Line};
 ghost use Rattle.lrat_checker.specs.declared.verdict.Verdict.{Verdict};
 ghost use Rattle.lrat_checker.specs.Verdict.{IsVerdict};
 

@@ -4,7 +4,7 @@ use Rattle.lits.specs.Assignment.{IsSatisfiable}
 use Rattle.lits.specs.Same.{opposite_dim}
 use Rattle.desk_port.specs.Desk.{DeskState, after_read, after_say}
 use Rattle.dimacs_text.specs.declared.cnf.Cnf.{Cnf}
-use Rattle.lrat_text.specs.declared.line.Line.{Line}
+use Rattle.lrat_text.specs.declared.step.Line.{Line}
 use Rattle.lrat_checker.specs.declared.verdict.Verdict.{Verdict}
 use Rattle.lrat_checker.specs.declared.verdict.Verdict.TheVariants.{Refuted}
 use Rattle.lrat_checker.specs.Verdict.{IsVerdict}

@@ -11,7 +11,7 @@ use Rattle.dimacs_text.specs.declared.error.CnfErr.TheVariants as cnf_err
 use Rattle.dimacs_text.specs.Reading.{formula_in, SpellsCnf}
 use Rattle.lrat_text.specs.declared.error.LratErr.{LratErr}
 use Rattle.lrat_text.specs.declared.error.LratErr.TheVariants as lrat_err
-use Rattle.lrat_text.specs.declared.line.Line.{Line}
+use Rattle.lrat_text.specs.declared.step.Line.{Line}
 use Rattle.lrat_text.specs.Reading.{steps_in, SpellsLrat}
 use Rattle.lrat_checker.specs.declared.verdict.Verdict.{Verdict}
 use Rattle.lrat_checker.specs.declared.verdict.Verdict.TheVariants.{Refuted}

@@ -10,7 +10,7 @@ use Rattle.lits.specs.contracts.dimacs.DimLiteral.TheImpl.Laws as dim
 use Rattle.lits.proofs.ClauseLemmas.{IsLiteral, is_literal}
 use Rattle.unit_prop.proofs.StepLemmas.{step-holds}
 use Rattle.unit_prop.proofs.ChainLemmas.{all-slice_get}
-use Rattle.lrat_text.specs.declared.line.Line.{Line}
+use Rattle.lrat_text.specs.declared.step.Line.{Line}
 use Rattle.lrat_text.specs.declared.step.LratStep.{LratStep}
 use Rattle.lrat_text.specs.declared.step.LratStep.TheVariants.{Add, Del}
 use Rattle.lrat_text.specs.Derivation.{Live, formula_live, after_step, live_after, fault_over, DerivesFrom, Derives, adds_empty, Refutes}

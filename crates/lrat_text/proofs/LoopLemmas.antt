@@ -5,7 +5,7 @@ use Rattle.tokens.specs.Reading.{◌>>=◌}
 use Rattle.tokens.specs.Words.{lines_in}
 use Rattle.tokens.proofs.Facts.{ReadsLine, gives-fault}
 use Rattle.lrat_text.specs.declared.error.LratErr.{LratErr}
-use Rattle.lrat_text.specs.declared.line.Line.{Line}
+use Rattle.lrat_text.specs.declared.step.Line.{Line}
 use Rattle.lrat_text.specs.declared.step.LratStep.{LratStep}
 use Rattle.lrat_text.specs.Reading.{step_of, words_in, id_behind, with_step, steps_from, steps_in, is_refusal, Gives}
 

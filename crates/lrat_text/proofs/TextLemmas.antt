@@ -5,7 +5,7 @@ use Rattle.std.proofs.lemmas.Bool.{eqb-true}
 use Rattle.std.proofs.lemmas.List.Concat.{flat_map-append}
 use Rattle.std.proofs.lemmas.List.Folds.{list_any-append}
 use Rattle.lrat_text.specs.declared.error.LratErr.{LratErr}
-use Rattle.lrat_text.specs.declared.line.Line.{Line}
+use Rattle.lrat_text.specs.declared.step.Line.{Line}
 use Rattle.tokens.specs.declared.number.Number.{Number}
 use Rattle.tokens.specs.Numbers.{number_in, numbers_in, plain}
 use Rattle.tokens.specs.Reading.{◌>>=◌}

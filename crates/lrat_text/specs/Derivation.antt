@@ -7,7 +7,7 @@ use Rattle.lits.specs.Dimacs.{DimacsLiteral}
 use Rattle.lits.specs.Same.{same_dim, opposite_dim}
 use Rattle.unit_prop.specs.Step.{first_fault}
 use Rattle.unit_prop.specs.declared.why.BadStep.{BadStep}
-use Rattle.lrat_text.specs.declared.line.Line.{Line}
+use Rattle.lrat_text.specs.declared.step.Line.{Line}
 use Rattle.lrat_text.specs.declared.step.LratStep.{LratStep}
 use Rattle.lrat_text.specs.declared.step.LratStep.TheVariants.{Add, Del}
 use Rattle.tokens.specs.Words.{is_empty}

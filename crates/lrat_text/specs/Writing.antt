@@ -1,12 +1,13 @@
 -- The one text by which each step is written.
 use Rattle.std.specs.Prelude.{◌≡◌, ℕ, ◌+◌, ◌<◌, ◌≤◌, ◌^◌, false, List, [], ◌∷◌, ◌++◌, map, length, decimal, Ok, ◌==◌}
 use Rattle.std.specs.List.{flat_map, list_any, AllByRecursion}
-use Rattle.lrat_text.specs.declared.line.Line.{Line}
+use Rattle.lrat_text.specs.declared.step.Line.{Line}
 use Rattle.lrat_text.specs.declared.step.LratStep.{LratStep}
 use Rattle.lrat_text.specs.declared.step.LratStep.TheVariants.{Add, Del}
 use Rattle.lrat_text.specs.Steps.{id_after}
 use Rattle.lrat_text.specs.Reading.{steps_from}
-use Rattle.tokens.specs.Text.{literal_text, joined, ended, IsInRange}
+use Rattle.tokens.specs.Text.{literal_text, joined, ended}
+pub use Rattle.tokens.specs.Text.{IsInRange}
 
 -- the words of a step behind its first one
 abbrev pub words_of : LratStep → List (List ℕ)

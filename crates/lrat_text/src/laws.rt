@@ -1,7 +1,7 @@
 ghost use Rattle.std.specs.Prelude.{◌≡◌, ℕ, ◌+◌, ◌<◌, ◌^◌, true, List, [], ◌∷◌, ◌++◌, Some, None, length};
 ghost use Rattle.lits.specs.Assignment.{IsSatisfiable, Follows};
 ghost use Rattle.lits.specs.Dimacs.{DimacsLiteral};
-ghost use Rattle.lrat_text.specs.declared.line.Line.{Line};
+ghost use Rattle.lrat_text.specs.declared.step.Line.{Line};
 ghost use Rattle.lrat_text.specs.declared.step.LratStep.{LratStep};
 ghost use Rattle.lrat_text.specs.Steps.{last_id};
 ghost use Rattle.lrat_text.specs.Reading.{SpellsLrat};

@@ -4,9 +4,8 @@ ghost use Rattle.lrat_text.specs.Reading.{addition_in, deletion_in, step_of, ste
 ghost use Rattle.lrat_text.specs.Parts.{addition_of, deletion_of};
 
 use crate::error::LratErr;
-use crate::line::Line;
 use crate::parts::{Parts, Place, TOO_LARGE};
-use crate::step::LratStep;
+use crate::step::{Line, LratStep};
 use byte_scan::Scan;
 use lits::Listed;
 use std::alloc::Global;

@@ -14,3 +14,10 @@ pub enum LratStep {
         ids: Listed<u64>,
     },
 }
+
+/// A step of a proof text, and the number of its line from 1.
+#[derive(Debug, Drop)]
+pub struct Line {
+    pub at: u64,
+    pub step: LratStep,
+}

@@ -1,6 +1,6 @@
 use Rattle.std.proofs.Common.{List, ◌∷◌, [], ◌++◌, refl, sym, ap, ◌∙◌, append_assoc}
 use Rattle.std.specs.Vec.Iter.{into_iter_items}
-use Rattle.lrat_text.specs.declared.line.Line.{Line}
+use Rattle.lrat_text.specs.declared.step.Line.{Line}
 use Rattle.lrat_text.specs.Derivation.{Live, formula_live, live_after}
 use Rattle.lrat_checker.specs.Live.{clauses_of}
 use Rattle.lrat_checker.proofs.LiveLemmas.{fault_over-same, after_step-same, empty-push}
