@@ -11,7 +11,7 @@ use Rattle.netlist.specs.Net.{AigPair, Agree, Differ}
 use Rattle.netlist.specs.Miter.{miter_of}
 use Rattle.unit_prop.specs.Log.{InTurn}
 use Rattle.lrat_text.specs.declared.step.Line.{Line}
-use Rattle.lrat_text.specs.Writing.{text_from}
+use Rattle.lrat_text.specs.Writing.{numbered}
 use Rattle.lrat_text.specs.Derivation.{Refutes}
 use Rattle.lemma_book.specs.Entry.{Entries, IsGood, output_of}
 use Rattle.lemma_book.specs.declared.entry.Entry.{Entry}
@@ -120,7 +120,7 @@ module _ (net : AigPair) (book : Entries) (is : IsBookOf net book.out_budget boo
     (agree : (¬ IsSatisfiable opposite_dim (miter_of net)) ↔ Agree net)
     (refuted : (formula : List (List DimacsLiteral)) (lines : List Line) → Refutes formula lines → ¬ IsSatisfiable opposite_dim formula)
     (proof : ((j : ℕ) → j < length net.a.outputs → HasOut book.entries j ≡ true)
-    → IsRefutation net (text_from (length (miter_of net)) (refutation_of net book.entries)) (length (refutation_of net book.entries))) where
+    → IsRefutation net (refutation_of net book.entries)) where
   pub means-finding : Means net book.entries (finding_of book.entries)
   means-finding = go (find is_apart book.entries) refl (list_any is_open book.entries) refl
     where
@@ -129,7 +129,7 @@ module _ (net : AigPair) (book : Entries) (is : IsBookOf net book.out_budget boo
       go None none false closed_all =
           let outs : (j : ℕ) → j < length net.a.outputs → HasOut book.entries j ≡ true =
           λ j below. closed 0 j book.entries is.about none (omega arith) (omega (arith, is.whole)) (none-spent book.entries j closed_all) in
-          (record { agree = agree.0 (refuted (miter_of net) (proof outs).lines (proof outs).refutes); exact = exact }, outs)
+          (record { agree = agree.0 (refuted (miter_of net) (numbered 1 (refutation_of net book.entries)) (proof outs).refutes); exact = exact }, outs)
       go None none true open_some = record {
         some_open = some-open book.entries open_some;
         others = λ j below spent. closed 0 j book.entries is.about none (omega arith) (omega (arith, is.whole)) spent;

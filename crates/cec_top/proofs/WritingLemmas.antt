@@ -11,8 +11,7 @@ use Rattle.desk_port.specs.declared.errors.PutErr.TheVariants as put_err
 use Rattle.netlist.specs.Net.{AigPair}
 use Rattle.proof_stitch.specs.declared.stitch_err.StitchErr.{StitchErr}
 use Rattle.proof_stitch.specs.declared.stitch_err.StitchErr.TheVariants as stitch_err
-use Rattle.proof_stitch.specs.Stitch.{WritesRefutation}
-use Rattle.proof_stitch.specs.Derivation.{WritesDerivation, after_put}
+use Rattle.proof_stitch.specs.Text.{after_put, Stitches}
 use Rattle.lemma_book.specs.Entry.{Entries}
 use Rattle.lemma_book.specs.declared.entry.Entry.{Entry}
 use Rattle.cec_top.specs.declared.stop.Stop.{Stop}
@@ -226,28 +225,17 @@ file-put a name (x ∷ xs) = file-wrote a name (x ∷ xs)
 -- the lines of a finding are put into a file that was started
 module _ (net : AigPair) (book : Entries) (finding : Finding) (b c : DeskState) (p : PutsProof net book finding b c) where
   pub touches-proof : TouchesOnly (unwrap_or b.started [] ∷ []) b c
-  touches-proof = elim p.puts [
-    | inl wrote ↦ touches-wrote b c p.proof wrote
-    | inr put ↦ touches-put b c p.proof put
-  ]
+  touches-proof = touches-put b c p.proof p.puts
 
   pub proof-written : (a d : DeskState) (name : List ℕ) → b ≡ after_start a name → d ≡ after_close c → WritesProof net book finding a d name
   proof-written a d name started closed = record {
     proof = p.proof;
     is_proof = p.is_proof;
-    writes = elim p.puts [
-      | inl wrote ↦ closed ∙ ap after_close (wrote ∙ ap (λ (s : DeskState). after_write s p.proof) started) ∙ file-wrote a name p.proof
-      | inr put ↦ closed ∙ ap after_close (put ∙ ap (λ (s : DeskState). after_put s p.proof) started) ∙ file-put a name p.proof
-    ];
+    writes = closed ∙ ap after_close (p.puts ∙ ap (λ (s : DeskState). after_put s p.proof) started) ∙ file-put a name p.proof;
   }
 
--- a refutation or a derivation that isn't put touches the started file alone
-pub refutation-unwritten : (net : AigPair) (old new : DeskState) (e : StitchErr) → e ≡ stitch_err.NoMemory → WritesRefutation net old new (Err e)
+-- a proof that isn't put touches the started file alone
+pub unwritten : (T : Type 0) (text : List ℕ) (old new : DeskState) (e : StitchErr) → e ≡ stitch_err.NoMemory → Stitches {T = T} text old new (Err e)
     → TouchesOnly (unwrap_or old.started [] ∷ []) old new
-refutation-unwritten net old new stitch_err.NoMemory same p = touches-equal (unwrap_or old.started [] ∷ []) old new p
-refutation-unwritten net old new stitch_err.Write same p = cc
-
-pub derivation-unwritten : (net : AigPair) (entries : List Entry) (old new : DeskState) (e : StitchErr) → e ≡ stitch_err.NoMemory
-    → WritesDerivation net entries old new (Err e) → TouchesOnly (unwrap_or old.started [] ∷ []) old new
-derivation-unwritten net entries old new stitch_err.NoMemory same p = touches-equal (unwrap_or old.started [] ∷ []) old new p
-derivation-unwritten net entries old new stitch_err.Write same p = cc
+unwritten T text old new stitch_err.NoMemory same p = touches-equal (unwrap_or old.started [] ∷ []) old new p
+unwritten T text old new stitch_err.Write same p = cc

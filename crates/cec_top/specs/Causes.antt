@@ -16,10 +16,11 @@ use Rattle.byte_scan.specs.declared.errors.AigerErr.{AigerErr}
 use Rattle.aiger_ascii.specs.Ascii.{SpellsAscii, first_fault}
 use Rattle.lemma_book.specs.declared.entry.Entry.{Entry}
 use Rattle.lemma_book.specs.Entry.{Entries}
-use Rattle.proof_stitch.specs.declared.span.Span.{Span}
+use Rattle.proof_stitch.specs.declared.logs.Span.{Span}
 use Rattle.lrat_text.specs.Writing.{text_from}
 use Rattle.proof_stitch.specs.Stitch.{IsRefutation, refutation_of}
-use Rattle.proof_stitch.specs.Derivation.{IsDerivation, spans_of, after_put}
+use Rattle.proof_stitch.specs.Derivation.{IsDerivation, AreSpans, derivation_of, spans_of}
+use Rattle.proof_stitch.specs.Text.{proof_text, after_put}
 use Rattle.cec_top.specs.declared.stop.Stop.{Stop}
 use Rattle.cec_top.specs.declared.stop.Stop.TheVariants.{CannotRead, TooLong, BadFile, Unlike, CannotWrite, OutOfMemory}
 use Rattle.command_line.specs.Words.{CheckCommand}
@@ -96,28 +97,24 @@ abbrev pub WritesFile : DeskState → DeskState → List ℕ → List ℕ → Re
 WritesFile old new name bytes (Ok _) = new ≡ after_file old name bytes
 WritesFile old new name bytes (Err stop) = StopsPut (name ∷ []) old new stop
 
--- the bytes spell lines that refute the pair's miter
-abbrev pub IsProof : AigPair → List ℕ → Type 0
-IsProof net proof = (count : ℕ) × IsRefutation net proof count
-
--- the text of the book's refutation: the steps of its entries, in order, and then the empty clause
-unfoldable pub refutation_text : AigPair → List Entry → List ℕ
-refutation_text net entries = text_from (length (miter_of net)) (refutation_of net entries)
-
--- the bytes of a proof's file: lines that refute the miter where all outputs are equal, those of the book; none where an
--- output differs; and where outputs are open the lines that the book derives, in which each log has a line for each unit
--- of the budget
+-- the bytes of a proof's file: the text of lines that refute the miter where all outputs are equal, those of the book; none
+-- where an output differs; and where outputs are open that of the lines that the book derives, in which each log has a line
+-- for each unit of the budget
 abbrev pub IsProofOf : AigPair → Entries → Finding → List ℕ → Type 0
-IsProofOf net book AllEqual bytes = IsProof net bytes × (bytes ≡ refutation_text net book.entries)
+IsProofOf net book AllEqual bytes =
+    IsRefutation net (refutation_of net book.entries) × (bytes ≡ proof_text net (refutation_of net book.entries))
 IsProofOf net book (Apart j input) bytes = bytes ≡ []
 IsProofOf net book Open bytes =
-    IsDerivation net book.entries bytes × All (λ s. s.last + 1 ≡ s.first + book.out_budget) (spans_of net book.entries)
+    IsDerivation net (derivation_of net book.entries)
+    × (bytes ≡ proof_text net (derivation_of net book.entries))
+    × AreSpans net book.entries (spans_of net book.entries)
+    × All (λ s. s.last + 1 ≡ s.first + book.out_budget) (spans_of net book.entries)
 
 -- those bytes are put at the end of the started file, or none where there are none
 pub record PutsProof (net : AigPair) (book : Entries) (finding : Finding) (old new : DeskState) : Type 0 where
   pub proof : List ℕ
   pub is_proof : IsProofOf net book finding proof
-  pub puts : (new ≡ after_write old proof) ⊎ (new ≡ after_put old proof)
+  pub puts : new ≡ after_put old proof
 
 -- the named file is written with such bytes
 pub record WritesProof (net : AigPair) (book : Entries) (finding : Finding) (old new : DeskState) (name : List ℕ) : Type 0 where

@@ -4,7 +4,7 @@ use Rattle.std.specs.List.{flat_map}
 use Rattle.netlist.specs.Net.{AigPair}
 use Rattle.lemma_book.specs.declared.entry.Entry.{Entry}
 use Rattle.lemma_book.specs.declared.entry.Entry.TheVariants.{Out, OutApart, OutSpent}
-use Rattle.proof_stitch.specs.declared.span.Span.{Span}
+use Rattle.proof_stitch.specs.declared.logs.Span.{Span}
 use Rattle.proof_stitch.specs.Derivation.{spans_of}
 use Rattle.cec_top.specs.Finding.{Finding, AllEqual, Apart, Open}
 

@@ -14,5 +14,5 @@ pub(crate) fn means(net: &Net, book: &Book)
     netlist::satisfiable_if_different(net);
     netlist::unsatisfiable_if_equal(net);
     lrat_text::derived_lines();
-    proof_stitch::refutes(net, book);
+    proof_stitch::laws::refutes(net, book);
 }

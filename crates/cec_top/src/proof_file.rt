@@ -72,7 +72,6 @@ fn put_refutation<D: Desk>(
     ensures err { IfErr result (StopsPut (unwrap_or (D.state desk.old).started [] ∷ []) (D.state desk.old) (D.state desk.new)) }
     ensures counts { NoCountFalls (D.state desk.old) (D.state desk.new) }
 {
-    proof_stitch::refutes(net, book);
     match proof_stitch::refutation(alloc, net, book, desk) {
         Ok(_) => Ok(Vec::new(alloc)),
         Err(StitchErr::Write) => Err(Stop::CannotWrite),

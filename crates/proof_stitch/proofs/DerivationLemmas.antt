@@ -8,15 +8,11 @@ use Rattle.netlist.specs.Miter.{miter_of}
 use Rattle.unit_prop.specs.Log.{InTurn}
 use Rattle.unit_prop.proofs.ChainLemmas.{all-append}
 use Rattle.lemma_book.specs.declared.entry.Entry.{Entry}
-use Rattle.desk_port.specs.Desk.{DeskState}
-use Rattle.desk_port.specs.declared.errors.PutErr.{PutErr}
-use Rattle.desk_port.specs.declared.errors.PutErr.TheVariants as not_put
 use Rattle.lrat_text.specs.declared.step.LratStep.{LratStep}
 use Rattle.lrat_text.specs.Writing.{text_from}
 use Rattle.proof_stitch.specs.Steps.{additions_from, additions}
 use Rattle.proof_stitch.specs.Stitch.{out_steps, out_additions}
-use Rattle.proof_stitch.specs.Refused.{refusal_of, Puts}
-use Rattle.proof_stitch.specs.Derivation.{spent_log, outputs_of, derivation_of, spans_from, spans_of, IsDerivation, WritesDerivation}
+use Rattle.proof_stitch.specs.Derivation.{spent_log, outputs_of, derivation_of, spans_from, spans_of, IsDerivation}
 use Rattle.proof_stitch.proofs.GrowLemmas.{Grows, grows-derives, grows-writable}
 use Rattle.proof_stitch.proofs.StepLemmas.{HasMiter, IsDerived, grows-lists}
 use Rattle.proof_stitch.proofs.BookLemmas.{IsSound, IsGoodAfter, legal-sound, total, total-few}
@@ -25,7 +21,7 @@ use Rattle.proof_stitch.proofs.WriterLemmas.{text_from-lists}
 use Rattle.proof_stitch.proofs.LogLemmas.{log-derived, logs-few}
 
 -- lists behind other lists
-additions-append : (net : AigPair) (id : ℕ) (xs ys : List (List Step)) → additions net id (xs ++ ys) ≡ additions net id xs ++ additions net (id + total xs) ys
+pub additions-append : (net : AigPair) (id : ℕ) (xs ys : List (List Step)) → additions net id (xs ++ ys) ≡ additions net id xs ++ additions net (id + total xs) ys
 additions-append net id [] ys = rw (add-zero id) refl
 additions-append net id (steps ∷ xs) ys =
     let shift : id + length steps + total xs ≡ id + (length steps + total xs) = omega arith in
@@ -42,10 +38,10 @@ all-logs : (net : AigPair) (budget : ℕ) (entries : List Entry) (js : List ℕ)
 all-logs net budget entries [] sound = tt
 all-logs net budget entries (j ∷ js) sound = (log-derived net budget entries j sound, all-logs net budget entries js sound)
 
--- the text of a derivation spells it, and it derives
+-- the derivation derives
 pub derivation-derives : (net : AigPair) → IsNet net → (budget : ℕ) (entries : List Entry) → budget ≤ 1000000000
     → InTurn (IsGoodAfter net budget) [] entries → Spelling → length (miter_of net) < 2 ^ 32
-    → IsDerivation net entries (text_from (length (miter_of net)) (derivation_of net entries))
+    → IsDerivation net (derivation_of net entries)
 derivation-derives net is budget entries low legal spelling few = record {
   spells =
       spelling (length (miter_of net)) (derivation_of net entries) (omega arith)
@@ -95,9 +91,3 @@ derivation-text net entries text last text' f g h =
 pub derivation-spans : (net : AigPair) (entries : List Entry) (last : ℕ) → last ≡ length (miter_of net) + length (out_additions net entries)
     → spans_from entries (last + 1) (outputs_of net) ≡ spans_of net entries
 derivation-spans net entries last g = ap (λ (n : ℕ). spans_from entries (n + 1) (outputs_of net)) g
-
--- a derivation that the desk refused
-pub derivation-refused : (net : AigPair) (entries : List Entry) (old new : DeskState) (text : List ℕ) (p : PutErr) → IsDerivation net entries text
-    → Puts old new text (Err p) → WritesDerivation net entries old new (Err (refusal_of p))
-derivation-refused net entries old new text not_put.Failed is puts = (text, puts, is)
-derivation-refused net entries old new text not_put.NoMemory is puts = puts

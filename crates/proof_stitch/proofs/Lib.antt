@@ -10,4 +10,6 @@ pub mod WriterLemmas
 pub mod PlaceLemmas
 pub mod LogLemmas
 pub mod DerivationLemmas
+pub mod SpanLemmas
+pub mod DeskLemmas
 pub mod WorkedRows

@@ -14,7 +14,7 @@ use Rattle.lemma_book.specs.declared.entry.Entry.TheVariants.{Out, OutApart, Out
 use Rattle.lemma_book.specs.Entry.{output_of}
 use Rattle.lrat_text.specs.declared.step.LratStep.{LratStep}
 use Rattle.lrat_text.specs.Writing.{text_from}
-use Rattle.proof_stitch.specs.declared.span.Span.{Span}
+use Rattle.proof_stitch.specs.declared.logs.Span.{Span}
 use Rattle.proof_stitch.specs.Steps.{additions_from, additions}
 use Rattle.proof_stitch.specs.Ids.{HasIds}
 use Rattle.proof_stitch.specs.Derivation.{is_spent, has_spent, log_of, spent_log, outputs_of, span_of, spans_from}

@@ -26,11 +26,7 @@ use Rattle.lrat_text.specs.Writing.{text_from, AreWritable, numbered as lines_fr
 use Rattle.lrat_text.specs.Reading.{SpellsLrat}
 use Rattle.lrat_text.specs.Derivation.{formula_live, adds_empty}
 use Rattle.proof_stitch.specs.Steps.{additions_from, additions}
-use Rattle.proof_stitch.specs.Stitch.{is_out, HasOut, out_steps, unit_id, out_additions, empty_addition, refutation_of, IsRefutation, WritesRefutation}
-use Rattle.proof_stitch.specs.Refused.{refusal_of}
-use Rattle.desk_port.specs.Desk.{DeskState, Writes}
-use Rattle.desk_port.specs.declared.errors.PutErr.{PutErr}
-use Rattle.desk_port.specs.declared.errors.PutErr.TheVariants as not_put
+use Rattle.proof_stitch.specs.Stitch.{is_out, HasOut, out_steps, unit_id, out_additions, empty_addition, refutation_of, IsRefutation}
 use Rattle.proof_stitch.proofs.AxiomLemmas.{there}
 use Rattle.proof_stitch.proofs.GrowLemmas.{Formula, live-is, Grows, grows-derives, grows-writable}
 use Rattle.proof_stitch.proofs.StepLemmas.{clause_of, clauses_in, HasMiter, IsDerived, FitsDimacs, grows-lists}
@@ -157,10 +153,6 @@ pub record IsProved (net : AigPair) (budget : ℕ) (entries : List Entry) : Type
   pub legal : InTurn (IsGoodAfter net budget) [] entries
   pub outs : (j : ℕ) → j < length net.a.outputs → HasOut entries j ≡ true
 
-length-lines_from : (at : ℕ) (steps : List LratStep) → length (lines_from at steps) ≡ length steps
-length-lines_from at [] = refl
-length-lines_from at (s ∷ ss) = ap suc (length-lines_from (at + 1) ss)
-
 ends_empty : (at id : ℕ) (hints : List ℕ) (steps : List LratStep)
     → list_any (λ line. adds_empty line.step) (lines_from at (steps ++ Add id [] hints ∷ [])) ≡ true
 ends_empty at id hints [] = refl
@@ -231,11 +223,9 @@ module _ (net : AigPair) (budget : ℕ) (entries : List Entry) (proved : IsProve
         length-additions net (m + 1) (map out_steps entries),
       )
 
-  -- the text of the proof refutes the miter
-  pub refutation-refutes : Spelling → m < 2 ^ 32
-      → IsRefutation net (text_from m (refutation_of net entries)) (length (refutation_of net entries))
+  -- the proof refutes the miter
+  pub refutation-refutes : Spelling → m < 2 ^ 32 → IsRefutation net (refutation_of net entries)
   refutation-refutes spelling few = record {
-    lines = lines_from 1 (refutation_of net entries);
     spells =
         spelling m (refutation_of net entries) (omega arith)
         (grows-writable (miter_of net) (refutation_of net entries)
@@ -246,11 +236,4 @@ module _ (net : AigPair) (budget : ℕ) (entries : List Entry) (proved : IsProve
           ends_empty 1 (m + length (out_additions net entries) + 1)
           (map (unit_id (m + 1) entries) outputs ++ m ∷ []) (out_additions net entries);
     };
-    count_is = sym (length-lines_from 1 (refutation_of net entries));
   }
-
--- a refutation that the desk refused
-pub refused : (net : AigPair) (old new : DeskState) (text : List ℕ) (count : ℕ) (p : PutErr) → IsRefutation net text count
-    → Writes old new text (Err p) → WritesRefutation net old new (Err (refusal_of p))
-refused net old new text count not_put.Failed is writes = (text, writes, (count, is))
-refused net old new text count not_put.NoMemory is writes = writes

@@ -1,23 +1,21 @@
 -- What a book derives from the miter where queries of some outputs spent their budget: the steps of its Out entries, and
 -- then the logs of those queries.
-use Rattle.std.specs.Prelude.{◌≡◌, ℕ, ◌+◌, ◌-◌, ◌==◌, Bool, false, List, [], ◌∷◌, ◌++◌, length, map, Result, Ok, Err, if◌then◌else◌}
+use Rattle.std.specs.Prelude.{◌≡◌, ℕ, ◌+◌, ◌-◌, ◌==◌, ◌&&◌, nat_le, Bool, false, List, [], ◌∷◌, ◌++◌, length, map, filter, All, if◌then◌else◌}
 use Rattle.std.specs.List.{list_any, range_with_len}
-use Rattle.std.specs.Global.{Vec}
 use Rattle.lits.specs.declared.step.Step.{Step}
 use Rattle.netlist.specs.Net.{AigPair}
 use Rattle.netlist.specs.Miter.{miter_of}
 use Rattle.lrat_text.specs.declared.step.LratStep.{LratStep}
+use Rattle.lrat_text.specs.declared.step.LratStep.TheVariants.{Add, Del}
 use Rattle.lrat_text.specs.Reading.{SpellsLrat}
 use Rattle.lrat_text.specs.Writing.{numbered}
 use Rattle.lrat_text.specs.Derivation.{Derives}
 use Rattle.lemma_book.specs.declared.entry.Entry.{Entry}
 use Rattle.lemma_book.specs.declared.entry.Entry.TheVariants.{Out, OutApart, OutSpent}
-use Rattle.desk_port.specs.Desk.{DeskState, after_write, WriteFault, OfSomePrefix}
-use Rattle.proof_stitch.specs.Steps.{additions}
+use Rattle.proof_stitch.specs.Steps.{additions_from, additions}
+use Rattle.proof_stitch.specs.Text.{proof_text}
 use Rattle.proof_stitch.specs.Stitch.{out_steps, out_additions}
-use Rattle.proof_stitch.specs.declared.span.Span.{Span}
-use Rattle.proof_stitch.specs.declared.stitch_err.StitchErr.{StitchErr}
-use Rattle.proof_stitch.specs.declared.stitch_err.StitchErr.TheVariants.{Write, NoMemory}
+use Rattle.proof_stitch.specs.declared.logs.Span.{Span}
 
 -- the entry says that the output's query spent its budget
 abbrev pub is_spent : ℕ → Entry → Bool
@@ -48,7 +46,32 @@ abbrev pub derivation_of : AigPair → List Entry → List LratStep
 derivation_of net entries =
     additions net (length (miter_of net) + 1) (map out_steps entries ++ map (spent_log entries) (outputs_of net))
 
--- the ids of an output's log that begins under that id, if the output has one
+-- the lines derive from the miter, and their text spells them
+pub record IsDerivation (net : AigPair) (lines : List LratStep) : Type 0 where
+  pub spells : SpellsLrat (length (miter_of net)) (proof_text net lines) (numbered 1 lines)
+  pub derives : Derives (miter_of net) (numbered 1 lines)
+
+-- the id under which a line adds its clause
+abbrev pub id_in : LratStep → ℕ
+id_in (Add id clause hints) = id
+id_in (Del ids) = 0
+
+-- the lines with the ids from p to q
+abbrev pub with_ids : ℕ → ℕ → List LratStep → List LratStep
+with_ids p q lines = filter (λ l. nat_le p (id_in l) && nat_le (id_in l) q) lines
+
+-- the derivation's lines with the span's ids are the log of the output's query, a line for each of its steps
+pub record IsSpan (net : AigPair) (entries : List Entry) (span : Span) : Type 0 where
+  pub lines : with_ids span.first span.last (derivation_of net entries)
+      ≡ additions_from net span.first span.first (spent_log entries span.output)
+  pub count : span.last + 1 ≡ span.first + length (spent_log entries span.output)
+
+-- one span for each output whose query spent its budget, in the order of outputs
+pub record AreSpans (net : AigPair) (entries : List Entry) (spans : List Span) : Type 0 where
+  pub outputs : map (λ s. s.output) spans ≡ filter (has_spent entries) (outputs_of net)
+  pub each : All (IsSpan net entries) spans
+
+-- the span of an output's log that begins under that id, if the output has one
 abbrev pub span_of : List Entry → ℕ → ℕ → List Span
 span_of entries id j =
     if has_spent entries j then record { output = j; first = id; last = id + length (spent_log entries j) - 1 } ∷ [] else []
@@ -58,25 +81,7 @@ abbrev pub spans_from : List Entry → ℕ → List ℕ → List Span
 spans_from entries id [] = []
 spans_from entries id (j ∷ js) = span_of entries id j ++ spans_from entries (id + length (spent_log entries j)) js
 
--- those of a book's derivation
+-- those of a book's derivation, computed: they are its spans (`laws::derives`)
 abbrev pub spans_of : AigPair → List Entry → List Span
 spans_of net entries =
     spans_from entries (length (miter_of net) + length (out_additions net entries) + 1) (outputs_of net)
-
--- the text spells the derivation, and it derives from the miter
-pub record IsDerivation (net : AigPair) (entries : List Entry) (proof : List ℕ) : Type 0 where
-  pub spells : SpellsLrat (length (miter_of net)) proof (numbered 1 (derivation_of net entries))
-  pub derives : Derives (miter_of net) (numbered 1 (derivation_of net entries))
-
--- the desk after the bytes were put at the end of the started file; no bytes make no write
-abbrev pub after_put : DeskState → List ℕ → DeskState
-after_put s [] = s
-after_put s (b ∷ bs) = after_write s (b ∷ bs)
-
--- What the call makes of the desk, as where it refutes; the spans are the ids of the logs.
-abbrev pub WritesDerivation : AigPair → List Entry → DeskState → DeskState → Result (Vec Span) StitchErr → Type 0
-WritesDerivation net entries old new (Ok spans) =
-    (proof : List ℕ) × IsDerivation net entries proof × (new ≡ after_put old proof) × (spans.items ≡ spans_of net entries)
-WritesDerivation net entries old new (Err Write) =
-    (proof : List ℕ) × OfSomePrefix proof (λ part. WriteFault (after_write old part) new) × IsDerivation net entries proof
-WritesDerivation net entries old new (Err NoMemory) = new ≡ old

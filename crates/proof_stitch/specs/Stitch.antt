@@ -1,20 +1,18 @@
 -- The proof that a book refutes the miter, where it shows of every output that both circuits give it one value.
-use Rattle.std.specs.Prelude.{◌≡◌, ℕ, ◌+◌, ◌-◌, ◌==◌, Bool, false, List, [], ◌∷◌, ◌++◌, length, map, Result, Ok, Err, if◌then◌else◌}
+use Rattle.std.specs.Prelude.{ℕ, ◌+◌, ◌-◌, ◌==◌, Bool, false, List, [], ◌∷◌, ◌++◌, length, map, if◌then◌else◌}
 use Rattle.std.specs.List.{list_any, range_with_len}
 use Rattle.lits.specs.declared.step.Step.{Step}
 use Rattle.netlist.specs.Net.{AigPair}
 use Rattle.netlist.specs.Miter.{miter_of}
-use Rattle.lrat_text.specs.declared.step.Line.{Line}
 use Rattle.lrat_text.specs.declared.step.LratStep.{LratStep}
 use Rattle.lrat_text.specs.declared.step.LratStep.TheVariants.{Add}
 use Rattle.lrat_text.specs.Reading.{SpellsLrat}
+use Rattle.lrat_text.specs.Writing.{numbered}
 use Rattle.lrat_text.specs.Derivation.{Refutes}
 use Rattle.lemma_book.specs.declared.entry.Entry.{Entry}
 use Rattle.lemma_book.specs.declared.entry.Entry.TheVariants.{Out, OutApart, OutSpent}
-use Rattle.desk_port.specs.Desk.{DeskState, after_write, WriteFault, OfSomePrefix}
 use Rattle.proof_stitch.specs.Steps.{additions}
-use Rattle.proof_stitch.specs.declared.stitch_err.StitchErr.{StitchErr}
-use Rattle.proof_stitch.specs.declared.stitch_err.StitchErr.TheVariants.{Write, NoMemory}
+use Rattle.proof_stitch.specs.Text.{proof_text}
 
 -- the entry shows that the output is equal
 abbrev pub is_out : ℕ → Entry → Bool
@@ -55,17 +53,7 @@ refutation_of net entries =
     let outs = out_additions net entries in
     outs ++ empty_addition net entries (length (miter_of net) + length outs + 1) ∷ []
 
--- the text spells lines that refute the miter, as many as the count says
-pub record IsRefutation (net : AigPair) (proof : List ℕ) (count : ℕ) : Type 0 where
-  pub lines : List Line
-  pub spells : SpellsLrat (length (miter_of net)) proof lines
-  pub refutes : Refutes (miter_of net) lines
-  pub count_is : count ≡ length lines
-
--- What the call makes of the desk: the whole proof in one write; where that failed, a first part of such a proof; and
--- nothing where memory was refused.
-abbrev pub WritesRefutation : AigPair → DeskState → DeskState → Result ℕ StitchErr → Type 0
-WritesRefutation net old new (Ok n) = (proof : List ℕ) × IsRefutation net proof n × (new ≡ after_write old proof)
-WritesRefutation net old new (Err Write) =
-    (proof : List ℕ) × OfSomePrefix proof (λ part. WriteFault (after_write old part) new) × ((n : ℕ) × IsRefutation net proof n)
-WritesRefutation net old new (Err NoMemory) = new ≡ old
+-- the lines refute the miter, and their text spells them
+pub record IsRefutation (net : AigPair) (lines : List LratStep) : Type 0 where
+  pub spells : SpellsLrat (length (miter_of net)) (proof_text net lines) (numbered 1 lines)
+  pub refutes : Refutes (miter_of net) (numbered 1 lines)

@@ -6,23 +6,23 @@
 //! `derivation` writes what there is of those and then the logs of the queries that spent their budgets. The crate
 //! promises which lines the text spells, and that they refute the miter, or derive from it.
 //!
-//! Definitions: `specs/Steps.antt` (the additions that lists of steps make), `specs/Stitch.antt` (the refutation),
-//! `specs/Derivation.antt` (the derivation and its spans). Begin to read at `refuted.rt`.
+//! Definitions: `specs/Steps.antt` (the additions that lists of steps make), `specs/Text.antt` (the text of lines, and
+//! what becomes of the desk), `specs/Stitch.antt` (the refutation), `specs/Derivation.antt` (the derivation and its
+//! spans); `specs/Ids.antt` and `specs/Places.antt` say what parts of the code need. Begin to read at
+//! `write_refutation.rt`.
 #![tactic(auto)]
 
-pub use derived::derivation;
-pub use law::refutes;
-pub use refuted::refutation;
-pub use span::Span;
+pub use logs::Span;
 pub use stitch_err::StitchErr;
+pub use write_derivation::derivation;
+pub use write_refutation::refutation;
 
 mod addition;
-mod derived;
-mod law;
+pub mod laws;
 mod logs;
 mod outs;
 mod places;
 mod proof_text;
-mod refuted;
-mod span;
 mod stitch_err;
+mod write_derivation;
+mod write_refutation;

@@ -10,10 +10,17 @@ ghost use Rattle.proof_stitch.specs.Places.{IsPlace};
 
 use crate::places::spent_places;
 use crate::proof_text::ProofText;
-use crate::span::Span;
 use lemma_book::{Book, Entry};
 use netlist::Net;
 use std::alloc::{AllocError, Global};
+
+/// The lines of a derivation that are an output's log: the ids of its first and last clause.
+#[derive(Clone, Copy, Debug, PartialEq, Eq)]
+pub struct Span {
+    pub output: u32,
+    pub first: u64,
+    pub last: u64,
+}
 
 /// Adds the logs of a book's OutSpent entries, in order of outputs, and gives their ids.
 pub fn push_logs(

@@ -1,9 +1,12 @@
-ghost use Rattle.std.specs.Prelude.{◌≡◌, ◌+◌, ◌<◌, ◌^◌, [], ◌++◌, All, OnOk, length};
+ghost use Rattle.std.specs.Prelude.{◌≡◌, ◌+◌, ◌<◌, ◌^◌, [], ◌++◌, All, IsSome, OnOk, length};
 ghost use Rattle.lrat_text.specs.Writing.{line_text, text_from};
 ghost use Rattle.proof_stitch.specs.Steps.{addition, additions_from};
 ghost use Rattle.proof_stitch.specs.Ids.{HasIds};
+ghost use Rattle.proof_stitch.specs.Text.{Stitches};
 
 use crate::addition::addition;
+use crate::stitch_err::StitchErr;
+use desk_port::Desk;
 use lits::Step;
 use lrat_text::{LratStep, push_line};
 use netlist::Net;
@@ -36,6 +39,19 @@ impl ProofText {
     {
         push_line(&mut self.text, self.last, addition)?;
         self.last += 1;
+        Ok(())
+    }
+
+    /// Puts the text into the started file in one write, or in none where there is no text.
+    pub fn write<D: Desk>(&self, desk: &mut D) -> Result<(), StitchErr>
+        requires { IsSome (D.state desk.old).started }
+        ensures { Stitches self.now.text.items (D.state desk.old) (D.state desk.new) result }
+    {
+        let text = self.text.as_slice();
+        if text.is_empty() {
+            return Ok(());
+        }
+        desk.write(text)?;
         Ok(())
     }
 

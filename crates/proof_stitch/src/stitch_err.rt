@@ -22,7 +22,7 @@ impl From<AllocError> for StitchErr {
 
 impl From<PutErr> for StitchErr {
     ghost use Rattle.std.specs.Prelude.{◌≡◌};
-    ghost use Rattle.proof_stitch.specs.Refused.{refusal_of};
+    ghost use Rattle.proof_stitch.specs.Text.{refusal_of};
 
     ghost from_gives = { λ p e. e ≡ refusal_of p };
 

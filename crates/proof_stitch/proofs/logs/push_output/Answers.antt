@@ -1,7 +1,7 @@
 use Rattle.std.proofs.Common.{◌≡◌, ◌<◌, ◌+◌, ◌^◌, ◌++◌, List, length, All, OnOk, add-zero, append-nil, sym, subst}
 use Rattle.lits.specs.declared.step.Step.{Step}
 use Rattle.lrat_text.specs.Writing.{text_from}
-use Rattle.proof_stitch.specs.declared.span.Span.{Span}
+use Rattle.proof_stitch.specs.declared.logs.Span.{Span}
 use Rattle.proof_stitch.specs.Steps.{additions_from}
 use Rattle.proof_stitch.specs.Ids.{HasIds}
 use Rattle.proof_stitch.proofs.LogLemmas.{found-log, found-none, span_of-found}

@@ -1,7 +1,7 @@
 use Rattle.std.proofs.Common.{◌<◌, ◌^◌, length, arith}
 use Rattle.netlist.specs.Miter.{miter_of}
 use Rattle.proof_stitch.proofs.RefutationLemmas.{IsProved, refutation-refutes}
-use Rattle.proof_stitch.proofs.law.refutes.Goals as goal
+use Rattle.proof_stitch.proofs.laws.refutes.Goals as goal
 
 pub returns : goal.returns
 returns c = λ outs.

@@ -5,11 +5,10 @@ use Rattle.lrat_text.specs.Writing.{text_from, line_text}
 use Rattle.lrat_text.specs.declared.step.LratStep.TheVariants.{Add}
 use Rattle.proof_stitch.specs.Stitch.{unit_id, out_additions, empty_addition, refutation_of}
 use Rattle.proof_stitch.proofs.WriterLemmas.{whole-text}
-use Rattle.proof_stitch.proofs.RefutationLemmas.{IsProved, refutation-refutes}
-use Rattle.proof_stitch.proofs.refuted.whole_proof.Goals as goal
+use Rattle.proof_stitch.proofs.write_refutation.whole_proof.Goals as goal
 
-text_is : goal.returns-clause-text
-text_is c =
+pub returns-clause-text : goal.returns-clause-text
+returns-clause-text c =
     let m = length (miter_of c.args.net.now) in
     let entries = c.args.book.now.entries in
     let clauses : c.from-clauses.result ≡ m = c.from-clauses.ensures ∙ c.clauses.ensures in
@@ -27,27 +26,15 @@ text_is c =
     whole-text c.args.net.now entries c.push_outs.new.proof.text.items c.push_outs.new.proof.last c.of-2.result c.push-2.new.self.text.items
     text last hints line
 
-pub returns-clause-text : goal.returns-clause-text
-returns-clause-text c = text_is c
-
-pub returns-clause-refutes : goal.returns-clause-refutes
-returns-clause-refutes c =
+pub returns-clause-last : goal.returns-clause-last
+returns-clause-last c =
     let m = length (miter_of c.args.net.now) in
     let entries = c.args.book.now.entries in
-    let proved : IsProved c.args.net.now c.args.book.now.out_budget entries = record {
-      is_net = c.known.ensures;
-      few = omega (arith, c.out_budget.ensures.budget, c.out_budget.ensures.range);
-      legal = c.requires.legal;
-      outs = c.requires.outs;
-    } in
-    let few : m < 2 ^ 32 = omega (arith, c.clauses.ensures) in
     let start : c.new-proof.result.last ≡ m = c.new-proof.ensures.last ∙ c.from-clauses.ensures ∙ c.clauses.ensures in
     let last : c.push_outs.new.proof.last ≡ m + length (out_additions c.args.net.now entries) = c.in_ok-hints.ensures.last ∙ rw start refl in
-    let count : c.push-2.new.self.last - m ≡ length (refutation_of c.args.net.now entries) =
     omega (
       arith,
       last,
       c.in_ok-push-2.ensures.last,
       length-append (out_additions c.args.net.now entries) (empty_addition c.args.net.now entries (m + length (out_additions c.args.net.now entries) + 1) ∷ []),
-    ) in
-    rw (text_is c, count) (refutation-refutes c.args.net.now c.args.book.now.out_budget entries proved c.written_text.ensures.all few)
+    )
