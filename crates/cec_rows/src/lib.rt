@@ -10,3 +10,5 @@ mod desk;
 mod proofs;
 #[cfg(test)]
 mod readers;
+#[cfg(test)]
+mod shapes;

@@ -1,6 +1,6 @@
 -- What a solver's answer over the cone of an output's XOR shows of the output.
-use Rattle.std.proofs.Common.{◌≡◌, ℕ, ◌+◌, ◌<◌, Bool, true, false, not, ◌||◌, List, [], ◌∷◌, ◌++◌, length, refl, sym, ap, ◌∙◌, subst, arith, length-append}
-use Rattle.std.specs.Prelude.{if◌then◌else◌}
+use Rattle.std.proofs.Common.{◌≡◌, ℕ, ◌+◌, ◌<◌, Bool, true, false, not, ◌||◌, List, [], ◌∷◌, ◌++◌, length, Result, Ok, Err, refl, sym, ap, ◌∙◌, subst, arith, length-append}
+use Rattle.std.specs.Prelude.{IfOk, if◌then◌else◌}
 use Rattle.std.specs.Option.{IsSome}
 use Rattle.std.specs.List.{list_any}
 use Rattle.std.proofs.lemmas.Bool.{and_parts}
@@ -34,7 +34,14 @@ use Rattle.lemma_book.proofs.FaninLemmas.{closed-fanins, closed-outputs}
 use Rattle.lemma_book.proofs.MeetLemmas.{cone-meets, cone-occurs, xor-occurs}
 use Rattle.lemma_book.proofs.LogLemmas.{cone-step, log-chain, log-over, over-there}
 use Rattle.cone_query.specs.Input.{input_from}
+use Rattle.cone_query.specs.Query.{AreFalseOutside}
 use Rattle.cone_query.proofs.InputLemmas.{length-input_from, input_from-at}
+use Rattle.cone_query.proofs.OutsideLemmas.{false-outside}
+
+-- what holds of the value that an answer has holds of the answer
+pub if_ok-same : {T E : Type 0} (P : T → Type 0) (x : T) (r : Result T E) → IfOk r (λ e. e ≡ x) → P x → IfOk r P
+if_ok-same P x (Ok t) same p = subst P (sym same) p
+if_ok-same P x (Err e) same p = tt
 
 -- a list without a complementary pair has no literal beside its negation
 apart-literal : (ls : List Lit) (q : Lit) → has_pair same_lit opposite ls ≡ false → has same_lit ls q ≡ true → has same_lit ls (opposite q) ≡ false
@@ -225,12 +232,19 @@ module _ (net : AigPair) (book : Entries) (j : ℕ) (cone base : List Named) (ta
         (model-apart net asked.net_is j asked.below cone asked.is_cone model (answered grown left result (No model) answers is).answer.1);
   }
 
-  pub out_spent-good : (grown : List Step) (left : ℕ) (result : Refuted) (seen : ℕ) (kept : List Step) → Answers base target log budget grown left result
-      → result ≡ Spent → seen ≡ length book.entries → kept ≡ grown → IsGood net book (OutSpent j seen kept)
-  out_spent-good grown left result seen kept answers is whole same = record {
+  pub apart-outside : (grown : List Step) (left : ℕ) (result : Refuted) (model : List Lit) (input : List Bool) → Answers base target log budget grown left result
+      → result ≡ No model → input ≡ input_from net model → AreFalseOutside net j input
+  apart-outside grown left result model input answers is made = subst (AreFalseOutside net j) (sym made) (record {
+    reached = asked.is_cone.reached;
+    reach = asked.is_cone.reach;
+    outside = false-outside net (Xor j ∷ []) cone asked.is_cone model (answered grown left result (No model) answers is).answer.1.within;
+  })
+
+  pub out_spent-good : (grown : List Step) (left : ℕ) (result : Refuted) (kept : List Step) → Answers base target log budget grown left result
+      → result ≡ Spent → kept ≡ grown → IsGood net book (OutSpent j (length book.entries) kept)
+  out_spent-good grown left result kept answers is same = record {
     output = asked.below;
     unsettled = asked.unsettled;
-    shown = subst (λ (n : ℕ). IsGoodSpent net book.out_budget (length book.entries) j n kept) (sym whole)
-        (subst (IsGoodSpent net book.out_budget (length book.entries) j (length book.entries)) (sym same)
-        (spent-good net asked.net_is j asked.below cone asked.is_cone book.out_budget left grown (length book.entries) (answered grown left result Spent answers is)));
+    shown = subst (IsGoodSpent net book.out_budget (length book.entries) j (length book.entries)) (sym same)
+        (spent-good net asked.net_is j asked.below cone asked.is_cone book.out_budget left grown (length book.entries) (answered grown left result Spent answers is));
   }

@@ -1,11 +1,12 @@
 ghost use Rattle.std.specs.Prelude.{◌≡◌, ◌<◌, false, length, IfOk};
 ghost use Rattle.lemma_book.specs.Book.{IsLegal};
 ghost use Rattle.lemma_book.specs.Entry.{has_output, output_of, IsGood};
+ghost use Rattle.cone_query.specs.Query.{SeesAll, IsFalseOutside};
 
 use crate::copies::{copied, one_more, unit};
 use crate::input::input_of;
 use lemma_book::{Book, Entry, cone};
-use lits::{Listed, Lit, Literal, Node};
+use lits::{Listed, Lit, Literal, Node, Step};
 use netlist::Net;
 use std::alloc::{AllocError, Global};
 use unit_prop::{Refuted, Refuter};
@@ -24,6 +25,8 @@ pub fn output<R: Refuter + Send>(
     requires unsettled { has_output seen.now.entries j ≡ false }
     ensures about { IfOk result (λ e. output_of e ≡ j) }
     ensures good { IfOk result (λ e. IsGood net.now seen.now e) }
+    ensures seen { IfOk result (SeesAll seen.now) }
+    ensures outside { IfOk result (IsFalseOutside net.now) }
 {
     net.known();
     let differs = Lit {
@@ -43,13 +46,18 @@ pub fn output<R: Refuter + Send>(
             let input = input_of(alloc, net, model.as_slice())?;
             Ok(Entry::OutApart { output: j, input })
         }
-        Refuted::Spent => {
-            let log = copied(alloc, refuter.log())?;
-            Ok(Entry::OutSpent {
-                output: j,
-                seen: seen.entries().len() as u64,
-                log: Listed::of(log),
-            })
-        }
+        Refuted::Spent => spent(alloc, seen, j, refuter.log()),
     }
+}
+
+/// The entry of a query that spent its budget for these steps, over the whole book.
+fn spent(alloc: Global, seen: &Book, j: u32, log: &[Step]) -> Result<Entry, AllocError>
+    ensures { IfOk result (λ e. e ≡ Entry.OutSpent j (length seen.now.entries) log.now) }
+{
+    let log = copied(alloc, log)?;
+    Ok(Entry::OutSpent {
+        output: j,
+        seen: seen.entries().len() as u64,
+        log: Listed::of(log),
+    })
 }

@@ -65,7 +65,7 @@ module _ (P : Node → Type 0) where
       go false e rest = rest (sym (ap (λ (b : Bool). b || has same_lit ls q) e) ∙ h)
 
   -- a literal whose variable occurs in clauses is over what they are over
-  occurs-over : (cs : List (List Lit)) (q : Lit) → AllOver cs → occurs same_lit opposite cs q ≡ true → P q.node
+  pub occurs-over : (cs : List (List Lit)) (q : Lit) → AllOver cs → occurs same_lit opposite cs q ≡ true → P q.node
   occurs-over [] q all h = cc
   occurs-over (c ∷ cs) q all h = go (has same_lit c q) (has same_lit c (opposite q)) refl refl (occurs-over cs q all.1)
     where

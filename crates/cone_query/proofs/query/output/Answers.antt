@@ -5,9 +5,11 @@ use Rattle.lits.specs.declared.literal.Lit.{Lit}
 use Rattle.lits.specs.declared.step.Step.{Step}
 use Rattle.unit_prop.specs.Log.{IsBase}
 use Rattle.lemma_book.specs.Cone.{AreThere}
+use Rattle.lemma_book.specs.Entry.{IsGood}
+use Rattle.lemma_book.specs.declared.entry.Entry.TheVariants.{OutSpent}
 use Rattle.lemma_book.proofs.ConeLemmas.{cone-base}
 use Rattle.cone_query.specs.Input.{input_from}
-use Rattle.cone_query.proofs.QueryLemmas.{xor-variable, asked-target, out-good, model-known, apart-good, out_spent-good}
+use Rattle.cone_query.proofs.QueryLemmas.{if_ok-same, xor-variable, asked-target, out-good, model-known, apart-good, apart-outside, out_spent-good}
 use Rattle.cone_query.proofs.query.output.Goals as goal
 
 pub cone-requires : goal.cone-requires
@@ -85,9 +87,9 @@ returns-in-No-clause-good g c =
     c.in_ok-hints.ensures.answer c.in-No.is
     (c.in_ok-input-in-No.ensures ∙ ap (input_from c.args.net.now) c.as_slice-in-No.ensures)
 
-pub returns-clause-good : goal.returns-clause-good
-returns-clause-good g c =
-    out_spent-good c.args.net.now c.args.seen.now c.args.j c.in_ok-base.base.items (g.R.Refuter.base_of c.start.new.self) c.in_ok-equal.equal
+pub returns-in-No-clause-outside : goal.returns-in-No-clause-outside
+returns-in-No-clause-outside g c =
+    apart-outside c.args.net.now c.args.seen.now c.args.j c.in_ok-base.base.items (g.R.Refuter.base_of c.start.new.self) c.in_ok-equal.equal
     (g.R.Refuter.log_of c.start.new.self) c.out_budget-left.result
     (record {
       net_is = c.known.ensures;
@@ -99,6 +101,24 @@ returns-clause-good g c =
       log_is = c.in_ok-start.ensures.empty;
       budget_is = c.out_budget-left.ensures.budget;
     })
-    (g.R.Refuter.log_of c.refute.new.self) c.refute.new.left c.in_ok-hints.field-0 (length c.entries.result.now) c.of.result
-    c.in_ok-hints.ensures.answer c.in-Spent.is (ap length c.entries.ensures)
-    (c.of.ensures ∙ c.in_ok-log-in-Spent.ensures ∙ c.log-in-Spent.ensures)
+    (g.R.Refuter.log_of c.refute.new.self) c.refute.new.left c.in_ok-hints.field-0 c.in-No.model c.in_ok-input-in-No.input
+    c.in_ok-hints.ensures.answer c.in-No.is
+    (c.in_ok-input-in-No.ensures ∙ ap (input_from c.args.net.now) c.as_slice-in-No.ensures)
+
+pub returns-clause-good : goal.returns-clause-good
+returns-clause-good g c =
+    if_ok-same (IsGood c.args.net.now c.args.seen.now) (OutSpent c.args.j (length c.args.seen.now.entries) c.log-in-Spent.result.now) c.spent.result c.spent.ensures
+    (out_spent-good c.args.net.now c.args.seen.now c.args.j c.in_ok-base.base.items (g.R.Refuter.base_of c.start.new.self) c.in_ok-equal.equal
+    (g.R.Refuter.log_of c.start.new.self) c.out_budget-left.result
+    (record {
+      net_is = c.known.ensures;
+      below = c.requires.output;
+      unsettled = c.requires.unsettled;
+      is_cone = c.in_ok-base.ensures;
+      base_is = c.in_ok-start.ensures.base ∙ c.as_slice.ensures.value;
+      target_is = c.in_ok-equal.ensures ∙ ap (λ (l : Lit). l ∷ []) c.not.ensures;
+      log_is = c.in_ok-start.ensures.empty;
+      budget_is = c.out_budget-left.ensures.budget;
+    })
+    (g.R.Refuter.log_of c.refute.new.self) c.refute.new.left c.in_ok-hints.field-0 c.log-in-Spent.result.now
+    c.in_ok-hints.ensures.answer c.in-Spent.is c.log-in-Spent.ensures)
