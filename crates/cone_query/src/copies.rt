@@ -7,11 +7,7 @@ use std::alloc::{AllocError, Global};
 pub(crate) fn unit(alloc: Global, lit: Lit) -> Result<Clause<Lit>, AllocError>
     ensures { IfOk result (λ c. c ≡ lit ∷ []) }
 {
-    match Clause::of(alloc, &[lit]) {
-        Ok(clause) => Ok(clause),
-        // Only memory can be wanting, since one literal makes no complementary pair.
-        Err(_) => Err(AllocError),
-    }
+    Clause::from_slice(alloc, &[lit])
 }
 
 /// The same steps once more.

@@ -7,7 +7,7 @@ use crate::copies::{copied, one_more, unit};
 use crate::input::input_of;
 use lemma_book::{Book, Entry, cone};
 use lits::{Listed, Lit, Literal, Node, Step};
-use netlist::Net;
+use netlist::{Net, laws};
 use std::alloc::{AllocError, Global};
 use unit_prop::{Refuted, Refuter};
 
@@ -28,7 +28,7 @@ pub fn output<R: Refuter + Send>(
     ensures seen { IfOk result (SeesAll seen.now) }
     ensures outside { IfOk result (IsFalseOutside net.now) }
 {
-    net.known();
+    laws::is_net(net);
     let differs = Lit {
         node: Node::Xor(j),
         neg: false,

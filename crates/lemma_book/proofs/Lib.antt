@@ -7,5 +7,6 @@ pub mod AxiomLemmas
 pub mod WalkLemmas
 pub mod ReachLemmas
 pub mod FaultLemmas
+pub mod FaultlessLemmas
 pub mod LogLemmas
 pub mod MeetLemmas

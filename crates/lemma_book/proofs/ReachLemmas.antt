@@ -1,5 +1,5 @@
 -- A walk that goes on until nothing is left to be visited finds what its seeds reach.
-use Rattle.std.proofs.Common.{◌≡◌, ℕ, ◌+◌, ◌-◌, ◌<◌, ◌≤◌, Bool, true, false, not, ◌&&◌, ◌||◌, Option, Some, None, List, [], ◌∷◌, ◌++◌, length, flat_map, refl, sym, ap, ◌∙◌, subst, arith, length-append}
+use Rattle.std.proofs.Common.{◌≡◌, ℕ, ◌+◌, ◌-◌, ◌<◌, ◌≤◌, Bool, true, false, not, ◌&&◌, ◌||◌, Option, Some, None, List, [], ◌∷◌, ◌++◌, length, refl, sym, ap, ◌∙◌, subst, arith, length-append}
 use Rattle.std.specs.Option.{is_some, IsSome}
 use Rattle.std.specs.Map.{keys_of, values_of}
 use Rattle.std.specs.List.{All, AllByRecursion}
@@ -10,43 +10,16 @@ use Rattle.std.proofs.lemmas.Map.Entries.{length-keys_of}
 use Rattle.std.proofs.lemmas.Option.{none-some, same_Some}
 use Rattle.lits.specs.Clause.{has}
 use Rattle.lits.specs.declared.node.Node.{Node}
-use Rattle.lits.specs.declared.literal.Lit.{Lit}
 use Rattle.netlist.specs.Place.{place_of}
-use Rattle.netlist.specs.Net.{AigPair, IsNet}
+use Rattle.netlist.specs.Net.{AigPair}
 use Rattle.lits.specs.Same.{same_node}
-use Rattle.netlist.specs.Miter.{axioms_of, variables_of, variable_of}
+use Rattle.netlist.specs.Miter.{variables_of, variable_of}
 use Rattle.netlist.proofs.LawNodes.{at-place, exact-node, same-node_self}
-use Rattle.netlist.proofs.LawOver.{AreOver, all-members}
+use Rattle.netlist.proofs.LawOver.{all-members}
 use Rattle.lemma_book.specs.declared.walk.Walk.{Walk}
-use Rattle.lemma_book.specs.Cone.{nodes_in, AreIn, IsClosed, IsReach}
-use Rattle.lemma_book.specs.Walk.{AreNumbered, is_found, is_pending, nodes_named, IsWalk, Finds}
+use Rattle.lemma_book.specs.Cone.{fanins_of, AreIn, IsClosed, IsReach}
+use Rattle.lemma_book.specs.Walk.{AreNumbered, is_found, is_pending, IsWalk, Finds}
 use Rattle.lemma_book.proofs.RepeatLemmas.{contrary, or_none, or_left, or_right}
-use Rattle.lemma_book.proofs.FaninLemmas.{closed-over, fanins_from_over}
-
--- clauses whose nodes are in a set are over it, and the other way round
-over_from_in : (p : Node → Bool) (cs : List (List Lit)) → AreIn p (flat_map nodes_in cs) → AreOver p cs
-over_from_in p [] all = tt
-over_from_in p (c ∷ cs) all = let r = parts c all in (r.0, over_from_in p cs r.1)
-  where
-    parts : (ls : List Lit) → AreIn p (nodes_in ls ++ flat_map nodes_in cs)
-        → AllByRecursion (λ l. p l.node ≡ true) ls × AreIn p (flat_map nodes_in cs)
-    parts [] all = (tt, all)
-    parts (l ∷ ls) all = let r = parts ls all.1 in ((all.0, r.0), r.1)
-
-in_from_over : (p : Node → Bool) (cs : List (List Lit)) (n : Node) → AreOver p cs → has same_node (flat_map nodes_in cs) n ≡ true → p n ≡ true
-in_from_over p [] n over h = cc
-in_from_over p (c ∷ cs) n over h = parts c over.0 h (in_from_over p cs n over.1)
-  where
-    parts : (ls : List Lit) → AllByRecursion (λ l. p l.node ≡ true) ls → has same_node (nodes_in ls ++ flat_map nodes_in cs) n ≡ true
-        → (has same_node (flat_map nodes_in cs) n ≡ true → p n ≡ true) → p n ≡ true
-    parts [] all h rest = rest h
-    parts (l ∷ ls) all h rest = go (same_node l.node n) refl (parts ls all.1)
-      where
-        go : (b : Bool) → same_node l.node n ≡ b
-            → (has same_node (nodes_in ls ++ flat_map nodes_in cs) n ≡ true → (has same_node (flat_map nodes_in cs) n ≡ true → p n ≡ true) → p n ≡ true)
-            → p n ≡ true
-        go true e more = subst (λ (m : Node). p m ≡ true) (exact-node l.node n e) all.0
-        go false e more = more (sym (ap (λ (b : Bool). b || has same_node (nodes_in ls ++ flat_map nodes_in cs) n) e) ∙ h) rest
 
 -- what a walk underway keeps
 pub record IsUnderway (net : AigPair) (seeds : List Node) (w : Walk) : Type 0 where
@@ -54,7 +27,7 @@ pub record IsUnderway (net : AigPair) (seeds : List Node) (w : Walk) : Type 0 wh
   pub starts : AreIn (is_found w) seeds
   pub known : (n : Node) → is_pending w n ≡ true → is_found w n ≡ true
   pub within : (set : Node → Bool) → IsClosed net seeds set → (n : Node) → is_found w n ≡ true → set n ≡ true
-  pub visited : (n : Node) → is_found w n ≡ true → is_pending w n ≡ false → AreIn (is_found w) (nodes_named net n)
+  pub visited : (n : Node) → is_found w n ≡ true → is_pending w n ≡ false → AreIn (is_found w) (fanins_of net n)
 
 in_seeds : (set : Node → Bool) (xs : List Node) (n : Node) → AreIn set xs → has same_node xs n ≡ true → set n ≡ true
 in_seeds set [] n all h = cc
@@ -102,7 +75,7 @@ module _ (net : AigPair) (seeds : List Node) where
 
   -- a node is visited: those that its clauses name are found
   pub underway-visit : (w mid new : Walk) (node : Node) → IsUnderway net seeds w → w.pending.items ≡ mid.pending.items ++ node ∷ [] → mid.found.entries ≡ w.found.entries
-      → Finds net mid (nodes_named net node) new → IsUnderway net seeds new
+      → Finds net mid (fanins_of net node) new → IsUnderway net seeds new
   underway-visit w mid new node u popped same finds = record {
     walk = finds.walk;
     starts = more seeds u.starts;
@@ -114,11 +87,11 @@ module _ (net : AigPair) (seeds : List Node) where
       same_found : (n : Node) → is_found mid n ≡ is_found w n
       same_found n = ap (λ (l : List (ℕ × Node)). has same_node (values_of l) n) same
 
-      found : (n : Node) → is_found new n ≡ (is_found w n || has same_node (nodes_named net node) n)
-      found n = finds.found n ∙ ap (λ (b : Bool). b || has same_node (nodes_named net node) n) (same_found n)
+      found : (n : Node) → is_found new n ≡ (is_found w n || has same_node (fanins_of net node) n)
+      found n = finds.found n ∙ ap (λ (b : Bool). b || has same_node (fanins_of net node) n) (same_found n)
 
       stays : (n : Node) → is_found w n ≡ true → is_found new n ≡ true
-      stays n h = found n ∙ or_left (is_found w n) (has same_node (nodes_named net node) n) h
+      stays n h = found n ∙ or_left (is_found w n) (has same_node (fanins_of net node) n) h
 
       more : (ns : List Node) → AreIn (is_found w) ns → AreIn (is_found new) ns
       more [] all = tt
@@ -132,46 +105,45 @@ module _ (net : AigPair) (seeds : List Node) where
           u.known node (pending node ∙ or_right (is_pending mid node) (same_node node node || false) (or_left (same_node node node) false (same-node_self node)))
 
       known : (n : Node) → is_pending new n ≡ true → is_found new n ≡ true
-      known n h = go (is_pending mid n) (has same_node (nodes_named net node) n) refl refl (sym (finds.pending n) ∙ h)
+      known n h = go (is_pending mid n) (has same_node (fanins_of net node) n) refl refl (sym (finds.pending n) ∙ h)
         where
-          go : (a b : Bool) → is_pending mid n ≡ a → has same_node (nodes_named net node) n ≡ b → (is_pending mid n || (has same_node (nodes_named net node) n && not (is_found mid n))) ≡ true
+          go : (a b : Bool) → is_pending mid n ≡ a → has same_node (fanins_of net node) n ≡ b → (is_pending mid n || (has same_node (fanins_of net node) n && not (is_found mid n))) ≡ true
               → is_found new n ≡ true
           go true b e f g = stays n (u.known n (pending n ∙ or_left (is_pending mid n) (same_node node n || false) e))
-          go false true e f g = found n ∙ or_right (is_found w n) (has same_node (nodes_named net node) n) f
+          go false true e f g = found n ∙ or_right (is_found w n) (has same_node (fanins_of net node) n) f
           go false false e f g = let k : false ≡ true = rw (e, f) at g in cc
 
       within : (set : Node → Bool) → IsClosed net seeds set → (n : Node) → is_found new n ≡ true → set n ≡ true
       within set closed n h = go (is_found w n) refl (sym (found n) ∙ h)
         where
-          go : (b : Bool) → is_found w n ≡ b → (is_found w n || has same_node (nodes_named net node) n) ≡ true → set n ≡ true
+          go : (b : Bool) → is_found w n ≡ b → (is_found w n || has same_node (fanins_of net node) n) ≡ true → set n ≡ true
           go true e g = u.within set closed n e
           go false e g =
-              in_from_over set (axioms_of net node) n (closed-over net seeds set closed node (u.within set closed node node_found))
-              (sym (ap (λ (b : Bool). b || has same_node (nodes_named net node) n) e) ∙ g)
+              in_seeds set (fanins_of net node) n (closed.fanins node (u.within set closed node node_found))
+              (sym (ap (λ (b : Bool). b || has same_node (fanins_of net node) n) e) ∙ g)
 
-      visited : (n : Node) → is_found new n ≡ true → is_pending new n ≡ false → AreIn (is_found new) (nodes_named net n)
+      visited : (n : Node) → is_found new n ≡ true → is_pending new n ≡ false → AreIn (is_found new) (fanins_of net n)
       visited n h done = go (is_found w n) (same_node node n) refl refl
         where
-          parts : (is_pending mid n ≡ false) × ((has same_node (nodes_named net node) n && not (is_found mid n)) ≡ false)
-          parts = or_none (is_pending mid n) (has same_node (nodes_named net node) n && not (is_found mid n)) (sym (finds.pending n) ∙ done)
+          parts : (is_pending mid n ≡ false) × ((has same_node (fanins_of net node) n && not (is_found mid n)) ≡ false)
+          parts = or_none (is_pending mid n) (has same_node (fanins_of net node) n && not (is_found mid n)) (sym (finds.pending n) ∙ done)
 
-          go : (a b : Bool) → is_found w n ≡ a → same_node node n ≡ b → AreIn (is_found new) (nodes_named net n)
+          go : (a b : Bool) → is_found w n ≡ a → same_node node n ≡ b → AreIn (is_found new) (fanins_of net n)
           go a true e f =
-              subst (λ (m : Node). AreIn (is_found new) (nodes_named net m)) (exact-node node n f)
-              (all-members (λ m. is_found new m ≡ true) (nodes_named net node) (λ m g. found m ∙ or_right (is_found w m) (has same_node (nodes_named net node) m) g))
-          go true false e f = more (nodes_named net n) (u.visited n e (pending n ∙ rw (parts.0, f) refl))
+              subst (λ (m : Node). AreIn (is_found new) (fanins_of net m)) (exact-node node n f)
+              (all-members (λ m. is_found new m ≡ true) (fanins_of net node) (λ m g. found m ∙ or_right (is_found w m) (has same_node (fanins_of net node) m) g))
+          go true false e f = more (fanins_of net n) (u.visited n e (pending n ∙ rw (parts.0, f) refl))
           go false false e f =
-              let named : has same_node (nodes_named net node) n ≡ true = sym (ap (λ (b : Bool). b || has same_node (nodes_named net node) n) e) ∙ sym (found n) ∙ h in
+              let named : has same_node (fanins_of net node) n ≡ true = sym (ap (λ (b : Bool). b || has same_node (fanins_of net node) n) e) ∙ sym (found n) ∙ h in
               let none : (true && not false) ≡ false = sym (ap (λ (b : Bool). b && not (is_found mid n)) named ∙ ap (λ (b : Bool). true && not b) (same_found n ∙ e)) ∙ parts.1 in
               cc
 
   -- where nothing is left to be visited, the walk has found what the seeds reach
-  pub underway-done : IsNet net → (w : Walk) → IsUnderway net seeds w → w.pending.items ≡ [] → IsReach net seeds (is_found w)
-  underway-done is w u done = record {
+  pub underway-done : (w : Walk) → IsUnderway net seeds w → w.pending.items ≡ [] → IsReach net seeds (is_found w)
+  underway-done w u done = record {
     closed = record {
       starts = u.starts;
-      fanins = λ n h. fanins_from_over net is (is_found w) n
-          (over_from_in (is_found w) (axioms_of net n) (u.visited n h (ap (λ (l : List Node). has same_node l n) done)));
+      fanins = λ n h. u.visited n h (ap (λ (l : List Node). has same_node l n) done);
     };
     least = u.within;
   }

@@ -1,6 +1,5 @@
 -- How a walk grows, and that what it has found in the end is what the seeds reach.
-use Rattle.std.proofs.Common.{◌≡◌, ℕ, ◌+◌, ◌-◌, ◌<◌, Bool, true, false, not, ◌&&◌, ◌||◌, Option, Some, None, List, [], ◌∷◌, ◌++◌, length, refl, sym, ap, ◌∙◌, subst, arith, length-append, take, get_or, flat_map}
-use Rattle.std.specs.Prelude.{slice_get}
+use Rattle.std.proofs.Common.{◌≡◌, ℕ, ◌+◌, ◌<◌, Bool, true, false, not, ◌&&◌, ◌||◌, Option, Some, None, List, [], ◌∷◌, ◌++◌, length, refl, sym, ap, ◌∙◌, subst, arith, length-append, take, get_or}
 use Rattle.std.specs.Ordering.{nat_cmp, match_ordering, is_eq}
 use Rattle.std.specs.declared.cmp.Ordering.{Ordering}
 use Rattle.std.specs.declared.cmp.Ordering.TheVariants.{Less, Equal, Greater}
@@ -8,7 +7,7 @@ use Rattle.std.specs.Option.{option_map, is_some}
 use Rattle.std.specs.Map.{values_of, lookup}
 use Rattle.std.specs.BTreeMap.{insert_entry, is_at, IsOrdered, get}
 use Rattle.std.proofs.lemmas.Bool.Decides.{nat_tests}
-use Rattle.std.proofs.lemmas.List.{map_more, flat_map_more}
+use Rattle.std.proofs.lemmas.List.{map_more}
 use Rattle.std.proofs.lemmas.List.Folds.{list_any-append}
 use Rattle.std.proofs.lemmas.Option.{none-some, same_Some}
 use Rattle.lits.specs.Clause.{has}
@@ -24,7 +23,6 @@ use Rattle.lemma_book.specs.declared.walk.Walk.{Walk}
 use Rattle.lemma_book.specs.Cone.{nodes_in}
 use Rattle.lemma_book.specs.Walk.{AreNumbered, is_found, is_pending, IsWalk, Finds}
 use Rattle.lemma_book.proofs.RepeatLemmas.{contrary}
-use Rattle.lemma_book.proofs.AxiomLemmas.{take_got, take_past}
 
 pub number-variable : (net : AigPair) (l : Lit) (d : DimacsLiteral) → cnf_number_of net l ≡ Some d → variable_of net l.node ≡ Some d.var
 number-variable net l d e = go (variable_of net l.node) refl
@@ -230,16 +228,3 @@ module _ (net : AigPair) where
       subst (λ (ns : List Node). Finds net old ns new)
       (ap (λ (m : Lit). nodes_in (take i lits) ++ m.node ∷ []) at ∙ sym (map_more (λ m. m.node) lits i l below))
       (finds-append old mid new (nodes_in (take i lits)) (l.node ∷ []) f g)
-
-  -- the next clause of a list
-  pub finds-clause : (old mid new : Walk) (cs : List (List Lit)) (k : ℕ) (c : List Lit) → slice_get cs k ≡ Some c
-      → Finds net old (flat_map nodes_in (take k cs)) mid → Finds net mid (nodes_in c) new → Finds net old (flat_map nodes_in (take (k + 1) cs)) new
-  finds-clause old mid new cs k c at f g =
-      subst (λ (ns : List Node). Finds net old ns new)
-      (flat_map_more nodes_in [] (take k cs) c ∙ ap (flat_map nodes_in) (sym (take_got cs k c at)))
-      (finds-append old mid new (flat_map nodes_in (take k cs)) (nodes_in c) f g)
-
-  -- no clause is left
-  pub finds-no_clause : (old new : Walk) (cs : List (List Lit)) (k : ℕ) → slice_get cs k ≡ None
-      → Finds net old (flat_map nodes_in (take k cs)) new → Finds net old (flat_map nodes_in (take (k + 1) cs)) new
-  finds-no_clause old new cs k none f = subst (λ (ds : List (List Lit)). Finds net old (flat_map nodes_in ds) new) (take_past cs k none) f

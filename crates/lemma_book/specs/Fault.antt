@@ -1,5 +1,5 @@
 -- Why an entry isn't good over the entries before it: its first fault, in the order in which an entry is judged.
-use Rattle.std.specs.Prelude.{◌≡◌, ◌≢◌, ℕ, ◌+◌, ◌<◌, ◌≤◌, Bool, true, Option, Some, List, [], ◌∷◌, length, take, slice_get, ◌⊎◌}
+use Rattle.std.specs.Prelude.{◌≡◌, ◌≢◌, ℕ, ◌+◌, ◌<◌, ◌≤◌, Bool, true, false, Option, Some, List, [], ◌∷◌, length, take, slice_get, ◌⊎◌}
 use Rattle.std.specs.List.{list_any}
 use Rattle.std.specs.Option.{is_none}
 use Rattle.lits.specs.declared.node.Node.TheVariants.{Xor}
@@ -43,6 +43,12 @@ abbrev pub steps_of : Entry → List Step
 steps_of (Out j steps) = steps
 steps_of (OutApart j input) = []
 steps_of (OutSpent j seen log) = log
+
+-- whether the entry is judged by a log
+abbrev pub has_log : Entry → Bool
+has_log (Out j steps) = false
+has_log (OutApart j input) = false
+has_log (OutSpent j seen log) = true
 
 -- the miter has no variable for some literal of the steps
 abbrev pub has_unknown : AigPair → List Step → Bool

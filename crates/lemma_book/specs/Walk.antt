@@ -1,15 +1,14 @@
 -- A walk through a cone: the nodes that it has found, and those of them that it hasn't visited yet.
 use Rattle.std.specs.Prelude.{◌≡◌, ◌+◌, ℕ, Bool, not, ◌&&◌, ◌||◌, Some, List, length}
-use Rattle.std.specs.List.{AllByRecursion, flat_map}
+use Rattle.std.specs.List.{AllByRecursion}
 use Rattle.std.specs.Ordering.{nat_cmp}
 use Rattle.std.specs.BTreeMap.{IsOrdered, values}
 use Rattle.lits.specs.Clause.{has}
 use Rattle.lits.specs.declared.node.Node.{Node}
 use Rattle.netlist.specs.Net.{AigPair}
 use Rattle.lits.specs.Same.{same_node}
-use Rattle.netlist.specs.Miter.{axioms_of, variable_of}
+use Rattle.netlist.specs.Miter.{variable_of}
 use Rattle.lemma_book.specs.declared.walk.Walk.{Walk}
-use Rattle.lemma_book.specs.Cone.{nodes_in}
 
 -- each node stands at its CNF variable
 abbrev pub AreNumbered : AigPair → List (ℕ × Node) → Type 0
@@ -20,10 +19,6 @@ is_found w n = has same_node (values w.found) n
 
 abbrev pub is_pending : Walk → Node → Bool
 is_pending w n = has same_node w.pending.items n
-
--- the nodes that the clauses of a node name: its fanins, and the node itself
-abbrev pub nodes_named : AigPair → Node → List Node
-nodes_named net node = flat_map nodes_in (axioms_of net node)
 
 pub record IsWalk (net : AigPair) (w : Walk) : Type 0 where
   pub numbered : AreNumbered net w.found.entries

@@ -3,7 +3,7 @@ ghost use Rattle.lemma_book.specs.Cone.{AreThere, nodes_in, named_axioms, IsCone
 
 use crate::walk::Walk;
 use lits::{Clause, Lit, Named, Node, Ref};
-use netlist::{Net, Short};
+use netlist::{Net, laws};
 use std::alloc::{AllocError, Global};
 
 /// The cone of the literals' nodes: the named clauses that define these nodes, their fanins, the fanins of those, and
@@ -14,7 +14,7 @@ pub fn cone(alloc: Global, net: &Net, lits: &[Lit]) -> Result<Vec<Named>, AllocE
     requires { AreThere net.now lits.now }
     ensures { IfOk result (λ v. IsCone net.now (nodes_in lits.now) v.items) }
 {
-    net.known();
+    laws::is_net(net);
     let walk = Walk::of(alloc, net, lits)?;
     let mut cone = Vec::new(alloc);
     for node in walk.found.values() {
@@ -27,23 +27,11 @@ pub fn cone(alloc: Global, net: &Net, lits: &[Lit]) -> Result<Vec<Named>, AllocE
 fn add_axioms(alloc: Global, net: &Net, node: Node, cone: &mut Vec<Named>) -> Result<(), AllocError>
     ensures { OnOk result (cone.new.items ≡ cone.old.items ++ named_axioms net.now node) }
 {
-    for k in 0..4 {
-        if let Some(short) = net.axiom(node, k) {
-            let clause = clause_of(alloc, &short)?;
-            let by = Ref::Axiom(node, k);
-            cone.push(Named { clause, by })?;
-        }
+    let axioms = net.axioms(node);
+    for (k, axiom) in axioms.as_slice().iter().enumerate() {
+        let clause = Clause::from_slice(alloc, axiom.lits())?;
+        let by = Ref::Axiom(node, k as u8);
+        cone.push(Named { clause, by })?;
     }
     Ok(())
-}
-
-/// The same clause on its own.
-fn clause_of(alloc: Global, short: &Short) -> Result<Clause<Lit>, AllocError>
-    ensures { IfOk result (λ c. c ≡ short.now) }
-{
-    match Clause::of(alloc, short.lits()) {
-        Ok(clause) => Ok(clause),
-        // Only memory can be wanting, since the literals make a clause already.
-        Err(_) => Err(AllocError),
-    }
 }

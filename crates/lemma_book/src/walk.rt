@@ -2,8 +2,8 @@ ghost use Rattle.std.specs.Prelude.{◌≡◌, ◌∷◌, [], IfOk, OnOk};
 ghost use Rattle.std.specs.Option.{IsSome};
 ghost use Rattle.netlist.specs.Net.{IsNet};
 ghost use Rattle.netlist.specs.Miter.{variable_of};
-ghost use Rattle.lemma_book.specs.Cone.{AreThere, nodes_in, IsReach};
-ghost use Rattle.lemma_book.specs.Walk.{is_found, nodes_named, IsWalk, Finds};
+ghost use Rattle.lemma_book.specs.Cone.{AreThere, fanins_of, nodes_in, IsReach};
+ghost use Rattle.lemma_book.specs.Walk.{is_found, IsWalk, Finds};
 
 use lits::{Lit, Node};
 use netlist::Net;
@@ -62,18 +62,16 @@ impl Walk {
         Ok(())
     }
 
-    /// Finds the nodes that the clauses of a node name.
+    /// Finds the fanins of a node.
     fn visit(&mut self, net: &Net, node: Node) -> Result<(), AllocError>
         requires net { IsNet net.now }
         requires walk { IsWalk net.now self.old }
         requires there { IsSome (variable_of net.now node) }
-        ensures { OnOk result (Finds net.now self.old (nodes_named net.now node) self.new) }
+        ensures { OnOk result (Finds net.now self.old (fanins_of net.now node) self.new) }
     {
-        for k in 0..4 {
-            if let Some(clause) = net.axiom(node, k) {
-                self.find_all(net, clause.lits())?;
-            }
+        match net.definition(node) {
+            Some(defined) => self.find_all(net, &[defined.left, defined.right]),
+            None => Ok(()),
         }
-        Ok(())
     }
 }

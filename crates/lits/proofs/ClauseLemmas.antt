@@ -158,6 +158,14 @@ module _ {L : Type 0} {eq : L → L → Bool} {opposite : L → L} (laws : IsLit
       → take (i + 1) lits ≡ take i lits ++ x ∷ []
   seen lits i x below at = take_more lits i x below ∙ ap (λ (y : L). take i lits ++ y ∷ []) (sym at)
 
+  -- the next literal of the list joins the set of those before
+  pub firsts-next : (lits : List L) (i : ℕ) (x : L) (old new : List L) → i < length lits → x ≡ get_or lits i x
+      → old ≡ firsts eq (take i lits) → new ≡ (if has eq old x then old else old ++ x ∷ []) → new ≡ firsts eq (take (i + 1) lits)
+  firsts-next lits i x old new below at is put =
+      rw (seen lits i x below at)
+      (put ∙ ap (λ (l : List L). if has eq l x then l else l ++ x ∷ []) is
+      ∙ rw has-firsts (sym (firsts-push (take i lits) x)))
+
   -- the next literal of the list joins what is kept
   pub kept-next : (lits : List L) (i : ℕ) (x : L) (kept new : List L) → i < length lits → x ≡ get_or lits i x
       → IsKept eq opposite (take i lits) kept → Adds eq opposite kept x new → IsKept eq opposite (take (i + 1) lits) new

@@ -1,6 +1,6 @@
 -- How an index by chains grows, and what its chains come to.
 use Rattle.std.proofs.Common.{◌≡◌, ◌≢◌, ℕ, ◌⊎◌, inl, inr, zero, suc, ◌+◌, ◌*◌, ◌%◌, ◌^◌, ◌<◌, ◌≤◌, length, take, set, get_or, Bool, true, false, List, [], ◌∷◌, ◌++◌, refl, sym, ap, ◌∙◌, subst, arith, length-append}
-use Rattle.std.specs.Prelude.{Some, if◌then◌else◌, nat_le}
+use Rattle.std.specs.Prelude.{Option, Some, None, IfSome, IfNone, is_some, ◌||◌, if◌then◌else◌, nat_le}
 use Rattle.std.specs.List.{slice_get}
 use Rattle.std.proofs.lemmas.Bool.{le-leb}
 use Rattle.std.proofs.lemmas.List.{take_more, length-set, get_or-set_same, get_or-set_other, get_or_append_left, get_or_past}
@@ -47,6 +47,23 @@ module _ {L : Type 0} {eq : L → L → Bool} (exact : (x y : L) → eq x y ≡ 
       go false e rest =
           let found = rest (rw e at h) in
           (suc found.0, found.1)
+
+  -- a literal at a place is in the list
+  pub has-at : ((x : L) → eq x x ≡ true) → (xs : List L) (place : ℕ) (x : L) → slice_get xs place ≡ Some x → has eq xs x ≡ true
+  has-at self [] place x h = cc
+  has-at self (y ∷ ys) zero x h =
+      let same : y ≡ x = cc in
+      rw (ap (λ (z : L). eq z x) same ∙ self x) refl
+  has-at self (y ∷ ys) (suc place) x h = go (eq y x) (has-at self ys place x h)
+    where
+      go : (b : Bool) → has eq ys x ≡ true → (b || has eq ys x) ≡ true
+      go true e = refl
+      go false e = e
+
+  pub has-place_of : ((x : L) → eq x x ≡ true) → (xs : List L) (x : L) (o : Option ℕ)
+      → IfSome o (λ place. slice_get xs place ≡ Some x) → IfNone o (has eq xs x ≡ false) → is_some o ≡ has eq xs x
+  has-place_of self xs x (Some place) some none = sym (has-at self xs place x some)
+  has-place_of self xs x None some none = sym none
 
   -- no chain from the literal's first place leads to it
   pub not-had : (links : List ℕ) (xs : List L) (x : L) (name : ℕ) → name ≡ 0

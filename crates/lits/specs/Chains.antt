@@ -2,6 +2,7 @@
 -- A place is named by its number and 1, and 0 ends a chain.
 use Rattle.std.specs.Prelude.{◌≡◌, ℕ, ◌+◌, ◌*◌, ◌/◌, ◌%◌, ◌^◌, ◌≤◌, ◌<◌, List, Some, length, nat_le, slice_index, if◌then◌else◌}
 use Rattle.std.specs.List.{slice_get}
+use Rattle.lits.specs.declared.chains.TheConstants.{FEW}
 
 -- the slot of a code among so many: the code times 2 to the 64 by the golden ratio, scaled from 2 to the 64 down to them
 unfoldable pub slot_of : ℕ → ℕ → ℕ
@@ -23,3 +24,7 @@ pub record IsIndex {L : Type 0} (code : L → ℕ) (heads links : List ℕ) (lit
   pub each : length links ≡ length lits
   pub back : (i : ℕ) → slice_index links i ≤ i
   pub finds : (place : ℕ) (x : L) → slice_get lits place ≡ Some x → Leads links place (first_of heads links (code x))
+
+-- more than a few literals have an index
+abbrev pub IsReady : {L : Type 0} → (L → ℕ) → List ℕ → List ℕ → List L → Type 0
+IsReady code heads links lits = FEW < length lits → IsIndex code heads links lits

@@ -1,6 +1,6 @@
-ghost use Rattle.std.specs.Prelude.{◌≡◌, ◌+◌, ◌<◌, ◌≤◌, ℕ, [], ◌∷◌, ◌++◌, false, replicate, length, nat_lt, not, slice_set, slice_index, OnOk, OnErr, IfOk};
+ghost use Rattle.std.specs.Prelude.{◌≡◌, ◌+◌, ◌<◌, ◌≤◌, ℕ, [], ◌∷◌, ◌++◌, false, replicate, length, nat_lt, not, slice_set, slice_index, slice_get, Some, OnOk, OnErr, IfOk, IfSome, IfNone};
 ghost use Rattle.lits.specs.Clause.{has};
-ghost use Rattle.lits.specs.Chains.{IsIndex, first_of, slot_of};
+ghost use Rattle.lits.specs.Chains.{IsIndex, IsReady, first_of, slot_of};
 
 use crate::literal::Literal;
 use std::alloc::{AllocError, Global};
@@ -8,8 +8,11 @@ use std::alloc::{AllocError, Global};
 /// 2 to the 64, divided by the golden ratio.
 const MULTIPLIER: u64 = 11_400_714_819_323_198_485;
 
-/// Finds literals in a list by chains of places, one for each of the slots over which their codes are spread
-/// (hashing with separate chaining; Knuth, The Art of Computer Programming 6.4).
+/// Among so many literals one is found by looking through them, which is as fast and needs no memory.
+const FEW: usize = 16;
+
+/// Finds literals in a list. A few are looked through; among more it goes by chains of places, one for each of the slots
+/// over which their codes are spread (hashing with separate chaining; Knuth, The Art of Computer Programming 6.4).
 ///
 /// A place is named by its number and 1, and 0 ends a chain. Heads that stay behind from earlier lists do no harm,
 /// since what a chain finds is compared: so the index is emptied without a pass over the heads.
@@ -43,32 +46,35 @@ impl Chains {
         })
     }
 
-    /// The index of the literals, with so many slots.
-    fn of<L: Literal>(alloc: Global, lits: &[L], count: usize) -> Result<Chains, AllocError>
-        requires { 0 < count }
-        ensures index { IfOk result (λ c. IsIndex L.Literal.code c.heads.items c.links.items lits.now) }
-        ensures slots { IfOk result (λ c. length c.heads.items ≡ count) }
+    /// Puts the literals into an empty index, in order.
+    fn add_all<L: Literal>(&mut self, lits: &[L]) -> Result<(), AllocError>
+        requires slots { 0 < length self.old.heads.items }
+        requires empty { self.old.links.items ≡ [] }
+        ensures index { OnOk result (IsIndex L.Literal.code self.new.heads.items self.new.links.items lits.now) }
+        ensures slots { OnOk result (length self.new.heads.items ≡ length self.old.heads.items) }
     {
-        let mut chains = Chains::with_slots(alloc, count)?;
         for lit in lits {
-            chains.add(lit.code())?;
+            self.add(lit.code())?;
         }
-        Ok(chains)
+        Ok(())
     }
 
-    /// Makes more slots where each of them may have a place already.
-    pub(crate) fn make_room<L: Literal>(
-        &mut self,
-        alloc: Global,
-        lits: &[L],
-    ) -> Result<(), AllocError>
-        requires { IsIndex L.Literal.code self.old.heads.items self.old.links.items lits.now }
-        ensures index { IsIndex L.Literal.code self.new.heads.items self.new.links.items lits.now }
+    /// Makes the index that of the literals, with more slots than places.
+    fn make_room<L: Literal>(&mut self, alloc: Global, lits: &[L]) -> Result<(), AllocError>
+        requires { IsReady L.Literal.code self.old.heads.items self.old.links.items lits.now }
+        ensures index { OnOk result (IsIndex L.Literal.code self.new.heads.items self.new.links.items lits.now) }
         ensures room { OnOk result (0 < length self.new.heads.items) }
+        ensures err { OnErr result
+            (IsReady L.Literal.code self.new.heads.items self.new.links.items lits.now) }
     {
         let count = self.heads.len();
-        if self.links.len() >= count {
-            *self = Chains::of(alloc, lits, count.saturating_mul(2).max(16))?;
+        if lits.len() >= count {
+            let mut chains = Chains::with_slots(alloc, count.saturating_mul(2).max(2 * FEW))?;
+            chains.add_all(lits)?;
+            *self = chains;
+        } else if lits.len() <= FEW {
+            self.links.clear();
+            self.add_all(lits)?;
         }
         Ok(())
     }
@@ -85,7 +91,7 @@ impl Chains {
     }
 
     /// Puts the next place at the front of the code's chain.
-    pub(crate) fn add(&mut self, code: u64) -> Result<(), AllocError>
+    fn add(&mut self, code: u64) -> Result<(), AllocError>
         requires { 0 < length self.old.heads.items }
         ensures links { OnOk result (self.new.links.items
             ≡ self.old.links.items ++ first_of self.old.heads.items self.old.links.items code ∷ []) }
@@ -101,29 +107,76 @@ impl Chains {
         Ok(())
     }
 
-    /// Takes every place out.
-    pub(crate) fn clear(&mut self)
-        ensures links { self.new.links.items ≡ [] }
-        ensures heads { self.new.heads.items ≡ self.old.heads.items }
-    {
-        self.links.clear();
-    }
-
     /// Whether the literal is in the list.
     pub(crate) fn has<L: Literal>(&self, lits: &[L], lit: L) -> bool
-        requires { IsIndex L.Literal.code self.now.heads.items self.now.links.items lits.now }
+        requires { IsReady L.Literal.code self.now.heads.items self.now.links.items lits.now }
         ensures { result ≡ has L.PartialEq.eq lits.now lit }
+    {
+        self.place(lits, lit).is_some()
+    }
+
+    /// A place of the literal in the list, if there is one.
+    pub(crate) fn place<L: Literal>(&self, lits: &[L], lit: L) -> Option<usize>
+        requires { IsReady L.Literal.code self.now.heads.items self.now.links.items lits.now }
+        ensures some { IfSome result (λ place. slice_get lits.now place ≡ Some lit) }
+        ensures none { IfNone result (has L.PartialEq.eq lits.now lit ≡ false) }
+    {
+        if lits.len() <= FEW {
+            place_in(lits, lit)
+        } else {
+            self.find(lits, lit)
+        }
+    }
+
+    /// The same by the index.
+    fn find<L: Literal>(&self, lits: &[L], lit: L) -> Option<usize>
+        requires { IsIndex L.Literal.code self.now.heads.items self.now.links.items lits.now }
+        ensures some { IfSome result (λ place. slice_get lits.now place ≡ Some lit) }
+        ensures none { IfNone result (has L.PartialEq.eq lits.now lit ≡ false) }
     {
         let mut next = self.first(lit.code());
         while next > 0 {
             let place = next - 1;
             if lits[place] == lit {
-                return true;
+                return Some(place);
             }
             next = self.links[place];
         }
-        false
+        None
     }
+
+    /// Makes ready for one literal more behind the list.
+    pub(crate) fn expect<L: Literal>(
+        &mut self,
+        alloc: Global,
+        lits: &[L],
+        next: L,
+    ) -> Result<(), AllocError>
+        requires { IsReady L.Literal.code self.old.heads.items self.old.links.items lits.now }
+        ensures ok { OnOk result
+            (IsReady L.Literal.code self.new.heads.items self.new.links.items (lits.now ++ next ∷ [])) }
+        ensures err { OnErr result
+            (IsReady L.Literal.code self.new.heads.items self.new.links.items lits.now) }
+    {
+        if lits.len() >= FEW {
+            self.make_room(alloc, lits)?;
+            self.add(next.code())?;
+        }
+        Ok(())
+    }
+}
+
+/// The same by looking through the list.
+fn place_in<L: Literal>(lits: &[L], lit: L) -> Option<usize>
+    ensures some { IfSome result (λ place. slice_get lits.now place ≡ Some lit) }
+    ensures none { IfNone result (has L.PartialEq.eq lits.now lit ≡ false) }
+{
+    for (place, other) in lits.iter().enumerate() {
+        if *other == lit {
+            return Some(place);
+        }
+    }
+    None
 }
 
 /// The slot of a code among so many.

@@ -1,15 +1,13 @@
 ghost use Rattle.std.specs.Prelude.{◌≡◌, true, false, IfOk, IfErr, OnOk};
 ghost use Rattle.std.specs.List.{list_any};
+ghost use Rattle.lits.specs.Chains.{IsReady};
 ghost use Rattle.lits.specs.Clause.{has, firsts, has_pair, IsClause, Adds};
 
+use crate::chains::Chains;
 use crate::literal::Literal;
-use crate::literal_set::LiteralSet;
 use smallvec::SmallVec;
 use std::alloc::{AllocError, AllocFailed, Global};
 use std::marker::Model;
-
-/// Up to this length a clause is made by looking through it, and a longer one by a set.
-const SHORT: usize = 16;
 
 /// Why there is no clause of the literals.
 #[derive(Clone, Copy, Debug, PartialEq, Eq)]
@@ -67,11 +65,22 @@ impl<L: Literal> Clause<L> {
         ensures clause { OnOk result (has_pair L.PartialEq.eq L.Literal.opposite lits.now ≡ false) }
         ensures tautology { IfErr result (λ e. e ≡ ClauseErr.Tautology → has_pair L.PartialEq.eq L.Literal.opposite lits.now ≡ true) }
     {
-        if lits.len() <= SHORT {
-            short_clause(alloc, lits)
-        } else {
-            long_clause(alloc, lits)
+        let mut kept = SmallVec::new(alloc);
+        let mut chains = Chains::new(alloc);
+        for lit in lits {
+            add(&mut kept, &mut chains, *lit)?;
         }
+        Ok(Clause { lits: kept })
+    }
+
+    /// The clause of literals that make one.
+    pub fn from_slice(alloc: Global, lits: &[L]) -> Result<Clause<L>, AllocError>
+        requires { IsClause L.PartialEq.eq L.Literal.opposite lits.now }
+        ensures { IfOk result (λ c. c ≡ lits.now) }
+    {
+        Ok(Clause {
+            lits: SmallVec::from_slice(alloc, lits)?,
+        })
     }
 
     /// The literals, in order.
@@ -100,61 +109,23 @@ impl<L: Literal> Clause<L> {
     pub fn copy(&self) -> Result<Clause<L>, AllocError>
         ensures { IfOk result (λ c. c ≡ self.now) }
     {
-        let lits = SmallVec::from_slice(*self.lits.allocator(), self.lits.as_slice())?;
-        Ok(Clause { lits })
+        Clause::from_slice(*self.lits.allocator(), self.lits())
     }
 }
 
 /// Puts a literal last, unless it is there already.
-fn add<L: Literal>(kept: &mut SmallVec<L, 3>, lit: L) -> Result<(), ClauseErr>
+fn add<L: Literal>(kept: &mut SmallVec<L, 3>, chains: &mut Chains, lit: L) -> Result<(), ClauseErr>
+    requires { IsReady L.Literal.code chains.old.heads.items chains.old.links.items kept.old.items }
     ensures ok { OnOk result (Adds L.PartialEq.eq L.Literal.opposite kept.old.items lit kept.new.items) }
+    ensures ready { OnOk result (IsReady L.Literal.code chains.new.heads.items chains.new.links.items kept.new.items) }
     ensures pair { IfErr result (λ e. e ≡ ClauseErr.Tautology → has L.PartialEq.eq kept.old.items (L.Literal.opposite lit) ≡ true) }
 {
-    if kept.as_slice().contains(&lit.not()) {
+    if chains.has(kept.as_slice(), lit.not()) {
         return Err(ClauseErr::Tautology);
     }
-    if !kept.as_slice().contains(&lit) {
+    if !chains.has(kept.as_slice(), lit) {
+        chains.expect(*kept.allocator(), kept.as_slice(), lit)?;
         kept.push(lit)?;
     }
     Ok(())
-}
-
-/// The same for a set.
-fn add_to_set<L: Literal>(kept: &mut LiteralSet<L>, lit: L) -> Result<(), ClauseErr>
-    ensures ok { OnOk result (Adds L.PartialEq.eq L.Literal.opposite kept.old lit kept.new) }
-    ensures pair { IfErr result (λ e. e ≡ ClauseErr.Tautology → has L.PartialEq.eq kept.old (L.Literal.opposite lit) ≡ true) }
-{
-    if kept.has(lit.not()) {
-        return Err(ClauseErr::Tautology);
-    }
-    if !kept.has(lit) {
-        kept.push(lit)?;
-    }
-    Ok(())
-}
-
-fn short_clause<L: Literal>(alloc: Global, lits: &[L]) -> Result<Clause<L>, ClauseErr>
-    ensures kept { IfOk result (λ c. c ≡ firsts L.PartialEq.eq lits.now) }
-    ensures clause { OnOk result (has_pair L.PartialEq.eq L.Literal.opposite lits.now ≡ false) }
-    ensures tautology { IfErr result (λ e. e ≡ ClauseErr.Tautology → has_pair L.PartialEq.eq L.Literal.opposite lits.now ≡ true) }
-{
-    let mut kept = SmallVec::new(alloc);
-    for lit in lits {
-        add(&mut kept, *lit)?;
-    }
-    Ok(Clause { lits: kept })
-}
-
-fn long_clause<L: Literal>(alloc: Global, lits: &[L]) -> Result<Clause<L>, ClauseErr>
-    ensures kept { IfOk result (λ c. c ≡ firsts L.PartialEq.eq lits.now) }
-    ensures clause { OnOk result (has_pair L.PartialEq.eq L.Literal.opposite lits.now ≡ false) }
-    ensures tautology { IfErr result (λ e. e ≡ ClauseErr.Tautology → has_pair L.PartialEq.eq L.Literal.opposite lits.now ≡ true) }
-{
-    let mut kept = LiteralSet::new(alloc);
-    for lit in lits {
-        add_to_set(&mut kept, *lit)?;
-    }
-    Ok(Clause {
-        lits: SmallVec::from_vec(kept.into_vec()),
-    })
 }

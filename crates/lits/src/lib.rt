@@ -6,7 +6,9 @@
 //! fixed point, and `==` tells literals apart exactly.
 //!
 //! Definitions: `specs/Clause.antt` (what a clause is), `specs/Assignment.antt` (assignments, what a clause asks of
-//! one, satisfiable). Begin to read at `node.rt`.
+//! one, satisfiable), `specs/Dimacs.antt` (literals of DIMACS files), `specs/Same.antt` (equal, negated), `specs/Code.antt`
+//! (numbers of literals), `specs/Chains.antt` (how a set finds its literals). Begin to read at `node.rt`, then
+//! `literal.rt`, `dimacs.rt`, `chains.rt`, `literal_set.rt`, `clause.rt`, `step.rt`, `listed.rt`.
 #![tactic(auto)]
 
 pub use clause::{Clause, ClauseErr};

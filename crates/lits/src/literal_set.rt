@@ -1,12 +1,13 @@
-ghost use Rattle.std.specs.Prelude.{◌≡◌, [], ◌∷◌, ◌++◌, false, OnOk, OnErr};
-ghost use Rattle.lits.specs.Clause.{has};
+ghost use Rattle.std.specs.Prelude.{◌≡◌, false, [], ◌∷◌, ◌++◌, Some, slice_get, IfOk, IfSome, IfNone, OnOk, OnErr, if◌then◌else◌};
+ghost use Rattle.lits.specs.Clause.{has, firsts};
 
 use crate::chains::Chains;
 use crate::literal::Literal;
 use std::alloc::{AllocError, Global};
 use std::marker::Model;
 
-/// Literals in the order in which they came, each once, in which one finds a literal in constant time on average.
+/// Literals in the order in which they came, each once. A few are looked through, and among more one is found in constant
+/// time on average.
 #[derive(Drop)]
 pub struct LiteralSet<L: Literal> {
     order: Vec<L>,
@@ -15,13 +16,13 @@ pub struct LiteralSet<L: Literal> {
 
 impl<L: Literal> Model for LiteralSet<L> {
     ghost use Rattle.std.specs.Prelude.{List};
-    ghost use Rattle.lits.specs.Chains.{IsIndex};
+    ghost use Rattle.lits.specs.Chains.{IsReady};
 
     ghost Value = { List L };
 
     ghost view = { λ s. s.order.items };
 
-    ghost invariant = { λ s. IsIndex L.Literal.code s.chains.heads.items s.chains.links.items s.order.items };
+    ghost invariant = { λ s. IsReady L.Literal.code s.chains.heads.items s.chains.links.items s.order.items };
 }
 
 impl<L: Literal> LiteralSet<L> {
@@ -35,11 +36,42 @@ impl<L: Literal> LiteralSet<L> {
         }
     }
 
+    /// The literals of a list, each at its first place.
+    pub fn of(alloc: Global, lits: &[L]) -> Result<LiteralSet<L>, AllocError>
+        ensures { IfOk result (λ s. s ≡ firsts L.PartialEq.eq lits.now) }
+    {
+        let mut set = LiteralSet::new(alloc);
+        for lit in lits {
+            set.add(*lit)?;
+        }
+        Ok(set)
+    }
+
     /// Whether the literal is in the set.
     pub fn has(&self, lit: L) -> bool
         ensures { result ≡ has L.PartialEq.eq self.now lit }
     {
         self.chains.has(self.order.as_slice(), lit)
+    }
+
+    /// The place of a literal, from 0; none exactly where the set hasn't the literal.
+    pub fn place(&self, lit: L) -> Option<usize>
+        ensures some { IfSome result (λ place. slice_get self.now place ≡ Some lit) }
+        ensures none { IfNone result (has L.PartialEq.eq self.now lit ≡ false) }
+    {
+        self.chains.place(self.order.as_slice(), lit)
+    }
+
+    /// Puts a literal last, unless it is there already.
+    pub fn add(&mut self, lit: L) -> Result<(), AllocError>
+        ensures ok { OnOk result
+            (self.new ≡ (if has L.PartialEq.eq self.old lit then self.old else self.old ++ lit ∷ [])) }
+        ensures err { OnErr result (self.new ≡ self.old) }
+    {
+        if !self.has(lit) {
+            self.push(lit)?;
+        }
+        Ok(())
     }
 
     /// Puts a literal last that the set hasn't.
@@ -50,8 +82,7 @@ impl<L: Literal> LiteralSet<L> {
     {
         self.order.reserve(1)?;
         let alloc = *self.order.allocator();
-        self.chains.make_room(alloc, self.order.as_slice())?;
-        self.chains.add(lit.code())?;
+        self.chains.expect(alloc, self.order.as_slice(), lit)?;
         self.order.push_reserved(lit);
         Ok(())
     }
@@ -61,7 +92,6 @@ impl<L: Literal> LiteralSet<L> {
         ensures { self.new ≡ [] }
     {
         self.order.clear();
-        self.chains.clear();
     }
 
     /// The literals, in the order in which they came.

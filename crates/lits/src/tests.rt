@@ -86,6 +86,10 @@ fn clause_of_nodes(rt: HostRuntime) -> Result<(), Fail> {
     };
     let clause = Clause::of(alloc, &[gate, input, gate]).map_err(|_| "a clause")?;
     let copy = clause.copy()?;
+    assert_eq!(rt;
+        Clause::from_slice(alloc, &[gate])?.lits(),
+        [gate].as_slice()
+    );
     assert_eq!(rt; copy.lits(), [gate, input].as_slice());
     assert!(rt; copy.has(input));
     assert!(rt; !copy.has(input.not()));
@@ -117,6 +121,9 @@ fn literal_sets(rt: HostRuntime) -> Result<(), Fail> {
         }
     }
     let probes = dims(&rt, alloc, &[5, -5, -2, 2])?;
+    assert_eq!(rt; set.place(Dim::new(7, false)), Some(2));
+    assert_eq!(rt; set.place(Dim::new(7, true)), None);
+    set.add(Dim::new(5, false))?;
     let found = probes
         .iter()
         .map(|dim| set.has(*dim))
@@ -126,6 +133,9 @@ fn literal_sets(rt: HostRuntime) -> Result<(), Fail> {
     set.clear();
     assert!(rt; set.lits().is_empty());
     assert!(rt; set.into_vec().is_empty());
+    let twice = dims(&rt, alloc, &[5, -2, 5, 2, -2])?;
+    let set = LiteralSet::of(alloc, twice.as_slice())?;
+    assert_eq!(rt; set.lits(), dims(&rt, alloc, &[5, -2, 2])?.as_slice());
     Ok(())
 }
 
@@ -144,6 +154,7 @@ fn large_literal_sets(rt: HostRuntime) -> Result<(), Fail> {
         assert!(rt; set.has(Dim::new(3, true)));
         assert!(rt; !set.has(Dim::new(3, false)));
         assert!(rt; !set.has(Dim::new(100, false)));
+        assert_eq!(rt; set.place(Dim::new(98, false)), Some(97));
     }
     Ok(())
 }

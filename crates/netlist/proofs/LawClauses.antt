@@ -7,7 +7,8 @@ use Rattle.lits.specs.Clause.{has, firsts, has_pair}
 use Rattle.lits.specs.Assignment.{IsAssignment, Meets}
 use Rattle.lits.specs.declared.node.Node.{Node}
 use Rattle.lits.specs.declared.literal.Lit.{Lit}
-use Rattle.netlist.specs.Net.{Definition, differs, lit_holds}
+use Rattle.netlist.specs.declared.gate.Definition.{Definition}
+use Rattle.netlist.specs.Net.{differs, lit_holds}
 use Rattle.netlist.specs.Miter.{gate_clauses, xor_clauses, kept}
 use Rattle.lits.specs.Same.{same_lit, opposite}
 use Rattle.netlist.proofs.LawNodes.{exact-lit}

@@ -14,9 +14,7 @@ pub mod VariableLemmas
 pub mod TableLemmas
 pub mod SourceLemmas
 pub mod RunLemmas
-pub mod ShortLemmas
-pub mod MeaningLemmas
-pub mod NodeLemmas
 pub mod NetLemmas
+pub mod AxiomLemmas
 pub mod StartLemmas
 pub mod MiterLemmas

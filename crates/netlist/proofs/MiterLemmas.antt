@@ -1,10 +1,10 @@
 -- The numbered clauses of the miter.
-use Rattle.std.proofs.Common.{◌≡◌, ℕ, zero, suc, ◌+◌, ◌<◌, ◌≤◌, Bool, true, false, cond, not, Option, Some, None, List, [], ◌∷◌, ◌++◌, length, take, map, get_or, add-one, zero-add, refl, sym, ap, ◌∙◌, subst, arith}
+use Rattle.std.proofs.Common.{◌≡◌, ℕ, zero, suc, ◌+◌, ◌<◌, ◌≤◌, Bool, true, false, not, Option, Some, None, List, [], ◌∷◌, ◌++◌, length, take, map, get_or, add-one, zero-add, refl, sym, ap, ◌∙◌, subst, arith}
 use Rattle.std.specs.Prelude.{◌&&◌, ◌||◌, filter, slice_get, slice_set, IfSome}
 use Rattle.std.specs.Option.{option_map, option_map_or}
 use Rattle.std.specs.List.{AllByRecursion, range_with_len, flat_map}
 use Rattle.std.proofs.Math.Seq.{take-length, take-suc-set}
-use Rattle.std.proofs.lemmas.List.{map-append, take_more, length-set}
+use Rattle.std.proofs.lemmas.List.{map-append, take_more, take_all, length-set}
 use Rattle.std.proofs.lemmas.Option.{none-some, same_Some, slice_get-get_or}
 use Rattle.lits.specs.Clause.{has, firsts, no_repeat, has_pair, IsClause}
 use Rattle.lits.specs.Dimacs.{DimacsLiteral}
@@ -14,16 +14,13 @@ use Rattle.lits.specs.declared.literal.Lit.{Lit}
 use Rattle.lits.specs.contracts.dimacs.DimEq.TheImpl.Laws as dim_eq
 use Rattle.netlist.specs.Net.{AigPair, IsNet}
 use Rattle.lits.specs.Same.{same_node, same_lit, opposite, same_dim, opposite_dim}
-use Rattle.netlist.specs.Miter.{positive, kept, axioms_of, axiom_of, xors_of, variables_of, variable_of, numbered, miter_of}
+use Rattle.netlist.specs.Miter.{positive, axioms_of, axiom_of, xors_of, variables_of, variable_of, numbered, miter_of}
 use Rattle.netlist.specs.Numbered.{AreThere, numbered_at, numbered_before}
 use Rattle.netlist.proofs.StartLemmas.{flat_next, take_next}
 use Rattle.netlist.proofs.LawNumbers.{numbered-same}
 use Rattle.netlist.proofs.LawOver.{over-variables, over-clauses}
 use Rattle.netlist.proofs.LawNodes.{all-parts, same-node_self, exact-lit, range-has}
-use Rattle.netlist.proofs.NetLemmas.{axioms_of-none, axioms_of-meaning}
-use Rattle.netlist.proofs.MeaningLemmas.{length-clauses}
-use Rattle.netlist.specs.declared.meaning.Meaning.{Meaning}
-use Rattle.netlist.specs.Meaning.{meaning_of, clauses_that_say}
+use Rattle.netlist.proofs.NetLemmas.{axioms_of-none}
 use Rattle.netlist.proofs.LawThere.{has-xor}
 use Rattle.netlist.proofs.PlaceLemmas.{place_none}
 
@@ -42,34 +39,6 @@ has-get (x ∷ xs) (suc k) n e = or_true (same_node x n) (has same_node xs n) (h
     or_true : (a b : Bool) → b ≡ true → (a || b) ≡ true
     or_true true b h = refl
     or_true false b h = h
-
--- a list without repeats is its own clause
-firsts-once : (xs : List DimacsLiteral) → no_repeat same_dim xs ≡ true → firsts same_dim xs ≡ xs
-firsts-once [] e = refl
-firsts-once (x ∷ xs) e =
-    ap (λ (ys : List DimacsLiteral). x ∷ filter (λ y. not (same_dim x y)) ys) (firsts-once xs (right (has same_dim xs x) (no_repeat same_dim xs) e))
-    ∙ ap (λ (ys : List DimacsLiteral). x ∷ ys) (all xs (left (has same_dim xs x) (no_repeat same_dim xs) e))
-  where
-    left : (a b : Bool) → (not a && b) ≡ true → a ≡ false
-    left true b h = cc
-    left false b h = refl
-
-    right : (a b : Bool) → (not a && b) ≡ true → b ≡ true
-    right true b h = cc
-    right false b h = h
-
-    both : (a b : Bool) → (a || b) ≡ false → (a ≡ false) × (b ≡ false)
-    both true b h = cc
-    both false b h = (refl, h)
-
-    all : (ys : List DimacsLiteral) → has same_dim ys x ≡ false → filter (λ y. not (same_dim x y)) ys ≡ ys
-    all [] h = refl
-    all (y ∷ ys) h =
-        let apart = both (same_dim y x) (has same_dim ys x) h in
-        rw ((dim_eq.laws-law).symm x y ∙ apart.0) (ap (λ (zs : List DimacsLiteral). y ∷ zs) (all ys apart.1))
-
-pub clause_is : (xs : List DimacsLiteral) → IsClause same_dim opposite_dim xs → firsts same_dim xs ≡ xs
-clause_is xs clause = firsts-once xs clause.once
 
 -- numbering keeps clauses
 has-numbered : (net : AigPair) (xs : List Lit) (x : Lit) → AreThere net xs → has same_node (variables_of net) x.node ≡ true
@@ -114,22 +83,6 @@ axiom_of-there net node k is = go (axiom_of net node k) refl
     go None e = tt
     go (Some c) e = axiom-there net node k c is e
 
--- a node has at most four clauses
-length-kept : (cs : List (List Lit)) → length (kept cs) ≤ length cs
-length-kept [] = omega arith
-length-kept (c ∷ cs) = go (has_pair same_lit opposite c) (length-kept cs)
-  where
-    go : (b : Bool) → length (kept cs) ≤ length cs → length (cond b (kept cs) (firsts same_lit c ∷ kept cs)) ≤ length (c ∷ cs)
-    go true h = omega arith
-    go false h = omega arith
-
-pub length-axioms : (net : AigPair) (node : Node) → length (axioms_of net node) ≤ 4
-length-axioms net node = subst (λ (cs : List (List Lit)). length cs ≤ 4) (axioms_of-meaning net node) (go (meaning_of net node))
-  where
-    go : (o : Option Meaning) → length (option_map_or (λ m. kept (clauses_that_say m)) o []) ≤ 4
-    go None = omega arith
-    go (Some m) = omega (arith, length-kept (clauses_that_say m), length-clauses m)
-
 -- the first k clauses of a node, numbered
 pub numbered_axioms : AigPair → Node → ℕ → List (List DimacsLiteral)
 numbered_axioms net node k = map (λ c. map (numbered net) c) (take k (axioms_of net node))
@@ -144,31 +97,22 @@ unfolding numbered_axioms
 axioms_some net node k c e =
     ap (map (λ c. map (numbered net) c)) (take_next (axioms_of net node) k c e) ∙ map-append (λ c. map (numbered net) c) (take k (axioms_of net node)) (c ∷ [])
 
-pub axioms_end : (net : AigPair) (node : Node) (k : ℕ) → axiom_of net node k ≡ None → numbered_axioms net node (k + 1) ≡ numbered_axioms net node k
+pub axioms_all : (net : AigPair) (node : Node) (k : ℕ) → length (axioms_of net node) ≤ k
+    → numbered_axioms net node k ≡ map (λ c. map (numbered net) c) (axioms_of net node)
 unfolding numbered_axioms
-axioms_end net node k e = ap (map (λ c. map (numbered net) c)) (past (axioms_of net node) k e)
-  where
-    past : {X : Type 0} (xs : List X) (i : ℕ) → slice_get xs i ≡ None → take (i + 1) xs ≡ take i xs
-    past xs i e = ap (λ (n : ℕ). take n xs) (add-one i) ∙ go xs i e
-      where
-        go : {X : Type 0} (xs : List X) (i : ℕ) → slice_get xs i ≡ None → take (suc i) xs ≡ take i xs
-        go [] zero e = refl
-        go [] (suc i) e = refl
-        go (x ∷ xs) zero e = absurd (none-some x (sym e))
-        go (x ∷ xs) (suc i) e = ap (λ ys. x ∷ ys) (go xs i e)
+axioms_all net node k l = ap (map (λ c. map (numbered net) c)) (take_all k (axioms_of net node) l)
 
-pub axioms_all : (net : AigPair) (node : Node) (k place : ℕ) → 4 ≤ k → slice_get (variables_of net) place ≡ Some node
-    → numbered_axioms net node k ≡ numbered_at net place
-unfolding numbered_axioms numbered_at
-axioms_all net node k place l e =
-    let few = length-axioms net node in
-    ap (map (λ c. map (numbered net) c)) (take-long (axioms_of net node) k (omega arith) ∙ ap (λ (o : Option Node). option_map_or (axioms_of net) o []) (sym e))
-  where
-    take-long : {X : Type 0} (xs : List X) (k : ℕ) → length xs ≤ k → take k xs ≡ xs
-    take-long [] zero l = refl
-    take-long [] (suc k) l = refl
-    take-long (x ∷ xs) zero l = absurd (omega arith)
-    take-long (x ∷ xs) (suc k) l = ap (λ ys. x ∷ ys) (take-long xs k (omega arith))
+pub numbered_at-node : (net : AigPair) (node : Node) (place : ℕ) → slice_get (variables_of net) place ≡ Some node
+    → map (λ c. map (numbered net) c) (axioms_of net node) ≡ numbered_at net place
+unfolding numbered_at
+numbered_at-node net node place e =
+    ap (map (λ c. map (numbered net) c)) (ap (λ (o : Option Node). option_map_or (axioms_of net) o []) (sym e))
+
+-- the clause that a walk through a node's clauses has come to
+pub axiom-at : (net : AigPair) (node : Node) (k : ℕ) (c : List Lit) (cs : List (List Lit)) → cs ≡ axioms_of net node → k < length cs → c ≡ get_or cs k c
+    → axiom_of net node k ≡ Some c
+axiom-at net node k c cs whole l e =
+    ap (λ (ds : List (List Lit)). slice_get ds k) (sym whole) ∙ slice_get-get_or cs k c l ∙ ap Some (sym e)
 
 -- the first i literals of a list, numbered in an array
 pub record AreNumbered (net : AigPair) (lits : List Lit) (numbers : List DimacsLiteral) (i : ℕ) : Type 0 where

@@ -1,11 +1,11 @@
 -- Positions and CNF variables of the nodes of a net, kind by kind.
 use Rattle.std.proofs.Common.{◌≡◌, ℕ, zero, suc, ◌+◌, ◌<◌, ◌≤◌, Bool, true, false, cond, Option, None, Some, List, [], ◌∷◌, ◌++◌, length, map, get_or, zero-add, add-one, refl, sym, ap, ◌∙◌, subst, arith, length-append}
-use Rattle.std.specs.Prelude.{◌==◌, ◌&&◌, nat_lt, slice_get, option_and_then}
+use Rattle.std.specs.Prelude.{◌==◌, ◌&&◌, nat_lt, slice_get}
 use Rattle.std.specs.Option.{option_map, option_map_or}
 use Rattle.std.specs.List.{range_with_len, list_all}
 use Rattle.std.proofs.lemmas.List.{length-map}
 use Rattle.std.proofs.lemmas.Option.{slice_get-map, slice_get_within, slice_get-get_or, slice_get_past, none-some, same_Some}
-use Rattle.netlist.specs.declared.sizes.Sizes.{Sizes}
+use Rattle.netlist.specs.declared.pair.Sizes.{Sizes}
 use Rattle.netlist.specs.Pair.{AreSizes, gate_node, first_gate}
 use Rattle.std.proofs.lemmas.Bool.Decides.{nat_tests}
 use Rattle.lits.specs.declared.node.Side.{Side}
@@ -15,14 +15,14 @@ use Rattle.lits.specs.declared.node.Node.TheVariants.{Const, Input, Gate, Xor}
 use Rattle.netlist.specs.declared.gate.And.{And}
 use Rattle.netlist.specs.Place.{place_of}
 use Rattle.netlist.specs.Circuit.{IsCircuit, is_over, variables_in, gate_vars}
-use Rattle.netlist.specs.Net.{AigPair, IsNet, circuit_of, definition_of, definitions, nodes_of, position_of, lit_of, lit_named, output_of, gate_at}
+use Rattle.netlist.specs.Net.{AigPair, IsNet, circuit_of, definition_of, definitions, nodes_of, position_of, lit_of, lit_named, output_of}
 use Rattle.lits.specs.Same.{same_node}
 use Rattle.netlist.specs.Miter.{xors_of, variables_of, variable_of, kept, axioms_of, xor_axioms, gate_clauses}
-use Rattle.netlist.specs.declared.meaning.Meaning.{Meaning}
-use Rattle.netlist.specs.Meaning.{meaning_of, conjunction_of, difference, clauses_that_say}
+use Rattle.netlist.specs.declared.gate.Definition.{Definition}
+use Rattle.netlist.proofs.AxiomLemmas.{axioms_of-gate, defined-no_gate}
 use Rattle.lits.specs.declared.literal.Lit.{Lit}
-use Rattle.netlist.proofs.PlaceLemmas.{find-place, or_place, place_of-append, place_of-map, place_none-all, place-range_in, place-range_out, length-range, slice_get-left, slice_get-right, slice_get-range}
-use Rattle.netlist.proofs.NodeLemmas.{same_node-exact}
+use Rattle.netlist.proofs.PlaceLemmas.{or_place, place_of-append, place_of-map, place_none-all, place-range_in, place-range_out, length-range, slice_get-left, slice_get-right, slice_get-range}
+use Rattle.netlist.proofs.LawNodes.{exact-node}
 use Rattle.netlist.proofs.VariableLemmas.{few_gates_of}
 
 pub length-definitions : (net : AigPair) → length (definitions net) ≡ length net.a.gates + length net.b.gates
@@ -295,7 +295,7 @@ pub variable-node : (net : AigPair) (node : Node) → ((j : ℕ) → node ≡ Xo
 variable-node net node apart = sym (variable_of-node net node (λ j. go j (same_node (Xor j) node) refl))
   where
     go : (j : ℕ) (b : Bool) → same_node (Xor j) node ≡ b → b ≡ false
-    go j true e = absurd (apart j (sym (same_node-exact (Xor j) node e)))
+    go j true e = absurd (apart j (sym (exact-node (Xor j) node e)))
     go j false e = refl
 
 pub circuit_at : (net : AigPair) (side : Side) → IsNet net → IsCircuit (circuit_of net side)
@@ -322,43 +322,6 @@ output_of-lit net side j l is e =
     let over = list_all-get (is_over (variables_in (circuit_of net side))) (circuit_of net side).outputs j l (circuit_at net side is).outputs e in
     rw (over, e) refl
 
--- what the clauses of a gate say
-pub meaning_of-gate : (net : AigPair) (side : Side) (v k : ℕ) (d : And) → k < length (circuit_of net side).gates
-    → place_of (λ g. g.var == v) (circuit_of net side).gates ≡ Some k
-    → meaning_of net (Gate side v) ≡ Some (conjunction_of side (circuit_of net side) (get_or (circuit_of net side).gates k d))
-meaning_of-gate net side v k d l e =
-    ap (option_map (conjunction_of side (circuit_of net side))) (
-    find-place (λ g. g.var == v) (circuit_of net side).gates
-    ∙ ap (option_and_then (slice_get (circuit_of net side).gates)) e
-    ∙ slice_get-get_or (circuit_of net side).gates k d l)
-
-pub meaning_of-no_gate : (net : AigPair) (side : Side) (v : ℕ) → place_of (λ g. g.var == v) (circuit_of net side).gates ≡ None
-    → meaning_of net (Gate side v) ≡ None
-meaning_of-no_gate net side v e =
-    ap (option_map (conjunction_of side (circuit_of net side))) (
-    find-place (λ g. g.var == v) (circuit_of net side).gates ∙ ap (option_and_then (slice_get (circuit_of net side).gates)) e)
-
--- the axioms of a node are the clauses that say what it means
-pub axioms_of-meaning : (net : AigPair) (node : Node) → option_map_or (λ m. kept (clauses_that_say m)) (meaning_of net node) [] ≡ axioms_of net node
-axioms_of-meaning net Const = refl
-axioms_of-meaning net (Input k) = refl
-axioms_of-meaning net (Gate side v) = go (gate_at net side v)
-  where
-    go : (o : Option And) → option_map_or (λ m. kept (clauses_that_say m)) (option_map (conjunction_of side (circuit_of net side)) o) []
-        ≡ option_map_or (λ g. kept (gate_clauses (definition_of side (circuit_of net side) g))) o []
-    go None = refl
-    go (Some g) = refl
-axioms_of-meaning net (Xor j) = go (output_of net A j) (output_of net B j)
-  where
-    go : (a b : Option Lit) → option_map_or (λ m. kept (clauses_that_say m)) (difference j a b) [] ≡ xor_axioms j a b
-    go (Some a) (Some b) = refl
-    go (Some a) None = refl
-    go None b = refl
-
-pub axioms_of-some : (net : AigPair) (node : Node) (m : Meaning) → meaning_of net node ≡ Some m → kept (clauses_that_say m) ≡ axioms_of net node
-axioms_of-some net node m e =
-    ap (λ (o : Option Meaning). option_map_or (λ m. kept (clauses_that_say m)) o []) (sym e) ∙ axioms_of-meaning net node
-
 -- a node that isn't there has no clause
 pub axioms_of-none : (net : AigPair) (node : Node) → variable_of net node ≡ None → axioms_of net node ≡ []
 axioms_of-none net Const e = absurd (none-some 1 (sym e))
@@ -369,7 +332,7 @@ axioms_of-none net (Gate side v) e = go (place_of (λ g. g.var == v) (circuit_of
     known = ap (option_map (λ k. k + 1)) (position-gate net side v) ∙ sym (variable_of-node net (Gate side v) (λ j. refl)) ∙ e
 
     go : (o : Option ℕ) → place_of (λ g. g.var == v) (circuit_of net side).gates ≡ o → axioms_of net (Gate side v) ≡ []
-    go None f = sym (axioms_of-meaning net (Gate side v)) ∙ ap (λ (m : Option Meaning). option_map_or (λ m. kept (clauses_that_say m)) m []) (meaning_of-no_gate net side v f)
+    go None f = axioms_of-gate net side v ∙ ap (λ (o : Option Definition). option_map_or (λ d. kept (gate_clauses d)) o []) (defined-no_gate net side v f)
     go (Some k) f = absurd (none-some (first_gate net side + k + 1) (sym known ∙ ap (λ (o : Option ℕ). option_map (λ k. k + 1) (option_map (λ g. first_gate net side + g) o)) f))
 axioms_of-none net (Xor j) e = go (nat_lt j (length net.a.outputs)) refl
   where

@@ -11,8 +11,8 @@ use Rattle.std.proofs.lemmas.List.Folds.{list_any-append}
 use Rattle.std.proofs.lemmas.Bool.Decides.{nat_tests}
 use Rattle.lits.specs.Clause.{has, no_repeat}
 use Rattle.netlist.specs.declared.gate.And.{And}
-use Rattle.netlist.specs.declared.source.Source.{Source}
-use Rattle.netlist.specs.declared.source.Source.TheVariants.{Constant, Input, Gate}
+use Rattle.netlist.specs.declared.gate.Source.{Source}
+use Rattle.netlist.specs.declared.gate.Source.TheVariants.{Constant, Input, Gate}
 use Rattle.netlist.specs.Place.{place_of}
 use Rattle.netlist.specs.Circuit.{Aig, IsCircuit, IsNext, AreOrdered, variables_in, gate_vars, var_of, is_over, lit_value, put, run, given, value_in}
 use Rattle.netlist.specs.Source.{input_or, source_of, value_at, read_in, IsComputed}

@@ -4,15 +4,15 @@ use Rattle.std.specs.Prelude.{◌==◌, ◌||◌, nat_le, IfSome}
 use Rattle.std.specs.Option.{option_map, option_map_or, is_some}
 use Rattle.std.proofs.lemmas.Option.{slice_get_within}
 use Rattle.std.proofs.lemmas.Bool.Decides.{nat_tests}
-use Rattle.netlist.specs.declared.source.Source.{Source}
-use Rattle.netlist.specs.declared.source.Source.TheVariants.{Constant, Input, Gate}
+use Rattle.netlist.specs.declared.gate.Source.{Source}
+use Rattle.netlist.specs.declared.gate.Source.TheVariants.{Constant, Input, Gate}
 use Rattle.netlist.specs.Place.{place_of}
 use Rattle.lits.specs.Clause.{has}
 use Rattle.lits.specs.declared.node.Side.{Side}
 use Rattle.lits.specs.declared.node.Node.TheVariants as node
 use Rattle.netlist.specs.Circuit.{Aig, IsCircuit, variables_in, gate_vars, var_of, is_negated, is_over}
 use Rattle.netlist.specs.Net.{AigPair, circuit_of, lit_named, lit_of}
-use Rattle.netlist.specs.Meaning.{lit_from}
+use Rattle.netlist.specs.Pair.{lit_from}
 use Rattle.netlist.specs.Pair.{gate_from}
 use Rattle.netlist.specs.VariableTable.{Places, place_in, IsTable}
 use Rattle.netlist.specs.Source.{input_or, source_of, source_at, IsWithin}

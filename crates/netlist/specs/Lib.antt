@@ -4,7 +4,7 @@ pub mod VariableTable
 pub mod Source
 pub mod Net
 pub mod Miter
-pub mod Meaning
+pub mod Short
 pub mod Pair
 pub mod Starts
 pub mod Numbered

@@ -10,7 +10,8 @@ use Rattle.lits.specs.declared.node.Node.{Node}
 use Rattle.lits.specs.declared.node.Node.TheVariants.{Const, Input, Gate, Xor}
 use Rattle.lits.specs.declared.literal.Lit.{Lit}
 use Rattle.netlist.specs.Place.{place_of, before}
-use Rattle.netlist.specs.Net.{AigPair, Definition, circuit_of, definition_of, gate_at, output_of, nodes_of}
+use Rattle.netlist.specs.declared.gate.Definition.{Definition}
+use Rattle.netlist.specs.Net.{AigPair, circuit_of, definition_of, gate_at, output_of, nodes_of}
 use Rattle.lits.specs.Same.{same_node, same_lit, opposite}
 
 abbrev pub positive : Node → Lit

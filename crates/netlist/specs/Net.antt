@@ -1,7 +1,7 @@
 -- A pair of circuits over the same inputs, its nodes, their order and their values.
 use Rattle.std.specs.Prelude.{◌≡◌, ◌≢◌, ℕ, ◌<◌, ◌==◌, Bool, true, false, not, Option, None, Some, List, ◌∷◌, ◌++◌, length, map, slice_get, if◌then◌else◌}
 use Rattle.std.specs.List.{find, range_with_len, slice_index_or}
-use Rattle.std.specs.Option.{option_map, option_map_or}
+use Rattle.std.specs.Option.{option_map, option_map_or, unwrap_or}
 use Rattle.lits.specs.declared.node.Side.{Side}
 use Rattle.lits.specs.declared.node.Side.TheVariants.{A, B}
 use Rattle.lits.specs.declared.node.Node.{Node}
@@ -9,6 +9,9 @@ use Rattle.lits.specs.declared.node.Node.TheVariants.{Const, Input, Gate, Xor}
 use Rattle.lits.specs.declared.literal.Lit.{Lit}
 use Rattle.lits.specs.Same.{same_node}
 use Rattle.netlist.specs.declared.gate.And.{And}
+use Rattle.netlist.specs.declared.gate.Definition.{Definition}
+use Rattle.netlist.specs.declared.gate.Placed.{Placed}
+use Rattle.netlist.specs.declared.gate.Fanins.{Fanins}
 use Rattle.netlist.specs.Place.{place_of}
 use Rattle.netlist.specs.Circuit.{var_of, is_negated, is_over, Aig, IsCircuit, variables_in, values_in, output_value}
 
@@ -48,12 +51,7 @@ lit_of net side lit =
 abbrev pub output_of : AigPair → Side → ℕ → Option Lit
 output_of net side j = option_map (lit_named side (circuit_of net side)) (slice_get (circuit_of net side).outputs j)
 
--- a gate with its fanins as literals: node is the AND of left and right
-pub record Definition : Type 0 where
-  pub node : Node
-  pub left : Lit
-  pub right : Lit
-
+-- a gate with its fanins as literals
 abbrev pub definition_of : Side → Aig → And → Definition
 definition_of side c g = record {
   node = Gate side g.var;
@@ -65,7 +63,7 @@ definition_of side c g = record {
 abbrev pub definitions : AigPair → List Definition
 definitions net = map (definition_of A net.a) net.a.gates ++ map (definition_of B net.b) net.b.gates
 
--- the gate that defines a node
+-- the gate of a variable
 abbrev pub gate_at : AigPair → Side → ℕ → Option And
 gate_at net side v = find (λ g. g.var == v) (circuit_of net side).gates
 
@@ -77,6 +75,29 @@ nodes_of net =
 -- the place of a node in that order; none for an XOR and for a node that isn't there
 abbrev pub position_of : AigPair → Node → Option ℕ
 position_of net node = place_of (λ n. same_node n node) (nodes_of net)
+
+-- an XOR with its two outputs as literals
+abbrev pub difference : ℕ → Option Lit → Option Lit → Option Definition
+difference j (Some a) (Some b) = Some (record { node = Xor j; left = a; right = b })
+difference j _ _ = None
+
+-- what defines a node; none for the constant, which is true, for an input, which is free, and for a node that isn't there
+abbrev pub defined_by : AigPair → Node → Option Definition
+defined_by net Const = None
+defined_by net (Input k) = None
+defined_by net (Gate side v) = option_map (definition_of side (circuit_of net side)) (gate_at net side v)
+defined_by net (Xor j) = difference j (output_of net A j) (output_of net B j)
+
+-- a literal by the position of its node; each literal of a circuit has one
+abbrev pub placed : AigPair → Lit → Placed
+placed net l = record { position = unwrap_or (position_of net l.node) 0; neg = l.neg }
+
+abbrev pub fanins_of : AigPair → Definition → Fanins
+fanins_of net d = record { left = placed net d.left; right = placed net d.right }
+
+-- the fanins of gate k, the gates counted from 0 in the order of positions
+abbrev pub fanins_at : AigPair → ℕ → Option Fanins
+fanins_at net k = option_map (fanins_of net) (slice_get (definitions net) k)
 
 abbrev pub differs : Bool → Bool → Bool
 differs x y = if x then not y else y

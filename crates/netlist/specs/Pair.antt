@@ -1,12 +1,13 @@
 -- Sizes of a pair of circuits, and the place of a gate.
-use Rattle.std.specs.Prelude.{◌≡◌, ℕ, ◌+◌, ◌≤◌, Option, None, Some, length, slice_index}
+use Rattle.std.specs.Prelude.{◌≡◌, ℕ, ◌+◌, ◌≤◌, Bool, not, Option, None, Some, length, slice_index}
 use Rattle.lits.specs.declared.node.Side.{Side}
 use Rattle.lits.specs.declared.node.Side.TheVariants.{A, B}
 use Rattle.lits.specs.declared.node.Node.{Node}
-use Rattle.lits.specs.declared.node.Node.TheVariants.{Gate}
-use Rattle.netlist.specs.declared.source.Source.{Source}
-use Rattle.netlist.specs.declared.source.Source.TheVariants as source
-use Rattle.netlist.specs.declared.sizes.Sizes.{Sizes}
+use Rattle.lits.specs.declared.node.Node.TheVariants.{Const, Input, Gate}
+use Rattle.lits.specs.declared.literal.Lit.{Lit}
+use Rattle.netlist.specs.declared.gate.Source.{Source}
+use Rattle.netlist.specs.declared.gate.Source.TheVariants as source
+use Rattle.netlist.specs.declared.pair.Sizes.{Sizes}
 use Rattle.netlist.specs.Circuit.{gate_vars, most}
 use Rattle.netlist.specs.Net.{AigPair, IsNet, circuit_of}
 
@@ -26,6 +27,13 @@ pub record AreSizes (net : AigPair) (s : Sizes) : Type 0 where
 abbrev pub gate_from : Option Source → Option ℕ
 gate_from (Some (source.Gate g)) = Some g
 gate_from _ = None
+
+-- the literal of a variable with this source
+abbrev pub lit_from : Side → ℕ → Bool → Option Source → Option Lit
+lit_from side v negated None = None
+lit_from side v negated (Some source.Constant) = Some (record { node = Const; neg = not negated })
+lit_from side v negated (Some (source.Input k)) = Some (record { node = Input k; neg = negated })
+lit_from side v negated (Some (source.Gate g)) = Some (record { node = Gate side v; neg = negated })
 
 -- the node of the gate with an index
 abbrev pub gate_node : AigPair → Side → ℕ → Node

@@ -3,8 +3,8 @@ use Rattle.std.specs.Prelude.{◌≡◌, ℕ, ◌==◌, ◌-◌, ◌<◌, nat_le
 use Rattle.std.specs.List.{slice_index_or}
 use Rattle.std.specs.Option.{option_map}
 use Rattle.lits.specs.Clause.{has}
-use Rattle.netlist.specs.declared.source.Source.{Source}
-use Rattle.netlist.specs.declared.source.Source.TheVariants.{Constant, Input, Gate}
+use Rattle.netlist.specs.declared.gate.Source.{Source}
+use Rattle.netlist.specs.declared.gate.Source.TheVariants.{Constant, Input, Gate}
 use Rattle.netlist.specs.Place.{place_of}
 use Rattle.netlist.specs.Circuit.{Aig, IsCircuit, variables_in, gate_vars, run, given}
 use Rattle.netlist.specs.VariableTable.{Places, IsTable}

@@ -1,11 +1,11 @@
-ghost use Rattle.std.specs.Prelude.{◌≡◌, ◌≤◌, ◌<◌, ◌&&◌, ◌==◌, true, IfOk, IfSome, length};
-ghost use Rattle.netlist.specs.Circuit.{IsCircuit, is_over, variables_in, value_in, lit_value};
+ghost use Rattle.std.specs.Prelude.{◌≡◌, ◌∷◌, ◌++◌, ◌≤◌, ◌<◌, ◌&&◌, ◌==◌, true, IfOk, IfSome, length};
+ghost use Rattle.netlist.specs.Circuit.{IsCircuit, gate_vars, is_over, variables_in, value_in, lit_value};
 ghost use Rattle.netlist.specs.Place.{place_of};
+ghost use Rattle.netlist.specs.VariableTable.{IsTable};
 ghost use Rattle.netlist.specs.Pair.{gate_from};
 ghost use Rattle.netlist.specs.Source.{source_of, source_at, read_in, IsWithin};
 
-use crate::gate::And;
-use crate::source::Source;
+use crate::gate::{And, Source};
 use crate::variable_table::VariableTable;
 use std::alloc::{AllocError, Global};
 use std::marker::Model;
@@ -45,12 +45,26 @@ impl Circuit {
         ensures { IfOk result (λ c. c ≡ record { inputs = inputs.items; gates = gates.items; outputs = outputs.items }) }
     {
         let table = VariableTable::of(alloc, inputs.as_slice(), gates.as_slice())?;
-        Ok(Circuit {
+        Ok(Circuit::with_table(inputs, gates, outputs, table))
+    }
+
+    /// The same circuit, of a table that was made already.
+    pub fn with_table(
+        inputs: Vec<u32>,
+        gates: Vec<And>,
+        outputs: Vec<u32>,
+        table: VariableTable,
+    ) -> Circuit
+        requires circuit { IsCircuit (record { inputs = inputs.items; gates = gates.items; outputs = outputs.items }) }
+        requires table { IsTable table (0 ∷ (inputs.items ++ gate_vars gates.items)) }
+        ensures { result ≡ record { inputs = inputs.items; gates = gates.items; outputs = outputs.items } }
+    {
+        Circuit {
             inputs,
             gates,
             outputs,
             table,
-        })
+        }
     }
 
     /// The inputs' variables, in order.

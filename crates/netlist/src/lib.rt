@@ -3,29 +3,31 @@
 //! A `Circuit` is an and-inverter graph as AIGER has it (Biere 2007; version 1.9, 2011): input variables, AND gates in
 //! order, output literals. A `Net` is two circuits over the same inputs, whose nodes, positions, literals and clauses
 //! its readers answer exactly, each look-up in constant time. `Net::miter` gives the clauses (Tseitin 1968) that are
-//! satisfiable exactly if the two circuits differ on some input.
+//! satisfiable exactly if the two circuits differ on some input (`laws`).
 //!
 //! Definitions: `specs/Circuit.antt` (circuits and the values of their literals), `specs/Net.antt` (nodes, positions,
-//! values, what it means to agree), `specs/Miter.antt` (clauses and their numbers). Begin to read at `gate.rt`.
+//! values, what it means to agree), `specs/Miter.antt` (clauses and their numbers), `specs/Unlike.antt` (why two
+//! circuits are no net); the other files of `specs/` say what single types of the code keep. Begin to read at
+//! `gate.rt`: a `VariableTable` finds the variables of a `Circuit`; a `CircuitPair` makes nodes of two circuits and
+//! `Axioms` of their clauses; `ClauseStarts` number the clauses; all this is behind a `Net`.
 #![tactic(auto)]
 
+pub use axioms::Axioms;
 pub use circuit::Circuit;
-pub use gate::And;
-pub use law::{satisfiable_if_different, unsatisfiable_if_equal};
+pub use gate::{And, Definition, Fanins, Placed};
 pub use net::Net;
 pub use short::Short;
 pub use unlike::Unlike;
+pub use variable_table::VariableTable;
 
+mod axioms;
 mod circuit;
 mod gate;
-mod law;
-mod meaning;
+pub mod laws;
 mod miter;
 mod net;
 mod pair;
 mod short;
-mod sizes;
-mod source;
 mod starts;
 #[cfg(test)]
 mod tests;

@@ -3,7 +3,8 @@ ghost use Rattle.lits.specs.Clause.{IsClause};
 ghost use Rattle.netlist.specs.Miter.{axioms_of, miter_of, numbered, positive};
 ghost use Rattle.lits.specs.Same.{same_lit, opposite};
 ghost use Rattle.netlist.specs.Miter.{xors_of, variables_of};
-ghost use Rattle.netlist.specs.Numbered.{AreThere, numbered_at};
+ghost use Rattle.netlist.specs.Net.{IsNet};
+ghost use Rattle.netlist.specs.Numbered.{AreThere};
 
 use crate::pair::CircuitPair;
 use lits::{Clause, Dim, Lit, Literal, Node};
@@ -11,34 +12,35 @@ use std::alloc::{AllocError, Global};
 
 /// The clauses of the miter: those that define each node, in the order of the variables, and last the clause that some
 /// pair of outputs differs.
-pub fn miter(alloc: Global, pair: &CircuitPair) -> Result<Vec<Clause<Dim>>, AllocError>
+///
+/// Room for `count` clauses is taken at once: of a net with millions of gates it is most of what a check needs.
+pub fn miter(alloc: Global, pair: &CircuitPair, count: u32) -> Result<Vec<Clause<Dim>>, AllocError>
     ensures { IfOk result (λ v. v.items ≡ miter_of pair.now) }
 {
-    let mut clauses = Vec::new(alloc);
+    let mut clauses = Vec::with_capacity(alloc, count as usize)?;
     for place in 0..pair.variables() {
-        push_axioms(alloc, &mut clauses, pair, place)?;
+        push_axioms(alloc, &mut clauses, pair, pair.node(place))?;
     }
     let last = some_xor(alloc, pair)?;
     clauses.push(last)?;
     Ok(clauses)
 }
 
-/// Puts the clauses last that define the node with a CNF variable, here counted from 0.
+/// Puts the clauses last that define a node.
 fn push_axioms(
     alloc: Global,
     clauses: &mut Vec<Clause<Dim>>,
     pair: &CircuitPair,
-    place: u32,
+    node: Node,
 ) -> Result<(), AllocError>
-    requires { place < length (variables_of pair.now) }
-    ensures { OnOk result (clauses.new.items ≡ clauses.old.items ++ numbered_at pair.now place) }
+    requires { IsNet pair.now }
+    ensures { OnOk result (clauses.new.items
+        ≡ clauses.old.items ++ map (λ c. map (numbered pair.now) c) (axioms_of pair.now node)) }
 {
-    let node = pair.node(place);
-    for k in 0..4 {
-        if let Some(axiom) = pair.axiom(node, k) {
-            let clause = numbered(alloc, pair, axiom.lits())?;
-            clauses.push(clause)?;
-        }
+    let axioms = pair.axioms(node);
+    for axiom in axioms.as_slice() {
+        let clause = numbered(alloc, pair, axiom.lits())?;
+        clauses.push(clause)?;
     }
     Ok(())
 }
@@ -54,7 +56,7 @@ fn numbered(alloc: Global, pair: &CircuitPair, lits: &[Lit]) -> Result<Clause<Di
     for (i, lit) in lits.iter().enumerate() {
         numbers[i] = pair.number(*lit);
     }
-    clause_of(alloc, &numbers[..lits.len()])
+    Clause::from_slice(alloc, &numbers[..lits.len()])
 }
 
 /// The clause of all XORs, in order.
@@ -69,16 +71,5 @@ fn some_xor(alloc: Global, pair: &CircuitPair) -> Result<Clause<Dim>, AllocError
         };
         numbers.push(pair.number(xor))?;
     }
-    clause_of(alloc, numbers.as_slice())
-}
-
-/// The clause of numbers that make one: want of memory is the only refusal.
-fn clause_of(alloc: Global, numbers: &[Dim]) -> Result<Clause<Dim>, AllocError>
-    requires { IsClause ⟦<Dim as PartialEq>⟧.eq ⟦<Dim as Literal>⟧.opposite numbers.now }
-    ensures { IfOk result (λ c. c ≡ numbers.now) }
-{
-    match Clause::of(alloc, numbers) {
-        Ok(clause) => Ok(clause),
-        Err(_) => Err(AllocError),
-    }
+    Clause::from_slice(alloc, numbers.as_slice())
 }

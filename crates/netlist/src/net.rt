@@ -1,9 +1,11 @@
 ghost use Rattle.std.specs.Prelude.{◌≡◌, IfOk, IfSome, IfNone, MatchResult, length};
-ghost use Rattle.netlist.specs.Net.{IsNet, circuit_of, lit_of, nodes_of, output_of, position_of};
-ghost use Rattle.netlist.specs.Miter.{axiom_of, clause_number_of, cnf_number_of, miter_of, variables_of};
+ghost use Rattle.netlist.specs.Net.{IsNet, circuit_of, defined_by, fanins_at, lit_of, nodes_of, output_of, position_of};
+ghost use Rattle.netlist.specs.Miter.{axiom_of, axioms_of, clause_number_of, cnf_number_of, miter_of, variables_of};
 ghost use Rattle.netlist.specs.Unlike.{unlike_of};
 
+use crate::axioms::Axioms;
 use crate::circuit::Circuit;
+use crate::gate::{Definition, Fanins};
 use crate::miter::miter;
 use crate::pair::CircuitPair;
 use crate::short::Short;
@@ -78,11 +80,38 @@ impl Net {
         self.pair.position(node)
     }
 
+    /// What defines a node: a gate with its fanins, an XOR with its two outputs; none exactly for the constant, an input
+    /// and a node that isn't there.
+    pub fn definition(&self, node: Node) -> Option<Definition>
+        ensures { result ≡ defined_by self.now node }
+    {
+        self.pair.definition(node)
+    }
+
+    /// The fanins of gate k, the gates of A and then of B counted from 0, by their positions; none exactly where there
+    /// are no more gates.
+    pub fn fanins(&self, k: u32) -> Option<Fanins>
+        ensures { result ≡ fanins_at self.now k }
+    {
+        self.pair.fanins(k)
+    }
+
+    /// The clauses that define the node.
+    pub fn axioms(&self, node: Node) -> Axioms
+        ensures { result ≡ axioms_of self.now node }
+    {
+        self.pair.axioms(node)
+    }
+
     /// Clause k, from 0, of those that define the node; none exactly where there is no such clause.
     pub fn axiom(&self, node: Node, k: u8) -> Option<Short>
         ensures { result ≡ axiom_of self.now node k }
     {
-        self.pair.axiom(node, k)
+        let axioms = self.axioms(node);
+        match axioms.as_slice().get(usize::from(k)) {
+            Some(axiom) => Some(axiom.copy()),
+            None => None,
+        }
     }
 
     /// The number in the miter, from 1, of clause k of those that define the node; none exactly where there is no
@@ -110,21 +139,24 @@ impl Net {
 
     /// How many variables the miter has.
     pub fn variables(&self) -> u32
-        ensures { result ≡ length (variables_of self.now) }
+        ensures count { result ≡ length (variables_of self.now) }
+        ensures net { IsNet self.now }
     {
         self.pair.variables()
     }
 
     /// How many clauses the miter has.
     pub fn clauses(&self) -> u32
-        ensures { result ≡ length (miter_of self.now) }
+        ensures count { result ≡ length (miter_of self.now) }
+        ensures net { IsNet self.now }
     {
         self.starts.first(self.pair.variables())
     }
 
     /// How many outputs each circuit has.
     pub fn outputs(&self) -> u32
-        ensures { result ≡ length self.now.a.outputs }
+        ensures count { result ≡ length self.now.a.outputs }
+        ensures net { IsNet self.now }
     {
         self.pair.sizes().outputs
     }
@@ -140,14 +172,7 @@ impl Net {
     pub fn miter(&self, alloc: Global) -> Result<Vec<Clause<Dim>>, AllocError>
         ensures { IfOk result (λ v. v.items ≡ miter_of self.now) }
     {
-        miter(alloc, &self.pair)
-    }
-
-    /// What holds of every net. It does nothing when it runs.
-    pub fn known(&self)
-        ensures { IsNet self.now }
-    {
-        let _circuit = self.pair.circuit(Side::A);
+        miter(alloc, &self.pair, self.clauses())
     }
 }
 

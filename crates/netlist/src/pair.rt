@@ -1,23 +1,32 @@
 ghost use Rattle.std.specs.Prelude.{◌≡◌, ◌+◌, ◌*◌, ◌<◌, ◌≤◌, true, Some, IfSome, length, slice_get};
+ghost use Rattle.std.specs.Option.{option_map};
 ghost use Rattle.lits.specs.Clause.{has};
 ghost use Rattle.netlist.specs.Circuit.{most, is_over, variables_in};
-ghost use Rattle.netlist.specs.Net.{IsNet, circuit_of, lit_named, lit_of, nodes_of, output_of, position_of};
+ghost use Rattle.netlist.specs.Net.{IsNet, circuit_of, defined_by, definition_of, difference, fanins_at, fanins_of, placed, lit_named, lit_of, nodes_of, output_of, position_of};
 ghost use Rattle.lits.specs.Same.{same_node};
-ghost use Rattle.netlist.specs.Miter.{axiom_of, axioms_of, numbered, variable_of, variables_of};
-ghost use Rattle.netlist.specs.Meaning.{lit_from, meaning_of, difference};
+ghost use Rattle.netlist.specs.Miter.{axioms_of, numbered, variable_of, variables_of};
+ghost use Rattle.netlist.specs.Short.{IsApart};
 ghost use Rattle.netlist.specs.Starts.{first_clause};
-ghost use Rattle.netlist.specs.Numbered.{AreThere};
-ghost use Rattle.netlist.specs.Pair.{AreSizes, gate_node, first_gate};
+ghost use Rattle.netlist.specs.Pair.{AreSizes, gate_node, first_gate, lit_from};
 
+use crate::axioms::{Axioms, gate_count, xor_count};
 use crate::circuit::Circuit;
-use crate::meaning::Meaning;
-use crate::short::Short;
-use crate::sizes::Sizes;
-use crate::source::Source;
+use crate::gate::{And, Definition, Fanins, Placed, Source};
 use lits::{Dim, Lit, Node, Side};
 use std::marker::Model;
 
+/// How many inputs, gates and outputs a pair of circuits has.
+#[derive(Clone, Copy, Debug)]
+pub struct Sizes {
+    pub inputs: u32,
+    pub gates_a: u32,
+    pub gates_b: u32,
+    pub outputs: u32,
+}
+
 /// The two circuits of a net, and the nodes that they make.
+///
+/// It stands by itself since the numbers of the clauses are counted from it, before there is a net.
 #[derive(Drop)]
 pub struct CircuitPair {
     a: Circuit,
@@ -84,30 +93,88 @@ impl CircuitPair {
         self.lit(side, *lit)
     }
 
-    /// What the clauses of a node say; none where it has no clauses.
-    pub fn meaning(&self, node: Node) -> Option<Meaning>
-        ensures { result ≡ meaning_of self.now node }
+    /// What defines a node; none for the constant, an input and a node that isn't there.
+    pub fn definition(&self, node: Node) -> Option<Definition>
+        ensures definition { result ≡ defined_by self.now node }
+        ensures apart { IfSome result IsApart }
     {
         match node {
-            Node::Const => Some(Meaning::True),
-            Node::Input(_) => None,
-            Node::Gate(side, var) => self.conjunction(side, var),
+            Node::Gate(side, var) => self.gate_definition(side, var),
             Node::Xor(j) => difference(j, self.output(Side::A, j), self.output(Side::B, j)),
+            Node::Const | Node::Input(_) => None,
         }
     }
 
-    fn conjunction(&self, side: Side, var: u32) -> Option<Meaning>
-        ensures { result ≡ meaning_of self.now (Node.Gate side var) }
+    fn gate_definition(&self, side: Side, var: u32) -> Option<Definition>
+        ensures definition { result ≡ defined_by self.now (Node.Gate side var) }
+        ensures apart { IfSome result IsApart }
     {
-        let circuit = self.circuit(side);
-        match circuit.gate(var) {
-            Some(index) => {
-                let gate = circuit.gates()[index as usize];
-                let left = self.named(side, gate.left);
-                let right = self.named(side, gate.right);
-                Some(Meaning::Conjunction(Node::Gate(side, gate.var), left, right))
-            }
+        match self.circuit(side).gate(var) {
+            Some(index) => Some(self.defined(side, self.gate(side, index))),
             None => None,
+        }
+    }
+
+    /// The gate with an index.
+    fn gate(&self, side: Side, index: u32) -> And
+        requires { index < length (circuit_of self.now side).gates }
+        ensures gate { slice_get (circuit_of self.now side).gates index ≡ Some result }
+        ensures left { is_over (variables_in (circuit_of self.now side)) result.left ≡ true }
+        ensures right { is_over (variables_in (circuit_of self.now side)) result.right ≡ true }
+        ensures net { IsNet self.now }
+    {
+        self.circuit(side).gates()[index as usize]
+    }
+
+    /// A gate of one side with its fanins as literals.
+    fn defined(&self, side: Side, gate: And) -> Definition
+        requires left { is_over (variables_in (circuit_of self.now side)) gate.left ≡ true }
+        requires right { is_over (variables_in (circuit_of self.now side)) gate.right ≡ true }
+        ensures { result ≡ definition_of side (circuit_of self.now side) gate }
+    {
+        Definition {
+            node: Node::Gate(side, gate.var),
+            left: self.named(side, gate.left),
+            right: self.named(side, gate.right),
+        }
+    }
+
+    /// The fanins of gate k, the gates of A and then of B counted from 0, by their positions.
+    pub fn fanins(&self, k: u32) -> Option<Fanins>
+        ensures { result ≡ fanins_at self.now k }
+    {
+        let sizes = self.sizes();
+        if k < sizes.gates_a {
+            Some(self.gate_fanins(Side::A, k))
+        } else if k - sizes.gates_a < sizes.gates_b {
+            Some(self.gate_fanins(Side::B, k - sizes.gates_a))
+        } else {
+            None
+        }
+    }
+
+    /// The fanins of the gate with an index.
+    fn gate_fanins(&self, side: Side, index: u32) -> Fanins
+        requires { index < length (circuit_of self.now side).gates }
+        ensures { option_map (λ g. fanins_of self.now (definition_of side (circuit_of self.now side) g))
+            (slice_get (circuit_of self.now side).gates index) ≡ Some result }
+    {
+        let gate = self.gate(side, index);
+        Fanins {
+            left: self.placed(side, gate.left),
+            right: self.placed(side, gate.right),
+        }
+    }
+
+    /// A defined AIGER literal of one side, by the position of its node.
+    fn placed(&self, side: Side, aiger: u32) -> Placed
+        requires { is_over (variables_in (circuit_of self.now side)) aiger ≡ true }
+        ensures { result ≡ placed self.now (lit_named side (circuit_of self.now side) aiger) }
+    {
+        let lit = self.named(side, aiger);
+        Placed {
+            position: self.position(lit.node).unwrap_or(0),
+            neg: lit.neg,
         }
     }
 
@@ -194,31 +261,34 @@ impl CircuitPair {
     pub fn variables(&self) -> u32
         ensures count { result ≡ length (variables_of self.now) }
         ensures few { result ≤ 3 * most + 1 }
+        ensures net { IsNet self.now }
     {
         let sizes = self.sizes();
         1 + sizes.inputs + sizes.gates_a + sizes.gates_b + sizes.outputs
     }
 
-    /// Clause k of those that define a node, from 0.
-    pub fn axiom(&self, node: Node, k: u8) -> Option<Short>
-        ensures clause { result ≡ axiom_of self.now node k }
-        ensures there { IfSome result (AreThere self.now) }
+    /// The clauses that define a node.
+    pub fn axioms(&self, node: Node) -> Axioms
+        ensures { result ≡ axioms_of self.now node }
     {
-        let _net = &self.a;
-        match self.meaning(node) {
-            Some(meaning) => meaning.axiom(k),
-            None => None,
+        match (node, self.definition(node)) {
+            (Node::Const, _) => Axioms::of_constant(),
+            (Node::Gate(..), Some(gate)) => Axioms::of_gate(gate),
+            (Node::Xor(_), Some(xor)) => Axioms::of_xor(xor),
+            _ => Axioms::none(),
         }
     }
 
-    /// How many clauses define a node.
+    /// How many clauses define a node. It makes none.
     pub fn clauses(&self, node: Node) -> u32
         ensures count { result ≡ length (axioms_of self.now node) }
         ensures few { result ≤ 4 }
     {
-        match self.meaning(node) {
-            Some(meaning) => meaning.count(),
-            None => 0,
+        match (node, self.definition(node)) {
+            (Node::Const, _) => 1,
+            (Node::Gate(..), Some(gate)) => gate_count(gate),
+            (Node::Xor(_), Some(xor)) => xor_count(xor),
+            _ => 0,
         }
     }
 
@@ -262,11 +332,15 @@ impl CircuitPair {
     }
 }
 
-fn difference(j: u32, a: Option<Lit>, b: Option<Lit>) -> Option<Meaning>
+fn difference(j: u32, a: Option<Lit>, b: Option<Lit>) -> Option<Definition>
     ensures { result ≡ difference j a b }
 {
     match (a, b) {
-        (Some(a), Some(b)) => Some(Meaning::Difference(Node::Xor(j), a, b)),
+        (Some(left), Some(right)) => Some(Definition {
+            node: Node::Xor(j),
+            left,
+            right,
+        }),
         _ => None,
     }
 }

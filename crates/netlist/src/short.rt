@@ -1,7 +1,5 @@
-ghost use Rattle.std.specs.Prelude.{◌≡◌, ◌+◌, ◌<◌, ◌≤◌, true, false, [], length};
-ghost use Rattle.lits.specs.Clause.{has, Adds};
-ghost use Rattle.lits.specs.Same.{same_lit, opposite};
-ghost use Rattle.netlist.specs.Meaning.{kept_clause, IsShort};
+ghost use Rattle.std.specs.Prelude.{◌≡◌, ◌≢◌, [], ◌∷◌};
+ghost use Rattle.netlist.specs.Short.{kept_clause, IsShort};
 
 use lits::{Lit, Literal};
 use std::marker::Model;
@@ -35,22 +33,18 @@ impl Short {
         &self.lits[..self.len]
     }
 
-    /// The clause of at most three literals, with the first of each repeated one; none where a literal stands beside
-    /// its negation.
-    pub(crate) fn of(lits: &[Lit]) -> Option<Short>
-        requires { length lits.now ≤ 3 }
-        ensures { result ≡ kept_clause lits.now }
+    /// The same clause once more.
+    pub(crate) fn copy(&self) -> Short
+        ensures { result ≡ self.now }
     {
-        let mut kept = Short::empty();
-        for lit in lits {
-            if !kept.add(*lit) {
-                return None;
-            }
+        Short {
+            lits: self.lits,
+            len: self.len,
         }
-        Some(kept)
     }
 
-    fn empty() -> Short
+    /// The clause of no literal.
+    pub(crate) fn empty() -> Short
         ensures { result ≡ [] }
     {
         Short {
@@ -59,26 +53,42 @@ impl Short {
         }
     }
 
-    fn has(&self, lit: Lit) -> bool
-        ensures { result ≡ has same_lit self.now lit }
+    /// The clause of one literal.
+    pub(crate) fn of_one(lit: Lit) -> Short
+        ensures { result ≡ lit ∷ [] }
     {
-        self.lits().contains(&lit)
+        Short {
+            lits: [lit, Lit::default(), Lit::default()],
+            len: 1,
+        }
     }
 
-    /// Puts a literal last, unless it is there already; false where its negation is there.
-    fn add(&mut self, lit: Lit) -> bool
-        requires { length self.old < 3 }
-        ensures added { result ≡ true → Adds same_lit opposite self.old lit self.new }
-        ensures pair { result ≡ false → has same_lit self.old (opposite lit) ≡ true }
-        ensures room { length self.new ≤ length self.old + 1 }
+    /// The clause of two literals over two nodes.
+    pub(crate) fn of_two(first: Lit, second: Lit) -> Short
+        requires { first.node ≢ second.node }
+        ensures { result ≡ first ∷ second ∷ [] }
     {
-        if self.has(lit.not()) {
-            return false;
+        Short {
+            lits: [first, second, Lit::default()],
+            len: 2,
         }
-        if !self.has(lit) {
-            self.lits[self.len] = lit;
-            self.len += 1;
+    }
+
+    /// The clause of three literals, the first over a node of its own; none where the others are each other's negation.
+    pub(crate) fn of_three(first: Lit, second: Lit, third: Lit) -> Option<Short>
+        requires second { first.node ≢ second.node }
+        requires third { first.node ≢ third.node }
+        ensures { result ≡ kept_clause (first ∷ second ∷ third ∷ []) }
+    {
+        if third == second.not() {
+            return None;
         }
-        true
+        if second == third {
+            return Some(Short::of_two(first, second));
+        }
+        Some(Short {
+            lits: [first, second, third],
+            len: 3,
+        })
     }
 }

@@ -1,7 +1,7 @@
 ghost use Rattle.std.specs.Prelude.{◌≡◌, [], ◌∷◌, IfOk};
 ghost use Rattle.netlist.specs.Circuit.{IsCircuit};
 
-use crate::{And, Circuit, Net, Unlike, satisfiable_if_different, unsatisfiable_if_equal};
+use crate::{And, Circuit, Definition, Fanins, Net, Placed, Unlike, VariableTable, laws};
 use lits::{Clause, Dim, Lit, Node, Side};
 use std::alloc::{AllocError, Global};
 use std::process::Abort;
@@ -68,8 +68,8 @@ fn is_miter(
         push_line(&mut text, clause)?;
     }
     assert_eq!(rt; text.as_str(), expected);
-    satisfiable_if_different(&net);
-    unsatisfiable_if_equal(&net);
+    laws::satisfiable_if_different(&net);
+    laws::unsatisfiable_if_equal(&net);
     Ok(())
 }
 
@@ -170,6 +170,60 @@ fn miter_of_n1(rt: HostRuntime) -> Result<(), Fail> {
     assert_eq!(rt; net.cnf_number(not_gate), Dim::of(-5));
     let axiom = net.axiom(GATE, 0).ok_or("an axiom")?;
     assert_eq!(rt; axiom.lits().first().copied(), Some(not_gate));
+    Ok(())
+}
+
+#[test]
+fn what_defines_a_node(rt: HostRuntime) -> Result<(), Fail> {
+    let net = swapped_net(rt.alloc())?;
+    let input = |k: u32| Lit {
+        node: Node::Input(k),
+        neg: false,
+    };
+    let gate = Definition {
+        node: GATE,
+        left: input(1),
+        right: input(0),
+    };
+    assert_eq!(rt; net.definition(GATE), Some(gate));
+    assert_eq!(rt; net.definition(Node::Const), None);
+    assert_eq!(rt; net.axioms(Node::Const).as_slice().len(), 1);
+    assert_eq!(rt; net.axioms(Node::Input(0)).as_slice().len(), 0);
+    assert_eq!(rt; net.axioms(GATE).as_slice().len(), 3);
+    assert_eq!(rt; net.axioms(Node::Xor(0)).as_slice().len(), 4);
+    Ok(())
+}
+
+#[test]
+fn fanins_by_position(rt: HostRuntime) -> Result<(), Fail> {
+    let alloc = rt.alloc();
+    let net = Net::of(alloc, and(alloc, 2, 4)?, and(alloc, 1, 5)?).map_err(|_| "a net")?;
+    let at = |position: u32, neg: bool| Placed { position, neg };
+    let a = Fanins {
+        left: at(1, false),
+        right: at(2, false),
+    };
+    let b = Fanins {
+        left: at(0, false),
+        right: at(2, true),
+    };
+    assert_eq!(rt; net.fanins(0), Some(a));
+    assert_eq!(rt; net.fanins(1), Some(b));
+    assert_eq!(rt; net.fanins(2), None);
+    Ok(())
+}
+
+#[test]
+fn table_of_variables(rt: HostRuntime) -> Result<(), Fail> {
+    let alloc = rt.alloc();
+    let mut table = VariableTable::new(alloc);
+    table.add(5)?;
+    table.add(2)?;
+    assert_eq!(rt; table.place(0), Some(0));
+    assert_eq!(rt; table.place(5), Some(1));
+    assert_eq!(rt; table.place(2), Some(2));
+    assert_eq!(rt; table.place(3), None);
+    assert_eq!(rt; table.place(6), None);
     Ok(())
 }
 

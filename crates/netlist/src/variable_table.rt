@@ -1,4 +1,4 @@
-ghost use Rattle.std.specs.Prelude.{◌≡◌, ℕ, ◌+◌, ◌<◌, ◌≤◌, ◌^◌, false, List, [], ◌∷◌, ◌++◌, length, IfOk, All};
+ghost use Rattle.std.specs.Prelude.{◌≡◌, ℕ, ◌+◌, ◌<◌, ◌≤◌, ◌^◌, false, List, [], ◌∷◌, ◌++◌, length, IfOk, OnOk, OnErr, All};
 ghost use Rattle.std.specs.Prelude.{◌==◌};
 ghost use Rattle.lits.specs.Clause.{has};
 ghost use Rattle.netlist.specs.Circuit.{gate_vars, most};
@@ -24,8 +24,46 @@ impl Model for VariableTable {
 }
 
 impl VariableTable {
+    /// The table of the constant alone.
+    pub fn new(alloc: Global) -> VariableTable
+        ensures table { IsTable result (0 ∷ []) }
+        ensures count { result.count ≡ 1 }
+    {
+        VariableTable {
+            places: Vec::new(alloc),
+            count: 1,
+        }
+    }
+
+    /// Puts a new variable last. The table reaches as far as the greatest variable.
+    pub fn add(&mut self, var: u32) -> Result<(), AllocError>
+        requires { self.old.count < 2 ^ 31 }
+        ensures table { OnOk result ((vars : List ℕ) → IsTable self.old vars → has ◌==◌ vars var ≡ false
+            → IsTable self.new (vars ++ var ∷ [])) }
+        ensures count { OnOk result (self.new.count ≡ self.old.count + 1) }
+        ensures err { OnErr result (self.new ≡ self.old) }
+    {
+        self.make_room(var)?;
+        self.push(var);
+        Ok(())
+    }
+
+    /// Makes room for a variable.
+    fn make_room(&mut self, var: u32) -> Result<(), AllocError>
+        ensures room { OnOk result (var < length self.new.by_variable) }
+        ensures table { (vars : List ℕ) → IsTable self.old vars → IsTable self.new vars }
+        ensures count { self.new.count ≡ self.old.count }
+        ensures err { OnErr result (self.new ≡ self.old) }
+    {
+        let room = var as usize + 1;
+        if self.places.len() < room {
+            self.places.resize(room, 0)?;
+        }
+        Ok(())
+    }
+
     /// The table of the constant alone, with room for the variables up to the greatest.
-    fn new(alloc: Global, greatest: u32) -> Result<VariableTable, AllocError>
+    fn with_room(alloc: Global, greatest: u32) -> Result<VariableTable, AllocError>
         ensures table { IfOk result (λ t. IsTable t (0 ∷ [])) }
         ensures room { IfOk result (λ t. length t.by_variable ≡ greatest + 1) }
     {
@@ -64,7 +102,7 @@ impl VariableTable {
         requires { AreVariables inputs.now gates.now }
         ensures { IfOk result (λ t. IsTable t (0 ∷ (inputs.now ++ gate_vars gates.now))) }
     {
-        let mut table = VariableTable::new(alloc, greatest(inputs, gates))?;
+        let mut table = VariableTable::with_room(alloc, greatest(inputs, gates))?;
         for var in inputs {
             table.push(*var);
         }

@@ -15,7 +15,6 @@ pub fn refutes(net: &Net, book: &Book)
     ensures { ((j : ℕ) → j < length net.now.a.outputs → HasOut book.now.entries j ≡ true)
         → IsRefutation net.now (refutation_of net.now book.now.entries) }
 {
-    net.known();
     net.clauses();
     book.out_budget();
     written_text();
@@ -27,7 +26,6 @@ pub fn derives(net: &Net, book: &Book)
     ensures derives { IsDerivation net.now (derivation_of net.now book.now.entries) }
     ensures spans { AreSpans net.now book.now.entries (spans_of net.now book.now.entries) }
 {
-    net.known();
     net.clauses();
     book.out_budget();
     written_text();

@@ -37,7 +37,6 @@ pub fn push_logs(
     ensures spans { IfOk result (λ spans. spans.items
         ≡ spans_from book.now.entries (proof.old.last + 1) (outputs_of net.now)) }
 {
-    net.known();
     book.out_budget();
     let entries = book.entries();
     let places = spent_places(alloc, entries, net.outputs())?;

@@ -29,7 +29,6 @@ pub fn push_outs(
     ensures units { IfOk result (λ units. units.items
         ≡ map (unit_id (proof.old.last + 1) book.now.entries) (range_with_len 0 (length net.now.a.outputs))) }
 {
-    net.known();
     book.out_budget();
     let entries = book.entries();
     let mut units = zeros(alloc, net.outputs())?;

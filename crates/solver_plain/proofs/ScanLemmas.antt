@@ -64,13 +64,13 @@ Brings {L = L} eq opposite find s (n ∷ ns) t =
     (u : State L) × (after_found eq opposite s (find n) ≡ Ok u) × Brings eq opposite find u ns t
 
 module _ {N L : Type 0} (eq : L → L → Bool) (opposite : L → L) (find : N → Option (List L)) where
-  brings-push : (s : State L) (hints : List N) (t u : State L) (n : N) → Brings eq opposite find s hints t
+  pub brings-push : (s : State L) (hints : List N) (t u : State L) (n : N) → Brings eq opposite find s hints t
       → after_found eq opposite t (find n) ≡ Ok u → Brings eq opposite find s (hints ++ n ∷ []) u
   brings-push s [] t u n here e = (u, ap (λ (z : State L). after_found eq opposite z (find n)) here ∙ e, refl)
   brings-push s (m ∷ ms) t u n here e = (here.0, here.1, brings-push here.0 ms t u n here.2 e)
 
   -- hints that end at a wholly negated clause have no fault
-  brings-fault : (place : ℕ) (s : State L) (hints : List N) (t : State L) → Brings eq opposite find s hints t
+  pub brings-fault : (place : ℕ) (s : State L) (hints : List N) (t : State L) → Brings eq opposite find s hints t
       → t.clashed ≡ true → fault_from eq opposite find place s hints ≡ None
   brings-fault place s [] t here clash =
       let e : s.clashed ≡ true = ap (λ (z : State L). z.clashed) here ∙ clash in rw e refl

@@ -11,7 +11,7 @@ ghost use Rattle.solver_plain.specs.Search.{IsFound};
 use crate::formula::Formula;
 use crate::literals::negations;
 use crate::scan::scan;
-use lits::{Clause, ClauseErr, Listed, Lit, Literal, LiteralSet, Ref, Step};
+use lits::{Clause, Listed, Lit, Literal, LiteralSet, Ref, Step};
 use std::alloc::{AllocError, Global};
 
 /// What a search ends with.
@@ -95,9 +95,6 @@ fn learned(alloc: Global, formula: &Formula, lits: &[Lit]) -> Result<Step, Alloc
     let Some(hints) = scan(alloc, formula, &mut set)? else {
         unreachable!();
     };
-    match Clause::of(alloc, lits) {
-        Ok(clause) => Ok(Step { clause, hints }),
-        Err(ClauseErr::Tautology) => unreachable!(),
-        Err(ClauseErr::NoMemory) => Err(AllocError),
-    }
+    let clause = Clause::from_slice(alloc, lits)?;
+    Ok(Step { clause, hints })
 }

@@ -1,15 +1,15 @@
 -- What closures and new clauses come to under assignments, and steps over more clauses.
-use Rattle.std.proofs.Common.{◌≡◌, ℕ, ◌+◌, Bool, true, false, not, ◌||◌, List, [], ◌∷◌, Option, Some, None, Result, Ok, Err, refl, sym, ap, ◌∙◌, subst, inl, inr, zero, suc}
+use Rattle.std.proofs.Common.{◌≡◌, ℕ, ◌+◌, Bool, true, false, not, ◌||◌, List, [], ◌∷◌, Option, Some, None, Result, Ok, Err, refl, sym, ap, ◌∙◌, subst, inl, inr}
 use Rattle.std.specs.Prelude.{filter}
 use Rattle.std.specs.List.{AllByRecursion}
 use Rattle.lits.specs.Clause.{has, has_pair}
-use Rattle.lits.specs.Assignment.{IsAssignment, Holds, Meets, IsSatisfiable}
+use Rattle.lits.specs.Assignment.{IsAssignment, Holds, Meets}
 use Rattle.lits.proofs.ClauseLemmas.{IsLiteral}
 use Rattle.unit_prop.specs.Closure.{forces, is_negated, IsClosed, Clashes, IsClosure, ClosureClashes, AllTrue}
 use Rattle.unit_prop.specs.New.{IsNew, others_negated, SameLiterals}
 use Rattle.unit_prop.specs.declared.why.Why.{Why}
 use Rattle.unit_prop.specs.declared.why.Why.TheVariants.{Tautology, NoClause}
-use Rattle.unit_prop.specs.Step.{State, IsStep, AllHold, start_of, after_hint, fault_from}
+use Rattle.unit_prop.specs.Step.{State, IsStep, start_of, after_hint, fault_from}
 use Rattle.unit_prop.proofs.LiteralLemmas.{contrary, both, or_cases, or_left, or_right, has-head, has-filter, has-map-opposite, witness, all-at, all-true}
 use Rattle.unit_prop.proofs.ClosureLemmas.{any-all}
 

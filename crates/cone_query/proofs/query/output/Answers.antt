@@ -13,18 +13,18 @@ use Rattle.cone_query.proofs.QueryLemmas.{if_ok-same, xor-variable, asked-target
 use Rattle.cone_query.proofs.query.output.Goals as goal
 
 pub cone-requires : goal.cone-requires
-cone-requires g c = (xor-variable c.args.net.now c.known.ensures c.args.j c.requires.output, tt)
+cone-requires g c = (xor-variable c.args.net.now c.is_net.ensures c.args.j c.requires.output, tt)
 
 pub start-requires : goal.start-requires
 start-requires g c =
-    subst IsBase (sym c.as_slice.ensures.value) (cone-base c.args.net.now c.known.ensures (Xor c.args.j ∷ []) c.in_ok-base.base.items c.in_ok-base.ensures)
+    subst IsBase (sym c.as_slice.ensures.value) (cone-base c.args.net.now c.is_net.ensures (Xor c.args.j ∷ []) c.in_ok-base.base.items c.in_ok-base.ensures)
 
 pub refute-requires-clause-target : goal.refute-requires-clause-target
 refute-requires-clause-target g c =
     asked-target c.args.net.now c.args.seen.now c.args.j c.in_ok-base.base.items (g.R.Refuter.base_of c.start.new.self) c.in_ok-equal.equal
     (g.R.Refuter.log_of c.start.new.self) c.out_budget-left.result
     (record {
-      net_is = c.known.ensures;
+      net_is = c.is_net.ensures;
       below = c.requires.output;
       unsettled = c.requires.unsettled;
       is_cone = c.in_ok-base.ensures;
@@ -39,7 +39,7 @@ returns-in-Yes-clause-good g c =
     out-good c.args.net.now c.args.seen.now c.args.j c.in_ok-base.base.items (g.R.Refuter.base_of c.start.new.self) c.in_ok-equal.equal
     (g.R.Refuter.log_of c.start.new.self) c.out_budget-left.result
     (record {
-      net_is = c.known.ensures;
+      net_is = c.is_net.ensures;
       below = c.requires.output;
       unsettled = c.requires.unsettled;
       is_cone = c.in_ok-base.ensures;
@@ -58,7 +58,7 @@ input_of-requires g c =
     (model-known c.args.net.now c.args.seen.now c.args.j c.in_ok-base.base.items (g.R.Refuter.base_of c.start.new.self) c.in_ok-equal.equal
     (g.R.Refuter.log_of c.start.new.self) c.out_budget-left.result
     (record {
-      net_is = c.known.ensures;
+      net_is = c.is_net.ensures;
       below = c.requires.output;
       unsettled = c.requires.unsettled;
       is_cone = c.in_ok-base.ensures;
@@ -74,7 +74,7 @@ returns-in-No-clause-good g c =
     apart-good c.args.net.now c.args.seen.now c.args.j c.in_ok-base.base.items (g.R.Refuter.base_of c.start.new.self) c.in_ok-equal.equal
     (g.R.Refuter.log_of c.start.new.self) c.out_budget-left.result
     (record {
-      net_is = c.known.ensures;
+      net_is = c.is_net.ensures;
       below = c.requires.output;
       unsettled = c.requires.unsettled;
       is_cone = c.in_ok-base.ensures;
@@ -92,7 +92,7 @@ returns-in-No-clause-outside g c =
     apart-outside c.args.net.now c.args.seen.now c.args.j c.in_ok-base.base.items (g.R.Refuter.base_of c.start.new.self) c.in_ok-equal.equal
     (g.R.Refuter.log_of c.start.new.self) c.out_budget-left.result
     (record {
-      net_is = c.known.ensures;
+      net_is = c.is_net.ensures;
       below = c.requires.output;
       unsettled = c.requires.unsettled;
       is_cone = c.in_ok-base.ensures;
@@ -111,7 +111,7 @@ returns-clause-good g c =
     (out_spent-good c.args.net.now c.args.seen.now c.args.j c.in_ok-base.base.items (g.R.Refuter.base_of c.start.new.self) c.in_ok-equal.equal
     (g.R.Refuter.log_of c.start.new.self) c.out_budget-left.result
     (record {
-      net_is = c.known.ensures;
+      net_is = c.is_net.ensures;
       below = c.requires.output;
       unsettled = c.requires.unsettled;
       is_cone = c.in_ok-base.ensures;

@@ -5,4 +5,4 @@ use Rattle.lemma_book.specs.Cone.{named_from}
 use Rattle.lemma_book.proofs.cones.add_axioms.Given as goal
 
 abbrev pub invariant-loop-k : goal.invariant-loop-k
-invariant-loop-k l = l.cone.items ≡ l.fn.cone.items ++ named_from l.node 0 (take l.k (axioms_of l.net l.node))
+invariant-loop-k l = l.cone.items ≡ l.fn.cone.items ++ named_from l.fn.node 0 (take l.k (axioms_of l.net l.fn.node))

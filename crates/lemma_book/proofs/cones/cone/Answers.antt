@@ -15,5 +15,5 @@ returns c =
       reached = is_found c.in_ok-walk.walk;
       reach = c.in_ok-walk.ensures.reach;
       clauses = c.loop-node.invariant ∙ ap (flat_map (named_axioms c.args.net.now))
-          (all ∙ values-filter c.args.net.now c.known.ensures c.in_ok-walk.walk.found.entries c.in_ok-walk.ensures.walk.ordered c.in_ok-walk.ensures.walk.numbered);
+          (all ∙ values-filter c.args.net.now c.is_net.ensures c.in_ok-walk.walk.found.entries c.in_ok-walk.ensures.walk.ordered c.in_ok-walk.ensures.walk.numbered);
     }

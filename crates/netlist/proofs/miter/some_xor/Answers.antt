@@ -1,4 +1,4 @@
-use Rattle.std.proofs.Common.{◌≡◌, ◌∙◌, ◌+◌, ◌++◌, ◌∷◌, List, [], ap, sym, subst, arith}
+use Rattle.std.proofs.Common.{◌≡◌, ◌∙◌, ◌++◌, ◌∷◌, List, [], ap, sym, subst, arith}
 use Rattle.std.specs.Prelude.{IfOk}
 use Rattle.lits.specs.Clause.{IsClause}
 use Rattle.lits.specs.Dimacs.{DimacsLiteral}
@@ -18,15 +18,17 @@ loop-j-preserved c =
     ∙ ap (λ (ds : List DimacsLiteral). ds ++ c.number.result ∷ []) c.loop-j.invariant
     ∙ rw c.number.ensures (sym (xors_more c.args.pair.now c.loop-j.j))
 
-pub clause_of-requires : goal.clause_of-requires
-clause_of-requires c =
-    subst (λ (ds : List DimacsLiteral). IsClause same_dim opposite_dim ds) (sym (c.as_slice.ensures.value ∙ c.loop-j.invariant))
-    (xors_clause c.args.pair.now c.loop-j.j c.sizes-j-end.ensures.net_is
-    (omega (arith, c.sizes-j-end.ensures.outputs, c.loop-j-test.false)))
+pub from_slice-requires : goal.from_slice-requires
+from_slice-requires c = (
+  omega arith,
+  subst (λ (ds : List DimacsLiteral). IsClause same_dim opposite_dim ds) (sym (c.as_slice.ensures.value ∙ c.loop-j.invariant))
+      (xors_clause c.args.pair.now c.loop-j.j c.sizes-j-end.ensures.net_is
+      (omega (arith, c.sizes-j-end.ensures.outputs, c.loop-j-test.false))),
+)
 
 pub returns : goal.returns
 returns c =
-    subst (λ (ds : List DimacsLiteral). IfOk c.clause_of.result (λ d. d ≡ ds))
+    subst (λ (ds : List DimacsLiteral). IfOk c.from_slice.result (λ d. d ≡ ds))
     (c.as_slice.ensures.value ∙ c.loop-j.invariant
     ∙ xors_all c.args.pair.now c.loop-j.j (omega (arith, c.sizes-j-end.ensures.outputs, c.loop-j-test.false)))
-    c.clause_of.ensures
+    c.from_slice.ensures

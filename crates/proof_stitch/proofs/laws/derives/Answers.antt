@@ -6,8 +6,8 @@ use Rattle.proof_stitch.proofs.laws.derives.Goals as goal
 
 pub returns-clause-derives : goal.returns-clause-derives
 returns-clause-derives c =
-    let few : length (miter_of c.args.net.now) < 2 ^ 32 = omega (arith, c.clauses.ensures) in
-    derivation-derives c.args.net.now c.known.ensures c.args.book.now.out_budget c.args.book.now.entries
+    let few : length (miter_of c.args.net.now) < 2 ^ 32 = omega (arith, c.clauses.ensures.count) in
+    derivation-derives c.args.net.now c.clauses.ensures.net c.args.book.now.out_budget c.args.book.now.entries
     (omega (arith, c.out_budget.ensures.budget, c.out_budget.ensures.range)) c.requires c.written_text.ensures.all few
 
 pub returns-clause-spans : goal.returns-clause-spans

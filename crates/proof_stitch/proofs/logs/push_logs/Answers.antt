@@ -6,13 +6,13 @@ use Rattle.proof_stitch.proofs.logs.push_logs.Goals as goal
 pub spent_places-requires : goal.spent_places-requires
 spent_places-requires c =
     outputs-below c.args.net.now c.args.book.now.out_budget c.args.book.now.entries c.entries-entries.result.now c.outputs.result
-    c.requires.legal c.entries-entries.ensures c.outputs.ensures
+    c.requires.legal c.entries-entries.ensures c.outputs.ensures.count
 
 pub loop-output-init : goal.loop-output-init
 loop-output-init c =
-    let whole : c.outputs-output-end.result - 0 ≡ length c.args.net.now.a.outputs = omega (arith, c.outputs-output-end.ensures) in
+    let whole : c.outputs-output-end.result - 0 ≡ length c.args.net.now.a.outputs = omega (arith, c.outputs-output-end.ensures.count) in
     rw (c.entries-entries.ensures, whole, c.new-spans.ensures.items)
-    (log-start c.args.net.now c.known.ensures c.args.book.now.out_budget c.args.proof.now.text.items c.args.proof.now.last c.args.book.now.entries
+    (log-start c.args.net.now c.outputs.ensures.net c.args.book.now.out_budget c.args.proof.now.text.items c.args.proof.now.last c.args.book.now.entries
     (omega (arith, c.out_budget.ensures.budget, c.out_budget.ensures.range)) c.requires.legal c.requires.room)
 
 pub push_output-requires-clause-distinct : goal.push_output-requires-clause-distinct

@@ -6,8 +6,8 @@ use Rattle.proof_stitch.proofs.outs.push_outs.Goals as goal
 pub loop-entry-init : goal.loop-entry-init
 loop-entry-init c =
     let start = at-start c.args.net.now c.args.book.now.out_budget c.args.proof.now.text.items c.args.proof.now.last c.args.book.now.entries
-    c.known.ensures (omega (arith, c.out_budget.ensures.budget, c.out_budget.ensures.range)) c.requires.legal c.requires.room in
-    rw (c.entries-entries.ensures, c.in_ok-units.ensures, c.outputs.ensures) start
+    c.outputs.ensures.net (omega (arith, c.out_budget.ensures.budget, c.out_budget.ensures.range)) c.requires.legal c.requires.room in
+    rw (c.entries-entries.ensures, c.in_ok-units.ensures, c.outputs.ensures.count) start
 
 pub push_out-requires-clause-ids : goal.push_out-requires-clause-ids
 push_out-requires-clause-ids c =

@@ -12,7 +12,7 @@ pub returns-clause-text : goal.returns-clause-text
 returns-clause-text c =
     let m = length (miter_of c.args.net.now) in
     let entries = c.args.book.now.entries in
-    let start : c.new-proof.result.last ≡ m = c.new-proof.ensures.last ∙ c.from.ensures ∙ c.clauses.ensures in
+    let start : c.new-proof.result.last ≡ m = c.new-proof.ensures.last ∙ c.from.ensures ∙ c.clauses.ensures.count in
     let text : c.push_outs.new.proof.text.items ≡ text_from m (out_additions c.args.net.now entries) =
     c.in_ok-push_outs.ensures.text ∙ rw (c.new-proof.ensures.text, start) refl in
     let last : c.push_outs.new.proof.last ≡ m + length (out_additions c.args.net.now entries) = c.in_ok-push_outs.ensures.last ∙ rw start refl in

@@ -1,6 +1,4 @@
-use Rattle.std.proofs.Common.{◌∙◌}
-use Rattle.unit_prop.proofs.LitLaws.{lit_laws}
-use Rattle.solver_plain.proofs.ListLemmas.{firsts-once}
+use Rattle.std.proofs.Common.{arith}
 use Rattle.solver_plain.proofs.SearchLemmas.{sound-negations, clash-not_open, step-reached}
 use Rattle.solver_plain.proofs.search.learned.Goals as goal
 
@@ -13,11 +11,11 @@ unreachable-requires c =
     clash-not_open c.args.formula.now c.args.lits.now c.scan.new.set c.requires.clause.once c.requires.clashes
     (rw c.in_ok-set.ensures at (rw c.in_default.is at c.in_ok-hints.ensures))
 
-pub returns-in-Ok-clause-clause : goal.returns-in-Ok-clause-clause
-returns-in-Ok-clause-clause c = c.in-Ok.ensures.kept ∙ firsts-once lit_laws c.args.lits.now c.requires.clause.once
+pub from_slice-requires : goal.from_slice-requires
+from_slice-requires c = (omega arith, c.requires.clause)
 
-pub returns-in-Ok-clause-step : goal.returns-in-Ok-clause-step
-returns-in-Ok-clause-step c =
-    rw (c.in-Ok.ensures.kept ∙ firsts-once lit_laws c.args.lits.now c.requires.clause.once)
+pub returns-clause-step : goal.returns-clause-step
+returns-clause-step c =
+    rw c.in_ok-clause.ensures
     (step-reached c.args.formula.now c.args.lits.now c.in-Some.hints c.requires.clause.apart
     (rw c.in_ok-set.ensures at (rw c.in-Some.is at c.in_ok-hints.ensures)))

@@ -2,7 +2,7 @@
 use Rattle.std.proofs.Common.{refl, sym, ◌∙◌}
 use Rattle.std.proofs.lemmas.List.{nil_from_length}
 use Rattle.lemma_book.specs.Cone.{nodes_in}
-use Rattle.lemma_book.specs.Walk.{nodes_named}
+use Rattle.lemma_book.specs.Cone.{fanins_of}
 use Rattle.lemma_book.proofs.ReachLemmas.{underway-start, underway-there, visit-smaller, underway-visit, underway-done}
 use Rattle.lemma_book.proofs.walk.Walk.of.Goals as goal
 
@@ -19,7 +19,7 @@ visit-requires-clause-there c =
 pub loop-node-smaller : goal.loop-node-smaller
 loop-node-smaller c =
     visit-smaller c.args.net.now (nodes_in c.args.lits.now) c.loop-node.walk (record { found = c.loop-node.walk.found; pending = c.pop.new.self }) c.visit.new.self c.in-Some.node
-    c.loop-node.invariant c.in-Some.ensures.items refl (nodes_named c.args.net.now c.in-Some.node) c.in_ok-visit.ensures
+    c.loop-node.invariant c.in-Some.ensures.items refl (fanins_of c.args.net.now c.in-Some.node) c.in_ok-visit.ensures
 
 pub loop-node-preserved : goal.loop-node-preserved
 loop-node-preserved c =
@@ -28,5 +28,5 @@ loop-node-preserved c =
 
 pub returns-clause-reach : goal.returns-clause-reach
 returns-clause-reach c =
-    underway-done c.args.net.now (nodes_in c.args.lits.now) c.requires.net c.loop-node.walk c.loop-node.invariant
+    underway-done c.args.net.now (nodes_in c.args.lits.now) c.loop-node.walk c.loop-node.invariant
     (nil_from_length c.loop-node.walk.pending.items (sym c.loop-node.walk.pending.ok.0 ∙ c.in_default.ensures.cases.0))

@@ -1,4 +1,4 @@
-use Rattle.std.proofs.Common.{◌∙◌, ◌+◌, ◌-◌, ℕ, ap, sym}
+use Rattle.std.proofs.Common.{◌∙◌, ◌+◌, ℕ, ap, sym}
 use Rattle.netlist.specs.Starts.{first_clause}
 use Rattle.netlist.proofs.StartLemmas.{first_clause-more}
 use Rattle.netlist.proofs.pair.CircuitPair.clauses_at.Goals as goal

@@ -1,7 +1,7 @@
 use Rattle.std.proofs.Common.{◌∙◌, ap}
 use Rattle.netlist.specs.Circuit.{Aig, is_negated, var_of}
 use Rattle.netlist.specs.Source.{source_of}
-use Rattle.netlist.specs.Meaning.{lit_from}
+use Rattle.netlist.specs.Pair.{lit_from}
 use Rattle.netlist.proofs.SourceLemmas.{lit_of-source}
 use Rattle.netlist.proofs.pair.CircuitPair.lit.Goals as goal
 

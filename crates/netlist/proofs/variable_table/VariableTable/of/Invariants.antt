@@ -1,4 +1,4 @@
-use Rattle.std.proofs.Common.{◌≡◌, ◌+◌, ◌∷◌, ◌++◌, length, take}
+use Rattle.std.proofs.Common.{◌≡◌, ◌∷◌, ◌++◌, length, take}
 use Rattle.netlist.specs.Circuit.{gate_vars}
 use Rattle.netlist.specs.VariableTable.{IsTable}
 use Rattle.netlist.proofs.variable_table.VariableTable.of.Given as goal

@@ -1,0 +1,12 @@
+use Rattle.std.proofs.Common.{arith}
+use Rattle.std.proofs.lemmas.List.{length-set}
+use Rattle.lits.proofs.IndexLemmas.{index-next}
+use Rattle.lits.proofs.chains.Chains.add_all.Goals as goal
+
+pub loop-lit-preserved : goal.loop-lit-preserved
+loop-lit-preserved g c = record {
+  index =
+      index-next c.loop-lit.self.heads.items c.loop-lit.self.links.items c.args.lits.now c.loop-lit.lit-index c.lit-item.result
+      (omega arith) c.lit-item.is (omega arith) (rw c.code.ensures at c.in_ok-add.ensures.links) (rw c.code.ensures at c.in_ok-add.ensures.heads) c.loop-lit.invariant.index;
+  slots = rw (c.in_ok-add.ensures.heads, length-set) c.loop-lit.invariant.slots;
+}

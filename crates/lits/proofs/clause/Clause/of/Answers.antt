@@ -1,0 +1,18 @@
+use Rattle.std.proofs.Common.{arith}
+use Rattle.std.proofs.lemmas.Result.{err_from_is_err_and}
+use Rattle.lits.proofs.ClauseLemmas.{is_literal, kept-next, pair-next}
+use Rattle.lits.proofs.clause.Clause.of.Goals as goal
+
+pub returns-in_err-add-clause-tautology : goal.returns-in_err-add-clause-tautology
+returns-in_err-add-clause-tautology g c =
+    let laws = is_literal g.met.L.Eq.laws g.met.L.Literal.exact g.met.L.Literal.twice in
+    let p = err_from_is_err_and c.from_residual.result c.from_residual.ensures.1 in
+    rw (p.1, p.2) (λ t. pair-next laws _ _ _ _ (omega arith) c.lit-item.is c.loop-lit.invariant.is_kept (c.in_err-add.ensures.pair t))
+
+pub loop-lit-preserved : goal.loop-lit-preserved
+loop-lit-preserved g c =
+    let laws = is_literal g.met.L.Eq.laws g.met.L.Literal.exact g.met.L.Literal.twice in
+    record {
+      is_kept = kept-next laws _ _ _ _ _ (omega arith) c.lit-item.is c.loop-lit.invariant.is_kept c.in_ok-add.ensures.ok;
+      ready = c.in_ok-add.ensures.ready;
+    }
