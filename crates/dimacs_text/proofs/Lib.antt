@@ -1,5 +1,5 @@
 mod LineLemmas
-mod DistinctLemmas
+mod FirstsLemmas
 mod ClauseLemmas
 mod EntryLemmas
 mod TextLemmas

@@ -12,7 +12,8 @@ entries_of clause = map (λ d. Some d) clause ++ None ∷ []
 
 -- The entries are those of some clauses, and then these open literals; of each clause the first of its repeated literals
 -- are kept.
-pub record AreReadAs (entries : List (Option DimacsLiteral)) (ended : List (List DimacsLiteral)) (open_literals : List DimacsLiteral) : Type 0 where
+pub record AreReadAs (entries : List (Option DimacsLiteral)) (ended : List (List DimacsLiteral))
+    (open_literals : List DimacsLiteral) : Type 0 where
   pub clauses : List (List DimacsLiteral)
   pub kept : ended ≡ map (firsts same_dim) clauses
   pub split : entries ≡ flat_map entries_of clauses ++ map (λ d. Some d) open_literals

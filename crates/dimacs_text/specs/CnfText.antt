@@ -14,7 +14,8 @@ clause_text clause = flat_map (λ d. literal_text d ++ 32 ∷ []) clause ++ code
 
 -- the header: how many variables and how many clauses there are
 unfoldable pub header_text : ℕ → ℕ → List ℕ
-header_text variables count = codes "p cnf " ++ decimal variables ++ codes " " ++ decimal count ++ codes "\n"
+header_text variables count =
+    codes "p cnf " ++ decimal variables ++ codes " " ++ decimal count ++ codes "\n"
 
 -- the text of the clauses over variables from 1 to this one
 unfoldable pub cnf_text : ℕ → List (List DimacsLiteral) → List ℕ

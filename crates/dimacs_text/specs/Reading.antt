@@ -25,7 +25,9 @@ announced_in word = option_and_then (λ n. if nat_lt n (2 ^ 31) then Some n else
 abbrev pub header_of : Part → Part → Part → Part → Option Header
 header_of p cnf variables clauses =
     if bytes_eq p.bytes (codes "p") && bytes_eq cnf.bytes (codes "cnf")
-    then option_and_then (λ v. option_map (λ c. record { variables = v; clauses = c }) (announced_in clauses.bytes)) (announced_in variables.bytes)
+    then option_and_then
+    (λ v. option_map (λ c. record { variables = v; clauses = c }) (announced_in clauses.bytes))
+    (announced_in variables.bytes)
     else None
 
 -- the header that the first four words are
@@ -53,7 +55,8 @@ entries_in variables (word ∷ words) = do
   Ok (entry ∷ entries)
 
 -- the clauses with a literal more in front of the first one, if there is one
-abbrev pub with_literal : DimacsLiteral → List (List DimacsLiteral) → Option (List (List DimacsLiteral))
+abbrev pub with_literal : DimacsLiteral → List (List DimacsLiteral)
+    → Option (List (List DimacsLiteral))
 with_literal literal [] = None
 with_literal literal (clause ∷ clauses) = Some ((literal ∷ clause) ∷ clauses)
 

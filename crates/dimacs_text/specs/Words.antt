@@ -20,7 +20,8 @@ without_comment line = if is_comment line then [] else line
 -- the words of a text that begins at a place: those of its lines, which LF parts
 abbrev pub words_from : ℕ → List ℕ → List Part
 words_from at text =
-    flat_map (λ line. words_of (record { at = line.at; bytes = without_comment line.bytes })) (placed at (lines_in text))
+    flat_map (λ line. words_of (record { at = line.at; bytes = without_comment line.bytes }))
+    (placed at (lines_in text))
 
 -- the words of a text, in order
 abbrev pub words_in : List ℕ → List Part

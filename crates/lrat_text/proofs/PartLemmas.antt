@@ -15,24 +15,30 @@ use Rattle.lrat_text.specs.Numbers.{is_zero, is_id, is_literal, is_hint, literal
 use Rattle.lrat_text.specs.Reading.{addition, deletion}
 use Rattle.lrat_text.specs.Writing.{IsId, IsWritable}
 
-pub up_to_zero-append : (xs ys : List Number) → up_to_zero (xs ++ ys) ≡ (if list_any is_zero xs then up_to_zero xs else xs ++ up_to_zero ys)
+pub up_to_zero-append : (xs ys : List Number)
+    → up_to_zero (xs ++ ys) ≡ (if list_any is_zero xs then up_to_zero xs else xs ++ up_to_zero ys)
 up_to_zero-append [] ys = refl
-up_to_zero-append (x ∷ xs) ys = go (is_zero x) (list_any is_zero xs) refl refl (up_to_zero-append xs ys)
+up_to_zero-append (x ∷ xs) ys =
+    go (is_zero x) (list_any is_zero xs) refl refl (up_to_zero-append xs ys)
   where
     go : (b c : Bool) → is_zero x ≡ b → list_any is_zero xs ≡ c
-        → up_to_zero (xs ++ ys) ≡ (if list_any is_zero xs then up_to_zero xs else xs ++ up_to_zero ys)
-        → up_to_zero ((x ∷ xs) ++ ys) ≡ (if list_any is_zero (x ∷ xs) then up_to_zero (x ∷ xs) else (x ∷ xs) ++ up_to_zero ys)
+        → up_to_zero (xs ++ ys) ≡
+        (if list_any is_zero xs then up_to_zero xs else xs ++ up_to_zero ys)
+        → up_to_zero ((x ∷ xs) ++ ys) ≡
+        (if list_any is_zero (x ∷ xs) then up_to_zero (x ∷ xs) else (x ∷ xs) ++ up_to_zero ys)
     go true c e f rest = rw e refl
     go false true e f rest = rw (e, rest, f) refl
     go false false e f rest = rw (e, rest, f) refl
 
-pub past_zero-append : (xs ys : List Number) → past_zero (xs ++ ys) ≡ (if list_any is_zero xs then past_zero xs ++ ys else past_zero ys)
+pub past_zero-append : (xs ys : List Number)
+    → past_zero (xs ++ ys) ≡ (if list_any is_zero xs then past_zero xs ++ ys else past_zero ys)
 past_zero-append [] ys = refl
 past_zero-append (x ∷ xs) ys = go (is_zero x) refl (past_zero-append xs ys)
   where
     go : (b : Bool) → is_zero x ≡ b
         → past_zero (xs ++ ys) ≡ (if list_any is_zero xs then past_zero xs ++ ys else past_zero ys)
-        → past_zero ((x ∷ xs) ++ ys) ≡ (if list_any is_zero (x ∷ xs) then past_zero (x ∷ xs) ++ ys else past_zero ys)
+        → past_zero ((x ∷ xs) ++ ys) ≡
+        (if list_any is_zero (x ∷ xs) then past_zero (x ∷ xs) ++ ys else past_zero ys)
     go true e rest = rw e refl
     go false e rest = rw e rest
 
@@ -43,7 +49,8 @@ pub record AreLiterals (literals : List DimacsLiteral) : Type 0 where
   pub in_range : list_all is_literal (map number_of literals) ≡ true
   pub back : map literal_of (map number_of literals) ≡ literals
 
-pub are_literals : (literals : List DimacsLiteral) → AllByRecursion IsInRange literals → AreLiterals literals
+pub are_literals : (literals : List DimacsLiteral) → AllByRecursion IsInRange literals
+    → AreLiterals literals
 are_literals [] all = record { numbers = refl; no_zero = refl; in_range = refl; back = refl }
 are_literals (l ∷ ls) all =
     let rest = are_literals ls all.1 in
@@ -72,7 +79,15 @@ is_id-plain id range =
     rw (some, below) refl
 
 pub are_ids : (ids : List ℕ) → AllByRecursion IsId ids → AreIds ids
-are_ids [] all = record { numbers = refl; no_zero = refl; in_range = refl; as_hints = refl; no_minus = refl; back = refl }
+are_ids [] all =
+    record {
+      numbers = refl;
+      no_zero = refl;
+      in_range = refl;
+      as_hints = refl;
+      no_minus = refl;
+      back = refl;
+    }
 are_ids (id ∷ ids) all =
     let rest = are_ids ids all.1 in
     let apart : eqb id 0 ≡ false = ne_eqb _ _ (λ f. omega arith) in
@@ -91,26 +106,31 @@ abbrev pub joined : Option (List Number) → Option (List Number) → Option (Li
 joined None more = None
 joined (Some ns) more = option_map (λ ms. ns ++ ms) more
 
-pub numbers_in-append : (ws vs : List (List ℕ)) → numbers_in (ws ++ vs) ≡ joined (numbers_in ws) (numbers_in vs)
+pub numbers_in-append : (ws vs : List (List ℕ))
+    → numbers_in (ws ++ vs) ≡ joined (numbers_in ws) (numbers_in vs)
 numbers_in-append [] vs = go (numbers_in vs)
   where
     go : (o : Option (List Number)) → o ≡ option_map (λ ms. [] ++ ms) o
     go None = refl
     go (Some ms) = refl
-numbers_in-append (w ∷ ws) vs = go (number_in w) (numbers_in ws) (numbers_in vs) refl refl (numbers_in-append ws vs)
+numbers_in-append (w ∷ ws) vs =
+    go (number_in w) (numbers_in ws) (numbers_in vs) refl refl (numbers_in-append ws vs)
   where
-    go : (n : Option Number) (a b : Option (List Number)) → number_in w ≡ n → numbers_in ws ≡ a → numbers_in (ws ++ vs) ≡ joined a b
+    go : (n : Option Number) (a b : Option (List Number)) → number_in w ≡ n → numbers_in ws ≡ a
+        → numbers_in (ws ++ vs) ≡ joined a b
         → numbers_in ((w ∷ ws) ++ vs) ≡ joined (numbers_in (w ∷ ws)) b
     go None a b e f rest = rw (e) refl
     go (Some n) None b e f rest = rw (e, rest, f) refl
     go (Some n) (Some ns) None e f rest = rw (e, rest, f) refl
     go (Some n) (Some ns) (Some ms) e f rest = rw (e, rest, f) refl
 
-pub numbers_in-both : (ws vs : List (List ℕ)) (ns ms : List Number) → numbers_in ws ≡ Some ns → numbers_in vs ≡ Some ms → numbers_in (ws ++ vs) ≡ Some (ns ++ ms)
+pub numbers_in-both : (ws vs : List (List ℕ)) (ns ms : List Number) → numbers_in ws ≡ Some ns
+    → numbers_in vs ≡ Some ms → numbers_in (ws ++ vs) ≡ Some (ns ++ ms)
 numbers_in-both ws vs ns ms e f = numbers_in-append ws vs ∙ rw (e, f) refl
 
 -- the word 0, and others behind it
-pub numbers_in-zero : (words : List (List ℕ)) (ns : List Number) → numbers_in words ≡ Some ns → numbers_in ((48 ∷ []) ∷ words) ≡ Some (plain 0 ∷ ns)
+pub numbers_in-zero : (words : List (List ℕ)) (ns : List Number) → numbers_in words ≡ Some ns
+    → numbers_in ((48 ∷ []) ∷ words) ≡ Some (plain 0 ∷ ns)
 unfolding value_from
 numbers_in-zero words ns e = rw e refl
 
@@ -129,8 +149,10 @@ any_zero xs ys = list_any-append is_zero xs (plain 0 ∷ ys) ∙ or_true (list_a
     or_true false = refl
 
 -- the numbers of a written addition spell it
-pub addition-written : (at last id : ℕ) (clause : List DimacsLiteral) (hints : List ℕ) → IsWritable last (Add id clause hints)
-    → addition at last (plain id) (map number_of clause ++ plain 0 ∷ (map plain hints ++ plain 0 ∷ [])) ≡ Ok (Add id clause hints)
+pub addition-written : (at last id : ℕ) (clause : List DimacsLiteral) (hints : List ℕ)
+    → IsWritable last (Add id clause hints)
+    → addition at last (plain id)
+    (map number_of clause ++ plain 0 ∷ (map plain hints ++ plain 0 ∷ [])) ≡ Ok (Add id clause hints)
 addition-written at last id clause hints can =
     let ls = are_literals clause can.2 in
     let hs = are_ids hints can.3 in
@@ -143,10 +165,12 @@ addition-written at last id clause hints can =
     let any2 = any_zero (map plain hints) [] in
     let id_fits : is_id (plain id) ≡ true = is_id-plain id (omega arith, can.1) in
     let above : ltb last id ≡ true = lt-ltb _ _ can.0 in
-    rw (past1, lits, any1, up2, past2, any2, ls.in_range, hs.as_hints, id_fits, above, hs.no_minus, ls.back, hs.back) refl
+    rw (past1, lits, any1, up2, past2, any2, ls.in_range, hs.as_hints)
+    (rw (id_fits, above, hs.no_minus, ls.back, hs.back) refl)
 
 -- and those of a written deletion
-pub deletion-written : (at : ℕ) (ids : List ℕ) → AllByRecursion IsId ids → deletion at (map plain ids ++ plain 0 ∷ []) ≡ Ok (Del ids)
+pub deletion-written : (at : ℕ) (ids : List ℕ) → AllByRecursion IsId ids
+    → deletion at (map plain ids ++ plain 0 ∷ []) ≡ Ok (Del ids)
 deletion-written at ids can =
     let hs = are_ids ids can in
     let up1 = up_to (map plain ids) [] hs.no_zero in

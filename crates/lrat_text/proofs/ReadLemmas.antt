@@ -1,5 +1,5 @@
 -- Deletions that are read: their ids are read as hints, which must have no sign.
-use Rattle.std.proofs.Common.{◌≡◌, ℕ, Bool, true, false, not, ◌&&◌, ◌||◌, ltb, List, [], ◌∷◌, Option, Some, None, Result, Ok, Err, refl, sym, ap, ◌∙◌, lt-ltb, arith}
+use Rattle.std.proofs.Common.{◌≡◌, ℕ, Bool, true, false, not, ◌&&◌, ◌||◌, ltb, List, [], ◌∷◌, Option, Some, None, Result, Err, refl, sym, ap, ◌∙◌, lt-ltb, arith}
 use Rattle.std.specs.Prelude.{IfSome, IsSomeAnd, map, ok_or}
 use Rattle.std.specs.List.{list_any, list_all}
 use Rattle.std.proofs.lemmas.Bool.{and_parts, eqb-false}
@@ -18,13 +18,15 @@ use Rattle.lrat_text.specs.Parts.{IsParts, deletion_of, IsBadNumber}
 
 -- ids are hints without a minus sign
 ids-are : (ns : List Number)
-    → list_all is_id (up_to_zero ns) ≡ (list_all is_hint (up_to_zero ns) && not (list_any (λ n. n.minus) (up_to_zero ns)))
+    → list_all is_id (up_to_zero ns) ≡
+    (list_all is_hint (up_to_zero ns) && not (list_any (λ n. n.minus) (up_to_zero ns)))
 ids-are [] = refl
 ids-are (n ∷ ns) = go (is_zero n) refl (ids-are ns)
   where
     Same : List Number → Type 0
     Same ms =
-        list_all is_id (up_to_zero ms) ≡ (list_all is_hint (up_to_zero ms) && not (list_any (λ k. k.minus) (up_to_zero ms)))
+        list_all is_id (up_to_zero ms) ≡
+        (list_all is_hint (up_to_zero ms) && not (list_any (λ k. k.minus) (up_to_zero ms)))
 
     bits : (m h H M : Bool) → ((not m && h) && (H && not M)) ≡ ((h && H) && not (m || M))
     bits true true true M = refl
@@ -39,14 +41,20 @@ ids-are (n ∷ ns) = go (is_zero n) refl (ids-are ns)
         let apart = eqb-false _ _ e in
         let some : ltb 0 n.size ≡ true = lt-ltb _ _ (omega arith) in
         rw (e, rest, some)
-        (bits n.minus (is_hint n) (list_all is_hint (up_to_zero ns)) (list_any (λ k. k.minus) (up_to_zero ns)))
+        (bits n.minus (is_hint n) (list_all is_hint (up_to_zero ns))
+        (list_any (λ k. k.minus) (up_to_zero ns)))
 
 -- a number that can't be a hint can't be an id
-pub deletion-misread : (at : ℕ) (found : Option (List Number)) → IfSome found (λ ns. in_place (plain 0 ∷ ns) ≡ false)
+pub deletion-misread : (at : ℕ) (found : Option (List Number))
+    → IfSome found (λ ns. in_place (plain 0 ∷ ns) ≡ false)
     → (ok_or found (BadNumber at) >>= deletion at) ≡ Err (BadNumber at)
 deletion-misread at None wrong = refl
 deletion-misread at (Some ns) wrong =
-    rw (ids-are ns, bits (list_all is_hint (up_to_zero ns)) (list_any (λ n. n.minus) (up_to_zero ns)) (is_empty (past_zero ns)) wrong)
+    rw (
+      ids-are ns,
+      bits (list_all is_hint (up_to_zero ns))
+          (list_any (λ n. n.minus) (up_to_zero ns)) (is_empty (past_zero ns)) wrong,
+    )
     refl
   where
     bits : (h m p : Bool) → (h && p) ≡ false → ((h && not m) && p) ≡ false
@@ -68,8 +76,10 @@ deletion-read at (Some ns) parts r =
     said = Del (map (λ n. n.size) (up_to_zero ns))
 
     go : (m : Bool)
-        → judged at (not m && true) (list_any is_zero ns) true true (Del (map (λ n. n.size) (up_to_zero ns)))
-        ≡ judged at (not m) (list_any is_zero ns) true true (Del (map (λ n. n.size) (up_to_zero ns)))
+        → judged at (not m && true) (list_any is_zero ns) true true
+        (Del (map (λ n. n.size) (up_to_zero ns)))
+        ≡ judged at (not m) (list_any is_zero ns) true true
+        (Del (map (λ n. n.size) (up_to_zero ns)))
     go true = refl
     go false = refl
 

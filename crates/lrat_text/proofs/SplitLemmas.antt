@@ -14,7 +14,8 @@ ids-words : (ids : List ℕ) → AllByRecursion IsId ids → AllByRecursion IsTo
 ids-words [] all = tt
 ids-words (id ∷ ids) all = (IsToken-decimal id (omega (arith, all.0.1)), ids-words ids all.1)
 
-literals-words : (literals : List DimacsLiteral) → AllByRecursion IsInRange literals → AllByRecursion IsToken (map literal_text literals)
+literals-words : (literals : List DimacsLiteral) → AllByRecursion IsInRange literals
+    → AllByRecursion IsToken (map literal_text literals)
 literals-words [] all = tt
 literals-words (l ∷ ls) all = (IsToken-literal l all.0, literals-words ls all.1)
 
@@ -24,24 +25,41 @@ zero-word = record { filled = refl; printed = refl }
 d-word : IsToken (100 ∷ [])
 d-word = record { filled = refl; printed = refl }
 
-pub words_of-words : (last : ℕ) (step : LratStep) → IsWritable last step → AllByRecursion IsToken (words_of step)
+pub words_of-words : (last : ℕ) (step : LratStep) → IsWritable last step
+    → AllByRecursion IsToken (words_of step)
 words_of-words last (Add id clause hints) can =
-    all-append IsToken (map literal_text clause) ((48 ∷ []) ∷ (map decimal hints ++ (48 ∷ []) ∷ [])) (literals-words clause can.2)
-    (zero-word, all-append IsToken (map decimal hints) ((48 ∷ []) ∷ []) (ids-words hints can.3) (zero-word, tt))
-words_of-words last (Del ids) can =
-    (d-word, all-append IsToken (map decimal ids) ((48 ∷ []) ∷ []) (ids-words ids can) (zero-word, tt))
+    all-append IsToken (map literal_text clause)
+    ((48 ∷ []) ∷ (map decimal hints ++ (48 ∷ []) ∷ [])) (literals-words clause can.2) (
+      zero-word,
+      all-append IsToken (map decimal hints) ((48 ∷ []) ∷ []) (ids-words hints can.3)
+          (zero-word, tt),
+    )
+words_of-words last (Del ids) can = (
+  d-word,
+  all-append IsToken (map decimal ids) ((48 ∷ []) ∷ []) (ids-words ids can)
+      (zero-word, tt),
+)
 
-pub first_of-fits : (last d : ℕ) (step : LratStep) → IsWritable last step → d < 2 ^ 64 → first_of d step < 2 ^ 64
+pub first_of-fits : (last d : ℕ) (step : LratStep) → IsWritable last step → d < 2 ^ 64
+    → first_of d step < 2 ^ 64
 first_of-fits last d (Add id clause hints) can lt = omega (arith, can.1)
 first_of-fits last d (Del ids) can lt = lt
 
 -- the words of a written step
-pub words_in-step : (last d : ℕ) (step : LratStep) → IsWritable last step → d < 2 ^ 64 → words_in (step_text d step) ≡ decimal (first_of d step) ∷ words_of step
+pub words_in-step : (last d : ℕ) (step : LratStep) → IsWritable last step → d < 2 ^ 64
+    → words_in (step_text d step) ≡ decimal (first_of d step) ∷ words_of step
 words_in-step last d step can lt =
-    words_by-joined is_space (decimal (first_of d step) ∷ words_of step) PartsTokens-space
-    (IsToken-decimal (first_of d step) (first_of-fits last d step can lt), words_of-words last step can)
+    words_by-joined is_space (decimal (first_of d step) ∷ words_of step) PartsTokens-space (
+      IsToken-decimal (first_of d step)
+          (first_of-fits last d step can lt),
+      words_of-words last step can,
+    )
 
-pub step_text-one_line : (last d : ℕ) (step : LratStep) → IsWritable last step → d < 2 ^ 64 → list_any (λ b. eqb b 10) (step_text d step) ≡ false
+pub step_text-one_line : (last d : ℕ) (step : LratStep) → IsWritable last step → d < 2 ^ 64
+    → list_any (λ b. eqb b 10) (step_text d step) ≡ false
 step_text-one_line last d step can lt =
-    joined-one_line (decimal (first_of d step) ∷ words_of step)
-    (IsToken-decimal (first_of d step) (first_of-fits last d step can lt), words_of-words last step can)
+    joined-one_line (decimal (first_of d step) ∷ words_of step) (
+      IsToken-decimal (first_of d step)
+          (first_of-fits last d step can lt),
+      words_of-words last step can,
+    )

@@ -38,7 +38,8 @@ fault_over live (Del ids) = None
 -- each step is one over the clauses that are live then
 abbrev pub DerivesFrom : Live → List Line → Type 0
 DerivesFrom live [] = Unit {0}
-DerivesFrom live (line ∷ lines) = (fault_over live line.step ≡ None) × DerivesFrom (after_step live line.step) lines
+DerivesFrom live (line ∷ lines) =
+    (fault_over live line.step ≡ None) × DerivesFrom (after_step live line.step) lines
 
 abbrev pub Derives : List (List DimacsLiteral) → List Line → Type 0
 Derives formula lines = DerivesFrom (formula_live formula) lines

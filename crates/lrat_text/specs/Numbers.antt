@@ -1,5 +1,5 @@
 -- Which numbers may stand where in the line of a proof text.
-use Rattle.std.specs.Prelude.{ℕ, ◌^◌, Bool, not, ◌&&◌, List, [], ◌∷◌, nat_lt, ◌==◌, if◌then◌else◌}
+use Rattle.std.specs.Prelude.{◌^◌, Bool, not, ◌&&◌, List, [], ◌∷◌, nat_lt, ◌==◌, if◌then◌else◌}
 use Rattle.std.specs.List.{list_all}
 use Rattle.lits.specs.Dimacs.{DimacsLiteral}
 use Rattle.tokens.specs.declared.number.Number.{Number}

@@ -32,7 +32,8 @@ is_past_hints Hints = false
 is_past_hints End = true
 
 -- the numbers so far have these literals and hints, and the next one belongs there
-pub record AreRead (ns : List Number) (literals : List DimacsLiteral) (hints : List ℕ) (minus : Bool) (place : Place) : Type 0 where
+pub record AreRead (ns : List Number) (literals : List DimacsLiteral) (hints : List ℕ)
+    (minus : Bool) (place : Place) : Type 0 where
   pub literals_are : literals ≡ map literal_of (up_to_zero ns)
   pub hints_are : hints ≡ map (λ n. n.size) (up_to_zero (past_zero ns))
   pub minus_is : minus ≡ list_any (λ n. n.minus) (up_to_zero (past_zero ns))

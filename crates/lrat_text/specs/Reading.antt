@@ -35,14 +35,16 @@ judged at fit ended rises plain said =
 abbrev pub addition : ℕ → ℕ → Number → List Number → Result LratStep LratErr
 addition at last id ns =
     let hints = up_to_zero (past_zero ns) in
-    judged at (is_id id && in_place ns) (list_any is_zero ns && list_any is_zero (past_zero ns)) (nat_lt last id.size)
+    judged at (is_id id && in_place ns) (list_any is_zero ns && list_any is_zero (past_zero ns))
+    (nat_lt last id.size)
     (not (list_any (λ n. n.minus) hints))
     (Add id.size (map literal_of (up_to_zero ns)) (map (λ n. n.size) hints))
 
 -- the deletion of line `at`, of the numbers behind its `d`
 abbrev pub deletion : ℕ → List Number → Result LratStep LratErr
 deletion at ns =
-    judged at (list_all is_id (up_to_zero ns) && is_empty (past_zero ns)) (list_any is_zero ns) true true
+    judged at (list_all is_id (up_to_zero ns) && is_empty (past_zero ns))
+    (list_any is_zero ns) true true
     (Del (map (λ n. n.size) (up_to_zero ns)))
 
 -- a line's words, which should all be numbers

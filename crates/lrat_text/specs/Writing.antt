@@ -11,7 +11,8 @@ pub use Rattle.tokens.specs.Text.{IsInRange}
 
 -- the words of a step behind its first one
 abbrev pub words_of : LratStep → List (List ℕ)
-words_of (Add id clause hints) = map literal_text clause ++ ((48 ∷ []) ∷ (map decimal hints ++ (48 ∷ []) ∷ []))
+words_of (Add id clause hints) =
+    map literal_text clause ++ ((48 ∷ []) ∷ (map decimal hints ++ (48 ∷ []) ∷ []))
 words_of (Del ids) = (100 ∷ []) ∷ (map decimal ids ++ (48 ∷ []) ∷ [])
 
 -- An addition begins with its id, and a deletion with the number `last`, by convention the last addition's id.

@@ -12,8 +12,10 @@ pub gives-same : {A E : Type 0} (refused : E → Bool) (answer read : Result A E
 gives-same refused (Ok x) read e = e
 gives-same refused (Err d) read e = on_false (refused d) e
 
-pub gives-fault : {A B E : Type 0} (refused : E → Bool) (d : E) (read : Result A E) (more : Result B E)
-    → (read ≡ Err d → more ≡ Err d) → GivesUnless refused (Err d) read → GivesUnless refused (Err d) more
+pub gives-fault : {A B E : Type 0} (refused : E → Bool) (d : E) (read : Result A E)
+    (more : Result B E)
+    → (read ≡ Err d → more ≡ Err d) → GivesUnless refused (Err d) read
+    → GivesUnless refused (Err d) more
 gives-fault refused d read more f g = go (refused d) g
   where
     go : (b : Bool) → OnFalse b (read ≡ Err d) → OnFalse b (more ≡ Err d)

@@ -14,7 +14,8 @@ past text = length (line_of text) + 1
 abbrev IsSplit : List ℕ → Type 0
 IsSplit text =
     ((lines_in text ≡ line_of text ∷ []) × (drop (past text) text ≡ []))
-    ⊎ ((lines_in text ≡ line_of text ∷ lines_in (drop (past text) text)) × (length (line_of text) < length text))
+    ⊎ ((lines_in text ≡ line_of text ∷ lines_in (drop (past text) text)) ×
+    (length (line_of text) < length text))
 
 split_line : (text : List ℕ) → IsSplit text
 split_line [] = inl (refl, refl)
@@ -38,11 +39,13 @@ line_of-short : (text : List ℕ) → length (line_of text) ≤ length text
 line_of-short [] = omega arith
 line_of-short (b ∷ bs) = go (eqb b 10) refl (line_of-short bs)
   where
-    go : (t : Bool) → eqb b 10 ≡ t → length (line_of bs) ≤ length bs → length (line_of (b ∷ bs)) ≤ length (b ∷ bs)
+    go : (t : Bool) → eqb b 10 ≡ t → length (line_of bs) ≤ length bs
+        → length (line_of (b ∷ bs)) ≤ length (b ∷ bs)
     go true e le = rw e (omega arith)
     go false e le = let more : length (b ∷ line_of bs) ≤ length (b ∷ bs) = omega arith in rw e more
 
-next_line-some : (text line : List ℕ) → Some line ≡ next_line text → (line ≡ line_of text) × (0 < length text)
+next_line-some : (text line : List ℕ) → Some line ≡ next_line text
+    → (line ≡ line_of text) × (0 < length text)
 next_line-some [] line e = let f : ◌≡◌ {A = Option (List ℕ)} (Some line) None = e in cc
 next_line-some (b ∷ bs) line e =
     let apart : eqb (length (b ∷ bs)) 0 ≡ false = ne_eqb _ _ (λ f. omega arith) in
@@ -52,9 +55,11 @@ next_line-some (b ∷ bs) line e =
 ahead-moved : (p : Place) (n : ℕ) → ahead (moved p n) ≡ drop n (ahead p)
 ahead-moved p n = go (cases_lt (p.at + n) (length p.bytes)) ∙ sym (drop-drop n p.at p.bytes)
   where
-    go : (p.at + n < length p.bytes) ⊎ (length p.bytes ≤ p.at + n) → ahead (moved p n) ≡ drop (p.at + n) p.bytes
+    go : (p.at + n < length p.bytes) ⊎ (length p.bytes ≤ p.at + n)
+        → ahead (moved p n) ≡ drop (p.at + n) p.bytes
     go (inl less) =
-        let same : min (p.at + n) (length p.bytes) ≡ p.at + n = omega arith in ap (λ (k : ℕ). drop k p.bytes) same
+        let same : min (p.at + n) (length p.bytes) ≡ p.at + n = omega arith in
+        ap (λ (k : ℕ). drop k p.bytes) same
     go (inr end) =
         let same : min (p.at + n) (length p.bytes) ≡ length p.bytes = omega arith in
         ap (λ (k : ℕ). drop k p.bytes) same
@@ -71,7 +76,8 @@ pub record ReadsLine (p q : Place) (line : List ℕ) : Type 0 where
       ((lines_in (ahead p) ≡ line ∷ []) × (ahead q ≡ []))
       ⊎ ((lines_in (ahead p) ≡ line ∷ lines_in (ahead q)) × (q.at ≡ p.at + length line + 1))
 
-pub reads_line : (p q : Place) (line : List ℕ) → Some line ≡ next_line (ahead p) → q ≡ moved p (past (ahead p))
+pub reads_line : (p q : Place) (line : List ℕ) → Some line ≡ next_line (ahead p)
+    → q ≡ moved p (past (ahead p))
     → ReadsLine p q line
 reads_line p q line e m =
     let is = next_line-some (ahead p) line e in
@@ -79,7 +85,8 @@ reads_line p q line e m =
     let at = ap (λ (r : Place). r.at) m in
     let left = length-drop p.at p.bytes in
     let short = line_of-short (ahead p) in
-    let rest : ahead q ≡ drop (past (ahead p)) (ahead p) = ap ahead m ∙ ahead-moved p (past (ahead p)) in
+    let rest : ahead q ≡ drop (past (ahead p)) (ahead p) = ap ahead m
+    ∙ ahead-moved p (past (ahead p)) in
     record {
       whole = ap (λ (r : Place). r.bytes) m;
       further = omega (arith, at, left, is.1);

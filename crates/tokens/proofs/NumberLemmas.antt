@@ -15,15 +15,20 @@ pub size_in-none : (word : List ℕ) → ◌≡◌ {A = Option ℕ} None (number
 size_in-none [] e = refl
 size_in-none (b ∷ bs) e = go (eqb (length (digits (b ∷ bs))) 0) refl e
   where
-    go : (t : Bool) → eqb (length (digits (b ∷ bs))) 0 ≡ t → ◌≡◌ {A = Option ℕ} None (if t then None else Some (value (digits (b ∷ bs)))) → size_in (b ∷ bs) ≡ None
+    go : (t : Bool) → eqb (length (digits (b ∷ bs))) 0 ≡ t
+        → ◌≡◌ {A = Option ℕ} None (if t then None else Some (value (digits (b ∷ bs))))
+        → size_in (b ∷ bs) ≡ None
     go true f g = let none = eqb-true _ _ f in size_in-part (b ∷ bs) (omega arith)
     go false f g = cc
 
-pub size_in-number : (word : List ℕ) (size : ℕ) → Some size ≡ number_of word → length word ≤ length (digits word) → size_in word ≡ Some size
+pub size_in-number : (word : List ℕ) (size : ℕ) → Some size ≡ number_of word
+    → length word ≤ length (digits word) → size_in word ≡ Some size
 size_in-number [] size e le = let f : ◌≡◌ {A = Option ℕ} (Some size) None = e in cc
 size_in-number (b ∷ bs) size e le = go (eqb (length (digits (b ∷ bs))) 0) refl e
   where
-    go : (t : Bool) → eqb (length (digits (b ∷ bs))) 0 ≡ t → Some size ≡ (if t then None else Some (value (digits (b ∷ bs)))) → size_in (b ∷ bs) ≡ Some size
+    go : (t : Bool) → eqb (length (digits (b ∷ bs))) 0 ≡ t
+        → Some size ≡ (if t then None else Some (value (digits (b ∷ bs))))
+        → size_in (b ∷ bs) ≡ Some size
     go true f g = cc
     go false f g =
         let whole = is_number-whole (b ∷ bs) (omega arith) le in

@@ -1,5 +1,5 @@
 -- The number that the text of a number or of a literal writes.
-use Rattle.std.proofs.Common.{◌≡◌, ℕ, ◌^◌, ◌<◌, Bool, true, false, eqb, List, [], ◌∷◌, Some, Option, None, length, decimal, refl, ap, ◌∙◌, ne_eqb, lt-ltb, arith}
+use Rattle.std.proofs.Common.{◌≡◌, ℕ, ◌^◌, ◌<◌, Bool, true, false, eqb, List, [], ◌∷◌, Some, Option, None, decimal, refl, ◌∙◌, ne_eqb, lt-ltb, arith}
 use Rattle.std.specs.Char.{is_ascii_digit}
 use Rattle.std.specs.List.{list_all}
 use Rattle.std.specs.Str.{all_ascii_digits}
@@ -16,7 +16,8 @@ use Rattle.tokens.specs.Text.{literal_text, number_of, IsInRange}
 -- digits and their value are those of std
 model : IsNumeralModel (λ ds. all_ascii_digits ds ≡ true) (value_from 0)
 unfolding value_from
-model = numerals_by_fold _ tells_all_ascii_digits value_from (record { empty = λ n. refl; more = λ n c cs h. refl })
+model = numerals_by_fold _ tells_all_ascii_digits value_from
+    (record { empty = λ n. refl; more = λ n c cs h. refl })
 
 all_digits : (ds : List ℕ) → list_all is_ascii_digit ds ≡ all_ascii_digits ds
 all_digits [] = refl
@@ -26,7 +27,8 @@ pub digits-decimal : (n : ℕ) → n < 2 ^ 64 → list_all is_ascii_digit (decim
 digits-decimal n lt = all_digits (decimal n) ∙ digits_decimal model n lt
 
 is_number-decimal : (n : ℕ) → n < 2 ^ 64 → is_number (decimal n) ≡ true
-is_number-decimal n lt = let some = lt-ltb _ _ (decimal_nonempty n lt) in rw (digits-decimal n lt, some) refl
+is_number-decimal n lt = let some =
+    lt-ltb _ _ (decimal_nonempty n lt) in rw (digits-decimal n lt, some) refl
 
 value-decimal : (n : ℕ) → n < 10 ^ 18 → value (decimal n) ≡ n
 value-decimal n lt = let e = digits_value-decimal model n (omega arith) in omega (arith, e)
@@ -38,7 +40,8 @@ no_minus : (b : ℕ) → is_ascii_digit b ≡ true → eqb b 45 ≡ false
 no_minus b e = let low = leb-true 48 b (and_parts _ _ e).0 in ne_eqb b 45 (λ f. omega arith)
 
 -- digits have no sign
-number_in-digits : (word : List ℕ) (n : ℕ) → list_all is_ascii_digit word ≡ true → size_in word ≡ Some n
+number_in-digits : (word : List ℕ) (n : ℕ) → list_all is_ascii_digit word ≡ true
+    → size_in word ≡ Some n
     → number_in word ≡ Some (plain n)
 number_in-digits [] n all e = cc
 number_in-digits (b ∷ bs) n all e =
@@ -51,7 +54,8 @@ number_in-decimal n lt =
 
 pub number_in-any : (n : ℕ) → n < 2 ^ 64 → number_in (decimal n) ≡ Some (plain (value (decimal n)))
 number_in-any n lt =
-    number_in-digits (decimal n) (value (decimal n)) (digits-decimal n lt) (rw (is_number-decimal n lt) refl)
+    number_in-digits (decimal n) (value (decimal n)) (digits-decimal n lt)
+    (rw (is_number-decimal n lt) refl)
 
 pub number_in-literal : (literal : DimacsLiteral) → IsInRange literal
     → number_in (literal_text literal) ≡ Some (number_of literal)

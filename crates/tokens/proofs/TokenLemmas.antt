@@ -1,7 +1,7 @@
 -- Written words: how a line of them comes apart again, and a text into such lines.
 use Rattle.std.proofs.Common.{◌≡◌, ℕ, ◌^◌, ◌<◌, Bool, true, false, not, eqb, ltb, List, [], ◌∷◌, ◌++◌, map, filter, decimal, length, refl, sym, ap, ◌∙◌, append_assoc, append-nil, ne_eqb, lt-ltb, arith}
 use Rattle.std.specs.Char.{is_ascii_digit}
-use Rattle.std.specs.List.{slice_split, flat_map, list_any, list_all, join_with_byte, AllByRecursion}
+use Rattle.std.specs.List.{slice_split, flat_map, list_any, list_all, AllByRecursion}
 use Rattle.std.proofs.lemmas.Bool.{and_parts, or_parts, leb-true, ltb-true}
 use Rattle.std.proofs.lemmas.Fmt.{decimal_nonempty}
 use Rattle.std.proofs.lemmas.List.Folds.{list_any-append}
@@ -34,16 +34,19 @@ PartsTokens-whitespace = record { space = refl; printed = λ b lt. go b lt }
         let lf : eqb b 10 ≡ false = ne_eqb _ _ (λ e. omega arith) in
         rw (space, tab, cr, lf) refl
 
-split-whole : {X : Type 0} (p : X → Bool) (xs : List X) → list_any p xs ≡ false → slice_split p xs ≡ xs ∷ []
+split-whole : {X : Type 0} (p : X → Bool) (xs : List X) → list_any p xs ≡ false
+    → slice_split p xs ≡ xs ∷ []
 split-whole p [] none = refl
 split-whole p (x ∷ xs) none =
     let parts = or_parts (p x) (list_any p xs) none in rw (parts.0, split-whole p xs parts.1) refl
 
-split-first : {X : Type 0} (p : X → Bool) (xs : List X) (x : X) (rest : List X) → list_any p xs ≡ false → p x ≡ true
+split-first : {X : Type 0} (p : X → Bool) (xs : List X) (x : X) (rest : List X)
+    → list_any p xs ≡ false → p x ≡ true
     → slice_split p (xs ++ x ∷ rest) ≡ xs ∷ slice_split p rest
 split-first p [] y rest none here = rw here refl
 split-first p (x ∷ xs) y rest none here =
-    let parts = or_parts (p x) (list_any p xs) none in rw (parts.0, split-first p xs y rest parts.1 here) refl
+    let parts = or_parts (p x) (list_any p xs) none in
+    rw (parts.0, split-first p xs y rest parts.1 here) refl
 
 -- no byte of a written word passes a test that no printed byte passes
 none-printed : (p : ℕ → Bool) (word : List ℕ) → ((b : ℕ) → 32 < b → p b ≡ false)
@@ -54,14 +57,17 @@ none-printed p (b ∷ bs) other all =
     rw (other b (ltb-true _ _ parts.0), none-printed p bs other parts.1) refl
 
 no_end : (word : List ℕ) → IsToken word → list_any (λ b. eqb b 10) word ≡ false
-no_end word is = none-printed (λ b. eqb b 10) word (λ b lt. ne_eqb b 10 (λ e. omega arith)) is.printed
+no_end word is =
+    none-printed (λ b. eqb b 10) word (λ b lt. ne_eqb b 10 (λ e. omega arith)) is.printed
 
-pub all-append : {X : Type 0} (P : X → Type 0) (xs ys : List X) → AllByRecursion P xs → AllByRecursion P ys
+pub all-append : {X : Type 0} (P : X → Type 0) (xs ys : List X) → AllByRecursion P xs
+    → AllByRecursion P ys
     → AllByRecursion P (xs ++ ys)
 all-append P [] ys all more = more
 all-append P (x ∷ xs) ys all more = (all.0, all-append P xs ys all.1 more)
 
-kept : (words : List (List ℕ)) → AllByRecursion IsToken words → filter (λ word. not (is_empty word)) words ≡ words
+kept : (words : List (List ℕ)) → AllByRecursion IsToken words
+    → filter (λ word. not (is_empty word)) words ≡ words
 kept [] all = refl
 kept (w ∷ ws) all = let filled = all.0.filled in rw (filled, kept ws all.1) refl
 
@@ -70,10 +76,12 @@ split-spaced : (p : ℕ → Bool) (word : List ℕ) (words : List (List ℕ)) �
 split-spaced p word [] parts is all =
     rw (append-nil word) (split-whole p word (none-printed p word parts.printed is.printed))
 split-spaced p word (next ∷ words) parts is all =
-    split-first p word 32 (next ++ spaced words) (none-printed p word parts.printed is.printed) parts.space
+    split-first p word 32 (next ++ spaced words)
+    (none-printed p word parts.printed is.printed) parts.space
     ∙ ap (λ (l : List (List ℕ)). word ∷ l) (split-spaced p next words parts all.0 all.1)
 
-pub words_by-joined : (p : ℕ → Bool) (words : List (List ℕ)) → PartsTokens p → AllByRecursion IsToken words
+pub words_by-joined : (p : ℕ → Bool) (words : List (List ℕ)) → PartsTokens p
+    → AllByRecursion IsToken words
     → words_by p (joined words) ≡ words
 words_by-joined p [] parts all = refl
 words_by-joined p (word ∷ words) parts all =
@@ -88,7 +96,8 @@ joined-one_line (word ∷ next ∷ words) all =
     ∙ rw (no_end word all.0, joined-one_line (next ∷ words) all.1) refl
 
 -- words with a space in front of each, the last of them apart
-spaced-joined : (words : List (List ℕ)) (last : List ℕ) → 32 ∷ joined (words ++ last ∷ []) ≡ spaced (words ++ last ∷ [])
+spaced-joined : (words : List (List ℕ)) (last : List ℕ)
+    → 32 ∷ joined (words ++ last ∷ []) ≡ spaced (words ++ last ∷ [])
 spaced-joined [] last = refl
 spaced-joined (w ∷ ws) last = refl
 
@@ -110,7 +119,8 @@ lines-ended (line ∷ lines) none =
     (split-first (λ b. eqb b 10) line 10 (flat_map ended lines) parts.0 refl
     ∙ ap (λ (l : List (List ℕ)). line ∷ l) (lines-ended lines parts.1))
 
-digits-printed : (word : List ℕ) → list_all is_ascii_digit word ≡ true → list_all (λ b. ltb 32 b) word ≡ true
+digits-printed : (word : List ℕ) → list_all is_ascii_digit word ≡ true
+    → list_all (λ b. ltb 32 b) word ≡ true
 digits-printed [] all = refl
 digits-printed (b ∷ bs) all =
     let parts = and_parts (is_ascii_digit b) (list_all is_ascii_digit bs) all in

@@ -23,17 +23,20 @@ filled-bytes at (p ∷ ps) = go (is_empty p) refl (filled-bytes (at + length p +
     there = at + length p + 1
 
     go : (b : Bool) → is_empty p ≡ b
-        → bytes_of (filter is_filled (placed (at + length p + 1) ps)) ≡ filter (λ w. not (is_empty w)) ps
+        → bytes_of (filter is_filled (placed (at + length p + 1) ps)) ≡ filter
+        (λ w. not (is_empty w)) ps
         → bytes_of (filter is_filled (placed at (p ∷ ps))) ≡ filter (λ w. not (is_empty w)) (p ∷ ps)
     go true e rest = rw e rest
     go false e rest = rw e (ap (λ (l : List (List ℕ)). p ∷ l) rest)
 
 -- Where a line stands changes nothing but the places of its words.
-pub placed_words-bytes : (p : ℕ → Bool) (at : ℕ) (line : List ℕ) → bytes_of (placed_words p at line) ≡ words_by p line
+pub placed_words-bytes : (p : ℕ → Bool) (at : ℕ) (line : List ℕ)
+    → bytes_of (placed_words p at line) ≡ words_by p line
 placed_words-bytes p at line = filled-bytes at (slice_split p line)
 
 -- A line without words has none anywhere.
-pub placed_words-none : (p : ℕ → Bool) (at : ℕ) (line : List ℕ) → words_by p line ≡ [] → placed_words p at line ≡ []
+pub placed_words-none : (p : ℕ → Bool) (at : ℕ) (line : List ℕ) → words_by p line ≡ []
+    → placed_words p at line ≡ []
 placed_words-none p at line e = go (placed_words p at line) (placed_words-bytes p at line ∙ e)
   where
     go : (ws : List Part) → bytes_of ws ≡ [] → ws ≡ []
@@ -45,7 +48,8 @@ found_at : (p : ℕ → Bool) (xs : List ℕ) (i : ℕ) → position p xs ≡ So
     → (position_or_len p xs < length xs) × (i ≡ position_or_len p xs)
 found_at p xs i e = go (ltb (position_or_len p xs) (length xs)) refl e
   where
-    go : (t : Bool) → ltb (position_or_len p xs) (length xs) ≡ t → cond t (Some (position_or_len p xs)) None ≡ Some i
+    go : (t : Bool) → ltb (position_or_len p xs) (length xs) ≡ t
+        → cond t (Some (position_or_len p xs)) None ≡ Some i
         → (position_or_len p xs < length xs) × (i ≡ position_or_len p xs)
     go true f g = (ltb-true _ _ f, cc)
     go false f g = cc
@@ -55,7 +59,8 @@ found_nowhere : (p : ℕ → Bool) (xs : List ℕ) → ◌≡◌ {A = Option ℕ
 found_nowhere p xs e = go (ltb (position_or_len p xs) (length xs)) refl e
   where
     go : (t : Bool) → ltb (position_or_len p xs) (length xs) ≡ t
-        → ◌≡◌ {A = Option ℕ} (cond t (Some (position_or_len p xs)) None) None → length xs ≤ position_or_len p xs
+        → ◌≡◌ {A = Option ℕ} (cond t (Some (position_or_len p xs)) None) None
+        → length xs ≤ position_or_len p xs
     go true f g = cc
     go false f g = ltb-false _ _ f
 
@@ -65,7 +70,8 @@ or_end p xs = go (ltb (position_or_len p xs) (length xs)) refl
     go : (t : Bool) → ltb (position_or_len p xs) (length xs) ≡ t
         → unwrap_or (cond t (Some (position_or_len p xs)) None) (length xs) ≡ position_or_len p xs
     go true f = refl
-    go false f = let past = ltb-false _ _ f in omega (arith, prefix_len-le-length (λ x. not (p x)) xs)
+    go false f = let past =
+        ltb-false _ _ f in omega (arith, prefix_len-le-length (λ x. not (p x)) xs)
 
 module _ (p : ℕ → Bool) where
   abbrev letter : ℕ → Bool
@@ -79,7 +85,8 @@ module _ (p : ℕ → Bool) where
   letters line = position_or_len p line
 
   -- a blank in front changes no word
-  words-blank : (at b : ℕ) (bs : List ℕ) → p b ≡ true → placed_words p at (b ∷ bs) ≡ placed_words p (at + 1) bs
+  words-blank : (at b : ℕ) (bs : List ℕ) → p b ≡ true
+      → placed_words p at (b ∷ bs) ≡ placed_words p (at + 1) bs
   words-blank at b bs e = let k : at + 0 + 1 ≡ at + 1 = omega arith in rw (e, k) refl
 
   words-letter : (at : ℕ) (line : List ℕ)
@@ -87,8 +94,10 @@ module _ (p : ℕ → Bool) where
   words-letter at [] = refl
   words-letter at (b ∷ bs) = go (p b) refl (words-letter (at + 1) bs)
     where
-      go : (t : Bool) → p b ≡ t → placed_words p (at + 1 + blanks bs) (drop (blanks bs) bs) ≡ placed_words p (at + 1) bs
-          → placed_words p (at + blanks (b ∷ bs)) (drop (blanks (b ∷ bs)) (b ∷ bs)) ≡ placed_words p at (b ∷ bs)
+      go : (t : Bool) → p b ≡ t
+          → placed_words p (at + 1 + blanks bs) (drop (blanks bs) bs) ≡ placed_words p (at + 1) bs
+          → placed_words p (at + blanks (b ∷ bs)) (drop (blanks (b ∷ bs)) (b ∷ bs))
+          ≡ placed_words p at (b ∷ bs)
       go true e rest =
           let k : blanks (b ∷ bs) ≡ suc (blanks bs) = rw e (omega arith) in
           let place : at + suc (blanks bs) ≡ at + 1 + blanks bs = omega arith in
@@ -102,7 +111,8 @@ module _ (p : ℕ → Bool) where
   record Parts (line : List ℕ) : Type 0 where
     others : List (List ℕ)
     split : slice_split p line ≡ take (letters line) line ∷ others
-    behind : (at : ℕ) → filter is_filled (placed (at + 1) others) ≡ placed_words p at (drop (letters line) line)
+    behind : (at : ℕ)
+        → filter is_filled (placed (at + 1) others) ≡ placed_words p at (drop (letters line) line)
 
   parts : (line : List ℕ) → Parts line
   parts [] = record { others = []; split = refl; behind = λ at. refl }
@@ -114,11 +124,19 @@ module _ (p : ℕ → Bool) where
           record {
             others = slice_split p bs;
             split = rw e refl;
-            behind = λ at. sym (ap (λ (n : ℕ). placed_words p at (drop n (b ∷ bs))) none ∙ words-blank at b bs e);
+            behind =
+                λ at. sym
+                (ap (λ (n : ℕ). placed_words p at (drop n (b ∷ bs))) none
+                ∙ words-blank at b bs e);
           }
       go false e q =
           let k : 1 + letters bs ≡ suc (letters bs) = omega arith in
-          record { others = q.others; split = rw (e, q.split, k) refl; behind = λ at. rw (e, k) (q.behind at) }
+          record {
+            others = q.others;
+            split = rw (e, q.split, k) refl;
+            behind = λ at. rw (e, k)
+                (q.behind at);
+          }
 
   words-parts : (at : ℕ) (line : List ℕ) → is_empty (take (letters line) line) ≡ false
       → placed_words p at line
@@ -137,7 +155,8 @@ module _ (p : ℕ → Bool) where
   word-filled (b ∷ bs) lt = go (p b) refl (word-filled bs)
     where
       Filled : List ℕ → Type 0
-      Filled line = is_empty (take (letters (drop (blanks line) line)) (drop (blanks line) line)) ≡ false
+      Filled line =
+          is_empty (take (letters (drop (blanks line) line)) (drop (blanks line) line)) ≡ false
 
       go : (t : Bool) → p b ≡ t → (blanks bs < length bs → Filled bs) → Filled (b ∷ bs)
       go true e rest =
@@ -149,7 +168,8 @@ module _ (p : ℕ → Bool) where
           rw (e, e, k) refl
 
   -- a line without a letter has no word
-  pub first-none : (line : List ℕ) → ◌≡◌ {A = Option ℕ} (position (λ b. not (p b)) line) None → words_by p line ≡ []
+  pub first-none : (line : List ℕ) → ◌≡◌ {A = Option ℕ} (position (λ b. not (p b)) line) None
+      → words_by p line ≡ []
   first-none line e =
       let none : placed_words p 0 line ≡ [] =
       sym (words-letter 0 line) ∙ rw (drop_of_length-le line (found_nowhere letter line e)) refl in

@@ -21,7 +21,8 @@ negative size = if size == 0 then None else Some (record { minus = true; size = 
 abbrev pub number_in : List ℕ → Option Number
 number_in [] = None
 number_in (byte ∷ word) =
-    if byte == 45 then option_and_then negative (size_in word) else option_map plain (size_in (byte ∷ word))
+    if byte == 45 then option_and_then negative (size_in word) else option_map plain
+    (size_in (byte ∷ word))
 
 -- the numbers of some words, if each word writes one
 abbrev pub numbers_in : List (List ℕ) → Option (List Number)

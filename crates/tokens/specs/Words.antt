@@ -34,4 +34,5 @@ placed at (bytes ∷ parts) = record { at = at; bytes = bytes } ∷ placed (at +
 
 -- the words of a line that stands at a place, each with its own place
 abbrev pub placed_words : (ℕ → Bool) → ℕ → List ℕ → List Part
-placed_words is_blank at line = filter (λ word. not (is_empty word.bytes)) (placed at (slice_split is_blank line))
+placed_words is_blank at line =
+    filter (λ word. not (is_empty word.bytes)) (placed at (slice_split is_blank line))

@@ -11,11 +11,13 @@ returns-in_err-parts c =
     let p = err_from_is_err_and c.from_residual.result c.from_residual.ensures.1 in
     let words = words_in c.args.rest.now in
     rw (p.1, p.2)
-    (fault-same c.args.at c.in_err-parts.field-0.0 (deletion_in c.args.at words) (deletion-misread c.args.at (numbers_in words)) c.in_err-parts.ensures.err)
+    (fault-same c.args.at c.in_err-parts.field-0.0 (deletion_in c.args.at words)
+    (deletion-misread c.args.at (numbers_in words)) c.in_err-parts.ensures.err)
 
 pub returns : goal.returns
 returns c =
     let parts = c.in_ok-parts.parts in
     let words = words_in c.args.rest.now in
     rw c.deletion_of.ensures
-    (gives-same is_refusal (deletion_of c.args.at parts) (deletion_in c.args.at words) (deletion-read c.args.at (numbers_in words) parts c.in_ok-parts.ensures.ok))
+    (gives-same is_refusal (deletion_of c.args.at parts) (deletion_in c.args.at words)
+    (deletion-read c.args.at (numbers_in words) parts c.in_ok-parts.ensures.ok))

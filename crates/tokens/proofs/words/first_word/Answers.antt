@@ -1,10 +1,11 @@
-use Rattle.std.proofs.Common.{◌≡◌, ◌+◌, ◌-◌, length, take, drop, refl, sym, arith}
+use Rattle.std.proofs.Common.{◌≡◌, ◌+◌, ◌-◌, length, refl, sym, arith}
 use Rattle.tokens.proofs.WordLemmas.{first-none, first-word, first-placed}
 use Rattle.tokens.proofs.words.first_word.Goals as goal
 
 pub returns-in_err-first_letter-clause-none : goal.returns-in_err-first_letter-clause-none
 returns-in_err-first_letter-clause-none g c =
-    rw c.from_residual.ensures (first-none g.B.Blanks.blank c.args.line.now (sym c.in_err-first_letter.ensures))
+    rw c.from_residual.ensures
+    (first-none g.B.Blanks.blank c.args.line.now (sym c.in_err-first_letter.ensures))
 
 pub returns-clause-word : goal.returns-clause-word
 returns-clause-word g c =

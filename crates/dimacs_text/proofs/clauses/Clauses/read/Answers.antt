@@ -6,4 +6,6 @@ pub loop-word-preserved : goal.loop-word-preserved
 loop-word-preserved c =
     let l = c.loop-word in
     let so_far = rw c.in-Some.ensures.steps at l.invariant in
-    read_more c.args.variables (words_left c.args.words) c.in-Some.word (words_left c.next.new.self) c.in_ok-entry.entry l.clauses c.add.new.self c.in_ok-entry.ensures c.in_ok-add.ensures.ok so_far
+    read_more c.args.variables (words_left c.args.words) c.in-Some.word
+    (words_left c.next.new.self) c.in_ok-entry.entry l.clauses c.add.new.self c.in_ok-entry.ensures
+    c.in_ok-add.ensures.ok so_far

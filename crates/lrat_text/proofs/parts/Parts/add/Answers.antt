@@ -4,22 +4,31 @@ use Rattle.lrat_text.specs.Numbers.{is_zero, is_literal, is_hint}
 use Rattle.lrat_text.proofs.PlaceLemmas.{read-zero, read-literal, read-last_zero, read-hint, misread-literal, misread-hint, misread-end}
 use Rattle.lrat_text.proofs.parts.Parts.add.Goals as goal
 
-pub returns-in_err-literal-in-Literals-2-clause-err : goal.returns-in_err-literal-in-Literals-2-clause-err
+pub returns-in_err-literal-in-Literals-2-clause-err :
+    goal.returns-in_err-literal-in-Literals-2-clause-err
 returns-in_err-literal-in-Literals-2-clause-err c =
     let p = err_from_is_err_and c.from_residual.result c.from_residual.ensures.1 in
     let told = c.in_err-literal-in-Literals-2.ensures.err in
     let other : is_zero c.args.number ≡ false = ne_eqb _ _ (λ e. omega arith) in
     let wrong : is_literal c.args.number ≡ false = le-ltb _ _ told.1 in
-    rw (p.1, p.2, told.0) (refl, λ ns more r. misread-literal ns c.args.number _ _ _ other wrong more (rw c.in-Literals-2.is at r))
+    rw (p.1, p.2, told.0) (
+      refl,
+      λ ns more r. misread-literal ns c.args.number _ _ _ other wrong more
+          (rw c.in-Literals-2.is at r),
+    )
 
 pub returns-then-number-ge-TOO_LARGE-clause-err : goal.returns-then-number-ge-TOO_LARGE-clause-err
 returns-then-number-ge-TOO_LARGE-clause-err c =
     let other : is_zero c.args.number ≡ false = ne_eqb _ _ (λ e. omega arith) in
-    let wrong : is_hint c.args.number ≡ false = le-ltb _ _ (omega arith) in
-    (refl, λ ns more r. misread-hint ns c.args.number _ _ _ other wrong more (rw c.in-Hints-2.is at r))
+    let wrong : is_hint c.args.number ≡ false = le-ltb _ _ (omega arith) in (
+      refl,
+      λ ns more r. misread-hint ns c.args.number _ _ _ other wrong more
+          (rw c.in-Hints-2.is at r),
+    )
 
 pub returns-in-End-clause-err : goal.returns-in-End-clause-err
-returns-in-End-clause-err c = (refl, λ ns more r. misread-end ns c.args.number _ _ _ more (rw c.in-End.is at r))
+returns-in-End-clause-err c =
+    (refl, λ ns more r. misread-end ns c.args.number _ _ _ more (rw c.in-End.is at r))
 
 pub returns-in-Literals-clause-ok : goal.returns-in-Literals-clause-ok
 returns-in-Literals-clause-ok c ns r =
@@ -31,7 +40,8 @@ returns-in_ok-push-in-Literals-2-clause-ok c ns r =
     let told = c.in_ok-literal-in-Literals-2.ensures.ok in
     let other : is_zero c.args.number ≡ false = ne_eqb _ _ (λ e. omega arith) in
     let fits : is_literal c.args.number ≡ true = lt-ltb _ _ told.1 in
-    rw (c.in_ok-push-in-Literals-2.ensures.items, told.0, c.in-Literals-2.is) (read-literal ns c.args.number _ _ _ other fits (rw c.in-Literals-2.is at r))
+    rw (c.in_ok-push-in-Literals-2.ensures.items, told.0, c.in-Literals-2.is)
+    (read-literal ns c.args.number _ _ _ other fits (rw c.in-Literals-2.is at r))
 
 pub returns-in-Hints-clause-ok : goal.returns-in-Hints-clause-ok
 returns-in-Hints-clause-ok c ns r =
@@ -42,4 +52,5 @@ pub returns-in_ok-push-in-Hints-2-clause-ok : goal.returns-in_ok-push-in-Hints-2
 returns-in_ok-push-in-Hints-2-clause-ok c ns r =
     let other : is_zero c.args.number ≡ false = ne_eqb _ _ (λ e. omega arith) in
     let fits : is_hint c.args.number ≡ true = lt-ltb _ _ (omega arith) in
-    rw (c.in_ok-push-in-Hints-2.ensures.items, c.in-Hints-2.is) (read-hint ns c.args.number _ _ _ other fits (rw c.in-Hints-2.is at r))
+    rw (c.in_ok-push-in-Hints-2.ensures.items, c.in-Hints-2.is)
+    (read-hint ns c.args.number _ _ _ other fits (rw c.in-Hints-2.is at r))

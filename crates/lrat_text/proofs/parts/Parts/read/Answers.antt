@@ -7,8 +7,12 @@ use Rattle.lrat_text.proofs.parts.Parts.read.Goals as goal
 
 pub returns-in_err-add-clause-err : goal.returns-in_err-add-clause-err
 returns-in_err-add-clause-err c =
-    let p = err_from_is_err_and c.from_residual-in_err-add.result c.from_residual-in_err-add.ensures.1 in
+    let f = c.from_residual-in_err-add in
+    let p = err_from_is_err_and f.result f.ensures.1 in
     let number = sym c.number_in.ensures ∙ c.in_ok-number.ensures.ok_part in
     let so_far = rw c.in-Some.ensures.steps at c.loop-word.invariant in
     rw (p.1, p.2)
-    (IsBadNumber-weaker c.args.at c.in_err-add.field-0.0 (λ wrong. read-misfit (zeros_before c.args.place) (words_in c.args.line.now) _ _ c.in_ok-number.number _ number wrong so_far) c.in_err-add.ensures.err)
+    (IsBadNumber-weaker c.args.at c.in_err-add.field-0.0
+    (λ wrong. read-misfit (zeros_before c.args.place)
+    (words_in c.args.line.now) _ _ c.in_ok-number.number _ number wrong so_far)
+    c.in_err-add.ensures.err)
