@@ -1,4 +1,4 @@
-"""Circuits for the measurements: lists of AND gates with fanins that are there, made from a seed, as ASCII AIGER text."""
+"""Circuits for the measurements: lists of AND gates with fanins that are there, made from a seed, as AIGER in both forms."""
 import random
 
 
@@ -23,9 +23,42 @@ def text(inputs, outputs, gates):
     return "\n".join(lines) + "\n"
 
 
+def delta(number):
+    """The number in groups of 7 bits, the least first."""
+    made = bytearray()
+    while number > 127:
+        made.append(number & 127 | 128)
+        number >>= 7
+    made.append(number)
+    return bytes(made)
+
+
+def binary(inputs, outputs, gates):
+    """The binary file of the same circuit, whose gates define the variables behind the inputs in order."""
+    made = bytearray(f"aig {inputs + len(gates)} {inputs} 0 {len(outputs)} {len(gates)}\n".encode())
+    for literal in outputs:
+        made += f"{literal}\n".encode()
+    for lhs, left, right in gates:
+        high, low = max(left, right), min(left, right)
+        made += delta(lhs - high) + delta(high - low)
+    return bytes(made)
+
+
+def backwards(inputs, gates):
+    """A chain of gates, each over the next line's, as an ASCII file: its last gate stands first."""
+    lines = [f"aag {inputs + gates} {inputs} 0 0 {gates}"] + [str(2 * (k + 1)) for k in range(inputs)]
+    lines += [f"{2 * v} {2 * v - 2} {2 * v - 1}" for v in range(inputs + gates, inputs, -1)]
+    return "\n".join(lines) + "\n"
+
+
 def swapped(rng, gates):
     """The same gates, about half of them with swapped fanins."""
     return [(lhs, right, left) if rng.randrange(2) else (lhs, left, right) for lhs, left, right in gates]
+
+
+def make_binary(seed, inputs, gates):
+    """The bytes of the first circuit of such a pair, without outputs."""
+    return binary(inputs, [], random_gates(random.Random(seed), inputs, gates))
 
 
 def make_pair(seed, inputs, gates, outputs, turned=False):

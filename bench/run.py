@@ -3,14 +3,16 @@
 
 Usage: run.py [PROGRAM] [--sizes N ..] [--folder DIR]
 
-big pairs:    two circuits of N gates a side and no output: seconds to read A alone (the run ends at a B that is missing),
-              its bytes a second, the seconds of `wc -l` on it as a yardstick of the machine, seconds of the whole check,
-              and its peak memory a gate
+big pairs:    two circuits of N gates a side and no output, as ASCII, as binary, and as an ASCII chain whose last gate stands
+              first: seconds to read A alone (the run ends at a B that is missing), its bytes and gates a second, the seconds
+              of `wc -c` and `wc -l` on it as yardsticks of the machine and of ABC's reader (`berkeley-abc -q "&r A"`, where it
+              is installed and takes the form), seconds of the whole check, and its peak memory a gate
 solved pairs: small circuits with outputs that the solver decides, some with one sign turned and some within a budget of one
               learned clause: verdict, seconds, clauses and proof lines
 """
 import argparse
 import os
+import shutil
 import subprocess
 import sys
 import tempfile
@@ -20,7 +22,7 @@ from pathlib import Path
 sys.path.insert(0, str(Path(__file__).resolve().parent))
 sys.path.insert(0, str(Path(__file__).resolve().parents[1] / "tools"))
 import house
-from aiger import make_pair
+from aiger import backwards, make_binary, make_pair
 
 SEED = 20261126
 
@@ -39,19 +41,32 @@ def measured(command, folder):
     return process.returncode, said, seconds, usage.ru_maxrss * 1024
 
 
+def forms(size):
+    """The name of each form and the bytes of a pair in it."""
+    a, b = make_pair(SEED, 64, size, 0)
+    yield "ASCII", a.encode(), b.encode()
+    one = make_binary(SEED, 64, size)
+    yield "binary", one, one
+    chain = backwards(64, size).encode()
+    yield "chain", chain, chain
+
+
 def big_pairs(program, sizes, folder):
-    print(f"{'gates a side':>12} {'bytes of A':>11} {'read A s':>8} {'MB/s':>7} {'wc -l s':>8} {'check s':>8} {'peak B/gate':>12}"
-          "  verdict")
+    abc = shutil.which("berkeley-abc")
+    print(f"{'gates a side':>12} {'form':>7} {'bytes of A':>11} {'read A s':>8} {'MB/s':>7} {'Mgates/s':>8} {'wc -c s':>8} {'wc -l s':>8} "
+          f"{'ABC s':>7} {'check s':>8} {'peak B/gate':>12}  verdict")
     for size in sizes:
-        a, b = make_pair(SEED, 64, size, 0)
-        Path(folder, "A").write_text(a)
-        Path(folder, "B").write_text(b)
-        _, _, read, _ = measured([program, "check", "A", "missing", "--out", "p"], folder)
-        _, _, yard, _ = measured(["wc", "-l", "A"], folder)
-        status, said, seconds, peak = measured([program, "check", "A", "B", "--out", "p"], folder)
-        verdict = said.split("\n")[0]
-        print(f"{size:>12} {len(a):>11} {read:>8.2f} {len(a) / read / 1e6:>7.1f} {yard:>8.3f} {seconds:>8.2f} "
-              f"{peak / (2 * size):>12.0f}  {status} {verdict}")
+        for form, a, b in forms(size):
+            Path(folder, "A.aig").write_bytes(a)
+            Path(folder, "B.aig").write_bytes(b)
+            _, _, read, _ = measured([program, "check", "A.aig", "missing", "--out", "p"], folder)
+            _, _, counted, _ = measured(["wc", "-c", "A.aig"], folder)
+            _, _, lines, _ = measured(["wc", "-l", "A.aig"], folder)
+            peer = measured([abc, "-q", "&r A.aig"], folder)[2] if abc and form == "binary" else None
+            status, said, seconds, peak = measured([program, "check", "A.aig", "B.aig", "--out", "p"], folder)
+            verdict = said.split("\n")[0]
+            print(f"{size:>12} {form:>7} {len(a):>11} {read:>8.2f} {len(a) / read / 1e6:>7.1f} {size / read / 1e6:>8.2f} {counted:>8.3f} "
+                  f"{lines:>8.3f} {'-' if peer is None else format(peer, '.2f'):>7} {seconds:>8.2f} {peak / (2 * size):>12.0f}  {status} {verdict}")
 
 
 def solved_pairs(program, folder):

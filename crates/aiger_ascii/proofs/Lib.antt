@@ -1,7 +1,1 @@
-pub mod LineLemmas
-pub mod PlaceLemmas
-pub mod SectionLemmas
-pub mod FaninLemmas
-pub mod HeaderLemmas
-pub mod CircuitLemmas
-pub mod WordLemmas
+pub mod LoopLemmas

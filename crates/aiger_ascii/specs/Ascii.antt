@@ -1,114 +1,101 @@
--- What an ASCII AIGER file spells, and its first fault (A. Biere, The AIGER And-Inverter Graph
--- Format, 2007; AIGER 1.9): a header line, then a line for each input, each output and each gate.
--- `total` is the length of the input, `h` its header.
-use Rattle.std.specs.Prelude.{◌≡◌, ℕ, ◌+◌, List, [], ◌∷◌, ◌++◌, length, map, drop, Option, Some, None, unwrap_or, slice_index}
+-- Which bytes spell which circuit in the ASCII form of AIGER, and which fault they have first (A. Biere, The AIGER
+-- And-Inverter Graph Format, 2007; AIGER 1.9). A file is a header line; a line of one literal for each input, which
+-- defines its variable; one for each output; a line of three for each gate, which defines the first; and a tail.
+use Rattle.std.specs.Prelude.{◌≡◌, ◌≤◌, false, ℕ, zero, suc, ◌*◌, ◌%◌, ◌||◌, List, [], ◌∷◌, ◌++◌, Result, Ok, Err, nat_lt, ◌==◌, if◌then◌else◌}
 use Rattle.byte_scan.specs.declared.errors.AigerErr.{AigerErr}
-use Rattle.byte_scan.specs.declared.errors.AigerErr.TheVariants.{BadSymbol}
+use Rattle.byte_scan.specs.declared.errors.AigerErr.TheVariants.{BadLiteral, DefinedTwice}
 use Rattle.byte_scan.specs.declared.counts.Header.{Header}
-use Rattle.byte_scan.specs.Scanning.{line_of}
-use Rattle.byte_scan.specs.HeaderLine.{header_fault, header_numbers, header_of}
-use Rattle.byte_scan.specs.Faults.{◌or_else◌}
+use Rattle.byte_scan.specs.Scanning.{Place}
+use Rattle.byte_scan.specs.Reading.{◌>>=◌, start, header_at, number_at, space_at, number_line_at, literal_line_at, used, lines_ahead, tail_of, IsFault}
+use Rattle.lits.specs.Clause.{has}
 use Rattle.netlist.specs.declared.gate.And.{And}
 use Rattle.netlist.specs.Circuit.{Aig, var_of, variables_in}
-use Rattle.aiger_ascii.specs.Lines.{Line, lines_from, due, form_fault, first_number, numbers_of}
-use Rattle.aiger_ascii.specs.Literals.{uses_fault, literals_fault, undefined_among, undefined_fanin}
+use Rattle.circuit_draft.specs.Draft.{finished}
 
--- ---- the lines, one number or three each
+-- A literal that is defined is even, not 0 and at most 2M, and its variable wasn't defined before.
+abbrev pub defined : ℕ → Aig → ℕ → Result ℕ AigerErr
+defined m c n =
+    if n % 2 == 1 || n == 0 || nat_lt (2 * m) n then Err (BadLiteral n)
+    else if has ◌==◌ (variables_in c) (var_of n) then Err (DefinedTwice n)
+    else Ok (var_of n)
 
--- the variable that a line defines
-abbrev pub defined_by : Line → ℕ
-defined_by line = var_of (first_number line)
+-- ---- one line, behind which more is known of the circuit
 
--- An input's line, one number, and a gate's, a number and two more: the form is judged first, then the
--- literals from the left.
-abbrev pub definition_line_fault : ℕ → ℕ → ℕ → List ℕ → Line → Option AigerErr
-definition_line_fault total m more earlier line =
-    form_fault total more line or_else literals_fault m earlier (numbers_of line)
+abbrev pub input_at : ℕ → Aig → Place → Result (Aig × Place) AigerErr
+input_at m c p = do
+  n ← number_line_at p
+  v ← defined m c n.0
+  Ok (record c { inputs = c.inputs ++ v ∷ [] }, n.1)
 
--- An output's line likewise.
-abbrev pub output_line_fault : ℕ → ℕ → Line → Option AigerErr
-output_line_fault total m line = form_fault total 0 line or_else uses_fault m (numbers_of line)
+abbrev pub output_at : ℕ → Aig → Place → Result (Aig × Place) AigerErr
+output_at m c p = do
+  n ← literal_line_at m p
+  Ok (record c { outputs = c.outputs ++ n.0 ∷ [] }, n.1)
 
--- Lines that define, one after the other, behind lines that define the earlier variables.
-abbrev pub definitions_fault : ℕ → ℕ → ℕ → List ℕ → List Line → Option AigerErr
-definitions_fault total m more earlier [] = None
-definitions_fault total m more earlier (line ∷ lines) =
-    definition_line_fault total m more earlier line
-    or_else definitions_fault total m more (earlier ++ defined_by line ∷ []) lines
+-- A gate's line is read whole before its literals are judged, from the left.
+abbrev pub gate_at : ℕ → Aig → Place → Result (Aig × Place) AigerErr
+gate_at m c p = do
+  lhs ← number_at p
+  q ← space_at lhs.1
+  rhs0 ← number_at q
+  r ← space_at rhs0.1
+  rhs1 ← number_line_at r
+  v ← defined m c lhs.0
+  left ← used m rhs0.0
+  right ← used m rhs1.0
+  Ok (record c { gates = c.gates ++ record { var = v; left = left; right = right } ∷ [] }, rhs1.1)
 
-abbrev pub outputs_fault : ℕ → ℕ → List Line → Option AigerErr
-outputs_fault total m [] = None
-outputs_fault total m (line ∷ lines) =
-    output_line_fault total m line or_else outputs_fault total m lines
+-- ---- lines
 
--- ---- the whole file
+abbrev pub inputs_at : ℕ → ℕ → Aig → Place → Result (Aig × Place) AigerErr
+inputs_at zero m c p = Ok (c, p)
+inputs_at (suc n) m c p = do
+  next ← input_at m c p
+  inputs_at n m next.0 next.1
 
--- the header, and the lines behind it
-abbrev pub header_in : List ℕ → Header
-header_in bytes = header_of (unwrap_or (header_numbers 97 (line_of bytes)) [])
+abbrev pub outputs_at : ℕ → ℕ → Aig → Place → Result (Aig × Place) AigerErr
+outputs_at zero m c p = Ok (c, p)
+outputs_at (suc n) m c p = do
+  next ← output_at m c p
+  outputs_at n m next.0 next.1
 
-abbrev pub body_lines : List ℕ → List Line
-body_lines bytes = drop 1 (lines_from 0 bytes)
+abbrev pub gates_at : ℕ → ℕ → Aig → Place → Result (Aig × Place) AigerErr
+gates_at zero m c p = Ok (c, p)
+gates_at (suc n) m c p = do
+  next ← gate_at m c p
+  gates_at n m next.0 next.1
 
--- I lines of inputs, then O lines of outputs, then A lines of gates
-abbrev pub input_lines : ℕ → Header → List Line → List Line
-input_lines total h lines = due total h.i lines
+-- ---- the file
 
-abbrev pub output_lines : ℕ → Header → List Line → List Line
-output_lines total h lines = due total h.o (drop h.i lines)
+-- what the lines behind the header say, gates in the order of their lines
+unfoldable pub body_at : Header → Place → Result (Aig × Place) AigerErr
+body_at h p = do
+  inputs ← inputs_at h.i h.m (record { inputs = []; gates = []; outputs = [] }) p
+  outputs ← outputs_at h.o h.m inputs.0 inputs.1
+  gates_at h.a h.m outputs.0 outputs.1
 
-abbrev pub gate_lines : ℕ → Header → List Line → List Line
-gate_lines total h lines = due total h.a (drop (h.i + h.o) lines)
+-- The circuit that the bytes spell, or their first fault. What is undefined or on a cycle is judged behind the last gate,
+-- and then the tail.
+unfoldable pub ascii_in : List ℕ → Result Aig AigerErr
+ascii_in bytes = do
+  h ← header_at 97 (start bytes)
+  body ← body_at h.0 h.1
+  circuit ← finished body.0
+  ended ← tail_of h.0.i h.0.o (lines_ahead body.1)
+  Ok circuit
 
--- what a gate's line says
-abbrev pub gate_of : Line → And
-gate_of line = record {
-  var = defined_by line;
-  left = slice_index (numbers_of line) 1;
-  right = slice_index (numbers_of line) 2;
-}
+-- the bytes spell this circuit
+abbrev pub SpellsAscii : List ℕ → Aig → Type 0
+SpellsAscii bytes c = ascii_in bytes ≡ Ok c
 
--- the circuit that the lines say
-abbrev pub circuit_of : ℕ → Header → List Line → Aig
-circuit_of total h lines = record {
-  inputs = map defined_by (input_lines total h lines);
-  gates = map gate_of (gate_lines total h lines);
-  outputs = map first_number (output_lines total h lines);
-}
+-- ---- what the reader's own functions answer
 
--- a byte behind the last gate
-abbrev pub trailing_fault : List Line → Option AigerErr
-trailing_fault [] = None
-trailing_fault (line ∷ lines) = Some (BadSymbol line.at)
+-- the circuit so far and the place behind what was read, or the first fault unless memory ran out
+abbrev pub Grows : {A : Type 0} → Result A AigerErr → Aig → Place → Result (Aig × Place) AigerErr → Type 0
+Grows (Ok x) c new found = found ≡ Ok (c, new)
+Grows (Err e) c new found = IsFault e found
 
--- After the last gate: the first output or fanin, in the file's order, that is undefined. An output may
--- name the constants, inputs and all gates, a fanin no gate but those of earlier lines.
-unfoldable pub circuit_fault : Aig → Option AigerErr
-circuit_fault c =
-    undefined_among (variables_in c) c.outputs or_else undefined_fanin (0 ∷ c.inputs) c.gates
-
--- The faults of the lines, in their order.
-unfoldable pub lines_fault : ℕ → Header → List Line → Option AigerErr
-lines_fault total h lines =
-    definitions_fault total h.m 0 [] (input_lines total h lines)
-    or_else outputs_fault total h.m (output_lines total h lines)
-    or_else definitions_fault total h.m 2 (map defined_by (input_lines total h lines))
-    (gate_lines total h lines)
-
--- The faults behind the header: of the lines, then of what they say, then of what follows them.
-unfoldable pub body_fault : ℕ → Header → List Line → Option AigerErr
-body_fault total h lines =
-    lines_fault total h lines
-    or_else circuit_fault (circuit_of total h lines)
-    or_else trailing_fault (drop (h.i + h.o + h.a) lines)
-
--- the first fault of a file
-unfoldable pub first_fault : List ℕ → Option AigerErr
-first_fault bytes =
-    header_fault 97 (line_of bytes)
-    or_else body_fault (length bytes) (header_in bytes) (body_lines bytes)
-
--- The bytes spell this circuit, and have no fault.
-pub record SpellsAscii (bytes : List ℕ) (c : Aig) : Type 0 where
-  pub sound : first_fault bytes ≡ None
-  pub spelt : c ≡ circuit_of (length bytes) (header_in bytes) (body_lines bytes)
+-- a variable that may be defined
+pub record IsNew (m : ℕ) (c : Aig) (v : ℕ) : Type 0 where
+  pub fresh : has ◌==◌ (variables_in c) v ≡ false
+  pub within : v ≤ m

@@ -1,4 +1,1 @@
-pub mod Lines
-pub mod Literals
 pub mod Ascii
-pub mod Reading

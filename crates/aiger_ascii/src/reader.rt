@@ -1,19 +1,36 @@
-ghost use Rattle.std.specs.Prelude.{◌≡◌, ◌≢◌, IfOk, IfErr, Some};
-ghost use Rattle.byte_scan.specs.declared.errors.AigerErr.TheVariants.{NoMemory};
-ghost use Rattle.aiger_ascii.specs.Ascii.{SpellsAscii, first_fault};
+ghost use Rattle.std.specs.Prelude.{◌≡◌, ◌≤◌, []};
+ghost use Rattle.byte_scan.specs.Reading.{Gives};
+ghost use Rattle.aiger_ascii.specs.Ascii.{ascii_in, body_at, Grows};
 
-use crate::body::body;
-use byte_scan::{AigerErr, Scan, header};
+use crate::lines::{gates, inputs, outputs};
+use byte_scan::{AigerErr, Header, Scan, header, tail};
+use circuit_draft::Draft;
 use netlist::Circuit;
 use std::alloc::Global;
 
 /// Reads an ASCII AIGER file: the circuit that the bytes spell, or their first fault.
+#[tactic(auto, unfolding(crate::specs::Ascii::ascii_in))]
 pub fn read(alloc: Global, bytes: &[u8]) -> Result<Circuit, AigerErr>
-    ensures spells { IfOk result (SpellsAscii bytes.now) }
-    ensures fault { IfErr result (λ e. e ≢ NoMemory → first_fault bytes.now ≡ Some e) }
+    ensures { Gives result (ascii_in bytes.now) }
 {
     let mut scan = Scan::new(bytes);
     let header = header(&mut scan, b'a')?;
-    let parts = body(alloc, &mut scan, &header)?;
-    Ok(Circuit::of(alloc, parts.inputs, parts.gates, parts.outputs)?)
+    let mut draft = Draft::new(alloc);
+    body(&mut scan, &header, &mut draft)?;
+    let circuit = draft.finish(alloc)?;
+    tail(&mut scan, header.i, header.o)?;
+    Ok(circuit)
+}
+
+/// Reads what the lines behind the header say.
+#[tactic(auto, unfolding(crate::specs::Ascii::body_at))]
+fn body(scan: &mut Scan, header: &Header, draft: &mut Draft) -> Result<(), AigerErr>
+    requires most { header.now.m ≤ 16777216 }
+    requires outputs { header.now.o ≤ 16777216 }
+    requires first { draft.old ≡ record { inputs = []; gates = []; outputs = [] } }
+    ensures { Grows result draft.new scan.new (body_at header.now scan.old) }
+{
+    inputs(scan, header.i, header.m, draft)?;
+    outputs(scan, header.o, header.m, draft)?;
+    gates(scan, header.a, header.m, draft)
 }

@@ -42,7 +42,22 @@ fn cut_at_each_byte(rt: HostRuntime) {
 
 #[test]
 fn accepted(rt: HostRuntime) {
-    let rows: [(&str, &[u8]); 6] = [
+    let rows: [(&str, &[u8]); 12] = [
+        (
+            "comment without line feed",
+            b"aag 3 2 0 1 1\n2\n4\n6\n6 2 4\ncABC",
+        ),
+        ("comment alone", b"aag 0 0 0 0 0\nc"),
+        ("comment of many lines", b"aag 1 1 0 0 0\n2\nc\nx\ni9 9\n"),
+        (
+            "symbols",
+            b"aag 3 2 0 1 1\n2\n4\n6\n6 2 4\ni0 x\ni1 y\no0 z\n",
+        ),
+        ("a symbol twice", b"aag 1 1 0 0 0\n2\ni0 x\ni0 y z\ni00 "),
+        (
+            "a symbol and a comment",
+            b"aag 1 1 0 1 0\n2\n2\no0 \xff\r\nc",
+        ),
         ("empty circuit", b"aag 0 0 0 0 0\n"),
         ("false output", b"aag 0 0 0 1 0\n0\n"),
         ("true output", b"aag 0 0 0 1 0\n1"),
@@ -85,7 +100,7 @@ fn faults_of_header_and_lines(rt: HostRuntime) {
 
 #[test]
 fn faults_of_literals(rt: HostRuntime) {
-    let rows: [(&[u8], AigerErr); 14] = [
+    let rows: [(&[u8], AigerErr); 16] = [
         // line by line, from the left
         (b"aag 1 1 0 0 0\n3\n", AigerErr::BadLiteral(3)),
         (b"aag 1 1 0 0 0\n0\n", AigerErr::BadLiteral(0)),
@@ -101,15 +116,75 @@ fn faults_of_literals(rt: HostRuntime) {
         (b"aag 3 2 0 0 0\n3\nx\n", AigerErr::BadLiteral(3)),
         // after the last gate
         (b"aag 3 2 0 1 0\n2\n4\n6\n", AigerErr::Undefined(6)),
-        (b"aag 3 2 0 1 0\n2\n4\n7\nc", AigerErr::Undefined(7)),
+        (b"aag 3 2 0 1 0\n2\n4\n7\nx", AigerErr::Undefined(7)),
+        (b"aag 4 2 0 1 1\n2\n4\n9\n6 8 2\n", AigerErr::Undefined(9)),
+        (b"aag 4 2 0 0 1\n2\n4\n6 8 9\n", AigerErr::Undefined(8)),
         (
             b"aag 4 2 0 1 2\n2\n4\n8\n6 8 2\n8 6 4\n",
-            AigerErr::Undefined(8),
+            AigerErr::Cycle(6),
         ),
-        (b"aag 3 1 0 1 1\n2\n7\n4 5 2\n", AigerErr::Undefined(7)),
-        (b"aag 1 1 0 0 0\n2\ni1 x\n", AigerErr::BadSymbol(16)),
+        (b"aag 2 1 0 0 1\n2\n4 5 2\nx", AigerErr::Cycle(4)),
+        // above a cycle, and before it in the file
+        (
+            b"aag 4 1 0 0 3\n2\n4 2 2\n6 8 2\n8 9 2\n",
+            AigerErr::Cycle(6),
+        ),
     ];
     for (bytes, want) in rows {
         assert_eq!(rt; read(rt.alloc(), bytes).err(), Some(want), "at {bytes:?}");
     }
+}
+
+#[test]
+fn faults_of_the_tail(rt: HostRuntime) {
+    let rows: [(&[u8], u64); 9] = [
+        (b"aag 1 1 0 0 0\n2\ni1 x\n", 16),
+        (b"aag 1 1 0 0 0\n2\no0 x\n", 16),
+        (b"aag 1 1 0 1 0\n2\n2\ni0 x\no1 x\n", 23),
+        (b"aag 1 1 0 0 0\n2\ni0\n", 16),
+        (b"aag 1 1 0 0 0\n2\ni x\n", 16),
+        (b"aag 1 1 0 0 0\n2\nl0 x\n", 16),
+        (b"aag 1 1 0 0 0\n2\ni99999999999999999999 x\n", 16),
+        (b"aag 1 1 0 0 0\n2\n\n", 16),
+        (b"aag 1 1 0 0 0\n2\ni0 x\n i0 y\n", 21),
+    ];
+    for (bytes, place) in rows {
+        let want = Some(AigerErr::BadSymbol(place));
+        assert_eq!(rt; read(rt.alloc(), bytes).err(), want, "at {bytes:?}");
+    }
+}
+
+#[test]
+fn gates_by_level(rt: HostRuntime) -> Result<(), Fail> {
+    let rows: [(&str, &[u8], &[u32]); 4] = [
+        (
+            "later fanin",
+            b"aag 4 2 0 1 2\n2\n4\n8\n8 6 4\n6 2 4\n",
+            &[3, 4],
+        ),
+        (
+            "file's order serves",
+            b"aag 5 1 0 0 4\n2\n4 2 2\n6 4 4\n8 2 2\n10 8 3\n",
+            &[2, 3, 4, 5],
+        ),
+        (
+            "by level, then by place",
+            b"aag 5 1 0 0 4\n2\n10 8 3\n6 4 4\n8 2 2\n4 0 1\n",
+            &[4, 2, 5, 3],
+        ),
+        (
+            "a chain from its end",
+            b"aag 4 1 0 0 3\n2\n8 6 6\n6 4 4\n4 2 2\n",
+            &[2, 3, 4],
+        ),
+    ];
+    for (name, bytes, want) in rows {
+        let circuit = read(rt.alloc(), bytes)?;
+        let mut vars = Vec::new(rt.alloc());
+        for gate in circuit.gates() {
+            vars.push(gate.var)?;
+        }
+        assert_eq!(rt; vars.as_slice(), want, "{name}");
+    }
+    Ok(())
 }

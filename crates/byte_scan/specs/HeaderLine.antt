@@ -1,5 +1,5 @@
 -- The header line of an AIGER file (A. Biere, The AIGER And-Inverter Graph Format, 2007; AIGER 1.9).
-use Rattle.std.specs.Prelude.{◌≡◌, ℕ, ◌+◌, ◌-◌, Bool, not, ◌&&◌, List, ◌∷◌, ◌++◌, length, map, replicate, Option, Some, None, option_map, slice_index, nat_lt, nat_le, ◌==◌, if◌then◌else◌}
+use Rattle.std.specs.Prelude.{◌≡◌, ℕ, ◌+◌, ◌≤◌, ◌-◌, Bool, not, ◌&&◌, List, ◌∷◌, ◌++◌, length, map, replicate, Option, Some, None, option_map, slice_index, nat_lt, nat_le, ◌==◌, if◌then◌else◌}
 use Rattle.std.specs.List.{slice_split, list_all, find}
 use Rattle.std.specs.Char.{is_ascii_digit}
 use Rattle.byte_scan.specs.declared.errors.AigerErr.{AigerErr}
@@ -70,11 +70,10 @@ numbers_fault letter (Some ns) =
     or_else property (header_of ns)
     or_else when (miscounts letter (header_of ns)) BadHeader
 
--- the first fault of a header line
-abbrev pub header_fault : ℕ → List ℕ → Option AigerErr
-header_fault letter line = numbers_fault letter (header_numbers letter line)
-
--- the line spells this header, without a fault
-pub record SpellsHeader (letter : ℕ) (line : List ℕ) (h : Header) : Type 0 where
-  pub numbers : option_map header_of (header_numbers letter line) ≡ Some h
-  pub sound : header_fault letter line ≡ None
+-- A header without a fault: M and O are in range, and M is at least, in the binary form exactly, the number of inputs and
+-- gates.
+pub record IsFit (letter : ℕ) (h : Header) : Type 0 where
+  pub variables : h.m ≤ 16777216
+  pub outputs : h.o ≤ 16777216
+  pub counts : h.i + h.a ≤ h.m
+  pub exact : letter ≡ 105 → h.m ≡ h.i + h.a

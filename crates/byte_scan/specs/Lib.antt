@@ -1,3 +1,4 @@
 pub mod Scanning
 pub mod Faults
 pub mod HeaderLine
+pub mod Reading

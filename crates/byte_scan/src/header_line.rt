@@ -1,7 +1,8 @@
-ghost use Rattle.std.specs.Prelude.{◌≡◌, ◌+◌, ◌≤◌, All, length, nat_lt, IfNone, IfOk, IfErr, Some, None, if◌then◌else◌, option_map};
+ghost use Rattle.std.specs.Prelude.{◌≡◌, ◌≤◌, All, nat_lt, IfNone, IfOk, IfErr, Some, None, if◌then◌else◌, option_map};
 ghost use Rattle.std.specs.List.{find};
-ghost use Rattle.byte_scan.specs.Scanning.{ahead, moved, line_of, value};
-ghost use Rattle.byte_scan.specs.HeaderLine.{SpellsHeader, header_fault, header_numbers, header_of, is_number, miscounts, nine_numbers, numbers_fault, property, words_of};
+ghost use Rattle.byte_scan.specs.Scanning.{value};
+ghost use Rattle.byte_scan.specs.Reading.{Reads, header_at};
+ghost use Rattle.byte_scan.specs.HeaderLine.{IsFit, header_numbers, header_of, is_number, miscounts, nine_numbers, numbers_fault, property, words_of};
 ghost use Rattle.byte_scan.specs.declared.errors.AigerErr.TheVariants.{HasProperty};
 
 use crate::counts::Header;
@@ -14,13 +15,12 @@ const MOST: u64 = 16_777_216;
 /// Reads the header line of an AIGER file: `aag`, or `aig` for the letter `i`, then five to nine
 /// numbers M I L O A B C J F, each after one space. The line is consumed, also where it has a fault.
 pub fn header(scan: &mut Scan, letter: u8) -> Result<Header, AigerErr>
-    ensures spells { IfOk result (SpellsHeader letter (line_of (ahead scan.old))) }
-    ensures fault { IfErr result (λ e. header_fault letter (line_of (ahead scan.old)) ≡ Some e) }
-    ensures most { IfOk result (λ h. (h.m ≤ 16777216) × (h.o ≤ 16777216)) }
-    ensures counts { IfOk result (λ h. h.i + h.l + h.a ≤ h.m) }
-    ensures moved { scan.new ≡ moved scan.old (length (line_of (ahead scan.old)) + 1) }
+    ensures reads { Reads result scan.new (header_at letter scan.old) }
+    ensures fits { IfOk result (IsFit letter) }
 {
-    let line = scan.line().unwrap_or(&[]);
+    let Some(line) = scan.line() else {
+        return Err(AigerErr::BadHeader);
+    };
     match tagged_numbers(line, letter) {
         Some(numbers) => judged(&numbers, letter),
         None => Err(AigerErr::BadHeader),
@@ -68,8 +68,7 @@ fn whole_number(word: &[u8]) -> Option<u64>
 /// The header of nine numbers, or their first fault.
 fn judged(numbers: &[u64; 9], letter: u8) -> Result<Header, AigerErr>
     ensures header { IfOk result (λ h. h ≡ header_of numbers.now) }
-    ensures most { IfOk result (λ h. (h.m ≤ 16777216) × (h.o ≤ 16777216)) }
-    ensures counts { IfOk result (λ h. h.i + h.l + h.a ≤ h.m) }
+    ensures fits { IfOk result (IsFit letter) }
     ensures sound { IfOk result (λ h. numbers_fault letter (Some numbers.now) ≡ None) }
     ensures fault { IfErr result (λ e. numbers_fault letter (Some numbers.now) ≡ Some e) }
 {

@@ -12,12 +12,16 @@
 mod counts;
 mod errors;
 mod header_line;
+mod line;
 mod scan;
+mod symbols;
 
 pub use counts::Header;
 pub use errors::AigerErr;
 pub use header_line::header;
+pub use line::{literal_line, number, number_line, space, used};
 pub use scan::Scan;
+pub use symbols::tail;
 
 #[cfg(test)]
 mod tests;

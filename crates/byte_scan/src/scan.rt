@@ -1,4 +1,4 @@
-ghost use Rattle.std.specs.Prelude.{◌≡◌, ◌+◌, ◌-◌, ◌*◌, ◌^◌, ◌≤◌, min, length, IsTrue, slice_get};
+ghost use Rattle.std.specs.Prelude.{◌≡◌, ◌+◌, ◌-◌, ◌*◌, ◌^◌, ◌≤◌, ◌<◌, min, length, IfSome, IsTrue, slice_get};
 ghost use Rattle.std.specs.Char.{is_ascii_digit};
 ghost use Rattle.std.specs.Option.{option_copied};
 ghost use Rattle.byte_scan.specs.Scanning.{digits, value, line_of};
@@ -49,6 +49,7 @@ impl<'a> Scan<'a> {
     /// The next byte, which then lies behind.
     pub fn byte(&mut self) -> Option<u8>
         ensures byte { result ≡ slice_get (ahead self.old) 0 }
+        ensures range { IfSome result (λ b. b < 256) }
         ensures moved { self.new ≡ moved self.old 1 }
     {
         let byte = *self.bytes.get(self.at)?;

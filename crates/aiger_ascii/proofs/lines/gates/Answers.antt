@@ -1,0 +1,23 @@
+use Rattle.std.proofs.Common.{◌≡◌, ◌∙◌, ◌-◌, arith, refl}
+use Rattle.std.proofs.lemmas.Result.{err_from_is_err_and}
+use Rattle.aiger_ascii.proofs.LoopLemmas.{gates-step, gates-fault, gates-end}
+use Rattle.aiger_ascii.proofs.lines.gates.Goals as goal
+
+pub loop-init : goal.loop-init
+loop-init c = let whole : c.args.count - 0 ≡ c.args.count = omega arith in rw whole (record { rest = refl })
+
+pub loop-preserved : goal.loop-preserved
+loop-preserved c =
+    let l = c.loop in
+    record {
+      rest = l.invariant.rest ∙ gates-step c.args.count l.counter c.args.most l.draft c.gate.new.draft l.scan c.gate.new.scan c.loop-test.true c.in_ok-gate.ensures;
+    }
+
+pub returns-in_err-gate : goal.returns-in_err-gate
+returns-in_err-gate c =
+    let p = err_from_is_err_and c.from_residual.result c.from_residual.ensures.1 in
+    let l = c.loop in
+    rw (p.1, p.2, l.invariant.rest) (gates-fault c.args.count l.counter c.args.most l.draft l.scan c.in_err-gate.field-0.0 c.loop-test.true c.in_err-gate.ensures)
+
+pub returns : goal.returns
+returns c = let l = c.loop in l.invariant.rest ∙ gates-end c.args.count l.counter c.args.most l.draft l.scan c.loop-test.false

@@ -1,0 +1,10 @@
+use Rattle.std.proofs.Common.{◌≡◌, ◌+◌, ◌-◌, [], length}
+use Rattle.aiger_ascii.specs.Ascii.{inputs_at}
+use Rattle.aiger_ascii.proofs.lines.inputs.Given as goal
+
+abbrev pub invariant-loop : goal.invariant-loop
+invariant-loop l = record {
+  rest : inputs_at l.count l.most l.fn.draft l.fn.scan ≡ inputs_at (l.count - l.counter) l.most l.draft l.scan;
+  first : l.draft.gates ≡ [];
+  outputs : l.draft.outputs ≡ l.fn.draft.outputs;
+}

@@ -1,0 +1,115 @@
+ghost use Rattle.std.specs.Prelude.{◌≡◌, ◌≤◌, ◌<◌, ◌+◌, [], length, IfOk, OnOk};
+ghost use Rattle.aiger_ascii.specs.Ascii.{defined, input_at, output_at, gate_at, inputs_at, outputs_at, gates_at, Grows, IsNew};
+
+use byte_scan::{AigerErr, Scan, literal_line, number, number_line, space, used};
+use circuit_draft::Draft;
+use netlist::And;
+
+/// Reads the lines of the inputs.
+pub(crate) fn inputs(
+    scan: &mut Scan,
+    count: u32,
+    most: u32,
+    draft: &mut Draft,
+) -> Result<(), AigerErr>
+    requires most { most ≤ 16777216 }
+    requires first { draft.old.gates ≡ [] }
+    ensures reads { Grows result draft.new scan.new (inputs_at count most draft.old scan.old) }
+    ensures outputs { OnOk result (draft.new.outputs ≡ draft.old.outputs) }
+{
+    for _ in 0..count {
+        input(scan, most, draft)?;
+    }
+    Ok(())
+}
+
+/// Reads the line of an input.
+fn input(scan: &mut Scan, most: u32, draft: &mut Draft) -> Result<(), AigerErr>
+    requires most { most ≤ 16777216 }
+    requires first { draft.old.gates ≡ [] }
+    ensures reads { Grows result draft.new scan.new (input_at most draft.old scan.old) }
+    ensures rest { OnOk result ((draft.new.gates ≡ []) × (draft.new.outputs ≡ draft.old.outputs)) }
+{
+    let n = number_line(scan)?;
+    let var = defined(n, most, draft)?;
+    draft.push_input(var)?;
+    Ok(())
+}
+
+/// Reads the lines of the outputs.
+pub(crate) fn outputs(
+    scan: &mut Scan,
+    count: u32,
+    most: u32,
+    draft: &mut Draft,
+) -> Result<(), AigerErr>
+    requires most { most ≤ 16777216 }
+    requires room { length draft.old.outputs + count ≤ 16777216 }
+    ensures { Grows result draft.new scan.new (outputs_at count most draft.old scan.old) }
+{
+    for _ in 0..count {
+        output(scan, most, draft)?;
+    }
+    Ok(())
+}
+
+/// Reads the line of an output.
+fn output(scan: &mut Scan, most: u32, draft: &mut Draft) -> Result<(), AigerErr>
+    requires most { most ≤ 16777216 }
+    requires room { length draft.old.outputs < 16777216 }
+    ensures reads { Grows result draft.new scan.new (output_at most draft.old scan.old) }
+    ensures count { OnOk result (length draft.new.outputs ≡ length draft.old.outputs + 1) }
+{
+    let lit = literal_line(scan, most)?;
+    draft.push_output(lit)?;
+    Ok(())
+}
+
+/// Reads the lines of the gates.
+pub(crate) fn gates(
+    scan: &mut Scan,
+    count: u32,
+    most: u32,
+    draft: &mut Draft,
+) -> Result<(), AigerErr>
+    requires { most ≤ 16777216 }
+    ensures { Grows result draft.new scan.new (gates_at count most draft.old scan.old) }
+{
+    for _ in 0..count {
+        gate(scan, most, draft)?;
+    }
+    Ok(())
+}
+
+/// Reads the line of a gate.
+fn gate(scan: &mut Scan, most: u32, draft: &mut Draft) -> Result<(), AigerErr>
+    requires { most ≤ 16777216 }
+    ensures { Grows result draft.new scan.new (gate_at most draft.old scan.old) }
+{
+    let lhs = number(scan)?;
+    space(scan)?;
+    let rhs0 = number(scan)?;
+    space(scan)?;
+    let rhs1 = number_line(scan)?;
+    let var = defined(lhs, most, draft)?;
+    let left = used(rhs0, most)?;
+    let right = used(rhs1, most)?;
+    draft.push_gate(And { var, left, right })?;
+    Ok(())
+}
+
+/// The variable of a literal that is defined and wasn't before.
+fn defined(n: u64, most: u32, draft: &Draft) -> Result<u32, AigerErr>
+    requires { most ≤ 16777216 }
+    ensures reads { result ≡ defined most draft.now n }
+    ensures new { IfOk result (IsNew most draft.now) }
+{
+    if n % 2 == 1 || n == 0 || n > 2 * u64::from(most) {
+        return Err(AigerErr::BadLiteral(n));
+    }
+    let var = (n / 2) as u32;
+    if draft.has(var) {
+        return Err(AigerErr::DefinedTwice(n));
+    }
+    Ok(var)
+}

@@ -1,0 +1,134 @@
+-- A draft whose uses are defined is a circuit once its gates are in order.
+use Rattle.std.proofs.Common.{◌≡◌, ◌≢◌, ℕ, zero, suc, ◌+◌, ◌-◌, ◌<◌, ◌≤◌, max, Bool, true, false, not, Option, None, Some, List, [], ◌∷◌, ◌++◌, length, take, drop, get_or, refl, sym, ap, ◌∙◌, subst, arith, inl, inr}
+use Rattle.std.specs.Prelude.{◌==◌, ◌&&◌, ◌||◌, nat_le, nat_lt, filter, cond, ⊤, is_none, slice_index_or}
+use Rattle.std.specs.List.{find, flat_map, list_any, list_all, range_with_len}
+use Rattle.std.proofs.lemmas.Bool.Decides.{nat_tests}
+use Rattle.std.proofs.lemmas.Option.{none-some, same_Some}
+use Rattle.std.proofs.lemmas.List.{append-nil, append_assoc, length-append, length-map}
+use Rattle.std.proofs.lemmas.List.Folds.{list_any-append, list_all-append}
+use Rattle.lits.specs.Clause.{has, no_repeat}
+use Rattle.netlist.specs.declared.gate.And.{And}
+use Rattle.netlist.specs.Circuit.{Aig, IsCircuit, IsNext, AreOrdered, gate_vars, variables_in, is_over, var_of, most}
+use Rattle.netlist.specs.VariableTable.{AreVariables}
+use Rattle.circuit_draft.specs.Levels.{level_of, level_within, is_in_order, is_level, gates_at, by_level, on_cycle}
+use Rattle.std.specs.Prelude.{Ok}
+use Rattle.circuit_draft.specs.Draft.{IsDraft, undefined_in, uses_in, finished}
+use Rattle.circuit_draft.specs.Steps.{gate_at, AreDefined, AreAllLevels}
+use Rattle.circuit_draft.proofs.VariableFacts.{both, neither, not_true}
+
+-- ---- nothing is undefined
+
+none_found : (test : ℕ → Bool) (xs : List ℕ) → find (λ n. not (test n)) xs ≡ None → list_all test xs ≡ true
+none_found test [] e = refl
+none_found test (x ∷ xs) e = go (test x) refl e (none_found test xs)
+  where
+    go : (b : Bool) → test x ≡ b → cond (not b) (Some x) (find (λ n. not (test n)) xs) ≡ None
+        → (find (λ n. not (test n)) xs ≡ None → list_all test xs ≡ true) → (test x && list_all test xs) ≡ true
+    go true t e rest = rw (t, rest e) refl
+    go false t e rest = absurd (cc)
+
+pub all_uses : (c : Aig) → undefined_in c ≡ None
+    → (list_all (is_over (variables_in c)) c.outputs ≡ true) × (list_all (is_over (variables_in c)) (flat_map (λ g. g.left ∷ g.right ∷ []) c.gates) ≡ true)
+all_uses c e =
+    both _ _ (sym (list_all-append (is_over (variables_in c)) c.outputs (flat_map (λ g. g.left ∷ g.right ∷ []) c.gates)) ∙ none_found (is_over (variables_in c)) (uses_in c) e)
+
+fanins_at : (test : ℕ → Bool) (gates : List And) (p : ℕ) → p < length gates → list_all test (flat_map (λ g. g.left ∷ g.right ∷ []) gates) ≡ true
+    → (test (slice_index_or gates p (record { var = 0; left = 0; right = 0 })).left ≡ true) × (test (slice_index_or gates p (record { var = 0; left = 0; right = 0 })).right ≡ true)
+fanins_at test [] p lt e = absurd (omega arith)
+fanins_at test (g ∷ gs) zero lt e =
+    let first = both (test g.left) _ e in
+    let second = both (test g.right) _ first.1 in (first.0, second.0)
+fanins_at test (g ∷ gs) (suc p) lt e =
+    let first = both (test g.left) _ e in
+    let second = both (test g.right) _ first.1 in fanins_at test gs p (omega arith) second.1
+
+pub AreDefined-uses : (c : Aig) → undefined_in c ≡ None → AreDefined c
+AreDefined-uses c e = record {
+  left = λ p lt. (fanins_at (is_over (variables_in c)) c.gates p lt (all_uses c e).1).0;
+  right = λ p lt. (fanins_at (is_over (variables_in c)) c.gates p lt (all_uses c e).1).1;
+}
+
+-- ---- the file's order serves
+
+or_turned : (a b d : Bool) → (a || (b || d)) ≡ ((b || d) || (a || false))
+or_turned true true d = refl
+or_turned true false true = refl
+or_turned true false false = refl
+or_turned false true d = refl
+or_turned false false true = refl
+or_turned false false false = refl
+
+-- known lists that hold the same variables
+abbrev Same : List ℕ → List ℕ → Type 0
+Same known others = (v : ℕ) → has ◌==◌ known v ≡ has ◌==◌ others v
+
+Same-push : (known others : List ℕ) (v : ℕ) → Same known others → Same (v ∷ known) (others ++ v ∷ [])
+Same-push known others v same w =
+    rw (list_any-append (λ y. y == w) others (v ∷ []), same w) (turned (v == w) (has ◌==◌ others w))
+  where
+    turned : (a b : Bool) → (a || b) ≡ (b || (a || false))
+    turned true true = refl
+    turned true false = refl
+    turned false true = refl
+    turned false false = refl
+
+middle_new : (xs ys : List ℕ) (y : ℕ) → no_repeat ◌==◌ (xs ++ y ∷ ys) ≡ true → has ◌==◌ xs y ≡ false
+middle_new [] ys y e = refl
+middle_new (x ∷ xs) ys y e =
+    let parts = both (not (has ◌==◌ (xs ++ y ∷ ys) x)) (no_repeat ◌==◌ (xs ++ y ∷ ys)) e in
+    let first : has ◌==◌ (xs ++ y ∷ ys) x ≡ false = not_true (has ◌==◌ (xs ++ y ∷ ys) x) parts.0 in
+    let split : (has ◌==◌ xs x || has ◌==◌ (y ∷ ys) x) ≡ false = sym (list_any-append (λ z. z == x) xs (y ∷ ys)) ∙ first in
+    let behind = neither (has ◌==◌ xs x) (has ◌==◌ (y ∷ ys) x) split in
+    let apart = neither (y == x) (has ◌==◌ ys x) behind.1 in
+    let swapped : (x == y) ≡ (y == x) = grind (arith, nat_tests) in
+    rw (swapped, apart.0, middle_new xs ys y parts.1) refl
+
+AreOrdered-order : (known others : List ℕ) (gates : List And) → Same known others → no_repeat ◌==◌ (others ++ gate_vars gates) ≡ true
+    → is_in_order others gates ≡ true → AreOrdered known gates
+AreOrdered-order known others [] same once order = tt
+AreOrdered-order known others (g ∷ gs) same once order =
+    let first = both (is_over others g.left && is_over others g.right) (is_in_order (others ++ g.var ∷ []) gs) order in
+    let fanins = both (is_over others g.left) (is_over others g.right) first.0 in (
+      record {
+        new = same g.var ∙ middle_new others (gate_vars gs) g.var once;
+        left = same (var_of g.left) ∙ fanins.0;
+        right = same (var_of g.right) ∙ fanins.1;
+      },
+      AreOrdered-order (g.var ∷ known) (others ++ g.var ∷ []) gs (Same-push known others g.var same)
+          (rw (append_assoc others (g.var ∷ []) (gate_vars gs)) once) first.1,
+    )
+
+pub front_once : (xs ys : List ℕ) → no_repeat ◌==◌ (xs ++ ys) ≡ true → no_repeat ◌==◌ xs ≡ true
+front_once [] ys e = refl
+front_once (x ∷ xs) ys e =
+    let parts = both (not (has ◌==◌ (xs ++ ys) x)) (no_repeat ◌==◌ (xs ++ ys)) e in
+    let first : has ◌==◌ (xs ++ ys) x ≡ false = not_true (has ◌==◌ (xs ++ ys) x) parts.0 in
+    let split : (has ◌==◌ xs x || has ◌==◌ ys x) ≡ false = sym (list_any-append (λ z. z == x) xs ys) ∙ first in
+    let apart = neither (has ◌==◌ xs x) (has ◌==◌ ys x) split in
+    rw (apart.0, front_once xs ys parts.1) refl
+
+pub IsCircuit-order : (c : Aig) → IsDraft c → undefined_in c ≡ None → is_in_order (0 ∷ c.inputs) c.gates ≡ true → IsCircuit c
+IsCircuit-order c draft none order = record {
+  inputs = front_once (0 ∷ c.inputs) (gate_vars c.gates) draft.variables.distinct;
+  gates = AreOrdered-order (0 ∷ c.inputs) (0 ∷ c.inputs) c.gates (λ v. refl) draft.variables.distinct order;
+  outputs = (all_uses c none).0;
+  range = draft.variables.range;
+  count = draft.count;
+}
+
+-- ---- what a draft becomes
+
+pub finished-order : (c : Aig) → undefined_in c ≡ None → on_cycle c ≡ None → is_in_order (0 ∷ c.inputs) c.gates ≡ true → finished c ≡ Ok c
+finished-order c none cycle order = rw (none, cycle, order) refl
+
+pub finished-levels : (c : Aig) → undefined_in c ≡ None → on_cycle c ≡ None → is_in_order (0 ∷ c.inputs) c.gates ≡ false
+    → finished c ≡ Ok (record c { gates = by_level c })
+finished-levels c none cycle order = rw (none, cycle, order) refl
+
+-- the parts with the gates by level make a circuit
+pub with_gates : (c d : Aig) (gates : List And) → d ≡ c → gates ≡ by_level c → IsCircuit (record c { gates = by_level c })
+    → IsCircuit (record d { gates = gates })
+with_gates c d gates same is circuit = rw (is, same) circuit
+
+pub made_gates : (c d : Aig) (gates : List And) → d ≡ c → gates ≡ by_level c → (record d { gates = gates }) ≡ (record c { gates = by_level c })
+made_gates c d gates same is = rw (is, same) refl

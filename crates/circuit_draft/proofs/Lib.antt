@@ -1,0 +1,10 @@
+pub mod VariableFacts
+pub mod LevelLemmas
+pub mod FaninFacts
+pub mod PathLemmas
+pub mod BucketLemmas
+pub mod OrderLemmas
+pub mod CycleLemmas
+pub mod FinishLemmas
+pub mod ByLevelLemmas
+pub mod InOrderLemmas

@@ -1,0 +1,4 @@
+pub mod Draft
+pub mod Levels
+pub mod Steps
+pub mod Buckets

@@ -1,0 +1,117 @@
+ghost use Rattle.std.specs.Prelude.{◌≡◌, ◌<◌, ◌≤◌, ◌++◌, ◌∷◌, ◌==◌, [], false, length, OnOk, OnErr};
+ghost use Rattle.lits.specs.Clause.{has};
+ghost use Rattle.netlist.specs.Circuit.{most, variables_in};
+ghost use Rattle.byte_scan.specs.Reading.{Gives};
+ghost use Rattle.circuit_draft.specs.Draft.{finished};
+
+use crate::buckets::Buckets;
+use crate::table::Table;
+use byte_scan::AigerErr;
+use netlist::{And, Circuit};
+use std::alloc::{AllocError, Global};
+use std::marker::Model;
+
+/// A circuit as far as it is read.
+#[derive(Drop)]
+pub struct Draft {
+    pub(crate) inputs: Vec<u32>,
+    pub(crate) gates: Vec<And>,
+    pub(crate) outputs: Vec<u32>,
+    pub(crate) table: Table,
+}
+
+impl Model for Draft {
+    ghost use Rattle.netlist.specs.Circuit.{Aig};
+    ghost use Rattle.circuit_draft.specs.Draft.{IsIndexedDraft};
+
+    ghost Value = { Aig };
+
+    ghost view = { λ d. record { inputs = d.inputs.items; gates = d.gates.items; outputs = d.outputs.items } };
+
+    ghost invariant = { λ d. IsIndexedDraft (record { inputs = d.inputs.items; gates = d.gates.items; outputs = d.outputs.items }) d.table };
+}
+
+impl Draft {
+    /// Nothing so far.
+    pub fn new(alloc: Global) -> Draft
+        ensures { result ≡ record { inputs = []; gates = []; outputs = [] } }
+    {
+        Draft {
+            inputs: Vec::new(alloc),
+            gates: Vec::new(alloc),
+            outputs: Vec::new(alloc),
+            table: Table::new(alloc),
+        }
+    }
+
+    /// Whether a variable is the constant or defined.
+    pub fn has(&self, var: u32) -> bool
+        ensures { result ≡ has ◌==◌ (variables_in self.now) var }
+    {
+        self.table.place(var).is_some()
+    }
+
+    /// Puts an input last, before there is any gate.
+    pub fn push_input(&mut self, var: u32) -> Result<(), AllocError>
+        requires new { has ◌==◌ (variables_in self.old) var ≡ false }
+        requires range { var ≤ most }
+        requires first { self.old.gates ≡ [] }
+        ensures ok { OnOk result (self.new ≡ record self.old { inputs = self.old.inputs ++ var ∷ [] }) }
+        ensures err { OnErr result (self.new ≡ self.old) }
+    {
+        self.inputs.reserve(1)?;
+        self.table.add(var)?;
+        self.inputs.push_reserved(var);
+        Ok(())
+    }
+
+    /// Puts an output last.
+    pub fn push_output(&mut self, lit: u32) -> Result<(), AllocError>
+        requires { length self.old.outputs < most }
+        ensures ok { OnOk result (self.new ≡ record self.old { outputs = self.old.outputs ++ lit ∷ [] }) }
+        ensures err { OnErr result (self.new ≡ self.old) }
+    {
+        self.outputs.push(lit)?;
+        Ok(())
+    }
+
+    /// Puts a gate last.
+    pub fn push_gate(&mut self, gate: And) -> Result<(), AllocError>
+        requires new { has ◌==◌ (variables_in self.old) gate.var ≡ false }
+        requires range { gate.var ≤ most }
+        ensures ok { OnOk result (self.new ≡ record self.old { gates = self.old.gates ++ gate ∷ [] }) }
+        ensures err { OnErr result (self.new ≡ self.old) }
+    {
+        self.gates.reserve(1)?;
+        self.table.add(gate.var)?;
+        self.gates.push_reserved(gate);
+        Ok(())
+    }
+
+    /// The circuit, or the first fault that shows only when all gates are known.
+    pub fn finish(self, alloc: Global) -> Result<Circuit, AigerErr>
+        ensures { Gives result (finished self) }
+    {
+        if let Some(lit) = self.undefined() {
+            return Err(AigerErr::Undefined(u64::from(lit)));
+        }
+        if self.is_in_order() {
+            let Draft {
+                inputs,
+                gates,
+                outputs,
+                table: _,
+            } = self;
+            return Ok(Circuit::of(alloc, inputs, gates, outputs)?);
+        }
+        let levels = self.levels(alloc)?;
+        let gates = Buckets::of(alloc, levels)?.sorted(alloc, self.gates.as_slice())?;
+        let Draft {
+            inputs,
+            gates: _,
+            outputs,
+            table: _,
+        } = self;
+        Ok(Circuit::of(alloc, inputs, gates, outputs)?)
+    }
+}
