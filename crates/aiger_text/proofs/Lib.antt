@@ -1,0 +1,10 @@
+mod Reading
+mod Lines
+mod Finished
+mod HeaderLine
+mod Sections
+mod Within
+mod Ascii
+mod Deltas
+mod Binary
+mod WorkedRows

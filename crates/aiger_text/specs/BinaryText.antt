@@ -1,0 +1,41 @@
+-- The text of a circuit in the binary form of AIGER (A. Biere, The AIGER And-Inverter Graph Format, 2007), without symbols
+-- and comment. It is written from the circuit alone, and knows nothing of how files are read.
+use Rattle.std.specs.Prelude.{◌≡◌, ℕ, zero, suc, ◌+◌, ◌-◌, ◌*◌, ◌/◌, ◌%◌, ◌<◌, ◌≤◌, ⊤, nat_lt, List, [], ◌∷◌, ◌++◌, length, if◌then◌else◌}
+use Rattle.std.specs.List.{flat_map, range_with_len}
+use Rattle.netlist.specs.declared.gate.And.{And}
+use Rattle.netlist.specs.Circuit.{Aig}
+use Rattle.aiger_text.specs.Lines.{header_line, output_line}
+
+-- Gates that define the variables from v on, in order. A gate's literal is above its first fanin, and that is no lower
+-- than the second.
+abbrev pub AreInSequence : ℕ → List And → Type 0
+AreInSequence v [] = ⊤
+AreInSequence v (g ∷ gs) =
+    (g.var ≡ v) × (g.left < 2 * v) × (g.right ≤ g.left) × AreInSequence (v + 1) gs
+
+-- AIGER's order, in which alone a circuit has a binary text: the inputs are the variables from 1 on, in order, and the
+-- gates define those behind them.
+pub record IsInSequence (c : Aig) : Type 0 where
+  pub inputs : c.inputs ≡ range_with_len 1 (length c.inputs)
+  pub gates : AreInSequence (length c.inputs + 1) c.gates
+
+-- A number in groups of 7 bits, the least first, one a byte, whose top bit says that more follow; it has as few groups as
+-- can be, and at most n + 1.
+abbrev pub groups : ℕ → ℕ → List ℕ
+groups zero x = x ∷ []
+groups (suc n) x = if nat_lt x 128 then x ∷ [] else (128 + x % 128) ∷ groups n (x / 128)
+
+-- the bytes of a number below 2 ^ 35: 300 is ac 02
+unfoldable pub delta_text : ℕ → List ℕ
+delta_text delta = groups 4 delta
+
+-- how far the gate's literal is from its first fanin, and that from the second
+abbrev pub gate_deltas : And → List ℕ
+gate_deltas g = delta_text (2 * g.var - g.left) ++ delta_text (g.left - g.right)
+
+-- The header, whose M is I + A, then a line for each output, then the deltas of each gate. Inputs have no lines.
+unfoldable pub binary_text : Aig → List ℕ
+binary_text c =
+    header_line 105 (length c.inputs + length c.gates) (length c.inputs) (length c.outputs) (length c.gates)
+    ++ flat_map output_line c.outputs
+    ++ flat_map gate_deltas c.gates
