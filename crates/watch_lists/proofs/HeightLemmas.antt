@@ -1,0 +1,89 @@
+-- How long literals aren't false.
+use Rattle.std.proofs.Common.{◌≡◌, ◌≢◌, ℕ, zero, suc, ◌<◌, ◌≤◌, Bool, true, false, List, [], ◌∷◌, length, refl, sym, ap, ◌∙◌, subst, arith, get_or, take, nat_eq, inl, inr, Option}
+use Rattle.lits.specs.Clause.{has}
+use Rattle.unit_prop.proofs.LiteralLemmas.{contrary, or_cases, or_left, or_right, alone}
+use Rattle.watch_lists.specs.Codes.{flip}
+use Rattle.watch_lists.specs.State.{height, IsMarked, IsBest}
+use Rattle.watch_lists.specs.declared.flat.Pair.{Pair}
+use Rattle.watch_lists.specs.declared.engine.Level.{Level}
+use Rattle.watch_lists.proofs.LevelLemmas.{place_of}
+use Rattle.watch_lists.proofs.VisitLemmas.{has-at}
+use Rattle.watch_lists.proofs.TrailLemmas.{has-take}
+use Rattle.watch_lists.proofs.FlipLemmas.{is_literal-flip, same_exact}
+
+-- a literal whose negation stands at k first
+pub height-at : (xs : List ℕ) (l k : ℕ) → k < length xs → get_or xs k 0 ≡ flip l → ((j : ℕ) → j < k → get_or xs j 0 ≢ flip l) → height xs l ≡ k
+height-at [] l k h e first = absurd (omega arith)
+height-at (x ∷ xs) l zero h e first = rw (e, is_literal-flip.equivalence.refl (flip l)) refl
+height-at (x ∷ xs) l (suc k) h e first = go (nat_eq x (flip l)) refl (height-at xs l k (omega arith) e (λ j b. first (suc j) (omega arith)))
+  where
+    go : (b : Bool) → nat_eq x (flip l) ≡ b → height xs l ≡ k → height (x ∷ xs) l ≡ suc k
+    go true f rest = absurd (first zero (omega arith) (same_exact x (flip l) f))
+    go false f rest = rw (f, rest) refl
+
+pub height-end : (xs : List ℕ) (l : ℕ) → has nat_eq xs (flip l) ≡ false → height xs l ≡ length xs
+height-end [] l h = refl
+height-end (x ∷ xs) l h = go (nat_eq x (flip l)) refl (height-end xs l)
+  where
+    go : (b : Bool) → nat_eq x (flip l) ≡ b → (has nat_eq xs (flip l) ≡ false → height xs l ≡ length xs) → height (x ∷ xs) l ≡ length (x ∷ xs)
+    go true f rest = contrary _ (or_left _ (has nat_eq xs (flip l)) f) h
+    go false f rest = rw f (ap suc (rest (rw f at h)))
+
+-- up to n the negation stands exactly where the height is below n
+pub height-below : (xs : List ℕ) (l n : ℕ) → has nat_eq (take n xs) (flip l) ≡ true → height xs l < n
+height-below xs l zero h = contrary _ h refl
+height-below [] l (suc n) h = contrary _ h refl
+height-below (x ∷ xs) l (suc n) h = go (nat_eq x (flip l)) refl (height-below xs l n)
+  where
+    go : (b : Bool) → nat_eq x (flip l) ≡ b → (has nat_eq (take n xs) (flip l) ≡ true → height xs l < n) → height (x ∷ xs) l < suc n
+    go true f rest = rw f (omega arith)
+    go false f rest = let r = rest (rw f at h) in rw f (omega arith)
+
+pub below-height : (xs : List ℕ) (l n : ℕ) → n ≤ length xs → height xs l < n → has nat_eq (take n xs) (flip l) ≡ true
+below-height xs l zero m h = absurd (omega arith)
+below-height [] l (suc n) m h = absurd (omega arith)
+below-height (x ∷ xs) l (suc n) m h = go (nat_eq x (flip l)) refl (below-height xs l n (omega arith))
+  where
+    go : (b : Bool) → nat_eq x (flip l) ≡ b → (height xs l < n → has nat_eq (take n xs) (flip l) ≡ true) → has nat_eq (take (suc n) (x ∷ xs)) (flip l) ≡ true
+    go true f rest = or_left _ _ f
+    go false f rest = or_right (nat_eq x (flip l)) _ (rest (let k = rw f at h in omega arith))
+
+pub height-placed : {clauses : List (List ℕ)} {truth : List Bool} {places trail : List ℕ} {reasons : List (Option ℕ)} {levels : List Level} {head : ℕ}
+    → IsMarked clauses truth places trail reasons levels head → (l : ℕ) → has nat_eq trail (flip l) ≡ true → get_or places (flip l) 0 ≡ height trail l
+height-placed {clauses} {truth} {places} {trail} is l h =
+    let w = place_of trail (flip l) h in
+    let there : get_or places (flip l) 0 ≡ w.place = ap (λ (z : ℕ). get_or places z 0) (sym w.is) ∙ is.placed w.place w.below in
+    there ∙ sym (height-at trail l w.place w.below w.is (λ j b e.
+    let other : get_or places (flip l) 0 ≡ j = ap (λ (z : ℕ). get_or places z 0) (sym e) ∙ is.placed j (let m = w.below in omega arith) in
+    absurd (omega (arith, there, other))))
+
+-- the pair of a list whose first literal stands in it once more
+pub best-tail : {trail : List ℕ} {pair : Pair} (x : ℕ) (xs : List ℕ) → has nat_eq xs x ≡ true → IsBest trail (x ∷ xs) pair → IsBest trail xs pair
+best-tail x xs h b = record {
+  first_in = inside _ b.first_in;
+  second_in = inside _ b.second_in;
+  rest = λ m i. b.rest m (or_right (nat_eq x m) _ i);
+  order = b.order;
+  alone = λ e m i. b.alone e m (or_right (nat_eq x m) _ i);
+}
+  where
+    inside : (m : ℕ) → has nat_eq (x ∷ xs) m ≡ true → has nat_eq xs m ≡ true
+    inside m i = elim (or_cases (nat_eq x m) (has nat_eq xs m) i) [
+      | inl e ↦ subst (λ (z : ℕ). has nat_eq xs z ≡ true) (same_exact x m e) h
+      | inr f ↦ f
+    ]
+
+pub best-start : (trail : List ℕ) (x : ℕ) → IsBest trail (x ∷ []) (record { first = x; second = x })
+best-start trail x = record {
+  first_in = or_left _ _ (is_literal-flip.equivalence.refl x);
+  second_in = or_left _ _ (is_literal-flip.equivalence.refl x);
+  rest = λ m i. inl (sym (same_exact x m (alone _ i)));
+  order = omega arith;
+  alone = λ e m i. sym (same_exact x m (alone _ i));
+}
+
+pub inside-whole : (xs : List ℕ) (i m : ℕ) → 0 < length xs → has nat_eq (get_or xs 0 0 ∷ take i xs) m ≡ true → has nat_eq xs m ≡ true
+inside-whole xs i m h inside = elim (or_cases (nat_eq (get_or xs 0 0) m) (has nat_eq (take i xs) m) inside) [
+  | inl e ↦ subst (λ (z : ℕ). has nat_eq xs z ≡ true) (same_exact _ m e) (has-at xs 0 h)
+  | inr f ↦ has-take i xs m f
+]

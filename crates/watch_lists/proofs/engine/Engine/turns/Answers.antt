@@ -1,0 +1,22 @@
+use Rattle.std.proofs.Common.{refl, subst, arith, Option, ℕ}
+use Rattle.watch_lists.specs.State.{IsTurnEnd}
+use Rattle.watch_lists.proofs.TurnLemmas.{turn-next_in, turn-end, stays-trans, stays-holds}
+use Rattle.watch_lists.proofs.TrailLemmas.{trail-most}
+use Rattle.watch_lists.proofs.engine.Engine.turns.Goals as goal
+
+pub turn-requires : goal.turn-requires
+turn-requires c = turn-next_in _ c.index.result.now c.flip-lit.result c.loop-self.invariant.engine (omega arith) c.index.ensures c.flip-lit.ensures
+
+pub loop-self-smaller : goal.loop-self-smaller
+loop-self-smaller c =
+    let most = trail-most c.loop-self.invariant.engine.trail in
+    let keeps = c.turn.ensures.keeps in
+    let head = keeps.head in
+    let size = keeps.size in
+    omega arith
+
+pub loop-self-preserved : goal.loop-self-preserved
+loop-self-preserved c = record {
+  engine = turn-end c.turn.new.self _ c.flip-lit.result _ (subst (λ (r : Option ℕ). IsTurnEnd c.turn.new.self c.flip-lit.result r) c.in-None.is c.in_ok-clause.ensures.ok) (omega arith) (record { clauses = refl; work = refl; lists = refl; levels = refl; head = refl; trail = refl; reasons = refl; truth = refl; places = refl });
+  stays = let s = stays-trans c.args.self.now c.loop-self.self c.turn.new.self c.loop-self.invariant.stays (stays-holds c.loop-self.self c.turn.new.self c.turn.ensures.keeps) in record { clauses = s.clauses; levels = s.levels; size = s.size; pairs = s.pairs; grows = s.grows };
+}

@@ -1,0 +1,9 @@
+pub mod Codes
+pub mod Trail
+pub mod Guard
+pub mod Flat
+pub mod Lists
+pub mod Numbers
+pub mod State
+pub mod Step
+pub mod Whole

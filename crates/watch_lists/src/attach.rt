@@ -1,0 +1,173 @@
+ghost use Rattle.std.specs.Prelude.{◌≡◌, ◌<◌, ◌+◌, ◌++◌, ◌∷◌, [], ℕ, true, false, List, take, nat_eq, length, OnOk, IfOk, IfSome, IfNone};
+ghost use Rattle.std.specs.List.{All};
+ghost use Rattle.unit_prop.specs.Closure.{is_negated, forces};
+ghost use Rattle.lits.specs.Clause.{has};
+ghost use Rattle.watch_lists.specs.Codes.{flip};
+ghost use Rattle.watch_lists.specs.State.{IsEngine, Guards, IsStuck, IsBest, height, Holds, codes_at};
+
+use crate::code::flip;
+use crate::engine::Engine;
+use crate::flat::Pair;
+use crate::lists::Watch;
+use std::alloc::AllocError;
+
+impl Engine {
+    /// How long the literal isn't false.
+    fn height(&self, lit: u32) -> usize
+        requires engine { IsEngine self.now }
+        requires within { lit < length self.now.truth.items }
+        ensures { result ≡ height self.now.trail.items lit }
+    {
+        let negation = flip(lit) as usize;
+        if self.truth[negation] {
+            self.places[negation]
+        } else {
+            self.trail.len()
+        }
+    }
+
+    /// The pair for one more literal of the clause.
+    fn better(&self, pair: Pair, lit: u32) -> Pair
+        requires engine { IsEngine self.now }
+        requires within { (lit < length self.now.truth.items) × (pair.first < length self.now.truth.items) × (pair.second < length self.now.truth.items) }
+        ensures { (seen : List ℕ) → IsBest self.now.trail.items seen pair → IsBest self.now.trail.items (seen ++ lit ∷ []) result }
+    {
+        if lit == pair.first {
+            pair
+        } else if self.height(lit) > self.height(pair.first) {
+            Pair {
+                first: lit,
+                second: pair.first,
+            }
+        } else if pair.first == pair.second || self.height(lit) > self.height(pair.second) {
+            Pair {
+                first: pair.first,
+                second: lit,
+            }
+        } else {
+            pair
+        }
+    }
+
+    /// The two literals of the clause that aren't false for longest.
+    fn best(&self, clause: &[u32]) -> Option<Pair>
+        requires engine { IsEngine self.now }
+        requires within { (l : ℕ) → has nat_eq clause.now l ≡ true → l < length self.now.truth.items }
+        ensures some { IfSome result (IsBest self.now.trail.items clause.now) }
+        ensures none { IfNone result (clause.now ≡ []) }
+    {
+        if clause.is_empty() {
+            return None;
+        }
+        let mut pair = Pair {
+            first: clause[0],
+            second: clause[0],
+        };
+        for lit in clause {
+            pair = self.better(pair, *lit);
+        }
+        Some(pair)
+    }
+
+    /// Watches the next clause by its pair; false where it is wholly negated.
+    fn attach_pair(&mut self, at: u32, pair: Pair) -> Result<bool, AllocError>
+        requires engine { IsEngine self.old }
+        requires at { (at ≡ length self.old.work) × (at < length self.old.clauses) }
+        requires best { IsBest self.old.trail.items (codes_at self.old.clauses at) pair }
+        ensures engine { IsEngine self.new }
+        ensures more { IfOk result (λ b. b ≡ true → length self.new.work ≡ length self.old.work + 1) }
+        ensures conflict { IfOk result (λ b. b ≡ false → is_negated flip (has nat_eq self.new.trail.items) (codes_at self.new.clauses at) ≡ true) }
+        ensures keeps { Holds self.old self.new }
+    {
+        if self.truth[flip(pair.first) as usize] {
+            return Ok(false);
+        }
+        if self.truth[pair.first as usize] {
+            return self.watch(at, pair);
+        }
+        if pair.first == pair.second {
+            return self.force_first(at, pair);
+        }
+        if self.truth[flip(pair.second) as usize] {
+            return self.force_first(at, pair);
+        }
+        self.watch(at, pair)
+    }
+
+    /// The first of the pair is free, and every other literal of the clause is false.
+    fn force_first(&mut self, at: u32, pair: Pair) -> Result<bool, AllocError>
+        requires engine { IsEngine self.old }
+        requires at { (at ≡ length self.old.work) × (at < length self.old.clauses) }
+        requires best { IsBest self.old.trail.items (codes_at self.old.clauses at) pair }
+        requires free { (has nat_eq self.old.trail.items pair.first ≡ false) × (has nat_eq self.old.trail.items (flip pair.first) ≡ false) }
+        requires forces { forces nat_eq flip (has nat_eq self.old.trail.items) (codes_at self.old.clauses at) pair.first ≡ true }
+        ensures engine { IsEngine self.new }
+        ensures more { IfOk result (λ b. b ≡ true → length self.new.work ≡ length self.old.work + 1) }
+        ensures conflict { IfOk result (λ b. b ≡ false → is_negated flip (has nat_eq self.new.trail.items) (codes_at self.new.clauses at) ≡ true) }
+        ensures keeps { Holds self.old self.new }
+    {
+        self.put(pair.first, Some(at))?;
+        self.watch(at, pair)
+    }
+
+    /// Watches the next clause by a pair that guards it.
+    fn watch(&mut self, at: u32, pair: Pair) -> Result<bool, AllocError>
+        requires engine { IsEngine self.old }
+        requires at { (at ≡ length self.old.work) × (at < length self.old.clauses) }
+        requires guards { Guards (take self.old.head self.old.trail.items) self.old.trail.items (codes_at self.old.clauses at) pair }
+        requires bounds { All (λ v. Guards (take v.head self.old.trail.items) (take v.start self.old.trail.items) (codes_at self.old.clauses at) pair) self.old.levels.items }
+        ensures engine { IsEngine self.new }
+        ensures more { OnOk result (length self.new.work ≡ length self.old.work + 1) }
+        ensures ok { IfOk result (λ b. b ≡ true) }
+        ensures keeps { Holds self.old self.new }
+    {
+        self.work.push_arranged(pair, self.clauses.get(at))?;
+        let one = Watch {
+            clause: at,
+            blocker: pair.second,
+        };
+        let two = Watch {
+            clause: at,
+            blocker: pair.first,
+        };
+        match self.lists.push_two(pair.first, one, pair.second, two) {
+            Ok(()) => Ok(true),
+            Err(error) => {
+                self.work.pop();
+                Err(error)
+            }
+        }
+    }
+
+    /// Watches the next clause; false where it is wholly negated.
+    fn attach(&mut self, at: u32) -> Result<bool, AllocError>
+        requires engine { IsEngine self.old }
+        requires at { (at ≡ length self.old.work) × (at < length self.old.clauses) }
+        ensures engine { IsEngine self.new }
+        ensures more { IfOk result (λ b. b ≡ true → length self.new.work ≡ length self.old.work + 1) }
+        ensures conflict { IfOk result (λ b. b ≡ false → is_negated flip (has nat_eq self.new.trail.items) (codes_at self.new.clauses at) ≡ true) }
+        ensures keeps { Holds self.old self.new }
+    {
+        match self.best(self.clauses.get(at)) {
+            None => Ok(false),
+            Some(pair) => self.attach_pair(at, pair),
+        }
+    }
+
+    /// Watches the clauses that are new.
+    pub(crate) fn attach_all(&mut self) -> Result<Option<u32>, AllocError>
+        requires { IsEngine self.old }
+        ensures engine { IsEngine self.new }
+        ensures none { IfOk result (λ r. IfNone r (length self.new.work ≡ length self.new.clauses)) }
+        ensures conflict { IfOk result (λ r. IfSome r (λ i. IsStuck self.new i)) }
+        ensures keeps { Holds self.old self.new }
+    {
+        while self.work.len() < self.clauses.len() {
+            let at = self.work.len() as u32;
+            if !self.attach(at)? {
+                return Ok(Some(at));
+            }
+        }
+        Ok(None)
+    }
+}

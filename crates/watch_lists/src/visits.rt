@@ -1,0 +1,191 @@
+ghost use Rattle.std.specs.Prelude.{◌≡◌, ◌≢◌, ◌<◌, ◌≤◌, ℕ, true, false, List, nat_eq, length, slice_index, slice_index_or, OnErr, IfOk, IfSome, IfNone};
+ghost use Rattle.lits.specs.Clause.{has};
+ghost use Rattle.watch_lists.specs.Codes.{flip};
+ghost use Rattle.watch_lists.specs.State.{IsEngine, IsTurn, IsVisited, IsOther, IsTurnEnd, IsPropagated, Holds, Stays, codes_at, pair_at, pairs_of, list_at, watch_at};
+
+use crate::code::flip;
+use crate::engine::{Engine, Visit};
+use crate::flat::Pair;
+use crate::lists::Watch;
+use std::alloc::AllocError;
+
+/// The first place behind the watched literals whose literal isn't false and isn't that one.
+fn replacement(clause: &[u32], truth: &[bool], other: u32) -> Option<usize>
+    requires { (l : ℕ) → has nat_eq clause.now l ≡ true → flip l < length truth.now }
+    ensures some { IfSome result (λ k. (2 ≤ k) × (k < length clause.now)
+        × (slice_index_or truth.now (flip (slice_index clause.now k)) false ≡ false)
+        × (nat_eq other (slice_index clause.now k) ≡ false)) }
+    ensures none { IfNone result ((k : ℕ) → 2 ≤ k → k < length clause.now
+        → nat_eq other (slice_index clause.now k) ≡ false
+        → slice_index_or truth.now (flip (slice_index clause.now k)) false ≡ true) }
+{
+    for place in 2..clause.len() {
+        let lit = clause[place];
+        if lit != other && !truth[flip(lit) as usize] {
+            return Some(place);
+        }
+    }
+    None
+}
+
+/// The other one of a pair, where the literal is one of it.
+fn other_of(pair: Pair, lit: u32) -> Option<u32>
+    ensures some { IfSome result (λ o. IsOther pair lit o) }
+    ensures none { IfNone result ((pair.first ≢ lit) × (pair.second ≢ lit)) }
+{
+    if pair.first == lit {
+        Some(pair.second)
+    } else if pair.second == lit {
+        Some(pair.first)
+    } else {
+        None
+    }
+}
+
+impl Engine {
+    /// The turn of one watch of a literal that is false now.
+    fn visit(&mut self, lit: u32, at: usize) -> Result<Visit, AllocError>
+        requires turn { IsTurn self.old lit at }
+        requires at { at < length (list_at self.old.lists lit) }
+        ensures ok { IfOk result (λ v. IsVisited self.old self.new lit at v) }
+        ensures err { OnErr result (IsEngine self.new) }
+        ensures keeps { Holds self.old self.new }
+    {
+        let watch = self.lists.get(lit, at);
+        if self.truth[watch.blocker as usize] {
+            return Ok(Visit::Next);
+        }
+        self.visit_clause(lit, at, watch.clause)
+    }
+
+    fn visit_clause(&mut self, lit: u32, at: usize, clause: u32) -> Result<Visit, AllocError>
+        requires turn { IsTurn self.old lit at }
+        requires at { at < length (list_at self.old.lists lit) }
+        requires clause { (watch_at (list_at self.old.lists lit) at).clause ≡ clause }
+        ensures ok { IfOk result (λ v. IsVisited self.old self.new lit at v) }
+        ensures err { OnErr result (IsEngine self.new) }
+        ensures keeps { Holds self.old self.new }
+    {
+        match other_of(self.work.pair(clause), lit) {
+            Some(other) => self.visit_pair(lit, at, clause, other),
+            None => {
+                self.lists.drop_at(lit, at);
+                Ok(Visit::Gone)
+            }
+        }
+    }
+
+    fn visit_pair(
+        &mut self,
+        lit: u32,
+        at: usize,
+        clause: u32,
+        other: u32,
+    ) -> Result<Visit, AllocError>
+        requires turn { IsTurn self.old lit at }
+        requires at { at < length (list_at self.old.lists lit) }
+        requires clause { (watch_at (list_at self.old.lists lit) at).clause ≡ clause }
+        requires other { IsOther (pair_at (pairs_of self.old.work) clause) lit other }
+        ensures ok { IfOk result (λ v. IsVisited self.old self.new lit at v) }
+        ensures err { OnErr result (IsEngine self.new) }
+        ensures keeps { Holds self.old self.new }
+    {
+        if other == lit || self.truth[other as usize] {
+            return Ok(Visit::Next);
+        }
+        match replacement(self.work.get(clause), self.truth.as_slice(), other) {
+            Some(place) => self.move_watch(lit, at, clause, other, place),
+            None => self.force(lit, at, clause, other),
+        }
+    }
+
+    /// Every other literal of the clause is false.
+    fn force(&mut self, lit: u32, at: usize, clause: u32, other: u32) -> Result<Visit, AllocError>
+        requires turn { IsTurn self.old lit at }
+        requires at { at < length (list_at self.old.lists lit) }
+        requires clause { (watch_at (list_at self.old.lists lit) at).clause ≡ clause }
+        requires other { IsOther (pair_at (pairs_of self.old.work) clause) lit other }
+        requires missing { slice_index_or self.old.truth.items other false ≡ false }
+        requires negated { (k : ℕ) → 2 ≤ k → k < length (codes_at self.old.work clause)
+            → nat_eq other (slice_index (codes_at self.old.work clause) k) ≡ false
+            → slice_index_or self.old.truth.items (flip (slice_index (codes_at self.old.work clause) k)) false ≡ true }
+        ensures ok { IfOk result (λ v. IsVisited self.old self.new lit at v) }
+        ensures err { OnErr result (IsEngine self.new) }
+        ensures keeps { Holds self.old self.new }
+    {
+        if self.truth[flip(other) as usize] {
+            return Ok(Visit::Conflict(clause));
+        }
+        self.put(other, Some(clause))?;
+        Ok(Visit::Next)
+    }
+
+    /// The watch goes to a literal that isn't false.
+    fn move_watch(
+        &mut self,
+        lit: u32,
+        at: usize,
+        clause: u32,
+        other: u32,
+        place: usize,
+    ) -> Result<Visit, AllocError>
+        requires turn { IsTurn self.old lit at }
+        requires at { at < length (list_at self.old.lists lit) }
+        requires clause { (watch_at (list_at self.old.lists lit) at).clause ≡ clause }
+        requires other { IsOther (pair_at (pairs_of self.old.work) clause) lit other }
+        requires apart { nat_eq other lit ≡ false }
+        requires place { (2 ≤ place) × (place < length (codes_at self.old.work clause)) }
+        requires free { slice_index_or self.old.truth.items (flip (slice_index (codes_at self.old.work clause) place)) false ≡ false }
+        requires fresh { nat_eq other (slice_index (codes_at self.old.work clause) place) ≡ false }
+        ensures ok { IfOk result (λ v. IsVisited self.old self.new lit at v) }
+        ensures err { OnErr result (IsEngine self.new) }
+        ensures keeps { Holds self.old self.new }
+    {
+        let new = self.work.get(clause)[place];
+        self.lists.push(
+            new,
+            Watch {
+                clause,
+                blocker: other,
+            },
+        )?;
+        self.work.turn(clause, place, lit, other, new);
+        self.lists.drop_at(lit, at);
+        Ok(Visit::Gone)
+    }
+
+    /// Goes through the watches of a literal that is false now.
+    fn turn(&mut self, lit: u32) -> Result<Option<u32>, AllocError>
+        requires { IsTurn self.old lit 0 }
+        ensures ok { IfOk result (λ r. IsTurnEnd self.new lit r) }
+        ensures err { OnErr result (IsEngine self.new) }
+        ensures keeps { Holds self.old self.new }
+    {
+        let mut at = 0;
+        while at < self.lists.len(lit) {
+            match self.visit(lit, at)? {
+                Visit::Next => at += 1,
+                Visit::Gone => {}
+                Visit::Conflict(clause) => return Ok(Some(clause)),
+            }
+        }
+        Ok(None)
+    }
+
+    /// Takes the turns of the literals that are still to come.
+    pub(crate) fn turns(&mut self) -> Result<Option<u32>, AllocError>
+        requires { IsEngine self.old }
+        ensures ok { IfOk result (λ r. IsPropagated self.new r) }
+        ensures err { OnErr result (IsEngine self.new) }
+        ensures keeps { Stays self.old self.new }
+    {
+        while self.head < self.trail.len() {
+            let lit = flip(self.trail[self.head]);
+            match self.turn(lit)? {
+                Some(clause) => return Ok(Some(clause)),
+                None => self.head += 1,
+            }
+        }
+        Ok(None)
+    }
+}
