@@ -1,0 +1,327 @@
+-- The steps of a search.
+use Rattle.std.proofs.Common.{◌≡◌, ◌<◌, ◌+◌, ◌*◌, ℕ, suc, arith, Bool, true, false, not, ◌||◌, ◌⊎◌, inl, inr, List, [], ◌∷◌, ◌++◌, get_or, take, length, append_assoc, Some, refl, sym, ap, subst, ◌∙◌, rules}
+use Rattle.std.specs.Prelude.{map}
+use Rattle.std.specs.List.{list_any, AllByRecursion}
+use Rattle.std.proofs.lemmas.List.{map-append}
+use Rattle.std.proofs.Math.ListN.{get_or-append}
+use Rattle.lits.specs.Clause.{has}
+use Rattle.lits.specs.Same.{same_lit, same_node, opposite}
+use Rattle.lits.specs.declared.node.Node.{Node}
+use Rattle.lits.specs.declared.literal.Lit.{Lit}
+use Rattle.lits.specs.declared.step.Named.{Named}
+use Rattle.lits.specs.declared.step.Step.{Step}
+use Rattle.unit_prop.specs.Closure.{is_negated, IsOpen}
+use Rattle.unit_prop.specs.Log.{IsBase, base_clauses, clauses_of}
+use Rattle.unit_prop.specs.Refuter.{is_over, IsOver, IsModel, IsAnswer, Answers}
+use Rattle.unit_prop.specs.declared.refuter.Refuted.{Refuted}
+use Rattle.solver_plain.proofs.SettleLemmas.{IsUnderWay}
+use Rattle.solver_watch.specs.declared.engine.Engine.{Engine}
+use Rattle.solver_watch.proofs.AssumeLemmas.{assuming-propagates}
+use Rattle.unit_prop.proofs.LitLaws.{lit_laws}
+use Rattle.unit_prop.proofs.LiteralLemmas.{contrary, or_cases, or_left, or_right, has-map-opposite, all-true, all-at, witness}
+use Rattle.unit_prop.proofs.ChainLemmas.{all-append}
+use Rattle.solver_plain.specs.Formula.{Clauses}
+use Rattle.solver_plain.specs.Search.{IsLearnedFor}
+use Rattle.solver_plain.proofs.ListLemmas.{each-of, each-at, all-fail, all-left}
+use Rattle.solver_plain.proofs.ModelLemmas.{pair-none}
+use Rattle.solver_plain.proofs.FormulaLemmas.{over-opposite, all-occur}
+use Rattle.watch_lists.specs.Trail.{TrailState, IsTrail, IsComplete, IsConflict, IsGround, IsQuiet, Adds, Propagates, put_at, clause_at, lits_of, up_to, back_to}
+use Rattle.watch_lists.specs.declared.put.Put.{Put}
+use Rattle.solver_watch.specs.declared.formula.Formula.{Formula}
+use Rattle.solver_watch.specs.declared.learn.Lesson.{Lesson}
+use Rattle.solver_watch.specs.Assuming.{IsChosen, IsAssuming}
+use Rattle.solver_watch.specs.Known.{IsKnown, clauses_known}
+use Rattle.solver_watch.specs.Search.{IsLesson, IsState}
+use Rattle.solver_watch.proofs.TrailLemmas.{has-at, place-before, place-up_to, up_to-up_to}
+use Rattle.solver_watch.specs.Choice.{AreTaken}
+use Rattle.solver_watch.specs.Marked.{IsRefuted}
+use Rattle.solver_watch.proofs.CodeLemmas.{lit_at-variable}
+use Rattle.solver_watch.proofs.WalkLemmas.{ground-of}
+use Rattle.unit_prop.specs.Propagation.{IsFree}
+use Rattle.lits.specs.declared.node.Node.TheVariants.{Const}
+use Rattle.watch_lists.specs.Codes.{lit_at}
+
+-- the trail of a formula may change where clauses and variables stay
+pub known-trail : (f : Formula) (t : TrailState) → IsKnown f → t.clauses ≡ f.trail.clauses → t.nodes ≡ f.trail.nodes
+    → IsKnown (record f { trail = t })
+known-trail f t known clauses nodes = record {
+  names = known.names;
+  clauses = clauses ∙ known.clauses;
+  within = known.within;
+  nodes = λ l h. known.nodes l (ap (λ (ns : List Node). has same_node ns l.node) (sym nodes) ∙ h);
+}
+
+-- a lesson is learned for each target whose negations are assumed
+pub learned-for : (f : Formula) (lesson : Lesson) (assumed : ℕ) → IsKnown f → IsLesson f lesson → assumed < f.trail.last → (target : List Lit)
+    → IsAssuming target f.trail assumed → IsLearnedFor (clauses_known f) target lesson.step
+learned-for f lesson assumed known is below target assuming = record {
+  over = is.over;
+  undecided = subst (λ (cs : List (List Lit)). IsOpen same_lit opposite cs (map opposite target)) known.clauses (record {
+    set = has same_lit (lits_of (up_to assumed f.trail.puts));
+    closed = record {
+      starts = λ l h.
+          ap (has same_lit (lits_of (up_to assumed f.trail.puts))) (sym (lit_laws.twice l))
+          ∙ assuming.whole below (opposite l) (sym (has-map-opposite lit_laws target l) ∙ h);
+      units = (is.trail.complete assumed below).0.closed.units;
+    };
+    apart = (is.trail.complete assumed below).1;
+  });
+  learned = is.learned;
+}
+
+pub same_node-exact : (x y : Node) → same_node x y ≡ true → x ≡ y
+same_node-exact x y e = search rules
+
+pub same-variable : (m l : Lit) → m.node ≡ l.node → (m ≡ l) ⊎ (m ≡ opposite l)
+same-variable m l e = go m.neg l.neg refl refl
+  where
+    lit_of : Node → Bool → Lit
+    lit_of n b = record { node = n; neg = b }
+
+    same_neg : m.neg ≡ l.neg → m ≡ l
+    same_neg f = ap (λ (n : Node). let k : Lit = record { node = n; neg = m.neg } in k) e
+        ∙ ap (λ (b : Bool). let k : Lit = record { node = l.node; neg = b } in k) f
+
+    other_neg : m.neg ≡ not l.neg → m ≡ opposite l
+    other_neg f = ap (λ (n : Node). let k : Lit = record { node = n; neg = m.neg } in k) e
+        ∙ ap (λ (b : Bool). let k : Lit = record { node = l.node; neg = b } in k) f
+
+    go : (a b : Bool) → m.neg ≡ a → l.neg ≡ b → (m ≡ l) ⊎ (m ≡ opposite l)
+    go true true f g = inl (same_neg (f ∙ sym g))
+    go false false f g = inl (same_neg (f ∙ sym g))
+    go true false f g = inr (other_neg (f ∙ sym (ap (λ (b : Bool). not b) g)))
+    go false true f g = inr (other_neg (f ∙ sym (ap (λ (b : Bool). not b) g)))
+
+all-both : (P Q R : List Lit → Type 0) (xs : List (List Lit)) → ((x : List Lit) → P x → Q x → R x) → AllByRecursion P xs
+    → AllByRecursion Q xs → AllByRecursion R xs
+all-both P Q R [] join ps qs = tt
+all-both P Q R (x ∷ xs) join ps qs = (join x ps.0 qs.0, all-both P Q R xs join ps.1 qs.1)
+
+pub node-append : (xs ys : List Node) (n : Node) → has same_node (xs ++ ys) n ≡ (has same_node xs n || has same_node ys n)
+node-append [] ys n = refl
+node-append (x ∷ xs) ys n = rw (node-append xs ys n) (go (same_node x n) (has same_node xs n) (has same_node ys n))
+  where
+    go : (a b c : Bool) → (a || (b || c)) ≡ ((a || b) || c)
+    go true b c = refl
+    go false b c = refl
+
+-- the clause's step joins the log
+pub known-learn : (f : Formula) (g : Formula) (step : Step) → IsKnown f → IsOver f.base.items step.clause
+    → g.base.items ≡ f.base.items → g.log.items ≡ f.log.items ++ step ∷ [] → Adds f.trail step.clause g.trail → IsKnown g
+known-learn f g step known over base log adds = record {
+  names = subst (λ (b : List Named). IsBase b) (sym base) known.names;
+  clauses = adds.clauses ∙ grown;
+  within = within_now;
+  nodes = λ l h. nodes_at l (or_cases _ _ (sym (node-append f.trail.nodes adds.numbers.more l.node)
+      ∙ ap (λ (ns : List Node). has same_node ns l.node) (sym adds.numbers.behind) ∙ h));
+}
+  where
+    grown : f.trail.clauses ++ step.clause ∷ [] ≡ clauses_of g.base.items g.log.items
+    grown = rw (known.clauses, base, log, map-append (λ (s : Step). s.clause) f.log.items (step ∷ []))
+        (append_assoc (base_clauses f.base.items) (map (λ (s : Step). s.clause) f.log.items) (step.clause ∷ []))
+
+    within_now : AllByRecursion (λ s. IsOver g.base.items s.clause) g.log.items
+    within_now = subst (λ (b : List Named). AllByRecursion (λ (s : Step). IsOver b s.clause) g.log.items) (sym base)
+        (subst (λ (ss : List Step). AllByRecursion (λ (s : Step). IsOver f.base.items s.clause) ss) (sym log)
+        (all-append (λ (s : Step). IsOver f.base.items s.clause) f.log.items (step ∷ []) known.within (over, tt)))
+
+    nodes_at : (l : Lit) → (has same_node f.trail.nodes l.node ≡ true) ⊎ (has same_node adds.numbers.more l.node ≡ true) → is_over g.base.items l ≡ true
+    nodes_at l (inl h) = subst (λ (b : List Named). is_over b l ≡ true) (sym base) (known.nodes l h)
+    nodes_at l (inr h) =
+        let w = witness lit_laws (λ m. same_node m.node l.node) step.clause (adds.numbers.from l.node h) in
+        let there : is_over f.base.items w.0 ≡ true = each-at lit_laws (λ (m : Lit). is_over f.base.items m ≡ true) step.clause w.0 over w.1 in
+        subst (λ (b : List Named). is_over b l ≡ true) (sym base) (elim (same-variable l w.0 (sym (same_node-exact w.0.node l.node w.2))) [
+          | inl e ↦ ap (λ (m : Lit). is_over f.base.items m) e ∙ there
+          | inr e ↦ ap (λ (m : Lit). is_over f.base.items m) e ∙ (over-opposite f.base.items w.0 ∙ there)
+        ])
+
+any-place : (p : List Lit → Bool) (cs : List (List Lit)) → list_any p cs ≡ true → (i : ℕ) × (i < length cs) × (p (clause_at cs i) ≡ true)
+any-place p [] e = cc
+any-place p (c ∷ cs) e = elim (or_cases (p c) (list_any p cs) e) [
+  | inl h ↦ (0, omega arith, h)
+  | inr h ↦ let w = any-place p cs h in (suc w.0, omega (arith, w.1), w.2)
+]
+
+-- a variable of the base has a number
+pub over-numbered : (f : Formula) → IsKnown f → IsTrail f.trail → (l : Lit) → is_over f.base.items l ≡ true → has same_node f.trail.nodes l.node ≡ true
+over-numbered f known trail l h =
+    let w = any-place (λ c. has same_lit c l || has same_lit c (opposite l)) (base_clauses f.base.items) h in
+    let same : clause_at f.trail.clauses w.0 ≡ clause_at (base_clauses f.base.items) w.0 =
+    ap (λ (cs : List (List Lit)). clause_at cs w.0) known.clauses
+    ∙ get_or-append (base_clauses f.base.items) (map (λ (s : Step). s.clause) f.log.items) [] w.0 w.1 in
+    elim (or_cases (has same_lit (clause_at (base_clauses f.base.items) w.0) l) (has same_lit (clause_at (base_clauses f.base.items) w.0) (opposite l)) w.2) [
+      | inl e ↦ trail.clauses_over w.0 l (ap (λ (c : List Lit). has same_lit c l) same ∙ e)
+      | inr e ↦ trail.clauses_over w.0 (opposite l) (ap (λ (c : List Lit). has same_lit c (opposite l)) same ∙ e)
+    ]
+
+-- each variable of the base has a value: a model
+module _ (f : Formula) (target : List Lit) (known : IsKnown f) (trail : IsTrail f.trail)
+    (complete : IsComplete f.trail.clauses f.trail.puts)
+    (taken : (l : Lit) → has same_node f.trail.nodes l.node ≡ true
+    → (has same_lit (lits_of f.trail.puts) l ≡ true) ⊎ (has same_lit (lits_of f.trail.puts) (opposite l) ≡ true)) where
+  valued : (l : Lit) → is_over f.base.items l ≡ true
+      → (has same_lit (lits_of f.trail.puts) l ≡ true) ⊎ (has same_lit (lits_of f.trail.puts) (opposite l) ≡ true)
+  valued l h = taken l (over-numbered f known trail l h)
+
+  clause-met : (c : List Lit) → IsOver f.base.items c → is_negated opposite (has same_lit (lits_of f.trail.puts)) c ≡ false
+      → list_any (has same_lit (lits_of f.trail.puts)) c ≡ true
+  clause-met c over e = go (list_any (has same_lit (lits_of f.trail.puts)) c) refl
+    where
+      go : (b : Bool) → list_any (has same_lit (lits_of f.trail.puts)) c ≡ b → list_any (has same_lit (lits_of f.trail.puts)) c ≡ true
+      go true g = g
+      go false g = contrary _ (all-true lit_laws (λ m. has same_lit (lits_of f.trail.puts) (opposite m)) c (λ m h. which m h (valued m
+          (each-at lit_laws (λ (k : Lit). is_over f.base.items k ≡ true) c m over h)))) e
+        where
+          which : (m : Lit) → has same_lit c m ≡ true
+              → (has same_lit (lits_of f.trail.puts) m ≡ true) ⊎ (has same_lit (lits_of f.trail.puts) (opposite m) ≡ true)
+              → has same_lit (lits_of f.trail.puts) (opposite m) ≡ true
+          which m h (inl k) = contrary _ k (each-at lit_laws (λ (n : Lit). has same_lit (lits_of f.trail.puts) n ≡ false) c m
+              (all-fail (has same_lit (lits_of f.trail.puts)) c g) h)
+          which m h (inr k) = k
+
+  not-negated : AllByRecursion (λ c. is_negated opposite (has same_lit (lits_of f.trail.puts)) c ≡ false) (base_clauses f.base.items)
+  not-negated = all-left (λ c. is_negated opposite (has same_lit (lits_of f.trail.puts)) c ≡ false) (base_clauses f.base.items)
+      (map (λ (s : Step). s.clause) f.log.items)
+      (subst (λ (cs : List (List Lit)). AllByRecursion (λ c. is_negated opposite (has same_lit (lits_of f.trail.puts)) c ≡ false) cs) known.clauses
+      (all-fail (is_negated opposite (has same_lit (lits_of f.trail.puts))) f.trail.clauses (go _ refl)))
+    where
+      go : (b : Bool) → list_any (is_negated opposite (has same_lit (lits_of f.trail.puts))) f.trail.clauses ≡ b
+          → list_any (is_negated opposite (has same_lit (lits_of f.trail.puts))) f.trail.clauses ≡ false
+      go false e = e
+      go true e = absurd (complete.1 (inl e))
+
+  pub model-is : ((l : Lit) → has same_lit target l ≡ true → has same_lit (lits_of f.trail.puts) (opposite l) ≡ true)
+      → IsModel f.base.items target (lits_of f.trail.puts)
+  model-is refuted = record {
+    once = record { once = trail.single; apart = pair-none lit_laws (lits_of f.trail.puts) trail.consistent.apart };
+    within = each-of lit_laws (λ (l : Lit). is_over f.base.items l ≡ true) (lits_of f.trail.puts) (λ l h. known.nodes l (trail.puts_over l h));
+    whole = λ l over. elim (valued l over) [
+      | inl h ↦ or_left _ _ h
+      | inr h ↦ or_right (has same_lit (lits_of f.trail.puts) l) _ h
+    ];
+    meets = all-both (IsOver f.base.items) (λ c. is_negated opposite (has same_lit (lits_of f.trail.puts)) c ≡ false)
+        (λ c. list_any (has same_lit (lits_of f.trail.puts)) c ≡ true) (base_clauses f.base.items) clause-met
+        (all-occur lit_laws (base_clauses f.base.items)) not-negated;
+    refutes = all-true lit_laws (λ l. has same_lit (lits_of f.trail.puts) (opposite l)) target (λ l h. refuted l h);
+  }
+
+-- the clause of a lesson may be added where the later levels are given up
+pub lesson-quiet : (f : Formula) (lesson : Lesson) (t : TrailState) → IsLesson f lesson → t ≡ back_to lesson.level f.trail
+    → (level : ℕ) → level < t.last → IsQuiet (up_to level t.puts) lesson.step.clause
+lesson-quiet f lesson t is e level below = subst (λ (u : TrailState). level < u.last → IsQuiet (up_to level u.puts) lesson.step.clause) (sym e)
+    (λ less. subst (λ (ps : List Put). IsQuiet ps lesson.step.clause) (sym (up_to-up_to f.trail.puts level lesson.level (omega arith)))
+    (is.quiet level (omega arith))) below
+
+pub clauses-both : (b c : List Named) (l m : List Step) → b ≡ c → l ≡ m
+    → (let k : Clauses = record { base = b; log = l } in k) ≡ (let k : Clauses = record { base = c; log = m } in k)
+clauses-both b c l m e f = ap (λ (x : List Named). let k : Clauses = record { base = x; log = l } in k) e
+    ∙ ap (λ (x : List Step). let k : Clauses = record { base = c; log = x } in k) f
+
+pub assuming-same : (target : List Lit) (t u : TrailState) (assumed : ℕ) → IsAssuming target t assumed → u.puts ≡ t.puts → u.last ≡ t.last
+    → IsAssuming target u assumed
+assuming-same target t u assumed is puts last = record {
+  most = (let m = is.most in omega arith);
+  chosen = subst (λ (ps : List Put). AllByRecursion (IsChosen target assumed) ps) (sym puts) is.chosen;
+  whole = λ more l h. subst (λ (ps : List Put). has same_lit (lits_of (up_to assumed ps)) (opposite l) ≡ true) (sym puts)
+      (is.whole (omega arith) l h);
+}
+
+pub known-same : (f g : Formula) → IsKnown f → clauses_known g ≡ clauses_known f → g.trail.clauses ≡ f.trail.clauses → g.trail.nodes ≡ f.trail.nodes
+    → IsKnown g
+known-same f g known same clauses nodes = record {
+  names = subst (λ (b : List Named). IsBase b) (sym (ap (λ (k : Clauses). k.base) same)) known.names;
+  clauses = clauses ∙ known.clauses ∙ ap (λ (k : Clauses). clauses_of k.base k.log) (sym same);
+  within = subst (λ (k : Clauses). AllByRecursion (λ (s : Step). IsOver k.base s.clause) k.log) (sym same) known.within;
+  nodes = λ l h. ap (λ (k : Clauses). is_over k.base l) same
+      ∙ known.nodes l (ap (λ (ns : List Node). has same_node ns l.node) (sym nodes) ∙ h);
+}
+
+pub over-same : (f g : Formula) (target : List Lit) → clauses_known g ≡ clauses_known f → IsOver f.base.items target → IsOver g.base.items target
+over-same f g target same over = subst (λ (k : Clauses). IsOver k.base target) (sym same) over
+
+-- a conflict where all decisions are of the target's negations
+pub refuted-conflict : (t : TrailState) (target : List Lit) (assumed i : ℕ) → IsAssuming target t assumed → t.last ≡ assumed → i < length t.clauses
+    → IsConflict t.puts (clause_at t.clauses i) → IsRefuted t target i
+refuted-conflict t target assumed i is at number conflict = record {
+  number = number;
+  negated = λ l inside. inr (all-at lit_laws (λ m. has same_lit (lits_of t.puts) (opposite m)) (clause_at t.clauses i) l conflict inside);
+  chosen = subst (λ (n : ℕ). AllByRecursion (IsChosen target n) t.puts) (sym at) is.chosen;
+}
+
+pub refuted-reason : (t : TrailState) (target : List Lit) (assumed by k : ℕ) → IsTrail t → IsAssuming target t assumed → t.last ≡ assumed
+    → k < length t.puts → (put_at t.puts k).by ≡ Some by → has same_lit target (put_at t.puts k).lit ≡ true → IsRefuted t target by
+refuted-reason t target assumed by k trail is at h forced inside = record {
+  number = ground.0;
+  negated = λ l in_clause. negated_at l (or_cases _ _ (all-at lit_laws
+      (λ m. same_lit m (put_at t.puts k).lit || has same_lit (lits_of (take k t.puts)) (opposite m)) (clause_at t.clauses by) l ground.2 in_clause));
+  chosen = subst (λ (n : ℕ). AllByRecursion (IsChosen target n) t.puts) (sym at) is.chosen;
+}
+  where
+    ground : IsGround t.clauses (take k t.puts) (put_at t.puts k).lit (Some by)
+    ground = ground-of t k by trail h forced
+
+    negated_at : (l : Lit) → (same_lit l (put_at t.puts k).lit ≡ true) ⊎ (has same_lit (lits_of (take k t.puts)) (opposite l) ≡ true)
+        → (has same_lit target l ≡ true) ⊎ (has same_lit (lits_of t.puts) (opposite l) ≡ true)
+    negated_at l (inl e) = inl (ap (has same_lit target) (lit_laws.exact _ _ e) ∙ inside)
+    negated_at l (inr b) = let w = place-before t.puts k (opposite l) b in
+        inr (ap (has same_lit (lits_of t.puts)) (sym w.3) ∙ has-at t.puts w.0 w.2)
+
+-- where each variable has a value, so has each literal
+pub taken-lits : (t : TrailState) → AreTaken t → (l : Lit) → has same_node t.nodes l.node ≡ true
+    → (has same_lit (lits_of t.puts) l ≡ true) ⊎ (has same_lit (lits_of t.puts) (opposite l) ≡ true)
+taken-lits t taken l h =
+    let w = index-of t.nodes l.node h in
+    let at : (lit_at t.nodes (2 * w.0 + 1)).node ≡ l.node = lit_at-variable t.nodes w.0 ∙ w.2 in
+    elim (same-variable (lit_at t.nodes (2 * w.0 + 1)) l at) [
+      | inl e ↦ valued_at (lit_at t.nodes (2 * w.0 + 1)) l (inl e) (taken w.0 w.1) _ _ refl refl
+      | inr e ↦ valued_at (lit_at t.nodes (2 * w.0 + 1)) l (inr e) (taken w.0 w.1) _ _ refl refl
+    ]
+  where
+    index-of : (nodes : List Node) (n : Node) → has same_node nodes n ≡ true → (i : ℕ) × (i < length nodes) × (get_or nodes i Const ≡ n)
+    index-of [] n e = cc
+    index-of (m ∷ ms) n e = elim (or_cases (same_node m n) (has same_node ms n) e) [
+      | inl f ↦ (0, omega arith, same_node-exact m n f)
+      | inr f ↦ let w = index-of ms n f in (suc w.0, omega (arith, w.1), w.2)
+    ]
+
+    valued_at : (x m : Lit) → (x ≡ m) ⊎ (x ≡ opposite m) → ¬ IsFree same_lit opposite (lits_of t.puts) x
+        → (a b : Bool) → has same_lit (lits_of t.puts) x ≡ a → has same_lit (lits_of t.puts) (opposite x) ≡ b
+        → (has same_lit (lits_of t.puts) m ≡ true) ⊎ (has same_lit (lits_of t.puts) (opposite m) ≡ true)
+    valued_at x m (inl e) not_free true b f g = inl (ap (has same_lit (lits_of t.puts)) (sym e) ∙ f)
+    valued_at x m (inr e) not_free true b f g = inr (ap (has same_lit (lits_of t.puts)) (sym e) ∙ f)
+    valued_at x m (inl e) not_free false true f g = inr (ap (λ (y : Lit). has same_lit (lits_of t.puts) (opposite y)) (sym e) ∙ g)
+    valued_at x m (inr e) not_free false true f g =
+        inl (ap (has same_lit (lits_of t.puts)) (sym (lit_laws.twice m) ∙ ap opposite (sym e)) ∙ g)
+    valued_at x m which not_free false false f g = absurd (not_free (record { fresh = f; apart = g }))
+
+-- all of the target's negations are true where a level of another kind has begun
+pub whole-here : (t : TrailState) (target : List Lit) (assumed : ℕ) → IsAssuming target t assumed → assumed < t.last → (l : Lit)
+    → has same_lit target l ≡ true → has same_lit (lits_of t.puts) (opposite l) ≡ true
+whole-here t target assumed is below l h =
+    let w = place-up_to t.puts assumed (opposite l) (is.whole below l h) in
+    ap (has same_lit (lits_of t.puts)) (sym w.2) ∙ has-at t.puts w.0 w.1
+
+pub over-base : (f g : Formula) (target : List Lit) (log : List Step)
+    → clauses_known g ≡ (let k : Clauses = record { base = f.base.items; log = log } in k) → IsOver f.base.items target → IsOver g.base.items target
+over-base f g target log same over = subst (λ (b : List Named). IsOver b target) (sym (ap (λ (k : Clauses). k.base) same)) over
+
+-- a search goes on where clauses have propagated
+pub state-propagates : (e : Engine) (target : List Lit) (t : TrailState) → IsState e target → Propagates e.formula.trail t
+    → IsState (record e { formula = record e.formula { trail = t } }) target
+state-propagates e target t s p = record {
+  known = known-trail e.formula t s.known p.clauses p.nodes;
+  over = s.over;
+  assuming = assuming-propagates target e.formula.trail t e.assumed p s.assuming;
+}
+
+-- what a query has made is its answer
+pub answers-of : (first now : Clauses) (target : List Lit) (left left' : ℕ) (result : Refuted) → IsUnderWay first target left now left'
+    → IsAnswer first.base now.log target left' result → Answers first.base target first.log left now.log left' result
+answers-of first now target left left' result way answer = record {
+  steps = way.steps;
+  grows = way.grows;
+  spends = way.spends;
+  learned = way.learned;
+  undecided = way.undecided;
+  answer = answer;
+}

@@ -1,0 +1,14 @@
+pub mod MarkLemmas
+pub mod TrailLemmas
+pub mod CodeLemmas
+pub mod CountLemmas
+pub mod MarkedLemmas
+pub mod WalkLemmas
+pub mod HintLemmas
+pub mod NameLemmas
+pub mod LessonLemmas
+pub mod AssumeLemmas
+pub mod TargetLemmas
+pub mod EngineLemmas
+pub mod ChoiceLemmas
+pub mod StartLemmas

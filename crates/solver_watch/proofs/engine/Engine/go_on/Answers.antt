@@ -1,0 +1,62 @@
+use Rattle.std.proofs.Common.{◌≡◌, ◌<◌, true, List, refl, sym, subst, ◌∙◌, arith, ℕ}
+use Rattle.lits.specs.declared.literal.Lit.{Lit}
+use Rattle.unit_prop.proofs.LitLaws.{lit_laws}
+use Rattle.unit_prop.specs.Refuter.{is_over, IsModel}
+use Rattle.solver_plain.proofs.ListLemmas.{each-at}
+use Rattle.watch_lists.specs.Codes.{lit_at}
+use Rattle.solver_watch.specs.Assuming.{IsAssuming}
+use Rattle.solver_watch.proofs.AssumeLemmas.{assuming-assume, assuming-decide}
+use Rattle.solver_watch.proofs.EngineLemmas.{over-numbered, known-same, over-same, refuted-reason, model-is, taken-lits, whole-here}
+use Rattle.solver_watch.proofs.engine.Engine.go_on.Goals as goal
+use Rattle.solver_watch.proofs.engine.Engine.go_on.Goals.{then-level-self+in-All, else-level-self}
+
+pub next_assumption-requires-clause-numbered : goal.next_assumption-requires-clause-numbered
+next_assumption-requires-clause-numbered c = λ l h.
+    over-numbered c.args.self.now.formula c.requires.state.known c.level.ensures.trail l
+    (each-at lit_laws (λ (m : Lit). is_over c.args.self.now.formula.base.items m ≡ true) c.args.target.now l c.requires.state.over h)
+
+pub returns-in-Open-clause-state : goal.returns-in-Open-clause-state
+returns-in-Open-clause-state c = record {
+  known = known-same c.args.self.now.formula c.decide.new.self.formula c.requires.state.known c.in_ok-decide-in-Open.ensures.clauses
+      c.in_ok-decide-in-Open.ensures.trail.clauses c.in_ok-decide-in-Open.ensures.nodes;
+  over = over-same c.args.self.now.formula c.decide.new.self.formula c.args.target.now c.in_ok-decide-in-Open.ensures.clauses c.requires.state.over;
+  assuming = subst (λ (n : ℕ). IsAssuming c.args.target.now c.decide.new.self.formula.trail n) (sym c.level-self.ensures)
+      (assuming-assume c.args.target.now c.args.self.now.formula.trail c.decide.new.self.formula.trail c.args.self.now.assumed
+      (lit_at c.args.self.now.formula.trail.nodes c.in-Open.code) c.in_ok-decide-in-Open.ensures.trail c.level.ensures.trail
+      c.requires.state.assuming (sym c.level.ensures.level ∙ c.if-level-self.true) c.in-Open.ensures.1);
+}
+
+pub refutation-requires-clause-refuted : goal.refutation-requires-clause-refuted
+refutation-requires-clause-refuted c =
+    refuted-reason c.args.self.now.formula.trail c.args.target.now c.args.self.now.assumed c.in-Refuted.by c.in-Refuted.ensures.0
+    c.level.ensures.trail c.requires.state.assuming (sym c.level.ensures.level ∙ c.if-level-self.true)
+    c.in-Refuted.ensures.1 c.in-Refuted.ensures.2 c.in-Refuted.ensures.3
+
+pub returns-in_ok-decide-in-Some-clause-state : goal.returns-in_ok-decide-in-Some-clause-state
+returns-in_ok-decide-in-Some-clause-state c = record {
+  known = known-same c.args.self.now.formula c.decide-in-Some.new.self.formula c.requires.state.known c.in_ok-decide-in-Some.ensures.clauses
+      c.in_ok-decide-in-Some.ensures.trail.clauses c.in_ok-decide-in-Some.ensures.nodes;
+  over = over-same c.args.self.now.formula c.decide-in-Some.new.self.formula c.args.target.now c.in_ok-decide-in-Some.ensures.clauses c.requires.state.over;
+  assuming = subst (λ (n : ℕ). IsAssuming c.args.target.now c.decide-in-Some.new.self.formula.trail n) (sym c.in_ok-decide-in-Some.ensures.assumed)
+      (assuming-decide c.args.target.now c.args.self.now.formula.trail c.decide-in-Some.new.self.formula.trail c.args.self.now.assumed
+      (lit_at c.args.self.now.formula.trail.nodes c.in-Some.code) c.in_ok-decide-in-Some.ensures.trail c.level.ensures.trail
+      c.requires.state.assuming (λ l at h. elim c.if-level-self.branch [
+        | then-level-self+in-All w ↦ w.in-All.ensures l h
+        | else-level-self w ↦ absurd (w.if-level-self.false (c.level.ensures.level ∙ at))
+      ]));
+}
+
+pub returns-in_ok-model-in-None-clause-found : goal.returns-in_ok-model-in-None-clause-found
+returns-in_ok-model-in-None-clause-found c = (
+  subst (λ (m : List Lit). IsModel c.args.self.now.formula.base.items c.args.target.now m) (sym c.in_ok-model-in-None.ensures)
+      (model-is c.args.self.now.formula c.args.target.now c.requires.state.known c.level.ensures.trail c.requires.complete
+      (taken-lits c.args.self.now.formula.trail c.in-None.ensures.none)
+      (λ l h. elim c.if-level-self.branch [
+        | then-level-self+in-All w ↦ w.in-All.ensures l h
+        | else-level-self w ↦
+            let most = c.requires.state.assuming.most in
+            let below : c.args.self.now.assumed < c.args.self.now.formula.trail.last = omega (arith, w.if-level-self.false, c.level.ensures.level) in
+            whole-here c.args.self.now.formula.trail c.args.target.now c.args.self.now.assumed c.requires.state.assuming below l h
+      ])),
+  refl,
+)

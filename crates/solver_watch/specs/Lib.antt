@@ -1,0 +1,5 @@
+pub mod Assuming
+pub mod Marked
+pub mod Known
+pub mod Choice
+pub mod Search

@@ -1,0 +1,65 @@
+ghost use Rattle.std.specs.Prelude.{◌≡◌, ◌<◌, [], Some, length, OnOk, IfOk};
+ghost use Rattle.unit_prop.specs.Log.{IsBase};
+ghost use Rattle.watch_lists.specs.Trail.{clause_at};
+ghost use Rattle.solver_plain.specs.Formula.{clause_named};
+ghost use Rattle.solver_watch.specs.Known.{IsKnown, IsStarted, clauses_known};
+
+use lits::{Named, Ref, Step};
+use std::alloc::{AllocError, Global};
+use watch_lists::Trail;
+
+/// The clauses of a base and of the steps learned over it, by their names and on a trail.
+#[derive(Drop)]
+pub(crate) struct Formula {
+    pub(crate) base: Vec<Named>,
+    pub(crate) log: Vec<Step>,
+    /// It has the base's clauses and then the log's.
+    pub(crate) trail: Trail,
+}
+
+impl Formula {
+    /// The formula without clauses.
+    pub(crate) fn new(alloc: Global) -> Result<Formula, AllocError>
+        ensures { IfOk result (λ f. clauses_known f ≡ record { base = []; log = [] }) }
+    {
+        Ok(Formula {
+            base: Vec::new(alloc),
+            log: Vec::new(alloc),
+            trail: Trail::new(alloc)?,
+        })
+    }
+
+    /// Takes a base in the place of all that was there.
+    pub(crate) fn start(&mut self, base: &[Named]) -> Result<(), AllocError>
+        requires { IsBase base.now }
+        ensures { OnOk result (IsStarted base.now self.new) }
+    {
+        self.base.clear();
+        self.log.clear();
+        self.trail.clear();
+        for named in base {
+            self.trail.add(&named.clause)?;
+            let clause = named.clause.copy()?;
+            self.base.push(Named {
+                clause,
+                by: named.by,
+            })?;
+        }
+        Ok(())
+    }
+
+    /// The name of a clause of the trail.
+    pub(crate) fn name(&self, number: u64) -> Ref
+        requires known { IsKnown self.now }
+        requires within { number < length self.now.trail.clauses }
+        ensures { clause_named (clauses_known self.now) result
+            ≡ Some (clause_at self.now.trail.clauses number) }
+    {
+        let base = self.base.len() as u64;
+        if number < base {
+            self.base[number as usize].by
+        } else {
+            Ref::Own(number - base)
+        }
+    }
+}

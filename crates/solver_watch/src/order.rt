@@ -1,0 +1,189 @@
+use std::alloc::{AllocError, Global};
+
+/// How much less a conflict counts than the next one.
+const DECAY: f64 = 0.95;
+
+/// Above this all activities are made smaller.
+const LARGE: f64 = 1e100;
+
+/// The place of a variable that isn't in the heap.
+const ABSENT: usize = usize::MAX;
+
+/// Hands out variables, those first that conflicts met most of late (Moskewicz, Madigan, Zhao, Zhang and Malik 2001; the
+/// growing step is that of MiniSat, Eén and Sörensson 2003).
+///
+/// Nothing rests on it but speed: who asks for a variable looks whether it is free, and where the order has none left
+/// looks for one himself. Variables that were put stay in the heap until they come to its top, so that only those that
+/// came out have to come back.
+#[derive(Drop)]
+pub(crate) struct Order {
+    activity: Vec<f64>,
+    /// A binary heap, the variable of the greatest activity at its top.
+    heap: Vec<u32>,
+    /// Where each variable is in the heap.
+    places: Vec<usize>,
+    /// What a bump adds.
+    step: f64,
+}
+
+impl Order {
+    /// The order of no variable.
+    pub(crate) fn new(alloc: Global) -> Order {
+        Order {
+            activity: Vec::new(alloc),
+            heap: Vec::new(alloc),
+            places: Vec::new(alloc),
+            step: 1.0,
+        }
+    }
+
+    /// Forgets all variables and keeps the memory.
+    pub(crate) fn clear(&mut self) {
+        self.activity.clear();
+        self.heap.clear();
+        self.places.clear();
+        self.step = 1.0;
+    }
+
+    /// Takes in the variables below the number that aren't there yet.
+    pub(crate) fn grow(&mut self, count: u32) -> Result<(), AllocError> {
+        for variable in 0..count {
+            if variable as usize >= self.places.len() {
+                self.activity.push(0.0)?;
+                self.places.push(ABSENT)?;
+                self.put_back(variable)?;
+            }
+        }
+        Ok(())
+    }
+
+    /// How many variables it can still hand out.
+    pub(crate) fn len(&self) -> usize {
+        self.heap.len()
+    }
+
+    /// Hands out the variable of the greatest activity.
+    pub(crate) fn pop(&mut self) -> Option<u32> {
+        let last = self.heap.pop()?;
+        let first = match self.heap.as_mut_slice() {
+            [] => last,
+            [top, ..] => {
+                let first = *top;
+                *top = last;
+                first
+            }
+        };
+        self.set_place(last, 0);
+        self.set_place(first, ABSENT);
+        self.sift_down();
+        Some(first)
+    }
+
+    /// Takes a variable back, unless it is there.
+    pub(crate) fn put_back(&mut self, variable: u32) -> Result<(), AllocError> {
+        if self.place(variable) != ABSENT {
+            return Ok(());
+        }
+        let place = self.heap.len();
+        self.heap.push(variable)?;
+        self.set_place(variable, place);
+        self.sift_up(place);
+        Ok(())
+    }
+
+    /// Counts a conflict that met the variable.
+    pub(crate) fn bump(&mut self, variable: u32) {
+        let Some(activity) = self.activity.as_mut_slice().get_mut(variable as usize) else {
+            return;
+        };
+        *activity += self.step;
+        if *activity > LARGE {
+            self.rescale();
+        }
+        let place = self.place(variable);
+        if place != ABSENT {
+            self.sift_up(place);
+        }
+    }
+
+    /// Lets the conflicts so far count less.
+    pub(crate) fn decay(&mut self) {
+        self.step /= DECAY;
+    }
+
+    fn rescale(&mut self) {
+        for activity in self.activity.iter_mut() {
+            *activity /= LARGE;
+        }
+        self.step /= LARGE;
+    }
+
+    fn place(&self, variable: u32) -> usize {
+        match self.places.as_slice().get(variable as usize) {
+            Some(place) => *place,
+            None => ABSENT,
+        }
+    }
+
+    fn set_place(&mut self, variable: u32, place: usize) {
+        if let Some(slot) = self.places.as_mut_slice().get_mut(variable as usize) {
+            *slot = place;
+        }
+    }
+
+    fn activity_at(&self, place: usize) -> Option<f64> {
+        let variable = *self.heap.as_slice().get(place)?;
+        self.activity.as_slice().get(variable as usize).copied()
+    }
+
+    /// Whether both places are in the heap, and the first has the greater activity.
+    fn is_above(&self, first: usize, second: usize) -> bool {
+        match (self.activity_at(first), self.activity_at(second)) {
+            (Some(one), Some(two)) => one > two,
+            _ => false,
+        }
+    }
+
+    fn swap(&mut self, first: usize, second: usize) {
+        if first >= self.heap.len() || second >= self.heap.len() {
+            return;
+        }
+        let one = self.heap[first];
+        let two = self.heap[second];
+        self.heap[first] = two;
+        self.heap[second] = one;
+        self.set_place(two, first);
+        self.set_place(one, second);
+    }
+
+    fn sift_up(&mut self, place: usize) {
+        let mut at = place;
+        while at > 0 {
+            let parent = (at - 1) / 2;
+            if !self.is_above(at, parent) {
+                return;
+            }
+            self.swap(at, parent);
+            at = parent;
+        }
+    }
+
+    /// Lets the variable at the top sink to its place. A heap is never deeper than its length has bits.
+    fn sift_down(&mut self) {
+        let mut at: usize = 0;
+        for _ in 0..usize::BITS {
+            let left = at.saturating_mul(2).saturating_add(1);
+            let right = left.saturating_add(1);
+            let child = if self.is_above(right, left) {
+                right
+            } else {
+                left
+            };
+            if !self.is_above(child, at) {
+                return;
+            }
+            self.swap(at, child);
+            at = child;
+        }
+    }
+}

@@ -1,0 +1,73 @@
+ghost use Rattle.std.specs.Prelude.{◌≡◌, [], false, IfOk};
+
+use crate::engine::Engine;
+use lits::{Clause, Lit, Named, Step};
+use std::alloc::{AllocError, Global};
+use std::marker::Model;
+use unit_prop::{Refuted, Refuter};
+
+/// The learning solver: it decides by activity, propagates by watched literals, and learns from each conflict the clause of its
+/// first unique implication point.
+#[derive(Drop)]
+pub struct WatchSolver {
+    engine: Engine,
+    ready: bool,
+}
+
+impl Model for WatchSolver {
+    ghost use Rattle.std.specs.Prelude.{◌≡◌, true};
+    ghost use Rattle.solver_plain.specs.Solver.{Solver};
+    ghost use Rattle.solver_watch.specs.Known.{IsKnown};
+
+    ghost Value = { Solver };
+
+    ghost view = { λ s. record { base = s.engine.formula.base.items; log = s.engine.formula.log.items; ready = s.ready } };
+
+    ghost invariant = { λ s. s.ready ≡ true → IsKnown s.engine.formula };
+}
+
+impl WatchSolver {
+    /// A solver without a base: the next call is `start`.
+    pub fn new(alloc: Global) -> Result<WatchSolver, AllocError>
+        ensures { IfOk result (λ s. s ≡ record { base = []; log = []; ready = false }) }
+    {
+        Ok(WatchSolver {
+            engine: Engine::new(alloc)?,
+            ready: false,
+        })
+    }
+}
+
+impl Refuter for WatchSolver {
+    ghost base_of = { λ s. s.base };
+
+    ghost log_of = { λ s. s.log };
+
+    ghost is_ready = { λ s. s.ready };
+
+    fn start(&mut self, alloc: Global, base: &[Named]) -> Result<(), AllocError> {
+        let _ = alloc;
+        self.ready = false;
+        self.engine.start(base)?;
+        self.ready = true;
+        Ok(())
+    }
+
+    fn refute(
+        &mut self,
+        alloc: Global,
+        target: &Clause<Lit>,
+        left: &mut u64,
+    ) -> Result<Refuted, AllocError> {
+        self.ready = false;
+        let mut units = *left;
+        let answer = self.engine.settle(alloc, target, &mut units)?;
+        *left = units;
+        self.ready = true;
+        Ok(answer)
+    }
+
+    fn log(&self) -> &[Step] {
+        self.engine.formula.log.as_slice()
+    }
+}
