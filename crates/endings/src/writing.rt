@@ -10,13 +10,17 @@ pub trait Content {
     /// What whoever puts the bytes tells besides.
     type Told: Drop;
 
+    /// When its bytes may be put.
+    ghost is_ready: { Self → Type 0 } = { λ _. Unit {0} };
+
     ghost bytes: { Self → List ℕ };
 
     ghost tells: { Self → Self.Told → Type 0 };
 
     /// Puts the bytes into the started file.
     fn put<D: Desk>(&self, alloc: Global, desk: &mut D) -> Result<Self::Told, PutErr>
-        requires { IsSome (D.state desk.old).started }
+        requires started { IsSome (D.state desk.old).started }
+        requires ready { is_ready self.now }
         ensures puts { Puts (bytes self.now) (D.state desk.old) (D.state desk.new) result }
         ensures tells { IfOk result (tells self.now) };
 }
@@ -28,7 +32,8 @@ pub fn write_file<D: Desk, C: Content>(
     name: &str,
     content: &C,
 ) -> Result<C::Told, Stop>
-    requires { (D.state desk.old).started ≡ None }
+    requires started { (D.state desk.old).started ≡ None }
+    requires ready { C.is_ready content.now }
     ensures writes { WritesFile (record { name = name.now; bytes = C.bytes content.now }) (D.state desk.old) (D.state desk.new) result }
     ensures tells { IfOk result (C.tells content.now) }
 {

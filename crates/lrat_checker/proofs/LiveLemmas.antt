@@ -1,11 +1,13 @@
 -- Live clauses and the lines so far, one clause or line more.
-use Rattle.std.proofs.Common.{◌≡◌, ℕ, zero, suc, ◌-◌, ◌≤◌, Bool, true, false, ◌||◌, eqb, List, [], ◌∷◌, ◌++◌, map, Option, Some, None, unwrap_or, length, if◌then◌else◌, refl, sym, ap, ◌∙◌, arith, eq-eqb, ne_eqb, inl, inr}
+use Rattle.std.proofs.Math.Seq.{split_at}
+use Rattle.std.proofs.lemmas.List.{take_more}
+use Rattle.std.proofs.Common.{◌≡◌, ℕ, zero, suc, ◌+◌, ◌-◌, ◌<◌, get_or, take, drop, Bool, ◌||◌, List, [], ◌∷◌, ◌++◌, map, Option, Some, None, unwrap_or, length, refl, sym, ap, ◌∙◌, arith}
 use Rattle.std.proofs.Math.Dec.{eqb-suc-zero}
 use Rattle.std.proofs.Math.Bool.{or-false}
 use Rattle.std.proofs.lemmas.List.Folds.{list_any-append}
 use Rattle.std.proofs.Math.Path.{fun_ext}
-use Rattle.std.proofs.lemmas.Bool.{cases_eq}
-use Rattle.std.proofs.lemmas.Option.{slice_get_past}
+use Rattle.std.proofs.lemmas.Option.{slice_get-map}
+use Rattle.std.specs.Option.{option_map}
 use Rattle.std.specs.List.{slice_get, list_any}
 use Rattle.lits.specs.Dimacs.{DimacsLiteral}
 use Rattle.lrat_text.specs.declared.step.Line.{Line}
@@ -13,33 +15,26 @@ use Rattle.lrat_text.specs.declared.step.LratStep.{LratStep}
 use Rattle.lrat_text.specs.Derivation.{Live, formula_live, after_step, fault_over, adds_empty}
 
 -- a formula's clauses behind a slot for 0
-pub slots-formula : (formula : List (List DimacsLiteral)) (other : Option (List DimacsLiteral)) (id : ℕ) → other ≡ None
-    → unwrap_or (slice_get (None ∷ map Some formula) id) other ≡ formula_live formula id
-slots-formula formula other zero none = refl
-slots-formula formula other (suc k) none =
-    let f : suc k - 1 ≡ k = omega arith in
-    rw (none, eqb-suc-zero k, f) (go formula k)
-  where
-    go : (xs : List (List DimacsLiteral)) (n : ℕ) → unwrap_or (slice_get (map Some xs) n) None ≡ slice_get xs n
-    go [] n = refl
-    go (x ∷ xs) zero = refl
-    go (x ∷ xs) (suc n) = go xs n
+module _ {T : Type 0} (clause_in : T → List DimacsLiteral) (formula : List (List DimacsLiteral)) (slots : List (Option T)) where
+  pub slots-formula : (other : Option T) (id : ℕ) → map (option_map clause_in) slots ≡ None ∷ map Some formula → other ≡ None
+      → option_map clause_in (unwrap_or (slice_get slots id) other) ≡ formula_live formula id
+  slots-formula other id same none =
+      rw (none, outside (slice_get slots id), sym (slice_get-map (option_map clause_in) slots id), same) (at id)
+    where
+      outside : (o : Option (Option T)) → option_map clause_in (unwrap_or o None) ≡ unwrap_or (option_map (option_map clause_in) o) None
+      outside None = refl
+      outside (Some o) = refl
 
--- a clause is put under an id that has no slot
-pub put_other : (slots : List (Option (List DimacsLiteral))) (old new : Live) (id : ℕ) (clause : List DimacsLiteral) → length slots ≤ id
-    → ((name : ℕ) → new name ≡ (if eqb id name then Some clause else old name))
-    → (name : ℕ) → unwrap_or (slice_get slots name) (new name) ≡ (if eqb name id then Some clause else unwrap_or (slice_get slots name) (old name))
-put_other slots old new id clause none put name = elim (cases_eq name id) [
-  | inl same ↦
-      let past : slice_get slots name ≡ None = slice_get_past slots name (omega arith) in
-      let e : eqb id name ≡ true = eq-eqb id name (sym same) in
-      let f : eqb name id ≡ true = eq-eqb name id same in
-      rw (past, put name, e, f) refl
-  | inr apart ↦
-      let e : eqb id name ≡ false = ne_eqb id name (λ s. apart (sym s)) in
-      let f : eqb name id ≡ false = ne_eqb name id apart in
-      rw (put name, e, f) refl
-]
+      at : (id : ℕ) → unwrap_or (slice_get (None ∷ map Some formula) id) None ≡ formula_live formula id
+      at zero = refl
+      at (suc k) =
+          let f : suc k - 1 ≡ k = omega arith in
+          rw (eqb-suc-zero k, f) (go formula k)
+        where
+          go : (xs : List (List DimacsLiteral)) (n : ℕ) → unwrap_or (slice_get (map Some xs) n) None ≡ slice_get xs n
+          go [] n = refl
+          go (x ∷ xs) zero = refl
+          go (x ∷ xs) (suc n) = go xs n
 
 -- Live clauses that are the same by each id have the same faults and are the same after each step.
 pub fault_over-same : (live other : Live) → ((id : ℕ) → live id ≡ other id) → (step : LratStep) → fault_over live step ≡ fault_over other step
@@ -53,3 +48,11 @@ pub empty-push : (lines : List Line) (line : Line) (has is : Bool) → has ≡ l
     → (has || is) ≡ list_any (λ l. adds_empty l.step) (lines ++ line ∷ [])
 empty-push lines line has is h i =
     rw (h, i) (sym (list_any-append (λ l. adds_empty l.step) lines (line ∷ []) ∙ ap (λ (b : Bool). list_any (λ l. adds_empty l.step) lines || b) (or-false (adds_empty line.step))))
+
+-- the lines are those so far, the next one and those behind it
+module _ (lines : List Line) (i : ℕ) (line : Line) (within : i < length lines) (is : line ≡ get_or lines i line) where
+  pub lines-whole : lines ≡ take i lines ++ line ∷ drop (suc i) lines
+  lines-whole = split_at lines i line within ∙ ap (λ (l : Line). take i lines ++ l ∷ drop (suc i) lines) (sym is)
+
+  pub lines-more : take (i + 1) lines ≡ take i lines ++ line ∷ []
+  lines-more = take_more lines i line within ∙ ap (λ (l : Line). take i lines ++ l ∷ []) (sym is)

@@ -2,9 +2,10 @@
 use Rattle.std.specs.Prelude.{nat_eq, unwrap_or}
 use Rattle.std.specs.List.{slice_get}
 use Rattle.std.specs.HashMap.{get}
+use Rattle.std.specs.Option.{option_map}
 use Rattle.lrat_text.specs.Derivation.{Live}
 use Rattle.lrat_checker.specs.declared.live.LiveClauses.{LiveClauses}
 
 -- the clauses by their ids: what the id's slot holds, or the map where it has none
 abbrev pub clauses_of : LiveClauses → Live
-clauses_of live id = unwrap_or (slice_get live.slots.items id) (get nat_eq live.others id)
+clauses_of live id = option_map (λ clause. clause.now) (unwrap_or (slice_get live.slots.items id) (get nat_eq live.others id))

@@ -7,34 +7,32 @@ ghost use Rattle.lrat_checker.specs.Verdict.{IsVerdict};
 use crate::judging::fault_over;
 use crate::live::LiveClauses;
 use crate::verdict::Verdict;
-use lits::{Dim, Listed};
+use dimacs_text::Cnf;
 use lrat_text::{Line, LratStep, derived_lines};
 use std::alloc::{AllocError, Global};
 use unit_prop::StepCheck;
 
 /// Judges each line of a proof over the clauses that are live then, at first those of the formula, whose ids are their
-/// places from 1. Lines behind the empty clause are judged too. A deleted clause gives its memory back, and so do the
-/// hints of a line that was judged. Each line takes time by the literals of its hints' clauses.
-pub fn check(
-    alloc: Global,
-    formula: Listed<Listed<Dim>>,
-    lines: Vec<Line>,
-) -> Result<Verdict, AllocError>
-    ensures verdict { IfOk result (IsVerdict formula lines.items) }
+/// places from 1. Lines behind the empty clause are judged too. Clauses stay where they stand, and are only looked up; each
+/// line takes time by the literals of its hints' clauses.
+pub fn check(alloc: Global, cnf: &Cnf, lines: &[Line]) -> Result<Verdict, AllocError>
+    ensures verdict { IfOk result (IsVerdict cnf.now.clauses lines.now) }
     ensures unsatisfiable { IfOk result (λ v. v ≡ Verdict.Refuted →
-        ¬ IsSatisfiable opposite_dim formula) }
+        ¬ IsSatisfiable opposite_dim cnf.now.clauses) }
 {
     derived_lines();
-    let mut live = LiveClauses::of(alloc, formula)?;
+    let mut live = LiveClauses::of(alloc, cnf.clauses.as_slice())?;
     let mut steps = StepCheck::new(alloc);
     let mut has_empty = false;
     for line in lines {
-        let Line { at, step } = line;
-        if let Some(fault) = fault_over(&mut steps, &live, &step)? {
-            return Ok(Verdict::Bad { line: at, fault });
+        if let Some(fault) = fault_over(&mut steps, &live, &line.step)? {
+            return Ok(Verdict::Bad {
+                line: line.at,
+                fault,
+            });
         }
-        has_empty |= adds_empty(&step);
-        live.apply(step)?;
+        has_empty |= adds_empty(&line.step);
+        live.apply(&line.step)?;
     }
     Ok(if has_empty {
         Verdict::Refuted

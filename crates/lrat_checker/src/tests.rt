@@ -1,5 +1,7 @@
 use crate::{Verdict, check};
+use dimacs_text::Cnf;
 use lits::{Dim, Listed};
+use lrat_text::{Line, LratStep};
 use std::alloc::Global;
 use std::process::Abort;
 use std::test::Fail;
@@ -50,7 +52,11 @@ fn verdict(
     let lines = lrat_text::read(alloc, text.as_bytes(), formula.len() as u64).map_err(
         |_| "a proof text",
     )?;
-    Ok(check(alloc, Listed::of(clauses), lines)?)
+    let cnf = Cnf {
+        variables: 6,
+        clauses: Listed::of(clauses),
+    };
+    Ok(check(alloc, &cnf, lines.as_slice())?)
 }
 
 fn bad(line: u64, hint: u64, why: Why) -> Verdict {
@@ -149,4 +155,36 @@ fn first_bad_lines(rt: HostRuntime) -> Result<(), Fail> {
         assert_eq!(rt; found, want, "{text}");
     }
     Ok(())
+}
+
+// Each of them is looked up at once: the clause that is added is the formula's own.
+#[test]
+fn a_clause_of_a_million_literals(rt: HostRuntime) -> Result<(), Fail> {
+    let alloc = rt.alloc();
+    let cnf = Cnf {
+        variables: 1_000_000,
+        clauses: Listed::of(vec![in alloc; wide(&rt, alloc)?]?),
+    };
+    let step = LratStep::Add {
+        id: 9,
+        clause: wide(&rt, alloc)?,
+        hints: Listed::of(vec![in alloc; 1]?),
+    };
+    let lines = vec![in alloc; Line { at: 1, step }]?;
+    let found = check(alloc, &cnf, lines.as_slice())?;
+    assert_eq!(rt; found, Verdict::NoEmpty);
+    Ok(())
+}
+
+/// The clause of the literals from 1 to 1000000.
+fn wide(rt: &impl Abort, alloc: Global) -> Result<Listed<Dim>, Fail> {
+    let mut dims = Vec::new(alloc);
+    for number in 1..=1_000_000i32 {
+        let dim = Dim::of(number);
+        assert!(rt; dim.is_some());
+        if let Some(dim) = dim {
+            dims.push(dim)?;
+        }
+    }
+    Ok(Listed::of(dims))
 }

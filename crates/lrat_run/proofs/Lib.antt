@@ -1,1 +1,1 @@
-pub mod SayingLemmas
+mod JudgingLemmas

@@ -1,4 +1,3 @@
-pub mod Stops
-pub mod Lines
-pub mod Causes
+pub mod Texts
+pub mod Files
 pub mod Answers

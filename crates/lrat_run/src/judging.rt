@@ -1,26 +1,20 @@
-ghost use Rattle.desk_port.specs.Desk.{NoCountFalls};
-ghost use Rattle.lrat_run.specs.Causes.{SaysVerdict, Judges};
+ghost use Rattle.endings.specs.Writing.{Says};
+ghost use Rattle.lrat_run.specs.Answers.{Judges};
+ghost use Rattle.lrat_run.specs.Texts.{verdict_line};
 
-use crate::lines::line_of_verdict;
 use crate::reading::{read_formula, read_lines};
-use crate::stop::Stop;
-use desk_port::{Desk, PutErr};
+use crate::texts::line_of_verdict;
+use desk_port::Desk;
+use endings::{Stop, say};
 use lrat_checker::Verdict;
 use std::alloc::Global;
 
 /// Says the verdict.
 fn say_verdict<D: Desk>(alloc: Global, desk: &mut D, verdict: Verdict) -> Result<(), Stop>
-    ensures answer { SaysVerdict (D.state desk.old) (D.state desk.new) verdict result }
-    ensures counts { NoCountFalls (D.state desk.old) (D.state desk.new) }
+    ensures { Says (verdict_line verdict) (D.state desk.old) (D.state desk.new) result }
 {
-    let Ok(line) = line_of_verdict(alloc, verdict) else {
-        return Err(Stop::OutOfMemory);
-    };
-    match desk.say(line.as_bytes()) {
-        Ok(()) => Ok(()),
-        Err(PutErr::Failed) => Err(Stop::CannotWrite),
-        Err(PutErr::NoMemory) => Err(Stop::OutOfMemory),
-    }
+    let line = line_of_verdict(alloc, verdict)?;
+    say(desk, line.as_bytes())
 }
 
 /// Reads the formula, then the proof, checks it and says the verdict.
@@ -30,13 +24,11 @@ pub(crate) fn judge<D: Desk>(
     cnf: &str,
     proof: &str,
 ) -> Result<Verdict, Stop>
-    ensures answer { Judges cnf.now proof.now (D.state desk.old) (D.state desk.new) result }
-    ensures counts { NoCountFalls (D.state desk.old) (D.state desk.new) }
+    ensures { Judges cnf.now proof.now (D.state desk.old) (D.state desk.new) result }
 {
     let formula = read_formula(alloc, desk, cnf)?;
-    let clauses = formula.clauses;
-    let lines = read_lines(alloc, desk, proof, clauses.len() as u64)?;
-    let verdict = lrat_checker::check(alloc, clauses, lines)?;
+    let lines = read_lines(alloc, desk, proof, formula.clauses.len() as u64)?;
+    let verdict = lrat_checker::check(alloc, &formula, lines.as_slice())?;
     say_verdict(alloc, desk, verdict)?;
     Ok(verdict)
 }

@@ -1,19 +1,16 @@
 //! What the command `cec lrat CNF PROOF` does, over a desk that stands for files and streams.
 //!
 //! `run` reads a CNF and a proof, checks the proof step by step and says whether it refutes the CNF. Its contract says
-//! what each ending means: `specs/Answers.antt`, where a reader who must trust a VERIFIED begins. What is found in the
-//! files, and what each cause without a verdict makes of the desk, is in `specs/Causes.antt`; the lines that are said
-//! and warned are in `specs/Lines.antt`.
+//! what each status means: `specs/Answers.antt`, where a reader who must trust a VERIFIED begins. Which files are read, and
+//! what is found in them, is in `specs/Files.antt`; the lines of verdicts and the texts of faults are in `specs/Texts.antt`.
+//! How a command is stopped and ends is that of every command: `endings`.
 #![tactic(auto)]
 
 pub use command::run;
-pub use ending::Ending;
 
 mod command;
-mod ending;
 mod judging;
-mod lines;
 mod reading;
-mod stop;
 #[cfg(test)]
 mod tests;
+mod texts;

@@ -1,36 +1,25 @@
-ghost use Rattle.desk_port.specs.Desk.{NoCountFalls};
-ghost use Rattle.lrat_run.specs.Causes.{ReadsFile, ReadsFormula, ReadsLines};
+ghost use Rattle.std.specs.Prelude.{◌≡◌, ℕ, List, []};
+ghost use Rattle.dimacs_text.specs.Reading.{SpellsCnf};
+ghost use Rattle.lrat_text.specs.Reading.{SpellsLrat};
+ghost use Rattle.endings.specs.Reading.{ReadsAs};
+ghost use Rattle.lrat_run.specs.Files.{clauses_in, cnf_input, proof_input};
 
-use crate::stop::{Input, Stop};
-use desk_port::{Desk, ReadErr};
+use crate::texts::{cnf_fault, proof_fault};
+use desk_port::Desk;
 use dimacs_text::{Cnf, CnfErr};
-use fault_lines::READ_LIMIT;
+use endings::{Stop, read_file};
 use lrat_text::{Line, LratErr};
 use std::alloc::Global;
 
-/// The bytes of a file.
-fn read_file<D: Desk>(alloc: Global, desk: &mut D, name: &str, file: Input) -> Result<Vec<u8>, Stop>
-    ensures answer { ReadsFile (D.state desk.old) (D.state desk.new) name.now file result }
-    ensures counts { NoCountFalls (D.state desk.old) (D.state desk.new) }
-{
-    match desk.read(alloc, name, READ_LIMIT) {
-        Ok(bytes) => Ok(bytes),
-        Err(ReadErr::Failed) => Err(Stop::CannotRead(file)),
-        Err(ReadErr::TooLong) => Err(Stop::TooLong(file)),
-        Err(ReadErr::NoMemory) => Err(Stop::OutOfMemory),
-    }
-}
-
 /// The formula that the CNF's file spells.
 pub(crate) fn read_formula<D: Desk>(alloc: Global, desk: &mut D, name: &str) -> Result<Cnf, Stop>
-    ensures answer { ReadsFormula (D.state desk.old) (D.state desk.new) name.now result }
-    ensures counts { NoCountFalls (D.state desk.old) (D.state desk.new) }
+    ensures { ReadsAs SpellsCnf 0 (cnf_input name.now) [] (D.state desk.old) (D.state desk.new) result }
 {
-    let bytes = read_file(alloc, desk, name, Input::Cnf)?;
+    let bytes = read_file(alloc, desk, name, 0)?;
     match dimacs_text::read(alloc, bytes.as_slice()) {
         Ok(formula) => Ok(formula),
         Err(CnfErr::NoMemory) => Err(Stop::OutOfMemory),
-        Err(fault) => Err(Stop::BadCnf(fault)),
+        Err(fault) => Err(Stop::BadFile(0, cnf_fault(alloc, fault)?)),
     }
 }
 
@@ -41,13 +30,13 @@ pub(crate) fn read_lines<D: Desk>(
     name: &str,
     m: u64,
 ) -> Result<Vec<Line>, Stop>
-    ensures answer { ReadsLines (D.state desk.old) (D.state desk.new) name.now m result }
-    ensures counts { NoCountFalls (D.state desk.old) (D.state desk.new) }
+    ensures { (earlier : List (List ℕ)) → clauses_in earlier ≡ m →
+        ReadsAs (λ bytes lines. SpellsLrat m bytes lines.items) 1 (proof_input name.now) earlier (D.state desk.old) (D.state desk.new) result }
 {
-    let bytes = read_file(alloc, desk, name, Input::Proof)?;
+    let bytes = read_file(alloc, desk, name, 1)?;
     match lrat_text::read(alloc, bytes.as_slice(), m) {
         Ok(lines) => Ok(lines),
         Err(LratErr::NoMemory) => Err(Stop::OutOfMemory),
-        Err(fault) => Err(Stop::BadProof(fault)),
+        Err(fault) => Err(Stop::BadFile(1, proof_fault(alloc, fault)?)),
     }
 }

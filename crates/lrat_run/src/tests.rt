@@ -1,6 +1,7 @@
 //! What the command says and warns of files in memory. The CNF's file is `C`, the proof's `P`.
-use crate::{Ending, run};
+use crate::run;
 use desk_port::MemDesk;
+use endings::Status;
 use std::alloc::Global;
 use std::collections::BTreeMap;
 use std::process::Abort;
@@ -34,10 +35,10 @@ fn desk_with(
     Ok(MemDesk::new(alloc, files, Vec::from_slice(alloc, fails)?)?)
 }
 
-/// How the command should end, what it should say and warn, and the names of the files that it should read.
+/// The status that the command should answer, what it should say and warn, and the names of the files that it should read.
 #[derive(Drop)]
 struct Want<'a> {
-    ending: Ending,
+    status: Status,
     said: &'a str,
     warned: &'a str,
     asked: &'a [&'a str],
@@ -45,10 +46,10 @@ struct Want<'a> {
 
 /// Runs the command and compares what it came to.
 fn check_run(rt: &impl Abort, alloc: Global, desk: &mut MemDesk, want: &Want<'_>) {
-    let ending = run(alloc, desk, "C", "P");
+    let status = run(alloc, desk, "C", "P");
     assert_eq!(rt; desk.said(), want.said.as_bytes());
     assert_eq!(rt; desk.warned(), want.warned.as_bytes());
-    assert!(rt; ending == want.ending);
+    assert!(rt; status == want.status);
     assert_eq!(rt; desk.asked().len(), want.asked.len());
     for (asked, name) in desk.asked().iter().zip(want.asked) {
         assert_eq!(rt; asked.as_str(), *name);
@@ -58,36 +59,36 @@ fn check_run(rt: &impl Abort, alloc: Global, desk: &mut MemDesk, want: &Want<'_>
 #[test]
 fn hand_written_proofs(rt: HostRuntime) -> Result<(), Fail> {
     let cases = [
-        (FIRST, OTHERS, Ending::Verified, "VERIFIED\n", ""),
+        (FIRST, OTHERS, Status::Done, "VERIFIED\n", ""),
         (
             "13 -4 5 0 2 2 3 7 0\n",
             OTHERS,
-            Ending::Refused,
+            Status::No,
             "REFUSED line 1\n",
             "",
         ),
         (
             "13 -4 5 0 -2 3 7 0\n",
             OTHERS,
-            Ending::BadInput,
+            Status::BadInput,
             "",
             "cec: P: line 1: negative hint\n",
         ),
-        (FIRST, "", Ending::Refused, "REFUSED no empty clause\n", ""),
+        (FIRST, "", Status::No, "REFUSED no empty clause\n", ""),
         (
             "13 -4 5 0 2 3 7 0\n13 d 99 0\n",
             OTHERS,
-            Ending::Verified,
+            Status::Done,
             "VERIFIED\n",
             "",
         ),
     ];
-    for (first, others, ending, said, warned) in cases {
+    for (first, others, status, said, warned) in cases {
         let alloc = rt.alloc();
         let proof = format!(in alloc; "{first}{others}")?;
         let mut desk = desk_with(alloc, Some(CNF), Some(proof.as_str()), &[])?;
         let want = Want {
-            ending,
+            status,
             said,
             warned,
             asked: &["C", "P"],
@@ -108,7 +109,7 @@ fn numbers_of_refused_lines(rt: HostRuntime) -> Result<(), Fail> {
     ] {
         let mut desk = desk_with(alloc, Some(CNF), Some(proof), &[])?;
         let want = Want {
-            ending: Ending::Refused,
+            status: Status::No,
             said,
             warned: "",
             asked: &["C", "P"],
@@ -133,7 +134,7 @@ fn faulty_formulas(rt: HostRuntime) -> Result<(), Fail> {
         // The proof isn't read, so that it may be missing.
         let mut desk = desk_with(alloc, Some(cnf), None, &[])?;
         let want = Want {
-            ending: Ending::BadInput,
+            status: Status::BadInput,
             said: "",
             warned: line.as_str(),
             asked: &["C"],
@@ -155,7 +156,7 @@ fn faulty_proofs(rt: HostRuntime) -> Result<(), Fail> {
         let line = format!(in alloc; "cec: P: {text}\n")?;
         let mut desk = desk_with(alloc, Some(CNF), Some(proof), &[])?;
         let want = Want {
-            ending: Ending::BadInput,
+            status: Status::BadInput,
             said: "",
             warned: line.as_str(),
             asked: &["C", "P"],
@@ -176,7 +177,7 @@ fn missing_files(rt: HostRuntime) -> Result<(), Fail> {
     for (cnf, proof, warned, asked) in cases {
         let mut desk = desk_with(alloc, cnf, proof, &[])?;
         let want = Want {
-            ending: Ending::CannotRead,
+            status: Status::CannotRead,
             said: "",
             warned,
             asked,
@@ -192,23 +193,23 @@ fn failing_calls(rt: HostRuntime) -> Result<(), Fail> {
     let alloc = rt.alloc();
     let proof = format!(in alloc; "{FIRST}{OTHERS}")?;
     let both: &[&str] = &["C", "P"];
-    let cases: [(&str, &[u64], Ending, &str, &[&str]); 5] = [
+    let cases: [(&str, &[u64], Status, &str, &[&str]); 5] = [
         (
             CNF,
             &[0],
-            Ending::CannotRead,
+            Status::CannotRead,
             "cec: C: cannot read\n",
             &["C"],
         ),
-        (CNF, &[1], Ending::CannotRead, "cec: P: cannot read\n", both),
-        (CNF, &[2], Ending::CannotWrite, "cec: cannot write\n", both),
-        (CNF, &[2, 3], Ending::CannotWrite, "", both),
-        ("p", &[1], Ending::BadInput, "", &["C"]),
+        (CNF, &[1], Status::CannotRead, "cec: P: cannot read\n", both),
+        (CNF, &[2], Status::CannotWrite, "cec: cannot write\n", both),
+        (CNF, &[2, 3], Status::CannotWrite, "", both),
+        ("p", &[1], Status::BadInput, "", &["C"]),
     ];
-    for (cnf, fails, ending, warned, asked) in cases {
+    for (cnf, fails, status, warned, asked) in cases {
         let mut desk = desk_with(alloc, Some(cnf), Some(proof.as_str()), fails)?;
         let want = Want {
-            ending,
+            status,
             said: "",
             warned,
             asked,

@@ -4,4 +4,5 @@ use Rattle.lrat_checker.proofs.LiveLemmas.{slots-formula}
 use Rattle.lrat_checker.proofs.live.LiveClauses.of.Goals as goal
 
 pub returns : goal.returns
-returns c = λ id. rw c.in_ok-slots_of.ensures (slots-formula c.args.formula (get nat_eq c.new.result id) id (search rules))
+returns c = λ id. slots-formula (λ clause. clause.now) c.args.formula.now c.in_ok-slots_of.field-0.items
+    (get nat_eq c.new.result id) id c.in_ok-slots_of.ensures (search rules)

@@ -1,16 +1,11 @@
--- The lines of verdicts on standard output, and those by which a fault is named on standard error.
+-- The lines of verdicts on standard output, and the texts of faults in files.
 use Rattle.std.specs.Prelude.{ℕ, List, ◌++◌, codes, decimal}
-use Rattle.fault_lines.specs.Faults.{fault_line, file_line}
 use Rattle.dimacs_text.specs.declared.error.CnfErr.{CnfErr}
 use Rattle.dimacs_text.specs.declared.error.CnfErr.TheVariants as cnf
 use Rattle.lrat_text.specs.declared.error.LratErr.{LratErr}
 use Rattle.lrat_text.specs.declared.error.LratErr.TheVariants as lrat
 use Rattle.lrat_checker.specs.declared.verdict.Verdict.{Verdict}
 use Rattle.lrat_checker.specs.declared.verdict.Verdict.TheVariants.{Refuted, NoEmpty, Bad}
-use Rattle.lrat_run.specs.declared.stop.Input.{Input}
-use Rattle.lrat_run.specs.declared.stop.Input.TheVariants as input
-use Rattle.lrat_run.specs.declared.stop.Stop.{Stop}
-use Rattle.lrat_run.specs.declared.stop.Stop.TheVariants.{CannotRead, TooLong, BadCnf, BadProof, CannotWrite, OutOfMemory}
 
 -- the line of a verdict
 unfoldable pub verdict_line : Verdict → List ℕ
@@ -34,17 +29,3 @@ proof_fault_text (lrat.Truncated line) = codes "line " ++ decimal line ++ codes 
 proof_fault_text (lrat.Order line) = codes "line " ++ decimal line ++ codes ": id out of order"
 proof_fault_text (lrat.Rat line) = codes "line " ++ decimal line ++ codes ": negative hint"
 proof_fault_text lrat.NoMemory = codes "out of memory"
-
--- the name of a file, of those of the CNF and of the proof
-abbrev pub name_of : List ℕ → List ℕ → Input → List ℕ
-name_of cnf proof input.Cnf = cnf
-name_of cnf proof input.Proof = proof
-
--- the line of a cause without a verdict, where the files of the CNF and of the proof have these names
-unfoldable pub stop_line : List ℕ → List ℕ → Stop → List ℕ
-stop_line cnf proof (CannotRead file) = file_line (name_of cnf proof file) (codes "cannot read")
-stop_line cnf proof (TooLong file) = file_line (name_of cnf proof file) (codes "longer than 1073741824 bytes")
-stop_line cnf proof (BadCnf e) = file_line cnf (cnf_fault_text e)
-stop_line cnf proof (BadProof e) = file_line proof (proof_fault_text e)
-stop_line cnf proof CannotWrite = fault_line (codes "cannot write")
-stop_line cnf proof OutOfMemory = fault_line (codes "out of memory")

@@ -1,16 +1,14 @@
 ghost use Rattle.std.specs.Prelude.{◌≡◌, ◌++◌, IfOk, string_bytes, codes, decimal};
-ghost use Rattle.lrat_run.specs.Lines.{verdict_line, cnf_fault_text, proof_fault_text, name_of, stop_line};
+ghost use Rattle.lrat_run.specs.Texts.{verdict_line, cnf_fault_text, proof_fault_text};
 
-use crate::stop::{Input, Stop};
 use dimacs_text::CnfErr;
-use fault_lines::{line_of_fault, line_of_file};
 use itoa::Buffer;
 use lrat_checker::Verdict;
 use lrat_text::LratErr;
 use std::alloc::{AllocError, Global};
 
 /// The line of a verdict.
-#[tactic(auto, unfolding(crate::specs::Lines::verdict_line))]
+#[tactic(auto, unfolding(crate::specs::Texts::verdict_line))]
 pub(crate) fn line_of_verdict(alloc: Global, verdict: Verdict) -> Result<String, AllocError>
     ensures { IfOk result (λ s. string_bytes s ≡ verdict_line verdict) }
 {
@@ -22,8 +20,8 @@ pub(crate) fn line_of_verdict(alloc: Global, verdict: Verdict) -> Result<String,
 }
 
 /// The text of a fault of a CNF.
-#[tactic(auto, unfolding(crate::specs::Lines::cnf_fault_text))]
-fn cnf_fault(alloc: Global, fault: CnfErr) -> Result<String, AllocError>
+#[tactic(auto, unfolding(crate::specs::Texts::cnf_fault_text))]
+pub(crate) fn cnf_fault(alloc: Global, fault: CnfErr) -> Result<String, AllocError>
     ensures { IfOk result (λ s. string_bytes s ≡ cnf_fault_text fault) }
 {
     match fault {
@@ -49,8 +47,8 @@ fn miscounted(alloc: Global, said: u64, found: u64) -> Result<String, AllocError
 }
 
 /// The text of a fault of a proof.
-#[tactic(auto, unfolding(crate::specs::Lines::proof_fault_text))]
-fn proof_fault(alloc: Global, fault: LratErr) -> Result<String, AllocError>
+#[tactic(auto, unfolding(crate::specs::Texts::proof_fault_text))]
+pub(crate) fn proof_fault(alloc: Global, fault: LratErr) -> Result<String, AllocError>
     ensures { IfOk result (λ s. string_bytes s ≡ proof_fault_text fault) }
 {
     match fault {
@@ -59,46 +57,5 @@ fn proof_fault(alloc: Global, fault: LratErr) -> Result<String, AllocError>
         LratErr::Order(line) => format!(in alloc; "line {line}: id out of order"),
         LratErr::Rat(line) => format!(in alloc; "line {line}: negative hint"),
         LratErr::NoMemory => format!(in alloc; "out of memory"),
-    }
-}
-
-fn name_of<'a>(cnf: &'a str, proof: &'a str, file: Input) -> &'a str
-    ensures { result.now ≡ name_of cnf.now proof.now file }
-{
-    match file {
-        Input::Cnf => cnf,
-        Input::Proof => proof,
-    }
-}
-
-/// The line of a cause without a verdict.
-#[tactic(auto, unfolding(crate::specs::Lines::stop_line))]
-pub(crate) fn line_of_stop(
-    alloc: Global,
-    cnf: &str,
-    proof: &str,
-    stop: Stop,
-) -> Result<String, AllocError>
-    ensures { IfOk result (λ s. string_bytes s ≡ stop_line cnf.now proof.now stop) }
-{
-    match stop {
-        Stop::CannotRead(file) => line_of_file(alloc, name_of(cnf, proof, file), "cannot read"),
-        Stop::TooLong(file) => {
-            line_of_file(
-                alloc,
-                name_of(cnf, proof, file),
-                "longer than 1073741824 bytes",
-            )
-        }
-        Stop::BadCnf(fault) => {
-            let text = cnf_fault(alloc, fault)?;
-            line_of_file(alloc, cnf, text.as_str())
-        }
-        Stop::BadProof(fault) => {
-            let text = proof_fault(alloc, fault)?;
-            line_of_file(alloc, proof, text.as_str())
-        }
-        Stop::CannotWrite => line_of_fault(alloc, "cannot write"),
-        Stop::OutOfMemory => line_of_fault(alloc, "out of memory"),
     }
 }
