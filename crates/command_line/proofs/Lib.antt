@@ -8,3 +8,4 @@ pub mod RequestLemmas
 pub mod GetterLemmas
 pub mod AnswerLemmas
 pub mod CaseLemmas
+mod PlainLemmas

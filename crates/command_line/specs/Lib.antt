@@ -3,3 +3,4 @@ pub mod Table
 pub mod Words
 pub mod Answers
 pub mod Parsing
+pub mod Plain

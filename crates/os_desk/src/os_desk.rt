@@ -3,7 +3,7 @@ ghost use Rattle.std.specs.Prelude.{◌≡◌, ◌≤◌, IfOk, IfSome, IsSome, 
 ghost use Rattle.std.specs.Io.KnownBytes.{Appends};
 ghost use Rattle.desk_port.specs.Desk.{NoCountFalls, Rose, Says, Warns, Writes};
 
-use crate::streams::{put_all, read_up_to};
+use crate::streams::{put_all, read_within};
 use desk_port::{Desk, PutErr, ReadErr};
 use std::alloc::Global;
 use std::fs;
@@ -139,18 +139,14 @@ fn count_fault(count: &mut u64)
     *count = count.saturating_add(1);
 }
 
-// The bytes of the named file, of which no more than one past the limit is read.
+// The bytes of the named file.
 fn read_file<R: Files>(files: &R, alloc: Global, name: &str, limit: u64) -> Result<Vec<u8>, ReadErr>
     ensures { IfOk result (λ v. length v.items ≤ limit) }
 {
     let Ok(mut file) = fs::open(files, name) else {
         return Err(ReadErr::Failed);
     };
-    let bytes = read_up_to(&mut file, alloc, limit.saturating_add(1))?;
-    if bytes.len() as u64 > limit {
-        return Err(ReadErr::TooLong);
-    }
-    Ok(bytes)
+    read_within(&mut file, alloc, limit)
 }
 
 #[cfg(test)]

@@ -1,5 +1,5 @@
 //! Loops over std's `read` and `write`. Each error of std ends the loop.
-ghost use Rattle.std.specs.Prelude.{[], ◌≡◌, ◌<◌, ◌≤◌, IfErr, IfOk, IfSome, OnErr, OnOk};
+ghost use Rattle.std.specs.Prelude.{[], ◌≡◌, ◌≢◌, ◌<◌, ◌≤◌, IfErr, IfOk, IfSome, OnErr, OnOk};
 ghost use Rattle.std.specs.Prelude.{false, length, take, true};
 ghost use Rattle.std.specs.Io.KnownBytes.{Appends};
 ghost use Rattle.desk_port.specs.Desk.{OfSomePrefix};
@@ -12,11 +12,26 @@ use std::io::{Read, Write};
 // How many bytes one read asks for at most.
 const PIECE: usize = 262144;
 
+/// The bytes of the file, where it has at most `limit`. Of a longer one no more than one byte past the limit is read.
+pub fn read_within<F: Read>(file: &mut F, alloc: Global, limit: u64) -> Result<Vec<u8>, ReadErr>
+    ensures limit { IfOk result (λ v. length v.items ≤ limit) }
+    ensures bytes { IfOk result (λ v. limit < u64.MAX → IfSome (F.remaining file.old) (λ all. v.items ≡ all)) }
+    ensures long { IfErr result (λ e. e ≡ ReadErr.TooLong →
+        IfSome (F.remaining file.old) (λ all. limit < length all)) }
+{
+    let bytes = read_up_to(file, alloc, limit.saturating_add(1))?;
+    if bytes.len() as u64 > limit {
+        return Err(ReadErr::TooLong);
+    }
+    Ok(bytes)
+}
+
 /// The first `most` bytes of the file, or all where it has fewer. No more are read.
 ///
 /// A read that gives nothing ends the file.
-pub fn read_up_to<F: Read>(file: &mut F, alloc: Global, most: u64) -> Result<Vec<u8>, ReadErr>
+fn read_up_to<F: Read>(file: &mut F, alloc: Global, most: u64) -> Result<Vec<u8>, ReadErr>
     ensures most { IfOk result (λ v. length v.items ≤ most) }
+    ensures failed { IfErr result (λ e. e ≢ ReadErr.TooLong) }
     ensures bytes { IfOk result
         (λ v. IfSome (F.remaining file.old) (λ all. v.items ≡ take most all)) }
 {
@@ -33,6 +48,7 @@ fn read_by<F: Read>(
 ) -> Result<Vec<u8>, ReadErr>
     requires { 0 < length piece.old }
     ensures most { IfOk result (λ v. length v.items ≤ most) }
+    ensures failed { IfErr result (λ e. e ≢ ReadErr.TooLong) }
     ensures bytes { IfOk result
         (λ v. IfSome (F.remaining file.old) (λ all. v.items ≡ take most all)) }
 {
@@ -51,6 +67,7 @@ fn read_more<F: Read>(
     requires piece { 0 < length piece.old }
     requires most { length bytes.old.items ≤ most }
     ensures most { length bytes.new.items ≤ most }
+    ensures failed { IfErr result (λ e. e ≢ ReadErr.TooLong) }
     ensures bytes { IfOk result (λ _.
         Gets (F.remaining file.old) (F.remaining file.new) bytes.old.items bytes.new.items) }
     ensures more { IfOk result (λ more.

@@ -1,0 +1,203 @@
+-- What plain words ask for: words that don't begin with `-` among the names of options.
+use Rattle.std.proofs.Common.{◌≡◌, ℕ, ◌&&◌, Bool, false, true, eqb, ne_eqb, inl, inr, ◌<◌, ◌≤◌, ◌^◌, lit<, nat_lt, length, arith, refl, ap, subst, sym, ◌∙◌, codes, map, fold, List, [], ◌∷◌, Option, Some, None}
+use Rattle.std.specs.Prelude.{if◌then◌else◌}
+use Rattle.std.specs.Str.Parse.{digits_value, without_leading_plus}
+use Rattle.std.specs.Str.{bytes_eq}
+use Rattle.std.specs.List.{list_all}
+use Rattle.std.specs.Char.{digit_value}
+use Rattle.std.proofs.lemmas.Bool.{cases_eq, le-leb, lt-ltb}
+use Rattle.clap.specs.Lexer.{strip_byte}
+use Rattle.clap.specs.Kinds.{Kinds, or_else, values_kinds}
+use Rattle.clap.specs.declared.builder.value_parser.ValueParser.TheVariants.{Unsigned}
+use Rattle.clap.specs.ValueTests.{is_unsigned_in}
+use Rattle.clap.specs.Simple.{Shape, built_leaf, inherited, marked_built, on_top, with_leaf_noted}
+use Rattle.clap.specs.Walk.{Held, Rule, Step, Text, Waiting, Walk, after_step, finished, idle, is_empty, nothing_held, settled, option, plain_word, positional, walk_from, walked, word_met}
+use Rattle.clap.specs.Faults.{check_fault, defaults_fault, settle_fault, step_fault, turn_fault, walk_fault}
+use Rattle.command_line.specs.Commands.{cec_app, check_command, lrat_command}
+use Rattle.command_line.specs.Words.{CheckIt, LratIt, Request, budget_in, check_of, faults, request_in, request_of}
+use Rattle.command_line.specs.Plain.{IsPlain, WritesBudget}
+
+no_end : (word : Text) → IsPlain word → bytes_eq word (45 ∷ 45 ∷ []) ≡ false
+no_end [] plain = refl
+no_end (b ∷ bs) plain = simp plain refl
+
+no_flag : (word : Text) → IsPlain word → strip_byte 45 word ≡ None
+no_flag [] plain = refl
+no_flag (b ∷ bs) plain = simp plain refl
+
+-- a plain word is no flag
+met-plain : (c : List Rule) (waiting : Waiting) (position : ℕ) (word : Text) (h : Held) → IsPlain word
+    → word_met c [] false waiting position word h ≡ plain_word c waiting word h
+met-plain c idle position word h plain = simp (no_end word plain, no_flag word plain) refl
+met-plain c (option id) position word h plain = simp (no_end word plain, no_flag word plain) refl
+met-plain c positional position word h plain = simp (no_end word plain, no_flag word plain) refl
+
+-- the walk after a plain word, and its fault
+abbrev after_plain : List Rule → Walk → Text → Walk
+after_plain c w word = after_step c word w (plain_word c w.waiting word w.held).0 (plain_word c w.waiting word w.held).1
+
+abbrev plain_fault : Shape → Walk → Text → Kinds
+plain_fault s w word = step_fault s w.position (plain_word s.rules w.waiting word w.held).0 (plain_word s.rules w.waiting word w.held).1
+
+-- the walk where no `--` and no command was met
+abbrev going : Walk → Walk
+going w = record w { is_trailing = false; stopped = None }
+
+walked-plain : (c : List Rule) (w : Walk) (word : Text) → IsPlain word → w ≡ going w → walked c [] w word ≡ after_plain c w word
+unfolding walked
+walked-plain c w word plain same = subst (λ (v : Walk). walked c [] v word ≡ after_plain c v word) (sym same)
+    (ap (λ (met : Held × Step). after_step c word (going w) met.0 met.1) (met-plain c w.waiting w.position word w.held plain))
+
+fault-plain : (s : Shape) (w : Walk) (word : Text) → IsPlain word → w ≡ going w → turn_fault s [] w word ≡ plain_fault s w word
+fault-plain s w word plain same = subst (λ (v : Walk). turn_fault s [] v word ≡ plain_fault s v word) (sym same) (at w.waiting)
+  where
+    at : (waiting : Waiting) → turn_fault s [] (record (going w) { waiting = waiting }) word ≡ plain_fault s (record (going w) { waiting = waiting }) word
+    at idle = simp (no_end word plain, no_flag word plain) refl
+    at (option id) = simp (no_end word plain, no_flag word plain) refl
+    at positional = simp (no_end word plain, no_flag word plain) refl
+
+-- a word of a command, which is plain or an option's name
+pub data Marked : Type 0 where
+  plain : Text → Marked
+  flag : Text → Marked
+
+abbrev word_of : Marked → Text
+word_of (plain word) = word
+word_of (flag word) = word
+
+abbrev after_word : List Rule → Walk → Marked → Walk
+after_word c w (plain word) = after_plain c w word
+after_word c w (flag word) = walked c [] w word
+
+abbrev word_fault_of : Shape → Walk → Marked → Kinds
+word_fault_of s w (plain word) = plain_fault s w word
+word_fault_of s w (flag word) = turn_fault s [] w word
+
+abbrev AreMarked : List Rule → Walk → List Marked → Type 0
+AreMarked c w [] = Unit {0}
+AreMarked c w (plain word ∷ ms) = IsPlain word × (w ≡ going w) × AreMarked c (after_plain c w word) ms
+AreMarked c w (flag word ∷ ms) = AreMarked c (walked c [] w word) ms
+
+abbrev after_words : List Rule → Walk → List Marked → Walk
+after_words c w [] = w
+after_words c w (m ∷ ms) = after_words c (after_word c w m) ms
+
+abbrev words_fault : Shape → Walk → List Marked → Kinds
+words_fault s w [] = []
+words_fault s w (m ∷ ms) = or_else (word_fault_of s w m) (words_fault s (after_word s.rules w m) ms)
+
+walk-marked : (c : List Rule) (w : Walk) (ms : List Marked) → AreMarked c w ms → fold (walked c []) w (map word_of ms) ≡ after_words c w ms
+walk-marked c w [] marked = refl
+walk-marked c w (plain word ∷ ms) marked =
+    ap (λ (v : Walk). fold (walked c []) v (map word_of ms)) (walked-plain c w word marked.0 marked.1) ∙ walk-marked c (after_plain c w word) ms marked.2
+walk-marked c w (flag word ∷ ms) marked = walk-marked c (walked c [] w word) ms marked
+
+faults-marked : (s : Shape) (w : Walk) (ms : List Marked) → AreMarked s.rules w ms → walk_fault s [] w (map word_of ms) ≡ words_fault s w ms
+unfolding walk_fault
+faults-marked s w [] marked = refl
+faults-marked s w (plain word ∷ ms) marked =
+    ap (λ (k : Kinds). or_else k (walk_fault s [] (walked s.rules [] w word) (map word_of ms))) (fault-plain s w word marked.0 marked.1)
+    ∙ ap (λ (v : Walk). or_else (plain_fault s w word) (walk_fault s [] v (map word_of ms))) (walked-plain s.rules w word marked.0 marked.1)
+    ∙ ap (or_else (plain_fault s w word)) (faults-marked s (after_plain s.rules w word) ms marked.2)
+faults-marked s w (flag word ∷ ms) marked =
+    ap (or_else (turn_fault s [] w word)) (faults-marked s (walked s.rules [] w word) ms marked)
+
+-- the commands as `clap` completes them
+abbrev completed : Shape → Shape
+completed s = built_leaf (inherited (on_top with_leaf_noted (on_top marked_built cec_app)).top s)
+
+-- what a command's own words come to: the fault at the end of the walk, and what is asked for
+abbrev leaf_fault : Shape → Walk → Kinds → Kinds
+leaf_fault s end walking =
+    or_else walking
+    (or_else [] (or_else (settle_fault s.rules s.args_override_self end.held)
+    (or_else (defaults_fault (settled s.rules end.held).rows s.rules) (check_fault s (finished s.rules end.held) false))))
+
+abbrev request_from : Shape → Walk → Kinds → Option Request
+request_from s end walking =
+    if is_empty (or_else (leaf_fault s end walking) []) then request_in s.name (finished s.rules end.held) else None
+
+request-marked : (s : Shape) (ms : List Marked) → AreMarked s.rules (walk_from nothing_held) ms
+    → request_from s (fold (walked s.rules []) (walk_from nothing_held) (map word_of ms)) (walk_fault s [] (walk_from nothing_held) (map word_of ms))
+    ≡ request_from s (after_words s.rules (walk_from nothing_held) ms) (words_fault s (walk_from nothing_held) ms)
+request-marked s ms marked =
+    ap (λ (w : Walk). request_from s w (walk_fault s [] (walk_from nothing_held) (map word_of ms))) (walk-marked s.rules (walk_from nothing_held) ms marked)
+    ∙ ap (request_from s (after_words s.rules (walk_from nothing_held) ms)) (faults-marked s (walk_from nothing_held) ms marked)
+
+-- digits begin with no byte that is none
+other_first : (k d : ℕ) (ds : Text) → nat_lt (digit_value k) 10 ≡ false → list_all (λ d. nat_lt (digit_value d) 10) (d ∷ ds) ≡ true → eqb d k ≡ false
+other_first k d ds none digits = elim (cases_eq d k) [
+  | inl same ↦ let bad : false ≡ true = sym (ap (λ (t : Bool). t && list_all (λ d. nat_lt (digit_value d) 10) ds) (ap (λ (x : ℕ). nat_lt (digit_value x) 10) same ∙ none)) ∙ digits in cc
+  | inr apart ↦ ne_eqb d k apart
+]
+
+digits-plain : (n : Text) (m : ℕ) → WritesBudget n m → IsPlain n
+digits-plain [] m writes = refl
+digits-plain (d ∷ ds) m writes = other_first 45 d ds refl writes.digits
+
+no_plus : (n : Text) → list_all (λ d. nat_lt (digit_value d) 10) n ≡ true → without_leading_plus n ≡ n
+no_plus [] digits = refl
+no_plus (d ∷ ds) digits = simp (other_first 43 d ds refl digits) refl
+
+some_digit : (n : Text) (m : ℕ) → WritesBudget n m → nat_lt 0 (length n) ≡ true
+some_digit [] m writes = absurd (omega (arith, writes.value, writes.least))
+some_digit (d ∷ ds) m writes = lt-ltb 0 (length (d ∷ ds)) (omega arith)
+
+within : (m : ℕ) → m ≤ 1000000000 → m < 2 ^ 64
+within m most = omega (arith, lit< {m = 1000000000} {n = 2 ^ 64} tt)
+
+-- a number that is in range
+in_range : (n : Text) (m : ℕ) → WritesBudget n m → is_unsigned_in 1 1000000000 n ≡ true
+in_range n m writes =
+    rw (no_plus n writes.digits, writes.value, some_digit n m writes, writes.digits)
+    (rw (lt-ltb m (2 ^ 64) (within m writes.most), le-leb 1 m writes.least, le-leb m 1000000000 writes.most) refl)
+
+accepted : (n : Text) (m : ℕ) → WritesBudget n m → values_kinds false (Unsigned 1 1000000000) (n ∷ []) ≡ []
+accepted n m writes = rw (in_range n m writes) refl
+
+known_budget : (n : Text) (m : ℕ) → WritesBudget n m → budget_in n ≡ Some m
+known_budget n m writes = rw (in_range n m writes) (ap Some (ap (digits_value 10) (no_plus n writes.digits) ∙ writes.value))
+
+module _ (program a b : Text) (plain_a : IsPlain a) (plain_b : IsPlain b) where
+  pub asks-lrat : request_of (program ∷ codes "lrat" ∷ a ∷ b ∷ []) ≡ Some (LratIt (record { cnf = a; proof = b }))
+  unfolding request_of faults walked walk_fault defaults_fault
+  asks-lrat = request-marked (completed lrat_command) (plain a ∷ plain b ∷ []) (plain_a, refl, (plain_b, refl, tt))
+
+  pub asks-check : request_of (program ∷ codes "check" ∷ a ∷ b ∷ []) ≡ Some (CheckIt (record { a = a; b = b; out = None; budget = 100000 }))
+  unfolding request_of faults walked walk_fault defaults_fault
+  asks-check = request-marked (completed check_command) (plain a ∷ plain b ∷ []) (plain_a, refl, (plain_b, refl, tt))
+
+  pub asks-out : (p : Text) → IsPlain p → request_of (program ∷ codes "check" ∷ a ∷ b ∷ codes "--out" ∷ p ∷ [])
+      ≡ Some (CheckIt (record { a = a; b = b; out = Some p; budget = 100000 }))
+  unfolding request_of faults walked walk_fault defaults_fault
+  asks-out p plain_p = request-marked (completed check_command) (plain a ∷ plain b ∷ flag (codes "--out") ∷ plain p ∷ [])
+      (plain_a, refl, (plain_b, refl, (plain_p, refl, tt)))
+
+  module _ (n : Text) (m : ℕ) (writes : WritesBudget n m) where
+    pub asks-budget : request_of (program ∷ codes "check" ∷ a ∷ b ∷ codes "--budget" ∷ n ∷ [])
+        ≡ Some (CheckIt (record { a = a; b = b; out = None; budget = m }))
+    unfolding request_of faults walked walk_fault defaults_fault
+    asks-budget =
+        request-marked (completed check_command) (plain a ∷ plain b ∷ flag (codes "--budget") ∷ plain n ∷ [])
+        (plain_a, refl, (plain_b, refl, (digits-plain n m writes, refl, tt)))
+        ∙ ap (λ (k : Kinds). if is_empty (or_else (or_else k []) []) then check_of (Some a) (Some b) None (budget_in n) else None) (accepted n m writes)
+        ∙ ap (check_of (Some a) (Some b) None) (known_budget n m writes)
+
+    module _ (p : Text) (plain_p : IsPlain p) where
+      pub asks-out_budget : request_of (program ∷ codes "check" ∷ a ∷ b ∷ codes "--out" ∷ p ∷ codes "--budget" ∷ n ∷ [])
+          ≡ Some (CheckIt (record { a = a; b = b; out = Some p; budget = m }))
+      unfolding request_of faults walked walk_fault defaults_fault
+      asks-out_budget =
+          request-marked (completed check_command) (plain a ∷ plain b ∷ flag (codes "--out") ∷ plain p ∷ flag (codes "--budget") ∷ plain n ∷ [])
+          (plain_a, refl, (plain_b, refl, (plain_p, refl, (digits-plain n m writes, refl, tt))))
+          ∙ ap (λ (k : Kinds). if is_empty (or_else (or_else k []) []) then check_of (Some a) (Some b) (Some p) (budget_in n) else None) (accepted n m writes)
+          ∙ ap (check_of (Some a) (Some b) (Some p)) (known_budget n m writes)
+
+      pub asks-budget_out : request_of (program ∷ codes "check" ∷ a ∷ b ∷ codes "--budget" ∷ n ∷ codes "--out" ∷ p ∷ [])
+          ≡ Some (CheckIt (record { a = a; b = b; out = Some p; budget = m }))
+      unfolding request_of faults walked walk_fault defaults_fault
+      asks-budget_out =
+          request-marked (completed check_command) (plain a ∷ plain b ∷ flag (codes "--budget") ∷ plain n ∷ flag (codes "--out") ∷ plain p ∷ [])
+          (plain_a, refl, (plain_b, refl, (digits-plain n m writes, refl, (plain_p, refl, tt))))
+          ∙ ap (λ (k : Kinds). if is_empty (or_else (or_else (or_else (or_else k []) []) []) []) then check_of (Some a) (Some b) (Some p) (budget_in n) else None) (accepted n m writes)
+          ∙ ap (check_of (Some a) (Some b) (Some p)) (known_budget n m writes)
