@@ -54,6 +54,17 @@ fn empty_circuits(rt: HostRuntime) -> Result<(), Fail> {
     Ok(())
 }
 
+/// As many variables as may be, of which none is used.
+#[test]
+fn greatest_header(rt: HostRuntime) -> Result<(), Fail> {
+    let files = [("A", b"aag 16777216 0 0 0 0\n".as_slice()), ("B", EMPTY)];
+    let ran = run_words(&rt, rt.alloc(), &files, &WORDS, &[])?;
+    assert!(rt; ran.status == Status::Done);
+    assert_eq!(rt; ran.desk.said(), b"EQUIVALENT\n".as_slice());
+    assert_eq!(rt; ran.desk.file("p.0.cnf"), Some(EMPTY_CNF));
+    Ok(())
+}
+
 /// The AND of both inputs against the constant false.
 #[test]
 fn and_against_false(rt: HostRuntime) -> Result<(), Fail> {
@@ -106,6 +117,32 @@ fn tight_budgets(rt: HostRuntime) -> Result<(), Fail> {
         _ => 0,
     };
     assert_eq!(rt; logs, 1);
+    Ok(())
+}
+
+// The CNF has 26 clauses. Line 27 shows output 0 equal, and the log of output 1 has one line.
+#[test]
+fn one_output_equal_and_one_open(rt: HostRuntime) -> Result<(), Fail> {
+    let files = [
+        (
+            "A",
+            b"aag 5 2 0 2 3\n2\n4\n2\n11\n6 2 5\n8 3 4\n10 7 9\n".as_slice(),
+        ),
+        (
+            "B",
+            b"aag 5 2 0 2 3\n2\n4\n2\n10\n6 2 4\n8 3 5\n10 7 9\n".as_slice(),
+        ),
+    ];
+    let words = ["check", "A", "B", "--budget", "1", "--out", "p"];
+    let ran = run_words(&rt, rt.alloc(), &files, &words, &[])?;
+    assert!(rt; ran.status == Status::Undecided);
+    assert_eq!(rt;
+        ran.desk.said(),
+        b"UNDECIDED\noutput 1 lines 28-28\n".as_slice()
+    );
+    let proof = ran.desk.file("p.0.lrat").unwrap_or(NOTHING);
+    assert_eq!(rt; proof.iter().filter(|byte| **byte == b'\n').count(), 2);
+    assert!(rt; proof.starts_with(b"27 "));
     Ok(())
 }
 

@@ -12,6 +12,10 @@ fn ascii_faults(rt: HostRuntime) -> Result<(), Fail> {
         ("aag 1 0 1 0 0\n2 3\n", "1 latches"),
         ("aag 1 1 0 0 0 0 1\n2\n2\n", "section C is not supported"),
         ("aag 3 2 0 1 0\n2\n4\n6\n", "literal 6 is undefined"),
+        (
+            "aag 4 2 0 1 2\n2\n4\n8\n6 8 2\n8 6 4\n",
+            "literal 6 is on or above a cycle",
+        ),
         ("aag 3 2 0 0 0\n2\n2\n", "literal 2 is defined twice"),
         ("aag 1 1 0 0 0\n3\n", "bad literal 3"),
         ("aag 1 1 0 0 0\nx\n", "bad number at byte 14"),
@@ -71,5 +75,47 @@ fn last_newline(rt: HostRuntime) -> Result<(), Fail> {
         &[],
     )?;
     assert!(rt; ran.status == Status::Done);
+    Ok(())
+}
+
+#[test]
+fn binary_faults(rt: HostRuntime) -> Result<(), Fail> {
+    let cases: [(&[u8], &str); 3] = [
+        (b"aig 3 2 0 1 1\n6\n\x02", "ends too early at byte 17"),
+        (b"aig 3 2 0 1 1\n6\n\x00\x02", "bad delta at gate 0"),
+        (b"abg 3 2 0 1 1\n6\n\x02\x02", "bad header"),
+    ];
+    for (file, text) in cases {
+        let files = [("A", AND.as_bytes()), ("B", file)];
+        let ran = run_words(&rt, rt.alloc(), &files, &["check", "A", "B"], &[])?;
+        let line = format!(in rt.alloc(); "cec: B: {text}\n")?;
+        assert_eq!(rt; ran.desk.warned(), line.as_bytes(), "{text}");
+        assert!(rt; ran.status == Status::BadInput, "{text}");
+    }
+    Ok(())
+}
+
+/// One circuit in other forms: each agrees with its plain text.
+#[test]
+fn one_circuit_in_many_forms(rt: HostRuntime) -> Result<(), Fail> {
+    let forms: [(&[u8], &str); 5] = [
+        (b"aig 3 2 0 1 1\n6\n\x02\x02", "binary"),
+        (
+            b"aig 3 2 0 1 1\n6\n\x82\x00\x02",
+            "a delta that isn't shortest",
+        ),
+        (b"aag 3 2 0 1 1\n2\n4\n6\n6 2 4\ncABC", "a comment"),
+        (b"aig 3 2 0 1 1\n6\n\x02\x02i0 x\no0 y\nc\n", "symbols"),
+        (
+            b"aag 4 2 0 1 2\n2\n4\n8\n8 6 4\n6 2 4\n",
+            "gates in another order",
+        ),
+    ];
+    for (file, name) in forms {
+        let files = [("A", file), ("B", AND.as_bytes())];
+        let ran = run_words(&rt, rt.alloc(), &files, &["check", "A", "B"], &[])?;
+        assert!(rt; ran.status == Status::Done, "{name}");
+        assert_eq!(rt; ran.desk.said(), b"EQUIVALENT\n".as_slice(), "{name}");
+    }
     Ok(())
 }

@@ -1,54 +1,63 @@
--- How a whole check goes on from what was read.
-use Rattle.std.proofs.Common.{◌≡◌, inl, inr, List, [], Err, subst}
+-- How a whole check answers, from what was read and told.
+use Rattle.std.proofs.Common.{◌≡◌, inl, inr, List, [], ◌∷◌, Some, Ok, Err, refl, sym, ap, subst}
 use Rattle.desk_port.specs.Desk.{DeskState}
-use Rattle.lits.specs.declared.node.Side.TheVariants.{A, B}
 use Rattle.netlist.specs.Net.{AigPair}
-use Rattle.lemma_book.specs.Entry.{Entries}
+use Rattle.endings.specs.declared.status.Status.{Status}
+use Rattle.endings.specs.declared.stop.Stop.{Stop}
+use Rattle.endings.specs.declared.stop.Stop.TheVariants.{CannotRead, TooLong, BadFile, NotAlike, CannotWrite, OutOfMemory}
 use Rattle.command_line.specs.Words.{CheckCommand}
 use Rattle.cec_top.specs.declared.kept.Kept.{Kept}
-use Rattle.cec_top.specs.declared.status.Status.{Status}
-use Rattle.cec_top.specs.declared.stop.Stop.{Stop}
-use Rattle.cec_top.specs.declared.stop.Stop.TheVariants.{CannotRead, TooLong, BadFile, Unlike, CannotWrite, OutOfMemory}
-use Rattle.cec_top.specs.Finding.{Means, finding_of}
-use Rattle.cec_top.specs.Causes.{ReadsPair, after_reads, Finishes}
-use Rattle.cec_top.specs.Answers.{HasPair, Keeps, EndsPair, StopsPair, Ends, Stops}
+use Rattle.cec_top.specs.Check.{Made, IsMade, Tells, status_of_finding, AreSome}
+use Rattle.cec_top.specs.Answers.{KeepsOn, GoesOn, Ends, Stops}
+use Rattle.cec_top.specs.Steps.{ReadsPair, IsInOrder}
 
--- a pair that isn't read ends the check
-pub stops-unread : (c : CheckCommand) (old new : DeskState) (kept : List Kept) (stop : Stop) → kept ≡ []
-    → ReadsPair c old new (Err stop) → Stops c old new kept stop
-stops-unread c old new kept (CannotRead A) none p = (p, none)
-stops-unread c old new kept (CannotRead B) none p = (p, none)
-stops-unread c old new kept (TooLong A) none p = (p, none)
-stops-unread c old new kept (TooLong B) none p = (p, none)
-stops-unread c old new kept (BadFile A e) none p = (p, none)
-stops-unread c old new kept (BadFile B e) none p = (p, none)
-stops-unread c old new kept (Unlike u) none p = (p, none)
-stops-unread c old new kept CannotWrite none p = absurd p
-stops-unread c old new kept OutOfMemory none p = inl (p, none)
+module _ (c : CheckCommand) (old : DeskState) (net : AigPair) (mid : DeskState) (read : ReadsPair c old mid (Ok net)) where
+  -- nothing is made so far
+  begins : GoesOn c old [] (net ∷ []) mid
+  begins = record { net = net; reads = read.0; alike = read.1; checks = refl; told = read.2 }
 
-module _ (c : CheckCommand) (old mid new : DeskState) (kept : List Kept) (net : AigPair) (pair : HasPair c old net) (read : mid ≡ after_reads old c) where
-  -- the pair that was read is checked
-  pub ends-read : (status : Status) → EndsPair c net mid new kept status → Ends c old new kept status
-  ends-read status p = record { net = net; pair = pair; ends = subst (λ (s : DeskState). EndsPair c net s new kept status) read p }
+  -- memory runs out before the check has its verdict
+  pub runs-out : Stops c old [] mid OutOfMemory
+  runs-out = inr (inr (inr (record { out = refl; made = []; others = net ∷ []; before = begins; keeps = tt })))
 
-  pub stops-read : (stop : Stop) → StopsPair c net mid new kept stop → Stops c old new kept stop
-  stops-read stop p = go stop (subst (λ (s : DeskState). StopsPair c net s new kept stop) read p)
-    where
-      go : (q : Stop) → StopsPair c net (after_reads old c) new kept q → Stops c old new kept q
-      go CannotWrite f = record { net = net; pair = pair; stops = f }
-      go OutOfMemory f = inr (record { net = net; pair = pair; stops = f })
-      go (CannotRead side) f = absurd f
-      go (TooLong side) f = absurd f
-      go (BadFile side e) f = absurd f
-      go (Unlike u) f = absurd f
+  module _ (m : Made) (new : DeskState) (kept : List Kept) (same : m.net ≡ net) (is : IsMade c m)
+      (keeps : kept ≡ record { check = 0; book = m.book } ∷ []) where
+    -- the check is told whole
+    pub ends-told : (status : Status) → Tells c 0 m mid new (Ok tt) → status ≡ status_of_finding m.finding → Ends c old new status kept
+    ends-told status told status_is = record {
+      made = m ∷ [];
+      whole = record {
+        net = net;
+        reads = read.0;
+        alike = read.1;
+        checks = ap (λ (n : AigPair). n ∷ []) same;
+        told = (new, is, subst (λ (s : DeskState). Tells c 0 m s new (Ok tt)) read.2 told, refl);
+      };
+      status_is = ap Some (sym status_is);
+      keeps = keeps;
+    }
 
--- the check of a pair stops after its book is whole
-pub stops-pair : (c : CheckCommand) (net : AigPair) (old new : DeskState) (kept : List Kept) (book : Entries) (stop : Stop)
-    → Keeps net c.budget book kept → Means net book.entries (finding_of book.entries)
-    → Finishes c.out net book (finding_of book.entries) old new (Err stop) → StopsPair c net old new kept stop
-stops-pair c net old new kept book CannotWrite keeps means p = record { book = book; keeps = keeps; means = means; finishes = p }
-stops-pair c net old new kept book OutOfMemory keeps means p = inr (record { book = book; keeps = keeps; means = means; finishes = p })
-stops-pair c net old new kept book (CannotRead side) keeps means p = p
-stops-pair c net old new kept book (TooLong side) keeps means p = p
-stops-pair c net old new kept book (BadFile side e) keeps means p = p
-stops-pair c net old new kept book (Unlike u) keeps means p = p
+    keeps-on : (stop : Stop) → KeepsOn stop kept (record { check = 0; book = m.book } ∷ [])
+    keeps-on OutOfMemory = subst (λ (ks : List Kept). AreSome ks (record { check = 0; book = m.book } ∷ [])) (sym keeps) (inl (refl, tt))
+    keeps-on (CannotRead file) = keeps
+    keeps-on (TooLong file) = keeps
+    keeps-on (BadFile file text) = keeps
+    keeps-on (NotAlike text) = keeps
+    keeps-on CannotWrite = keeps
+
+    -- the check is told in part
+    pub stops-told : (stop : Stop) → Tells c 0 m mid new (Err stop) → Stops c old kept new stop
+    stops-told stop told = inr (inr (inl (record {
+      made = [];
+      half = m;
+      others = [];
+      mid = mid;
+      before = record { net = net; reads = read.0; alike = read.1; checks = ap (λ (n : AigPair). n ∷ []) same; told = read.2 };
+      is_made = is;
+      breaks = told;
+      keeps = keeps-on stop;
+    })))
+
+-- a check whose book is in order is right
+pub is-made : (c : CheckCommand) (m : Made) → IsInOrder c.budget m → IsMade c m
+is-made c m p = record { settled = p.settled; proof = p.proof }

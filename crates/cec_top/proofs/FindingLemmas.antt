@@ -1,24 +1,19 @@
--- What the finding of a book means for the circuits.
-use Rattle.std.proofs.Common.{◌≡◌, ◌≢◌, ℕ, ◌+◌, ◌<◌, ◌≤◌, inl, inr, Bool, true, false, ◌||◌, ◌&&◌, ◌==◌, List, [], ◌∷◌, ◌++◌, length, Option, Some, None, refl, sym, ap, ◌∙◌, subst, arith, eq-eqb}
-use Rattle.std.specs.Prelude.{◌↔◌}
-use Rattle.std.specs.List.{list_any, find}
+-- What a book that is in order shows.
+use Rattle.std.proofs.Common.{◌≡◌, ◌≢◌, ℕ, suc, zero, ◌+◌, ◌<◌, ◌≤◌, inl, inr, Bool, true, false, ◌||◌, ◌&&◌, ◌==◌, List, [], ◌∷◌, ◌++◌, length, drop, filter, flat_map, Option, Some, None, refl, sym, ap, ◌∙◌, subst, arith, eq-eqb}
+use Rattle.std.specs.Prelude.{codes, if◌then◌else◌}
+use Rattle.std.specs.List.{list_any, find, range_with_len, AllByRecursion}
 use Rattle.std.proofs.Math.Nat.{eq-or-lt_of_le}
 use Rattle.std.proofs.lemmas.Option.{none-some, same_Some}
-use Rattle.lits.specs.Assignment.{IsSatisfiable}
-use Rattle.lits.specs.Dimacs.{DimacsLiteral}
-use Rattle.lits.specs.Same.{opposite_dim}
-use Rattle.netlist.specs.Net.{AigPair, Agree, Differ}
-use Rattle.netlist.specs.Miter.{miter_of}
+use Rattle.netlist.specs.Net.{AigPair}
 use Rattle.unit_prop.specs.Log.{InTurn}
-use Rattle.lrat_text.specs.declared.step.Line.{Line}
-use Rattle.lrat_text.specs.Writing.{numbered}
-use Rattle.lrat_text.specs.Derivation.{Refutes}
 use Rattle.lemma_book.specs.Entry.{Entries, IsGood, output_of}
 use Rattle.lemma_book.specs.declared.entry.Entry.{Entry}
 use Rattle.lemma_book.specs.declared.entry.Entry.TheVariants.{Out, OutApart, OutSpent}
-use Rattle.proof_stitch.specs.Stitch.{is_out, HasOut, refutation_of, IsRefutation}
+use Rattle.proof_stitch.specs.Stitch.{is_out, HasOut}
 use Rattle.proof_stitch.specs.Derivation.{is_spent, has_spent}
-use Rattle.cec_top.specs.Finding.{is_apart, is_open, open_outputs, found_first, finding_of, AreAbout, IsBookOf, has_apart, Means}
+use Rattle.cec_top.specs.Finding.{is_apart, has_apart, is_merge, open_outputs, SeesMerges, IsAmong, Finds}
+use Rattle.cec_top.specs.Texts.{output_line, open_text}
+use Rattle.cec_top.specs.Steps.{is_open, found_first, finding_of, AreAbout, IsBookOf, line_if_open, open_text_of}
 use Rattle.cec_top.proofs.SettledLemmas.{not_eq}
 
 or_true : (b : Bool) → (b || true) ≡ true
@@ -26,7 +21,7 @@ or_true true = refl
 or_true false = refl
 
 -- what is found passes the test
-find-true : (es : List Entry) (e : Entry) → find is_apart es ≡ Some e → is_apart e ≡ true
+pub find-true : (es : List Entry) (e : Entry) → find is_apart es ≡ Some e → is_apart e ≡ true
 find-true [] e found = absurd (none-some e found)
 find-true (x ∷ xs) e found = go (is_apart x) refl found (find-true xs e)
   where
@@ -38,7 +33,7 @@ find-true (x ∷ xs) e found = go (is_apart x) refl found (find-true xs e)
 abbrev pub IsGoodOver : AigPair → ℕ → List Entry → Entry → Type 0
 IsGoodOver net budget before e = IsGood net (record { out_budget = budget; entries = before }) e
 
-find-good : (net : AigPair) (budget : ℕ) (before es : List Entry) (e : Entry) → InTurn (IsGoodOver net budget) before es
+pub find-good : (net : AigPair) (budget : ℕ) (before es : List Entry) (e : Entry) → InTurn (IsGoodOver net budget) before es
     → find is_apart es ≡ Some e → (earlier : List Entry) × IsGoodOver net budget earlier e
 find-good net budget before [] e legal found = absurd (none-some e found)
 find-good net budget before (x ∷ xs) e legal found =
@@ -108,38 +103,116 @@ none-spent (Out j steps ∷ es) k none = none-spent es k none
 none-spent (OutApart j input ∷ es) k none = none-spent es k none
 none-spent (OutSpent j seen log ∷ es) k none = cc
 
+-- the outputs of the open entries, in the order of the book
+abbrev pub open_list : List Entry → List ℕ
+open_list [] = []
+open_list (e ∷ es) = if is_open e then output_of e ∷ open_list es else open_list es
+
 -- and where some entry is open its output is among those
-some-open : (es : List Entry) → list_any is_open es ≡ true → open_outputs es ≢ []
+some-open : (es : List Entry) → list_any is_open es ≡ true → open_list es ≢ []
 some-open [] some = cc
 some-open (Out j steps ∷ es) some = some-open es some
 some-open (OutApart j input ∷ es) some = some-open es some
 some-open (OutSpent j seen log ∷ es) some = λ e. cc
 
-module _ (net : AigPair) (book : Entries) (is : IsBookOf net book.out_budget book)
-    (exact : IsSatisfiable opposite_dim (miter_of net) ↔ Differ net)
-    (agree : (¬ IsSatisfiable opposite_dim (miter_of net)) ↔ Agree net)
-    (refuted : (formula : List (List DimacsLiteral)) (lines : List Line) → Refutes formula lines → ¬ IsSatisfiable opposite_dim formula)
-    (proof : ((j : ℕ) → j < length net.a.outputs → HasOut book.entries j ≡ true)
-    → IsRefutation net (refutation_of net book.entries)) where
-  pub means-finding : Means net book.entries (finding_of book.entries)
-  means-finding = go (find is_apart book.entries) refl (list_any is_open book.entries) refl
+-- an output's test of an entry about another output
+spent-other : (e : Entry) (j : ℕ) → output_of e ≢ j → is_spent j e ≡ false
+spent-other (Out k steps) j other = refl
+spent-other (OutApart k input) j other = refl
+spent-other (OutSpent k seen log) j other = not_eq k j other
+
+spent-own : (e : Entry) → is_spent (output_of e) e ≡ is_open e
+spent-own (Out k steps) = refl
+spent-own (OutApart k input) = refl
+spent-own (OutSpent k seen log) = eq-eqb k k refl
+
+-- no entry from output i on is about an earlier one
+none-spent-before : (i j : ℕ) (es : List Entry) → AreAbout i es → j < i → has_spent es j ≡ false
+none-spent-before i j [] about below = refl
+none-spent-before i j (e ∷ es) about below =
+    rw (spent-other e j (λ same. absurd (omega (arith, about.0, same)))) (none-spent-before (i + 1) j es about.1 (omega arith))
+
+-- past the first entry's output it makes no difference
+filter-past : (e : Entry) (es : List Entry) (i n : ℕ) → output_of e < i
+    → filter (has_spent (e ∷ es)) (range_with_len i n) ≡ filter (has_spent es) (range_with_len i n)
+filter-past e es i zero past = refl
+filter-past e es i (suc n) past =
+    rw (spent-other e i (λ same. absurd (omega (arith, same))), filter-past e es (i + 1) n (omega arith)) refl
+
+-- the open outputs in order of outputs are those in the order of the book
+pub opens-in_order : (i : ℕ) (es : List Entry) → AreAbout i es → filter (has_spent es) (range_with_len i (length es)) ≡ open_list es
+opens-in_order i [] about = refl
+opens-in_order i (e ∷ es) about =
+    let first : has_spent (e ∷ es) i ≡ is_open e =
+    subst (λ (j : ℕ). (is_spent j e || has_spent es j) ≡ is_open e) about.0
+    (rw (spent-own e, none-spent-before (i + 1) (output_of e) es about.1 (omega (arith, about.0))) (or_false' (is_open e))) in
+    rw (first, filter-past e es (i + 1) (length es) (omega (arith, about.0)), opens-in_order (i + 1) es about.1)
+    (ap (λ (j : ℕ). if is_open e then j ∷ open_list es else open_list es) (sym about.0))
+  where
+    or_false' : (b : Bool) → (b || false) ≡ b
+    or_false' true = refl
+    or_false' false = refl
+
+lines-open : (es : List Entry) → flat_map line_if_open es ≡ flat_map output_line (open_list es)
+lines-open [] = refl
+lines-open (Out j steps ∷ es) = lines-open es
+lines-open (OutApart j input ∷ es) = lines-open es
+lines-open (OutSpent j seen log ∷ es) = ap (λ rest. output_line j ++ rest) (lines-open es)
+
+-- no entry says that two nodes have one value
+no-merge : (n : ℕ) (es : List Entry) → list_any is_merge (drop n es) ≡ false
+no-merge zero [] = refl
+no-merge (suc n) [] = refl
+no-merge zero (Out j steps ∷ es) = no-merge zero es
+no-merge zero (OutApart j input ∷ es) = no-merge zero es
+no-merge zero (OutSpent j seen log ∷ es) = no-merge zero es
+no-merge (suc n) (e ∷ es) = no-merge n es
+
+sees-merges : (es : List Entry) (e : Entry) → SeesMerges es e
+sees-merges es (Out j steps) = tt
+sees-merges es (OutApart j input) = tt
+sees-merges es (OutSpent j seen log) = no-merge seen es
+
+-- what is found is among the entries
+find-among : (es : List Entry) (e : Entry) → find is_apart es ≡ Some e → IsAmong es e
+find-among [] e found = absurd (none-some e found)
+find-among (x ∷ xs) e found = go (is_apart x) refl found (find-among xs e)
+  where
+    go : (b : Bool) → is_apart x ≡ b → find is_apart (x ∷ xs) ≡ Some e → (find is_apart xs ≡ Some e → IsAmong xs e) → IsAmong (x ∷ xs) e
+    go true apart f rest = record { place = 0; there = rw apart at f }
+    go false apart f rest = let r = rest (rw apart at f) in record { place = suc r.place; there = r.there }
+
+module _ (net : AigPair) (book : Entries) (budget : ℕ) (is : IsBookOf net budget book) where
+  opens : open_outputs net book.entries ≡ open_list book.entries
+  opens = rw (sym is.whole) (opens-in_order 0 book.entries is.about)
+
+  -- the text of the open outputs
+  pub open-text : open_text_of book.entries ≡ open_text (open_outputs net book.entries)
+  unfolding open_text_of open_text
+  open-text = rw opens (ap (λ lines. codes "UNDECIDED\n" ++ lines) (lines-open book.entries))
+
+  all-out : find is_apart book.entries ≡ None → list_any is_open book.entries ≡ false
+      → (j : ℕ) → j < length net.a.outputs → HasOut book.entries j ≡ true
+  all-out none closed_all j below =
+      closed 0 j book.entries is.about none (omega arith) (omega (arith, is.whole)) (none-spent book.entries j closed_all)
+
+  -- what the book shows
+  pub finds-finding : Finds net book.entries (finding_of book.entries)
+  finds-finding = go (find is_apart book.entries) refl (list_any is_open book.entries) refl
     where
       go : (o : Option Entry) → find is_apart book.entries ≡ o → (b : Bool) → list_any is_open book.entries ≡ b
-          → Means net book.entries (found_first o b)
-      go None none false closed_all =
-          let outs : (j : ℕ) → j < length net.a.outputs → HasOut book.entries j ≡ true =
-          λ j below. closed 0 j book.entries is.about none (omega arith) (omega (arith, is.whole)) (none-spent book.entries j closed_all) in
-          (record { agree = agree.0 (refuted (miter_of net) (numbered 1 (refutation_of net book.entries)) (proof outs).refutes); exact = exact }, outs)
+          → Finds net book.entries (found_first o b)
+      go None none false closed_all = all-out none closed_all
       go None none true open_some = record {
-        some_open = some-open book.entries open_some;
+        some_open = λ e. some-open book.entries open_some (sym opens ∙ e);
         others = λ j below spent. closed 0 j book.entries is.about none (omega arith) (omega (arith, is.whole)) spent;
+        seen = each book.entries;
       }
+        where
+          each : (es : List Entry) → AllByRecursion (SeesMerges book.entries) es
+          each [] = tt
+          each (e ∷ es) = (sees-merges book.entries e, each es)
       go (Some (OutApart j input)) found b any =
-          let good = find-good net book.out_budget [] book.entries (OutApart j input) is.legal found in
-          record {
-            output = good.1.output;
-            apart = good.1.shown;
-            least = λ k below. find-least 0 k book.entries (OutApart j input) is.about found below;
-          }
+          (find-among book.entries (OutApart j input) found, λ k below. find-least 0 k book.entries (OutApart j input) is.about found below)
       go (Some (Out j steps)) found b any = let t : false ≡ true = find-true book.entries (Out j steps) found in cc
       go (Some (OutSpent j seen log)) found b any = let t : false ≡ true = find-true book.entries (OutSpent j seen log) found in cc

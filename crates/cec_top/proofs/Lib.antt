@@ -1,6 +1,13 @@
-pub mod SettledLemmas
-pub mod FindingLemmas
-pub mod WritingLemmas
-pub mod FinishLemmas
-pub mod CheckLemmas
-pub mod AnswerLemmas
+mod SettledLemmas
+mod FindingLemmas
+mod EqualLemmas
+mod MeansLemmas
+mod TellLemmas
+mod ReadLemmas
+mod CheckLemmas
+mod HelpLemmas
+mod HeadlineLemmas
+mod VerdictLemmas
+mod WordsLemmas
+mod CompleteLemmas
+mod ProvenLemmas

@@ -6,7 +6,7 @@ use Rattle.unit_prop.proofs.ChainLemmas.{in_turn-append}
 use Rattle.lemma_book.specs.Entry.{Entries, IsGood, output_of, has_output}
 use Rattle.lemma_book.specs.Book.{IsLegal}
 use Rattle.lemma_book.specs.declared.entry.Entry.{Entry}
-use Rattle.cec_top.specs.Finding.{AreAbout}
+use Rattle.cec_top.specs.Steps.{AreAbout}
 
 pub not_eq : (a b : ℕ) → a ≢ b → (a == b) ≡ false
 not_eq a b ne = grind (arith, nat_tests)

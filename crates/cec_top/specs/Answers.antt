@@ -1,144 +1,150 @@
 -- What a run of the program answers.
-use Rattle.std.specs.Prelude.{◌≡◌, ◌⊎◌, ℕ, List, [], ◌∷◌, None, Result, Ok, Err, true, codes, string_bytes}
-use Rattle.fault_lines.specs.Faults.{IsWarned, fault_line}
-use Rattle.desk_port.specs.Desk.{DeskState, WriteFault, OfSomePrefix, after_say}
+use Rattle.std.specs.Prelude.{◌≡◌, ◌⊎◌, ℕ, List, [], ◌∷◌, ◌++◌, length, map, option_map, None, Some, Err, true, string_bytes, Option, Result, Ok}
+use Rattle.desk_port.specs.Desk.{DeskState, after_say}
+use Rattle.netlist.specs.declared.unlike.Unlike.{Unlike}
 use Rattle.netlist.specs.Net.{AigPair}
-use Rattle.lemma_book.specs.Entry.{Entries}
 use Rattle.netlist.specs.Unlike.{unlike_of}
-use Rattle.cec_top.specs.declared.kept.Kept.{Kept}
-use Rattle.cec_top.specs.declared.status.Status.{Status}
-use Rattle.cec_top.specs.declared.status.Status.TheVariants as ends
-use Rattle.cec_top.specs.declared.stop.Stop.{Stop}
-use Rattle.cec_top.specs.declared.stop.Stop.TheVariants.{CannotRead, TooLong, BadFile, Unlike, CannotWrite, OutOfMemory}
+use Rattle.byte_scan.specs.declared.errors.AigerErr.{AigerErr}
+use Rattle.netlist.specs.Circuit.{Aig}
+use Rattle.aiger_file.specs.File.{aiger_in, SpellsAiger}
 use Rattle.command_line.specs.Words.{CheckCommand, LratCommand, CheckIt, LratIt, Asks, WantHelp, AreRefused, names_help}
 use Rattle.command_line.specs.Answers.{no_help_text}
-use Rattle.command_line.specs.declared.reading.Refusal.{Refusal}
-use Rattle.command_line.specs.declared.reading.Refusal.TheVariants.{Help, Usage, NoMemory}
-use Rattle.lrat_run.specs.declared.ending.Ending.{Ending}
+use Rattle.endings.specs.Reading.{Input, AreRead, ReadsUpTo, after_reads}
+use Rattle.endings.specs.Writing.{Says}
+use Rattle.endings.specs.Stops.{EndsBy, Warns}
+use Rattle.endings.specs.declared.status.Status.{Status}
+use Rattle.endings.specs.declared.status.Status.TheVariants as ends
+use Rattle.endings.specs.declared.stop.Stop.{Stop}
+use Rattle.endings.specs.declared.stop.Stop.TheVariants.{NotAlike, OutOfMemory}
 use Rattle.lrat_run.specs.Answers.{AnswersLrat}
-use Rattle.cec_top.specs.Stops.{status_of, status_of_ending}
-use Rattle.cec_top.specs.Lines.{stop_line}
-use Rattle.cec_top.specs.Causes.{HasCircuit, ReadsPair, after_reads, Finishes}
-use Rattle.cec_top.specs.Finding.{finding_of, IsBookOf, Means}
-use Rattle.cec_top.specs.Found.{ending}
+use Rattle.cec_top.specs.declared.kept.Kept.{Kept}
+use Rattle.cec_top.specs.Lines.{aiger_text, unlike_text}
+use Rattle.cec_top.specs.Check.{Made, IsMade, Tells, AreTold, status_of_finding, last_finding, kept_from, AreSome}
 
--- the book that is handed back as that of check 0
-pub record Keeps (net : AigPair) (budget : ℕ) (book : Entries) (kept : List Kept) : Type 0 where
-  pub only : kept ≡ record { check = 0; book = book } ∷ []
-  pub is_book : IsBookOf net budget book
+-- ---- a check
 
--- the pair is settled, and what was found is said, after the files are written
-pub record ChecksPair (c : CheckCommand) (net : AigPair) (old new : DeskState) (kept : List Kept) (result : Result (Unit {0}) Stop) : Type 0 where
-  pub book : Entries
-  pub keeps : Keeps net c.budget book kept
-  pub means : Means net book.entries (finding_of book.entries)
-  pub finishes : Finishes c.out net book (finding_of book.entries) old new result
+-- the text of the first fault of bytes that spell no circuit
+abbrev pub fault_in : Result Aig AigerErr → Option (List ℕ)
+fault_in (Ok c) = None
+fault_in (Err e) = Some (aiger_text e)
 
--- the files spell two circuits that can be compared
-pub record HasPair (c : CheckCommand) (old : DeskState) (net : AigPair) : Type 0 where
-  pub a : HasCircuit old c.a net.a
-  pub b : HasCircuit old c.b net.b
+-- a circuit's file, and the text of its first fault, whatever files were read before it
+abbrev pub circuit_file : List ℕ → Input
+circuit_file name = record { name = name; fault = λ earlier bytes. fault_in (aiger_in bytes) }
+
+-- the files that the command reads, in order
+abbrev pub inputs_of : CheckCommand → List Input
+inputs_of c = circuit_file c.a ∷ circuit_file c.b ∷ []
+
+abbrev pub names_of : CheckCommand → List (List ℕ)
+names_of c = c.a ∷ c.b ∷ []
+
+-- they are read, and spell these circuits
+pub record ReadsCircuits (c : CheckCommand) (old : DeskState) (net : AigPair) : Type 0 where
+  pub a : List ℕ
+  pub b : List ℕ
+  pub read : AreRead old [] (inputs_of c) (a ∷ b ∷ [])
+  pub spells_a : SpellsAiger a net.a
+  pub spells_b : SpellsAiger b net.b
+
+-- the circuits of the checks that are asked for, in order: check 0 is of those that were read, and there are no more so far
+abbrev pub asked_for : AigPair → List AigPair
+asked_for net = net ∷ []
+
+-- the circuits can be compared, and of the checks that are asked for these are made and told, each whole before the next,
+-- and the others aren't begun
+pub record GoesOn (c : CheckCommand) (old : DeskState) (made : List Made) (others : List AigPair) (new : DeskState) : Type 0 where
+  pub net : AigPair
+  pub reads : ReadsCircuits c old net
   pub alike : unlike_of net.a net.b ≡ None
+  pub checks : map (λ m. m.net) made ++ others ≡ asked_for net
+  pub told : AreTold c 0 made (after_reads old (inputs_of c)) new
 
--- the pair is settled and its verdict said, with which the status goes
-pub record EndsPair (c : CheckCommand) (net : AigPair) (old new : DeskState) (kept : List Kept) (status : Status) : Type 0 where
-  pub checks : ChecksPair c net old new kept (Ok tt)
-  pub status_is : status ≡ ending (finding_of checks.book.entries)
+-- all checks are made and told, and the status goes with the last one's verdict
+pub record Ends (c : CheckCommand) (old new : DeskState) (status : Status) (kept : List Kept) : Type 0 where
+  pub made : List Made
+  pub whole : GoesOn c old made [] new
+  pub status_is : option_map status_of_finding (last_finding made) ≡ Some status
+  pub keeps : kept ≡ kept_from 0 made
 
--- the pair is settled, and then the check ends without a verdict that was said whole; or memory ran out before
-abbrev pub StopsPair : CheckCommand → AigPair → DeskState → DeskState → List Kept → Stop → Type 0
-StopsPair c net old new kept CannotWrite = ChecksPair c net old new kept (Err CannotWrite)
-StopsPair c net old new kept OutOfMemory = ((kept ≡ []) × (new ≡ old)) ⊎ ChecksPair c net old new kept (Err OutOfMemory)
-StopsPair c net old new kept _ = ⊥
+-- the text of the cause says how the circuits differ
+abbrev pub NamesUnlike : Unlike → Stop → Type 0
+NamesUnlike unlike (NotAlike text) = string_bytes text ≡ unlike_text unlike
+NamesUnlike unlike stop = ⊥
 
--- the pair is read, checked, and its verdict said
-pub record Ends (c : CheckCommand) (old new : DeskState) (kept : List Kept) (status : Status) : Type 0 where
+-- the files spell circuits that can't be compared
+pub record AreUnlike (c : CheckCommand) (old new : DeskState) (stop : Stop) : Type 0 where
   pub net : AigPair
-  pub pair : HasPair c old net
-  pub ends : EndsPair c net (after_reads old c) new kept status
+  pub reads : ReadsCircuits c old net
+  pub unlike : Unlike
+  pub differ : unlike_of net.a net.b ≡ Some unlike
+  pub stop_is : NamesUnlike unlike stop
+  pub new_is : new ≡ after_reads old (inputs_of c)
 
--- the pair is read, and then the check ends so
-pub record StopsRead (c : CheckCommand) (old new : DeskState) (kept : List Kept) (stop : Stop) : Type 0 where
-  pub net : AigPair
-  pub pair : HasPair c old net
-  pub stops : StopsPair c net (after_reads old c) new kept stop
+-- the books that are handed back where a check breaks off: all where it couldn't write, some where memory ran out
+abbrev pub KeepsOn : Stop → List Kept → List Kept → Type 0
+KeepsOn OutOfMemory kept all = AreSome kept all
+KeepsOn stop kept all = kept ≡ all
+
+-- some checks are told whole, and the next one has its verdict and is told in part
+pub record BreaksOff (c : CheckCommand) (old new : DeskState) (kept : List Kept) (stop : Stop) : Type 0 where
+  pub made : List Made
+  pub half : Made
+  pub others : List AigPair
+  pub mid : DeskState
+  pub before : GoesOn c old made (half.net ∷ others) mid
+  pub is_made : IsMade c half
+  pub breaks : Tells c (length made) half mid new (Err stop)
+  pub keeps : KeepsOn stop kept (kept_from 0 (made ++ half ∷ []))
+
+-- memory runs out before the next check has its verdict
+pub record RunsOut (c : CheckCommand) (old new : DeskState) (kept : List Kept) (stop : Stop) : Type 0 where
+  pub out : stop ≡ OutOfMemory
+  pub made : List Made
+  pub others : List AigPair
+  pub before : GoesOn c old made others new
+  pub keeps : AreSome kept (kept_from 0 made)
 
 -- why a check ends without a verdict that was said whole
-abbrev pub Stops : CheckCommand → DeskState → DeskState → List Kept → Stop → Type 0
-Stops c old new kept (CannotRead side) = ReadsPair c old new (Err (CannotRead side)) × (kept ≡ [])
-Stops c old new kept (TooLong side) = ReadsPair c old new (Err (TooLong side)) × (kept ≡ [])
-Stops c old new kept (BadFile side e) = ReadsPair c old new (Err (BadFile side e)) × (kept ≡ [])
-Stops c old new kept (Unlike u) = ReadsPair c old new (Err (Unlike u)) × (kept ≡ [])
-Stops c old new kept CannotWrite = StopsRead c old new kept CannotWrite
-Stops c old new kept OutOfMemory = (ReadsPair c old new (Err OutOfMemory) × (kept ≡ [])) ⊎ StopsRead c old new kept OutOfMemory
+abbrev pub Stops : CheckCommand → DeskState → List Kept → DeskState → Stop → Type 0
+Stops c old kept new stop =
+    ((kept ≡ []) × ReadsUpTo 0 [] (inputs_of c) old new stop)
+    ⊎ ((kept ≡ []) × AreUnlike c old new stop)
+    ⊎ BreaksOff c old new kept stop
+    ⊎ RunsOut c old new kept stop
 
--- the line is warned and this is the status, or memory ran out for the line
-abbrev pub Warns : List ℕ → Status → DeskState → DeskState → Status → Type 0
-Warns line named old new status = ((status ≡ named) × IsWarned old new line) ⊎ ((status ≡ ends.OutOfMemory) × (new ≡ old))
-
--- the check ends without a verdict that was said whole, and the line of its cause is warned
-pub record EndsBy (c : CheckCommand) (old new : DeskState) (status : Status) (kept : List Kept) : Type 0 where
-  pub stop : Stop
-  pub status_is : status_of stop ≡ status
-  pub mid : DeskState
-  pub cause : Stops c old mid kept stop
-  pub warned : IsWarned mid new (stop_line c stop)
-
--- memory ran out in the check, and that is warned of; or for the line of any other cause
-pub record RunsOut (c : CheckCommand) (old new : DeskState) (kept : List Kept) : Type 0 where
-  pub stop : Stop
-  pub mid : DeskState
-  pub cause : Stops c old mid kept stop
-  pub warned : (new ≡ mid) ⊎ ((stop ≡ OutOfMemory) × IsWarned mid new (stop_line c stop))
-
--- what the program answers to words that ask for a check, by its status
+-- what the program answers to arguments that ask for a check
 abbrev pub AnswersCheck : CheckCommand → DeskState → DeskState → Status → List Kept → Type 0
-AnswersCheck c old new ends.Done kept = Ends c old new kept ends.Done
-AnswersCheck c old new ends.No kept = Ends c old new kept ends.No
-AnswersCheck c old new ends.Undecided kept = Ends c old new kept ends.Undecided
-AnswersCheck c old new ends.BadUsage kept = ⊥
-AnswersCheck c old new ends.BadInput kept = EndsBy c old new ends.BadInput kept
-AnswersCheck c old new ends.CannotRead kept = EndsBy c old new ends.CannotRead kept
-AnswersCheck c old new ends.CannotWrite kept = EndsBy c old new ends.CannotWrite kept
-AnswersCheck c old new ends.OutOfMemory kept = RunsOut c old new kept
+AnswersCheck c old new status kept = Ends c old new status kept ⊎ EndsBy (names_of c) (Stops c old kept) new status
 
--- the words ask for a check
+-- ---- the program
+
+-- the arguments ask for a check
 pub record ChecksWords (words : List (List ℕ)) (old new : DeskState) (status : Status) (kept : List Kept) : Type 0 where
   pub command : CheckCommand
   pub asked : Asks words (CheckIt command)
   pub answers : AnswersCheck command old new status kept
 
--- the words ask whether a proof refutes a formula
+-- they ask whether a proof refutes a formula
 pub record ProvesWords (words : List (List ℕ)) (old new : DeskState) (status : Status) (kept : List Kept) : Type 0 where
   pub command : LratCommand
   pub asked : Asks words (LratIt command)
   pub none : kept ≡ []
-  pub ending : Ending
-  pub status_is : status ≡ status_of_ending ending
-  pub answers : AnswersLrat command.cnf command.proof old new ending
+  pub answers : AnswersLrat command.cnf command.proof old new status
 
--- the lines of want of memory and of what can't be said
-abbrev pub memory_line : List ℕ
-memory_line = fault_line (codes "out of memory")
-
-abbrev pub write_line : List ℕ
-write_line = fault_line (codes "cannot write")
-
--- the text is said; or a first part of it, which is warned; or memory ran out
+-- the text is said; or saying it ends the program
 abbrev pub SaysHelp : List ℕ → DeskState → DeskState → Status → Type 0
 SaysHelp text old new status =
-    ((status ≡ ends.Done) × (new ≡ after_say old text))
-    ⊎ OfSomePrefix text (λ part. (mid : DeskState) × WriteFault (after_say old part) mid × Warns write_line ends.CannotWrite mid new status)
-    ⊎ Warns memory_line ends.OutOfMemory old new status
+    ((status ≡ ends.Done) × (new ≡ after_say old text)) ⊎ EndsBy [] (λ mid stop. Says text old mid (Err stop)) new status
 
--- the words want help, which is said
+-- they want help, which is said
 pub record HelpsWords (words : List (List ℕ)) (old new : DeskState) (status : Status) (kept : List Kept) : Type 0 where
   pub wanted : WantHelp words
   pub none : kept ≡ []
   pub text : List ℕ
   pub says : SaysHelp text old new status
 
--- the words are refused, by a text that is warned
+-- they are refused, by a text that is warned
 pub record RefusesWords (words : List (List ℕ)) (old new : DeskState) (status : Status) (kept : List Kept) : Type 0 where
   pub refused : AreRefused words
   pub none : kept ≡ []
@@ -146,23 +152,20 @@ pub record RefusesWords (words : List (List ℕ)) (old new : DeskState) (status 
   pub no_help : names_help words ≡ true → text ≡ no_help_text
   pub warns : Warns text ends.BadUsage old new status
 
--- memory ran out before it was known what the words ask for
-pub record RunsOutOfMemory (old new : DeskState) (status : Status) (kept : List Kept) : Type 0 where
+-- memory ran out, before anything was done
+abbrev pub IsAtOnce : DeskState → DeskState → Stop → Type 0
+IsAtOnce old mid stop = (stop ≡ OutOfMemory) × (mid ≡ old)
+
+pub record KnowsNothing (old new : DeskState) (status : Status) (kept : List Kept) : Type 0 where
   pub none : kept ≡ []
-  pub warns : Warns memory_line ends.OutOfMemory old new status
+  pub ends : EndsBy [] (IsAtOnce old) new status
 
--- what the program makes of words that ask for nothing, by why they are refused
-abbrev pub AnswersRefusal : Refusal → DeskState → DeskState → Status → Type 0
-AnswersRefusal (Help text) old new status = SaysHelp (string_bytes text) old new status
-AnswersRefusal (Usage text) old new status = Warns (string_bytes text) ends.BadUsage old new status
-AnswersRefusal NoMemory old new status = Warns memory_line ends.OutOfMemory old new status
-
--- What the program answers to its words. They ask for a check or for a proof to be checked, or want help, or are refused,
--- and only one of these (`command_line::words_are_one_of`).
+-- What the program answers to its arguments. They ask for a check or for a proof to be checked, or want help, or are refused,
+-- and only one of these (`command_line::words_are_one_of`); or memory ran out before it was known which.
 abbrev pub Answers : List (List ℕ) → DeskState → DeskState → Status → List Kept → Type 0
 Answers words old new status kept =
     ChecksWords words old new status kept
     ⊎ ProvesWords words old new status kept
     ⊎ HelpsWords words old new status kept
     ⊎ RefusesWords words old new status kept
-    ⊎ RunsOutOfMemory old new status kept
+    ⊎ KnowsNothing old new status kept

@@ -1,10 +1,9 @@
-pub mod Exit
 pub mod Names
-pub mod Stops
 pub mod Lines
-pub mod Causes
-pub mod Settled
+pub mod Headline
 pub mod Finding
-pub mod Found
 pub mod Texts
+pub mod Check
 pub mod Answers
+pub mod Steps
+pub mod Complete

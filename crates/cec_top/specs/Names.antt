@@ -1,9 +1,9 @@
 -- The names of the files that a check writes.
-use Rattle.std.specs.Prelude.{ℕ, List, ◌++◌, codes}
+use Rattle.std.specs.Prelude.{ℕ, List, ◌++◌, codes, decimal}
 
--- the file of the first check's CNF, and that of its proof
-abbrev pub cnf_name : List ℕ → List ℕ
-cnf_name prefix = prefix ++ codes ".0.cnf"
+-- the file of a check's CNF, and that of its proof, by the check's number
+abbrev pub cnf_name : List ℕ → ℕ → List ℕ
+cnf_name prefix number = prefix ++ codes "." ++ decimal number ++ codes ".cnf"
 
-abbrev pub proof_name : List ℕ → List ℕ
-proof_name prefix = prefix ++ codes ".0.lrat"
+abbrev pub proof_name : List ℕ → ℕ → List ℕ
+proof_name prefix number = prefix ++ codes "." ++ decimal number ++ codes ".lrat"

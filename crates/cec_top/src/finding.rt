@@ -1,21 +1,22 @@
 ghost use Rattle.std.specs.Prelude.{◌≡◌};
 ghost use Rattle.std.specs.List.{find, list_any};
 ghost use Rattle.std.specs.Option.{option_copied};
-ghost use Rattle.cec_top.specs.Finding.{is_apart, is_open, unless_open, finding_of};
-ghost use Rattle.cec_top.specs.Found.{finding_in, ending};
+ghost use Rattle.cec_top.specs.Check.{status_of_finding};
+ghost use Rattle.cec_top.specs.Finding.{is_apart};
+ghost use Rattle.cec_top.specs.Steps.{is_open, unless_open, finding_of, finding_in};
 
-use crate::status::Status;
+use endings::Status;
 use lemma_book::Entry;
 
 /// What a check finds out about the outputs.
 #[derive(Clone, Copy)]
 pub(crate) enum Finding<'a> {
-    /// Each output is the same in both circuits.
-    AllEqual,
+    /// The circuits agree on every input.
+    Equivalent,
     /// The output differs on these truth values of the inputs.
-    Apart { output: u32, input: &'a [bool] },
+    Different { output: u32, input: &'a [bool] },
     /// No output differs as far as is known, and queries of some spent their budgets.
-    Open,
+    Undecided,
 }
 
 impl<'a> Finding<'a> {
@@ -24,7 +25,7 @@ impl<'a> Finding<'a> {
         ensures { finding_in result ≡ finding_of entries.now }
     {
         match first_apart(entries) {
-            Some(Entry::OutApart { output, input }) => Finding::Apart {
+            Some(Entry::OutApart { output, input }) => Finding::Different {
                 output: *output,
                 input: input.as_slice(),
             },
@@ -36,20 +37,20 @@ impl<'a> Finding<'a> {
         ensures { finding_in result ≡ unless_open (list_any is_open entries.now) }
     {
         if has_open(entries) {
-            Finding::Open
+            Finding::Undecided
         } else {
-            Finding::AllEqual
+            Finding::Equivalent
         }
     }
 
     /// The status with which the program ends where the finding was said.
     pub(crate) fn status(self) -> Status
-        ensures { result ≡ ending (finding_in self.entry) }
+        ensures { result ≡ status_of_finding (finding_in self.entry) }
     {
         match self {
-            Finding::AllEqual => Status::Done,
-            Finding::Apart { .. } => Status::No,
-            Finding::Open => Status::Undecided,
+            Finding::Equivalent => Status::Done,
+            Finding::Different { .. } => Status::No,
+            Finding::Undecided => Status::Undecided,
         }
     }
 }

@@ -1,25 +1,22 @@
 //! Everything that the program does, over a desk that stands for files and streams.
 //!
 //! `run` reads two circuits, settles each output, writes the CNF of their miter beside a proof and says the verdict; or
-//! it checks such a proof. Its contract says what each status means: `specs/Answers.antt`. What a verdict means for the
-//! circuits is `Means` of `specs/Finding.antt`, where a reader who must trust an EQUIVALENT begins; what is said is in
-//! `specs/Texts.antt`, and the lines of faults are in `specs/Lines.antt`. Begin to read at `program.rt`.
+//! it checks such a proof. What each verdict promises is on one page, `specs/Headline.antt`, and `laws::verdicts` shows
+//! it from the contract of `run`, which says what each status means: `specs/Answers.antt`. Begin to read at `program.rt`.
 #![tactic(auto)]
 
+pub use endings::Status;
 pub use kept::Kept;
 pub use program::run;
-pub use status::Status;
 
 mod checking;
+mod content;
 mod finding;
 mod kept;
-mod law;
+pub mod laws;
 mod lines;
 mod program;
-mod proof_file;
 mod reading;
+mod settled;
 mod settling;
-mod status;
-mod stop;
 mod texts;
-mod writing;

@@ -1,19 +1,14 @@
 ghost use Rattle.std.specs.Prelude.{◌≡◌, ◌++◌, IfOk, string_bytes, codes, decimal};
-ghost use Rattle.command_line.specs.Answers.{check_texts};
-ghost use Rattle.cec_top.specs.Lines.{aiger_text, unlike_text, name_of, stop_line};
+ghost use Rattle.cec_top.specs.Lines.{aiger_text, unlike_text};
 
-use crate::stop::Stop;
 use byte_scan::AigerErr;
-use command_line::CheckWords;
-use fault_lines::{line_of_fault, line_of_file};
 use itoa::Buffer;
-use lits::Side;
 use netlist::Unlike;
 use std::alloc::{AllocError, Global};
 
 /// The text of a fault of an AIGER file.
 #[tactic(auto, unfolding(crate::specs::Lines::aiger_text))]
-fn aiger_fault(alloc: Global, fault: AigerErr) -> Result<String, AllocError>
+pub(crate) fn aiger_fault(alloc: Global, fault: AigerErr) -> Result<String, AllocError>
     ensures { IfOk result (λ s. string_bytes s ≡ aiger_text fault) }
 {
     match fault {
@@ -38,7 +33,7 @@ fn aiger_fault(alloc: Global, fault: AigerErr) -> Result<String, AllocError>
 
 /// The text of circuits that can't be compared.
 #[tactic(auto, unfolding(crate::specs::Lines::unlike_text))]
-fn unlike_fault(alloc: Global, fault: Unlike) -> Result<String, AllocError>
+pub(crate) fn unlike_fault(alloc: Global, fault: Unlike) -> Result<String, AllocError>
     ensures { IfOk result (λ s. string_bytes s ≡ unlike_text fault) }
 {
     match fault {
@@ -57,44 +52,4 @@ fn differing(alloc: Global, what: &str, a: u32, b: u32) -> Result<String, AllocE
     text.push_str(Buffer::new().format(b))?;
     text.push_str(" differ")?;
     Ok(text)
-}
-
-fn name_of_side<'a>(words: CheckWords<'a>, side: Side) -> &'a str
-    ensures { result.now ≡ name_of (check_texts words.entry) side }
-{
-    match side {
-        Side::A => words.a,
-        Side::B => words.b,
-    }
-}
-
-/// The line of a check that ends without a verdict.
-#[tactic(auto, unfolding(crate::specs::Lines::stop_line))]
-pub(crate) fn line_of_stop(
-    alloc: Global,
-    words: CheckWords<'_>,
-    stop: Stop,
-) -> Result<String, AllocError>
-    ensures { IfOk result (λ s. string_bytes s ≡ stop_line (check_texts words.entry) stop) }
-{
-    match stop {
-        Stop::CannotRead(side) => line_of_file(alloc, name_of_side(words, side), "cannot read"),
-        Stop::TooLong(side) => {
-            line_of_file(
-                alloc,
-                name_of_side(words, side),
-                "longer than 1073741824 bytes",
-            )
-        }
-        Stop::BadFile(side, fault) => {
-            let text = aiger_fault(alloc, fault)?;
-            line_of_file(alloc, name_of_side(words, side), text.as_str())
-        }
-        Stop::Unlike(fault) => {
-            let text = unlike_fault(alloc, fault)?;
-            line_of_fault(alloc, text.as_str())
-        }
-        Stop::CannotWrite => line_of_fault(alloc, "cannot write"),
-        Stop::OutOfMemory => line_of_fault(alloc, "out of memory"),
-    }
 }

@@ -1,37 +1,36 @@
-ghost use Rattle.std.specs.Prelude.{◌≡◌, Ok, Err, IfOk, IfErr};
-ghost use Rattle.desk_port.specs.Desk.{NoCountFalls};
+ghost use Rattle.std.specs.Prelude.{ℕ, List};
+ghost use Rattle.endings.specs.Reading.{ReadsAs};
+ghost use Rattle.aiger_file.specs.File.{SpellsAiger};
 ghost use Rattle.command_line.specs.Answers.{check_texts};
-ghost use Rattle.cec_top.specs.Causes.{ReadsCircuit, ReadsPair};
+ghost use Rattle.cec_top.specs.Answers.{circuit_file};
+ghost use Rattle.cec_top.specs.Steps.{ReadsPair};
 
-use crate::stop::Stop;
+use crate::lines::{aiger_fault, unlike_fault};
 use byte_scan::AigerErr;
 use command_line::CheckWords;
-use desk_port::{Desk, ReadErr};
-use fault_lines::READ_LIMIT;
-use lits::Side;
+use desk_port::Desk;
+use endings::{Stop, read_file};
 use netlist::{Circuit, Net, Unlike};
 use std::alloc::Global;
 
-/// The circuit of one side's file.
+/// The circuit of the named file, which is this one of those that are read.
 fn read_circuit<D: Desk>(
     alloc: Global,
     desk: &mut D,
     name: &str,
-    side: Side,
+    file: usize,
 ) -> Result<Circuit, Stop>
-    ensures answer { ReadsCircuit (D.state desk.old) (D.state desk.new) name.now side result }
-    ensures counts { NoCountFalls (D.state desk.old) (D.state desk.new) }
+    ensures { (earlier : List (List ℕ)) →
+        ReadsAs SpellsAiger file (circuit_file name.now) earlier (D.state desk.old) (D.state desk.new) result }
 {
-    let bytes = match desk.read(alloc, name, READ_LIMIT) {
-        Ok(bytes) => bytes,
-        Err(ReadErr::Failed) => return Err(Stop::CannotRead(side)),
-        Err(ReadErr::TooLong) => return Err(Stop::TooLong(side)),
-        Err(ReadErr::NoMemory) => return Err(Stop::OutOfMemory),
-    };
-    match aiger_ascii::read(alloc, bytes.as_slice()) {
+    let bytes = read_file(alloc, desk, name, file)?;
+    match aiger_file::read(alloc, bytes.as_slice()) {
         Ok(circuit) => Ok(circuit),
         Err(AigerErr::NoMemory) => Err(Stop::OutOfMemory),
-        Err(fault) => Err(Stop::BadFile(side, fault)),
+        Err(fault) => {
+            let text = aiger_fault(alloc, fault)?;
+            Err(Stop::BadFile(file, text))
+        }
     }
 }
 
@@ -41,15 +40,16 @@ pub(crate) fn read_pair<D: Desk>(
     desk: &mut D,
     words: CheckWords<'_>,
 ) -> Result<Net, Stop>
-    ensures answer { ReadsPair (check_texts words.entry)
-        (D.state desk.old) (D.state desk.new) result }
-    ensures counts { NoCountFalls (D.state desk.old) (D.state desk.new) }
+    ensures { ReadsPair (check_texts words.entry) (D.state desk.old) (D.state desk.new) result }
 {
-    let a = read_circuit(alloc, desk, words.a, Side::A)?;
-    let b = read_circuit(alloc, desk, words.b, Side::B)?;
+    let a = read_circuit(alloc, desk, words.a, 0)?;
+    let b = read_circuit(alloc, desk, words.b, 1)?;
     match Net::of(alloc, a, b) {
         Ok(net) => Ok(net),
         Err(Unlike::NoMemory) => Err(Stop::OutOfMemory),
-        Err(unlike) => Err(Stop::Unlike(unlike)),
+        Err(unlike) => {
+            let text = unlike_fault(alloc, unlike)?;
+            Err(Stop::NotAlike(text))
+        }
     }
 }

@@ -1,12 +1,11 @@
 ghost use Rattle.std.specs.Prelude.{◌≡◌, ◌<◌, ◌≤◌, false, length, IfOk, OnOk};
 ghost use Rattle.lemma_book.specs.Book.{IsLegal};
 ghost use Rattle.lemma_book.specs.Entry.{has_output};
-ghost use Rattle.cec_top.specs.Finding.{IsBookOf};
-ghost use Rattle.cec_top.specs.Settled.{Appends};
+ghost use Rattle.cec_top.specs.Steps.{Appends, IsBookOf};
 
 use lemma_book::Book;
 use netlist::Net;
-use solver_plain::PlainSolver;
+use solver_watch::WatchSolver;
 use std::alloc::{AllocError, Global};
 use unit_prop::Refuter;
 
@@ -16,7 +15,7 @@ pub(crate) fn settle(alloc: Global, net: &Net, budget: u64) -> Result<Book, Allo
     ensures { IfOk result (λ book. IsBookOf net.now budget book) }
 {
     let mut book = Book::new(alloc, budget);
-    let mut solver = PlainSolver::new(alloc);
+    let mut solver = WatchSolver::new(alloc)?;
     for j in 0..net.outputs() {
         settle_output(alloc, net, j, &mut book, &mut solver)?;
     }

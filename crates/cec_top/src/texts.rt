@@ -1,6 +1,7 @@
 ghost use Rattle.std.specs.Prelude.{◌≡◌, ◌++◌, map, IfOk, OnOk};
-ghost use Rattle.cec_top.specs.Found.{finding_in};
-ghost use Rattle.cec_top.specs.Texts.{text_of, digit_of, input_text, output_line, span_line, different_text, open_text, open_text_with, line_if_open};
+ghost use Rattle.cec_top.specs.Check.{text_of};
+ghost use Rattle.cec_top.specs.Steps.{finding_in, open_text_of, line_if_open};
+ghost use Rattle.cec_top.specs.Texts.{digit_of, input_text, output_line, span_line, different_text, open_text_with};
 
 use crate::finding::Finding;
 use itoa::Buffer;
@@ -14,12 +15,12 @@ pub(crate) fn plain_text(
     entries: &[Entry],
     finding: Finding<'_>,
 ) -> Result<Vec<u8>, AllocError>
-    ensures { IfOk result (λ v. v.items ≡ text_of (finding_in finding.entry) (open_text entries.now)) }
+    ensures { IfOk result (λ v. v.items ≡ text_of (finding_in finding.entry) (open_text_of entries.now)) }
 {
     match finding {
-        Finding::AllEqual => Vec::from_slice(alloc, b"EQUIVALENT\n"),
-        Finding::Apart { output, input } => different_text(alloc, output, input),
-        Finding::Open => open_text(alloc, entries),
+        Finding::Equivalent => Vec::from_slice(alloc, b"EQUIVALENT\n"),
+        Finding::Different { output, input } => different_text(alloc, output, input),
+        Finding::Undecided => open_text(alloc, entries),
     }
 }
 
@@ -32,9 +33,9 @@ pub(crate) fn text_with_lines(
     ensures { IfOk result (λ v. v.items ≡ text_of (finding_in finding.entry) (open_text_with spans.now)) }
 {
     match finding {
-        Finding::AllEqual => Vec::from_slice(alloc, b"EQUIVALENT\n"),
-        Finding::Apart { output, input } => different_text(alloc, output, input),
-        Finding::Open => open_text_with(alloc, spans),
+        Finding::Equivalent => Vec::from_slice(alloc, b"EQUIVALENT\n"),
+        Finding::Different { output, input } => different_text(alloc, output, input),
+        Finding::Undecided => open_text_with(alloc, spans),
     }
 }
 
@@ -53,9 +54,9 @@ fn different_text(alloc: Global, output: u32, input: &[bool]) -> Result<Vec<u8>,
 }
 
 /// The text of the outputs that a book leaves open.
-#[tactic(auto, unfolding(crate::specs::Texts::open_text))]
+#[tactic(auto, unfolding(crate::specs::Steps::open_text_of))]
 fn open_text(alloc: Global, entries: &[Entry]) -> Result<Vec<u8>, AllocError>
-    ensures { IfOk result (λ v. v.items ≡ open_text entries.now) }
+    ensures { IfOk result (λ v. v.items ≡ open_text_of entries.now) }
 {
     let mut text = Vec::from_slice(alloc, b"UNDECIDED\n")?;
     for entry in entries {

@@ -1,7 +1,7 @@
 use Rattle.std.proofs.Common.{length, arith, ap, sym, ◌∙◌, subst, List}
 use Rattle.std.proofs.lemmas.List.{length_push}
 use Rattle.lemma_book.specs.declared.entry.Entry.{Entry}
-use Rattle.cec_top.specs.Finding.{AreAbout}
+use Rattle.cec_top.specs.Steps.{AreAbout}
 use Rattle.cec_top.proofs.SettledLemmas.{has_output-past, AreAbout-push}
 use Rattle.cec_top.proofs.settling.settle.Goals as goal
 

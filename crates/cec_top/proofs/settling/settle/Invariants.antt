@@ -1,7 +1,7 @@
 -- The outputs so far have their entries, in order.
 use Rattle.std.proofs.Common.{◌≡◌, length}
 use Rattle.lemma_book.specs.Book.{IsLegal}
-use Rattle.cec_top.specs.Finding.{AreAbout}
+use Rattle.cec_top.specs.Steps.{AreAbout}
 use Rattle.cec_top.proofs.settling.settle.Given as goal
 
 abbrev pub invariant-loop-j : goal.invariant-loop-j

@@ -1,7 +1,7 @@
 -- What went before is written.
 use Rattle.std.proofs.Common.{◌≡◌, ◌++◌, take}
 use Rattle.std.specs.List.{flat_map}
-use Rattle.cec_top.specs.Texts.{line_if_open}
+use Rattle.cec_top.specs.Steps.{line_if_open}
 use Rattle.cec_top.proofs.texts.open_text.Given as goal
 
 abbrev pub invariant-loop-entry : goal.invariant-loop-entry

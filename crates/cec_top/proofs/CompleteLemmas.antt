@@ -1,0 +1,183 @@
+-- A check that can be made comes to a verdict, where the desk has no fault and memory suffices.
+use Rattle.std.proofs.Common.{◌≡◌, ℕ, ◌<◌, ◌≤◌, inl, inr, List, [], ◌∷◌, ◌++◌, length, map, Option, Some, None, Ok, Err, refl, sym, ap, ◌∙◌, subst, arith, eq-eqb}
+use Rattle.std.specs.Prelude.{Result, ◌⊎◌, IfSome, IsSomeAnd}
+use Rattle.std.proofs.lemmas.Option.{none-some, same_Some}
+use Rattle.desk_port.specs.Desk.{DeskState, Files, Rose, HasMore, after_read}
+use Rattle.byte_scan.specs.declared.errors.AigerErr.{AigerErr}
+use Rattle.netlist.specs.Circuit.{Aig}
+use Rattle.netlist.specs.Unlike.{unlike_of}
+use Rattle.aiger_file.specs.File.{SpellsAiger}
+use Rattle.endings.specs.declared.status.Status.{Status}
+use Rattle.endings.specs.Status.{code_of}
+use Rattle.endings.specs.declared.stop.Stop.{Stop}
+use Rattle.endings.specs.declared.stop.Stop.TheVariants.{CannotRead, TooLong, BadFile, NotAlike, CannotWrite, OutOfMemory}
+use Rattle.endings.specs.Reading.{FileIs, StopsAt, ReadsUpTo, after_reads, limit}
+use Rattle.endings.specs.Writing.{Output, Leaves, after_file}
+use Rattle.endings.specs.Stops.{IsWarned, Warns, status_of, stop_line}
+use Rattle.command_line.specs.Words.{CheckCommand, Request, CheckIt, LratIt, Asks, WantHelp, AreRefused}
+use Rattle.cec_top.specs.declared.kept.Kept.{Kept}
+use Rattle.cec_top.specs.Headline.{FileSpells}
+use Rattle.cec_top.specs.Finding.{Finding, Equivalent, Different, Undecided}
+use Rattle.cec_top.specs.Check.{Made, status_of_finding, AreTold, outputs_of as files_of, text_of_check}
+use Rattle.cec_top.specs.Answers.{fault_in, Answers, AnswersCheck, AreUnlike, BreaksOff, Stops, IsAtOnce, circuit_file, inputs_of, names_of}
+use Rattle.cec_top.specs.Complete.{NoFault, IsWithinLimit, CanCheck, HasVerdict}
+use Rattle.cec_top.proofs.VerdictLemmas.{only-check}
+use Rattle.cec_top.proofs.WordsLemmas.{check_or}
+
+-- memory ran out, or a fault was counted
+abbrev pub IsExcused : DeskState → DeskState → Stop → Type 0
+IsExcused old new stop = (stop ≡ OutOfMemory) ⊎ Rose old.read_faults new.read_faults ⊎ Rose old.write_faults new.write_faults
+
+-- what stops while files are left and the verdict is said
+pub leaves-stops : (os : List Output) (text : List ℕ) (s t : DeskState) (stop : Stop) → Leaves os text s t (Err stop)
+    → (stop ≡ OutOfMemory) ⊎ Rose s.write_faults t.write_faults
+leaves-stops [] text s t CannotWrite p = inr p.2.rose
+leaves-stops [] text s t OutOfMemory p = inl refl
+leaves-stops [] text s t (CannotRead file) p = absurd p
+leaves-stops [] text s t (TooLong file) p = absurd p
+leaves-stops [] text s t (BadFile file why) p = absurd p
+leaves-stops [] text s t (NotAlike why) p = absurd p
+leaves-stops (o ∷ os) text s t stop (inr p) = leaves-stops os text (after_file s o) t stop p
+leaves-stops (o ∷ os) text s t OutOfMemory (inl p) = inl refl
+leaves-stops (o ∷ os) text s t CannotWrite (inl (inl p)) = inr p.rose
+leaves-stops (o ∷ os) text s t CannotWrite (inl (inr (inl p))) = inr p.rose
+leaves-stops (o ∷ os) text s t CannotWrite (inl (inr (inr (inl p)))) = inr p.2.rose
+leaves-stops (o ∷ os) text s t CannotWrite (inl (inr (inr (inr p)))) = inr p.rose
+leaves-stops (o ∷ os) text s t (CannotRead file) (inl p) = absurd p
+leaves-stops (o ∷ os) text s t (TooLong file) (inl p) = absurd p
+leaves-stops (o ∷ os) text s t (BadFile file why) (inl p) = absurd p
+leaves-stops (o ∷ os) text s t (NotAlike why) (inl p) = absurd p
+
+-- the file of a circuit
+module _ (s : DeskState) (files : Files) (told : s.files ≡ Some files) (name : List ℕ) (c : Aig) (spells : FileSpells files name c) (within : IsWithinLimit files name) where
+  spelt-at : (o : Option (List ℕ)) → IsSomeAnd o (λ b. SpellsAiger b c) → (bytes : List ℕ) → o ≡ Some bytes → SpellsAiger bytes c
+  spelt-at None p bytes e = absurd p
+  spelt-at (Some b) p bytes e = subst (λ (x : List ℕ). SpellsAiger x c) (same_Some b bytes e) p
+
+  -- its bytes spell the circuit
+  spelt : (bytes : List ℕ) → FileIs s name bytes → SpellsAiger bytes c
+  spelt bytes is = spelt-at (files name) spells bytes (subst (λ (o : Option Files). IfSome o (λ f. f name ≡ Some bytes)) told is.0)
+
+  too-long : (o : Option (List ℕ)) → IsSomeAnd o (λ b. limit < length b) → IfSome o (λ b. length b ≤ limit) → ⊥
+  too-long None p q = p
+  too-long (Some b) p q = absurd (omega (arith, p, q))
+
+  stops-file : (k : ℕ) (earlier : List (List ℕ)) (t : DeskState) (stop : Stop) → StopsAt k (circuit_file name) earlier s t stop
+      → (stop ≡ OutOfMemory) ⊎ Rose s.read_faults t.read_faults
+  stops-file k earlier t (CannotRead j) p = inr p.1.rose
+  stops-file k earlier t (TooLong j) p =
+      absurd (too-long (files name) (subst (λ (o : Option Files). IfSome o (λ f. HasMore f name limit)) told p.1) within)
+  stops-file k earlier t (BadFile j text) p =
+      absurd (none-some _ (sym (ap fault_in (spelt p.1.0 p.1.1)) ∙ p.1.2))
+  stops-file k earlier t OutOfMemory p = inl refl
+  stops-file k earlier t (NotAlike text) p = absurd p
+  stops-file k earlier t CannotWrite p = absurd p
+
+-- bytes spell one circuit at most
+abbrev pub circuit_or : Aig → Result Aig AigerErr → Aig
+circuit_or d (Ok c) = c
+circuit_or d (Err e) = d
+
+abbrev pub ok_is : Aig → Aig → Type 0
+ok_is a b = let r : Result Aig AigerErr = Ok a in r ≡ Ok b
+
+ok-equal : (a b : Aig) → ok_is a b → a ≡ b
+ok-equal a b e = ap (circuit_or a) e
+
+alike-from : (a b : Aig) → length a.inputs ≡ length b.inputs → length a.outputs ≡ length b.outputs → unlike_of a b ≡ None
+alike-from a b i o = rw (eq-eqb (length a.inputs) (length b.inputs) i, eq-eqb (length a.outputs) (length b.outputs) o) refl
+
+module _ (c : CheckCommand) (old : DeskState) (can : CanCheck c old) (kept : List Kept) where
+  reads-stop : (new : DeskState) (stop : Stop) → ReadsUpTo 0 [] (inputs_of c) old new stop → IsExcused old new stop
+  reads-stop new stop (inl p) = first (stops-file old can.files can.told c.a can.net.a can.pair.a can.a 0 [] new stop p)
+    where
+      first : (stop ≡ OutOfMemory) ⊎ Rose old.read_faults new.read_faults → IsExcused old new stop
+      first (inl e) = inl e
+      first (inr r) = inr (inl r)
+  reads-stop new stop (inr p) = second p.3
+    where
+      excused : (stop ≡ OutOfMemory) ⊎ Rose old.read_faults new.read_faults → IsExcused old new stop
+      excused (inl e) = inl e
+      excused (inr r) = inr (inl r)
+
+      second : ReadsUpTo 1 (p.0 ∷ []) (circuit_file c.b ∷ []) (after_read old c.a) new stop → IsExcused old new stop
+      second (inl q) = excused (stops-file (after_read old c.a) can.files can.told c.b can.net.b can.pair.b can.b 1 (p.0 ∷ []) new stop q)
+      second (inr q) = absurd q.3
+
+  -- circuits that fit aren't refused
+  not-unlike : (new : DeskState) (stop : Stop) → AreUnlike c old new stop → IsExcused old new stop
+  not-unlike new stop p =
+      let a = (spelt old can.files can.told c.a can.net.a can.pair.a can.a p.reads.a p.reads.read.0) in
+      let b = (spelt old can.files can.told c.b can.net.b can.pair.b can.b p.reads.b p.reads.read.2.0) in
+      let same_a : p.net.a ≡ can.net.a = ok-equal p.net.a can.net.a (sym p.reads.spells_a ∙ a) in
+      let same_b : p.net.b ≡ can.net.b = ok-equal p.net.b can.net.b (sym p.reads.spells_b ∙ b) in
+      let alike : unlike_of p.net.a p.net.b ≡ None =
+      alike-from p.net.a p.net.b
+      (ap (λ (x : Aig). length x.inputs) same_a ∙ can.pair.inputs ∙ sym (ap (λ (x : Aig). length x.inputs) same_b))
+      (ap (λ (x : Aig). length x.outputs) same_a ∙ can.pair.outputs ∙ sym (ap (λ (x : Aig). length x.outputs) same_b)) in
+      absurd (none-some p.unlike (sym alike ∙ p.differ))
+
+  breaks-stop : (new : DeskState) (stop : Stop) → BreaksOff c old new kept stop → IsExcused old new stop
+  breaks-stop new stop p = go p.made p.before.checks p.before.told
+      (leaves-stops (files_of c.out (length p.made) p.half) (text_of_check c.out p.half) p.mid new stop p.breaks)
+    where
+      excused : p.mid.write_faults ≡ old.write_faults → (stop ≡ OutOfMemory) ⊎ Rose p.mid.write_faults new.write_faults → IsExcused old new stop
+      excused same (inl e) = inl e
+      excused same (inr r) = inr (inr (subst (λ (n : ℕ). Rose n new.write_faults) same r))
+
+      go : (made : List Made) → map (λ (m : Made). m.net) made ++ (p.half.net ∷ p.others) ≡ p.before.net ∷ []
+          → AreTold c 0 made (after_reads old (inputs_of c)) p.mid → (stop ≡ OutOfMemory) ⊎ Rose p.mid.write_faults new.write_faults → IsExcused old new stop
+      go [] checks told q = excused (ap (λ (s : DeskState). s.write_faults) told) q
+      go (m ∷ []) checks told q = cc
+      go (m ∷ n ∷ ms) checks told q = cc
+
+  pub stops-excused : (new : DeskState) (stop : Stop) → Stops c old kept new stop → IsExcused old new stop
+  stops-excused new stop (inl p) = reads-stop new stop p.1
+  stops-excused new stop (inr (inl p)) = not-unlike new stop p.1
+  stops-excused new stop (inr (inr (inl p))) = breaks-stop new stop p
+  stops-excused new stop (inr (inr (inr p))) = inl p.out
+
+-- the warning changes no count of reads or writes
+pub warned-counts : (mid new : DeskState) (line : List ℕ) → IsWarned mid new line
+    → (new.read_faults ≡ mid.read_faults) × (new.write_faults ≡ mid.write_faults)
+warned-counts mid new line (inl p) = (ap (λ (s : DeskState). s.read_faults) p, ap (λ (s : DeskState). s.write_faults) p)
+warned-counts mid new line (inr p) =
+    (ap (λ (s : DeskState). s.read_faults) p.2.stays, ap (λ (s : DeskState). s.write_faults) p.2.stays)
+
+finding-code : (f : Finding) → code_of (status_of_finding f) ≤ 2
+finding-code Equivalent = omega arith
+finding-code (Different j input) = omega arith
+finding-code Undecided = omega arith
+
+pub check-complete : (c : CheckCommand) (old new : DeskState) (status : Status) (kept : List Kept) → CanCheck c old → NoFault old new
+    → AnswersCheck c old new status kept → HasVerdict status
+check-complete c old new status kept can none (inl p) =
+    let only = only-check c old new status kept p in
+    inl (subst (λ (s : Status). code_of s ≤ 2) only.status_is (finding-code only.check.finding))
+check-complete c old new status kept can none (inr p) = go p.warns (stops-excused c old can kept p.mid p.stop p.cause)
+  where
+    go : Warns (stop_line (names_of c) p.stop) (status_of p.stop) p.mid new status → IsExcused old p.mid p.stop → HasVerdict status
+    go (inr w) excuse = inr (ap code_of w.0)
+    go (inl w) (inl memory) = inr (ap code_of w.0 ∙ ap (λ (s : Stop). code_of (status_of s)) memory)
+    go (inl w) (inr (inl reads)) =
+        absurd (none.reads (subst (λ (n : ℕ). Rose old.read_faults n) (sym (warned-counts p.mid new _ w.1).0) reads))
+    go (inl w) (inr (inr writes)) =
+        absurd (none.writes (subst (λ (n : ℕ). Rose old.write_faults n) (sym (warned-counts p.mid new _ w.1).1) writes))
+
+module _ (words : List (List ℕ)) (old new : DeskState) (status : Status) (kept : List Kept)
+    (asked : (words : List (List ℕ)) (r : Request) → Asks words r → ¬ (WantHelp words ⊎ AreRefused words))
+    (answers : Answers words old new status kept) where
+  pub complete : (c : CheckCommand) → Asks words (CheckIt c) → CanCheck c old → NoFault old new → HasVerdict status
+  complete c asks can none = elim answers [
+    | inl p ↦
+        let same : p.command ≡ c = ap (check_or c) (same_Some (CheckIt p.command) (CheckIt c) (sym p.asked ∙ asks)) in
+        check-complete c old new status kept can none (subst (λ (d : CheckCommand). AnswersCheck d old new status kept) same p.answers)
+    | inr (inl p) ↦ let t : LratIt p.command ≡ CheckIt c = same_Some (LratIt p.command) (CheckIt c) (sym p.asked ∙ asks) in cc
+    | inr (inr (inl p)) ↦ absurd (asked words (CheckIt c) asks (inl p.wanted))
+    | inr (inr (inr (inl p))) ↦ absurd (asked words (CheckIt c) asks (inr p.refused))
+    | inr (inr (inr (inr p))) ↦ at-once p.ends.stop p.ends.mid p.ends.cause p.ends.warns
+  ]
+    where
+      at-once : (stop : Stop) (mid : DeskState) → IsAtOnce old mid stop → Warns (stop_line [] stop) (status_of stop) mid new status → HasVerdict status
+      at-once stop mid cause (inl w) = inr (ap code_of w.0 ∙ ap (λ (s : Stop). code_of (status_of s)) cause.0)
+      at-once stop mid cause (inr w) = inr (ap code_of w.0)

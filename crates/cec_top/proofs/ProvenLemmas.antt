@@ -1,0 +1,118 @@
+-- A proof that can be checked comes to a verdict, where the desk has no fault and memory suffices.
+use Rattle.std.proofs.Common.{◌≡◌, ℕ, ◌<◌, ◌≤◌, inl, inr, List, [], ◌∷◌, length, Option, Some, None, refl, sym, ap, ◌∙◌, subst, arith}
+use Rattle.std.specs.Prelude.{◌⊎◌, IfSome, IsSomeAnd}
+use Rattle.std.proofs.lemmas.Option.{none-some, same_Some}
+use Rattle.desk_port.specs.Desk.{DeskState, Files, Rose, HasMore, after_read}
+use Rattle.dimacs_text.specs.Reading.{formula_in}
+use Rattle.lrat_text.specs.Reading.{steps_in}
+use Rattle.endings.specs.declared.status.Status.{Status}
+use Rattle.endings.specs.declared.status.Status.TheVariants as ends
+use Rattle.endings.specs.Status.{code_of}
+use Rattle.endings.specs.declared.stop.Stop.{Stop}
+use Rattle.endings.specs.declared.stop.Stop.TheVariants.{CannotRead, TooLong, BadFile, NotAlike, CannotWrite, OutOfMemory}
+use Rattle.endings.specs.Reading.{Input, FileIs, StopsAt, ReadsUpTo, after_reads, limit}
+use Rattle.endings.specs.Stops.{EndsBy, Warns, status_of, stop_line}
+use Rattle.lrat_run.specs.Files.{cnf_fault, proof_fault, clauses_of, clauses_in, cnf_input, proof_input, inputs_of}
+use Rattle.lrat_run.specs.Texts.{verdict_line}
+use Rattle.lrat_run.specs.Answers.{AnswersLrat, Stops}
+use Rattle.command_line.specs.Words.{LratCommand, Request, CheckIt, LratIt, Asks, WantHelp, AreRefused}
+use Rattle.cec_top.specs.declared.kept.Kept.{Kept}
+use Rattle.cec_top.specs.Answers.{Answers, IsAtOnce}
+use Rattle.cec_top.specs.Complete.{NoFault, IsWithinLimit, CanVerify, HasVerdict}
+use Rattle.cec_top.proofs.CompleteLemmas.{IsExcused, leaves-stops, warned-counts}
+use Rattle.cec_top.proofs.WordsLemmas.{lrat_or}
+
+-- bytes of a file that is there
+there : (P : List ℕ → Type 0) (o : Option (List ℕ)) → IsSomeAnd o P → (bytes : List ℕ) → o ≡ Some bytes → P bytes
+there P None p bytes e = absurd p
+there P (Some b) p bytes e = subst P (same_Some b bytes e) p
+
+too-long : (o : Option (List ℕ)) → IsSomeAnd o (λ b. limit < length b) → IfSome o (λ b. length b ≤ limit) → ⊥
+too-long None p q = p
+too-long (Some b) p q = absurd (omega (arith, p, q))
+
+-- a file whose bytes have no fault stops a command for a fault of the desk alone
+module _ (s : DeskState) (files : Files) (told : s.files ≡ Some files) (i : Input) (earlier : List (List ℕ)) (within : IsWithinLimit files i.name)
+    (none : (bytes : List ℕ) → FileIs s i.name bytes → i.fault earlier bytes ≡ None) where
+  stops-input : (k : ℕ) (t : DeskState) (stop : Stop) → StopsAt k i earlier s t stop → (stop ≡ OutOfMemory) ⊎ Rose s.read_faults t.read_faults
+  stops-input k t (CannotRead j) p = inr p.1.rose
+  stops-input k t (TooLong j) p =
+      absurd (too-long (files i.name) (subst (λ (o : Option Files). IfSome o (λ f. HasMore f i.name limit)) told p.1) within)
+  stops-input k t (BadFile j text) p = absurd (none-some _ (sym (none p.1.0 p.1.1) ∙ p.1.2))
+  stops-input k t OutOfMemory p = inl refl
+  stops-input k t (NotAlike text) p = absurd p
+  stops-input k t CannotWrite p = absurd p
+
+module _ (c : LratCommand) (old : DeskState) (can : CanVerify c old) where
+  excused : (new : DeskState) (stop : Stop) → (stop ≡ OutOfMemory) ⊎ Rose old.read_faults new.read_faults → IsExcused old new stop
+  excused new stop (inl e) = inl e
+  excused new stop (inr r) = inr (inl r)
+
+  bytes-of : (s : DeskState) → s.files ≡ Some can.files → (name bytes : List ℕ) → FileIs s name bytes → can.files name ≡ Some bytes
+  bytes-of s told name bytes is = subst (λ (o : Option Files). IfSome o (λ f. f name ≡ Some bytes)) told is.0
+
+  no-cnf-fault : (bytes : List ℕ) → FileIs old c.cnf bytes → cnf_fault (formula_in bytes) ≡ None
+  no-cnf-fault bytes is = ap cnf_fault (there _ (can.files c.cnf) can.spells_formula bytes (bytes-of old can.told c.cnf bytes is))
+
+  clauses-are : (bytes : List ℕ) → FileIs old c.cnf bytes → clauses_in (bytes ∷ []) ≡ length can.formula.clauses
+  clauses-are bytes is = ap clauses_of (there _ (can.files c.cnf) can.spells_formula bytes (bytes-of old can.told c.cnf bytes is))
+
+  no-proof-fault : (cnf : List ℕ) → FileIs old c.cnf cnf → (bytes : List ℕ) → FileIs (after_read old c.cnf) c.proof bytes
+      → proof_fault (steps_in (clauses_in (cnf ∷ [])) bytes) ≡ None
+  no-proof-fault cnf first bytes is =
+      ap (λ (m : ℕ). proof_fault (steps_in m bytes)) (clauses-are cnf first)
+      ∙ ap proof_fault (there _ (can.files c.proof) can.spells_lines bytes (bytes-of (after_read old c.cnf) can.told c.proof bytes is))
+
+  stops-lrat : (new : DeskState) (stop : Stop) → Stops c.cnf c.proof old new stop → IsExcused old new stop
+  stops-lrat new stop (inl (inl p)) =
+      excused new stop (stops-input old can.files can.told (cnf_input c.cnf) [] can.cnf no-cnf-fault 0 new stop p)
+  stops-lrat new stop (inl (inr p)) = second p.3
+    where
+      second : ReadsUpTo 1 (p.0 ∷ []) (proof_input c.proof ∷ []) (after_read old c.cnf) new stop → IsExcused old new stop
+      second (inl q) =
+          excused new stop (stops-input (after_read old c.cnf) can.files can.told (proof_input c.proof) (p.0 ∷ []) can.proof (no-proof-fault p.0 p.1) 1 new stop q)
+      second (inr q) = absurd q.3
+  stops-lrat new stop (inr p) = told (leaves-stops [] (verdict_line p.verdict) (after_reads old (inputs_of c.cnf c.proof)) new stop p.leaves)
+    where
+      told : (stop ≡ OutOfMemory) ⊎ Rose old.write_faults new.write_faults → IsExcused old new stop
+      told (inl e) = inl e
+      told (inr r) = inr (inr r)
+
+  ends-lrat : (new : DeskState) (status : Status) → NoFault old new → EndsBy (c.cnf ∷ c.proof ∷ []) (Stops c.cnf c.proof old) new status → HasVerdict status
+  ends-lrat new status none p = go p.warns (stops-lrat p.mid p.stop p.cause)
+    where
+      go : Warns (stop_line (c.cnf ∷ c.proof ∷ []) p.stop) (status_of p.stop) p.mid new status → IsExcused old p.mid p.stop → HasVerdict status
+      go (inr w) excuse = inr (ap code_of w.0)
+      go (inl w) (inl memory) = inr (ap code_of w.0 ∙ ap (λ (s : Stop). code_of (status_of s)) memory)
+      go (inl w) (inr (inl reads)) =
+          absurd (none.reads (subst (λ (n : ℕ). Rose old.read_faults n) (sym (warned-counts p.mid new _ w.1).0) reads))
+      go (inl w) (inr (inr writes)) =
+          absurd (none.writes (subst (λ (n : ℕ). Rose old.write_faults n) (sym (warned-counts p.mid new _ w.1).1) writes))
+
+  pub lrat-complete : (new : DeskState) (status : Status) → NoFault old new → AnswersLrat c.cnf c.proof old new status → HasVerdict status
+  lrat-complete new ends.Done none p = inl (omega arith)
+  lrat-complete new ends.No none p = inl (omega arith)
+  lrat-complete new ends.Undecided none p = absurd p
+  lrat-complete new ends.BadUsage none p = absurd p
+  lrat-complete new ends.BadInput none p = ends-lrat new ends.BadInput none p
+  lrat-complete new ends.CannotRead none p = ends-lrat new ends.CannotRead none p
+  lrat-complete new ends.CannotWrite none p = ends-lrat new ends.CannotWrite none p
+  lrat-complete new ends.OutOfMemory none p = ends-lrat new ends.OutOfMemory none p
+
+module _ (words : List (List ℕ)) (old new : DeskState) (status : Status) (kept : List Kept)
+    (asked : (words : List (List ℕ)) (r : Request) → Asks words r → ¬ (WantHelp words ⊎ AreRefused words))
+    (answers : Answers words old new status kept) where
+  pub complete-lrat : (c : LratCommand) → Asks words (LratIt c) → CanVerify c old → NoFault old new → HasVerdict status
+  complete-lrat c asks can none = elim answers [
+    | inl p ↦ let t : CheckIt p.command ≡ LratIt c = same_Some (CheckIt p.command) (LratIt c) (sym p.asked ∙ asks) in cc
+    | inr (inl p) ↦
+        let same : p.command ≡ c = ap (lrat_or c) (same_Some (LratIt p.command) (LratIt c) (sym p.asked ∙ asks)) in
+        lrat-complete c old can new status none (subst (λ (d : LratCommand). AnswersLrat d.cnf d.proof old new status) same p.answers)
+    | inr (inr (inl p)) ↦ absurd (asked words (LratIt c) asks (inl p.wanted))
+    | inr (inr (inr (inl p))) ↦ absurd (asked words (LratIt c) asks (inr p.refused))
+    | inr (inr (inr (inr p))) ↦ at-once p.ends.stop p.ends.mid p.ends.cause p.ends.warns
+  ]
+    where
+      at-once : (stop : Stop) (mid : DeskState) → IsAtOnce old mid stop → Warns (stop_line [] stop) (status_of stop) mid new status → HasVerdict status
+      at-once stop mid cause (inl w) = inr (ap code_of w.0 ∙ ap (λ (s : Stop). code_of (status_of s)) cause.0)
+      at-once stop mid cause (inr w) = inr (ap code_of w.0)

@@ -1,0 +1,67 @@
+-- How a check goes on from a file to the next, and from its files to its verdict.
+use Rattle.std.proofs.Common.{◌≡◌, ℕ, inl, inr, List, [], ◌∷◌, ◌++◌, Option, Some, None, Ok, Err, Result, sym, ap, ◌∙◌, subst}
+use Rattle.desk_port.specs.Desk.{DeskState}
+use Rattle.endings.specs.declared.stop.Stop.{Stop}
+use Rattle.endings.specs.declared.stop.Stop.TheVariants.{OutOfMemory}
+use Rattle.endings.specs.Writing.{Output, StopsIn, Says, Leaves, after_file}
+use Rattle.cec_top.specs.Finding.{open_outputs}
+use Rattle.cec_top.specs.Texts.{open_text}
+use Rattle.cec_top.specs.Check.{Made, outputs_of, text_of, text_of_check}
+use Rattle.cec_top.specs.Steps.{after_outputs, open_text_of}
+
+-- what stops behind files that are left stops all that is left
+pub stops-behind : (os more : List Output) (old mid new : DeskState) (stop : Stop) → mid ≡ after_outputs old os
+    → ((any : List ℕ) → Leaves more any mid new (Err stop)) → (any : List ℕ) → Leaves (os ++ more) any old new (Err stop)
+stops-behind [] more old mid new stop at p any = subst (λ (s : DeskState). Leaves more any s new (Err stop)) at (p any)
+stops-behind (o ∷ os) more old mid new stop at p any = inr (stops-behind os more (after_file old o) mid new stop at p any)
+
+-- memory runs out behind all files
+pub runs-out : (os : List Output) (old new : DeskState) → new ≡ after_outputs old os
+    → (any : List ℕ) → Leaves os any old new (Err OutOfMemory)
+runs-out [] old new at any = at
+runs-out (o ∷ os) old new at any = inr (runs-out os (after_file old o) new at any)
+
+-- what is said behind the files
+pub says-behind : (os : List Output) (text : List ℕ) (old mid new : DeskState) (result : Result (Unit {0}) Stop) → mid ≡ after_outputs old os
+    → Says text mid new result → Leaves os text old new result
+says-behind [] text old mid new result at p = subst (λ (s : DeskState). Says text s new result) at p
+says-behind (o ∷ os) text old mid new (Ok u) at p = says-behind os text (after_file old o) mid new (Ok u) at p
+says-behind (o ∷ os) text old mid new (Err stop) at p = inr (says-behind os text (after_file old o) mid new (Err stop) at p)
+
+-- the second of two files isn't written whole
+pub stops-second : (a b m n x y : List ℕ) → m ≡ a → n ≡ b → (old mid new : DeskState) (stop : Stop)
+    → mid ≡ after_file old (record { name = m; bytes = x })
+    → StopsIn (record { name = n; bytes = y }) mid new stop
+    → (any : List ℕ) → Leaves (record { name = a; bytes = x } ∷ record { name = b; bytes = y } ∷ []) any old new (Err stop)
+stops-second a b m n x y same_a same_b old mid new stop at p any =
+    let whole : mid ≡ after_file old (record { name = a; bytes = x }) =
+    at ∙ ap (λ (name : List ℕ). after_file old (record { name = name; bytes = x })) same_a in
+    inr (inl (subst (λ (s : DeskState). StopsIn (record { name = b; bytes = y }) s new stop) whole
+    (subst (λ (name : List ℕ). StopsIn (record { name = name; bytes = y }) mid new stop) same_b p)))
+
+module _ (out : Option (List ℕ)) (number : ℕ) (m : Made) (old mid new : DeskState) where
+  -- nothing is left, and the verdict is said
+  pub told-plain : out ≡ None → open_text_of m.book.entries ≡ open_text (open_outputs m.net m.book.entries)
+      → (said : List ℕ) → said ≡ text_of m.finding (open_text_of m.book.entries) → mid ≡ old
+      → (result : Result (Unit {0}) Stop) → Says said mid new result → Leaves (outputs_of out number m) (text_of_check out m) old new result
+  told-plain none opens said is at result p =
+      subst (λ (o : Option (List ℕ)). Leaves (outputs_of o number m) (text_of_check o m) old new result) (sym none)
+      (says-behind [] (text_of_check None m) old mid new result at
+      (subst (λ (text : List ℕ). Says text mid new result) (is ∙ ap (text_of m.finding) opens) p))
+
+  -- the files are left, and the verdict is said
+  pub told-files : (prefix : List ℕ) → out ≡ Some prefix → (said : List ℕ) → said ≡ text_of_check (Some prefix) m
+      → mid ≡ after_outputs old (outputs_of (Some prefix) number m)
+      → (result : Result (Unit {0}) Stop) → Says said mid new result → Leaves (outputs_of out number m) (text_of_check out m) old new result
+  told-files prefix some said is at result p =
+      subst (λ (o : Option (List ℕ)). Leaves (outputs_of o number m) (text_of_check o m) old new result) (sym some)
+      (says-behind (outputs_of (Some prefix) number m) (text_of_check (Some prefix) m) old mid new result at
+      (subst (λ (text : List ℕ). Says text mid new result) is p))
+
+  -- leaving the files stops
+  pub stops-files : (prefix : List ℕ) → out ≡ Some prefix → (stop : Stop)
+      → ((any : List ℕ) → Leaves (outputs_of (Some prefix) number m) any old new (Err stop))
+      → Leaves (outputs_of out number m) (text_of_check out m) old new (Err stop)
+  stops-files prefix some stop p =
+      subst (λ (o : Option (List ℕ)). Leaves (outputs_of o number m) (text_of_check o m) old new (Err stop)) (sym some)
+      (p (text_of_check (Some prefix) m))

@@ -1,0 +1,83 @@
+-- What the program answers to arguments that ask for a check, or for the check of a proof.
+use Rattle.std.proofs.Common.{◌≡◌, ℕ, ◌<◌, inl, inr, List, Some, Option, refl, sym, ap, ◌∙◌, subst, arith}
+use Rattle.std.specs.Prelude.{◌⊎◌, IfSome, IsSomeAnd, codes, option_map, ◌++◌}
+use Rattle.std.proofs.lemmas.Option.{same_Some}
+use Rattle.desk_port.specs.Desk.{Files, DeskState}
+use Rattle.endings.specs.declared.status.Status.{Status}
+use Rattle.endings.specs.declared.status.Status.TheVariants as ends
+use Rattle.endings.specs.Status.{code_of}
+use Rattle.lrat_run.specs.Answers.{AnswersLrat}
+use Rattle.endings.specs.Reading.{FileIs}
+use Rattle.command_line.specs.Words.{CheckCommand, LratCommand, Request, CheckIt, LratIt, Asks, WantHelp, AreRefused}
+use Rattle.cec_top.specs.declared.kept.Kept.{Kept}
+use Rattle.cec_top.specs.Headline.{IsVerified, Shows}
+use Rattle.cec_top.specs.Answers.{Answers, AnswersCheck}
+use Rattle.cec_top.proofs.HeadlineLemmas.{ends-code}
+
+-- the command of a request, where it asks for a check
+abbrev pub check_or : CheckCommand → Request → CheckCommand
+check_or d (CheckIt c) = c
+check_or d (LratIt c) = d
+
+abbrev pub lrat_or : LratCommand → Request → LratCommand
+lrat_or d (CheckIt c) = d
+lrat_or d (LratIt c) = c
+
+module _ (words : List (List ℕ)) (old new : DeskState) (status : Status) (kept : List Kept)
+    (asked : (words : List (List ℕ)) (r : Request) → Asks words r → ¬ (WantHelp words ⊎ AreRefused words))
+    (answers : Answers words old new status kept) where
+  pub answers-check : (c : CheckCommand) → Asks words (CheckIt c) → code_of status < 4 → AnswersCheck c old new status kept
+  answers-check c asks below = elim answers [
+    | inl p ↦
+        let same : p.command ≡ c = ap (check_or c) (same_Some (CheckIt p.command) (CheckIt c) (sym p.asked ∙ asks)) in
+        subst (λ (d : CheckCommand). AnswersCheck d old new status kept) same p.answers
+    | inr (inl p) ↦ let t : LratIt p.command ≡ CheckIt c = same_Some (LratIt p.command) (CheckIt c) (sym p.asked ∙ asks) in cc
+    | inr (inr (inl p)) ↦ absurd (asked words (CheckIt c) asks (inl p.wanted))
+    | inr (inr (inr (inl p))) ↦ absurd (asked words (CheckIt c) asks (inr p.refused))
+    | inr (inr (inr (inr p))) ↦ absurd (omega (arith, below, ends-code _ _ new status p.ends))
+  ]
+
+  pub answers-lrat : (c : LratCommand) → Asks words (LratIt c) → code_of status < 4 → AnswersLrat c.cnf c.proof old new status
+  answers-lrat c asks below = elim answers [
+    | inl p ↦ let t : CheckIt p.command ≡ LratIt c = same_Some (CheckIt p.command) (LratIt c) (sym p.asked ∙ asks) in cc
+    | inr (inl p) ↦
+        let same : p.command ≡ c = ap (lrat_or c) (same_Some (LratIt p.command) (LratIt c) (sym p.asked ∙ asks)) in
+        subst (λ (d : LratCommand). AnswersLrat d.cnf d.proof old new status) same p.answers
+    | inr (inr (inl p)) ↦ absurd (asked words (LratIt c) asks (inl p.wanted))
+    | inr (inr (inr (inl p))) ↦ absurd (asked words (LratIt c) asks (inr p.refused))
+    | inr (inr (inr (inr p))) ↦ absurd (omega (arith, below, ends-code _ _ new status p.ends))
+  ]
+
+-- the named file holds bytes of which the fact holds
+file-has : (s : DeskState) (files : Files) → s.files ≡ Some files → (name bytes : List ℕ) (P : List ℕ → Type 0) → FileIs s name bytes → P bytes
+    → IsSomeAnd (files name) P
+file-has s files told name bytes P is holds =
+    let there : files name ≡ Some bytes = subst (λ (o : Option Files). IfSome o (λ f. f name ≡ Some bytes)) told is.0 in
+    subst (λ (o : Option (List ℕ)). IsSomeAnd o P) (sym there) holds
+
+pub verified : (c : LratCommand) (old new : DeskState) (status : Status) → AnswersLrat c.cnf c.proof old new status → code_of status ≡ 0
+    → Shows (IsVerified c) old new
+verified c old new ends.Done p code before earlier told heard = record {
+  after = before;
+  said = codes "VERIFIED\n";
+  left = ap (λ (s : DeskState). s.files) p.says ∙ told;
+  heard = ap (λ (s : DeskState). s.said) p.says ∙ ap (option_map (λ x. x ++ codes "VERIFIED\n")) heard;
+  quiet = ap (λ (s : DeskState). s.warned) p.says;
+  promise = record {
+    formula = p.judged.formula;
+    lines = p.judged.lines;
+    spells_formula = file-has old before told c.cnf p.judged.cnf_bytes _ p.judged.cnf_is p.judged.spells_formula;
+    spells_lines = file-has old before told c.proof p.judged.proof_bytes _ p.judged.proof_is p.judged.spells_lines;
+    refutes = p.judged.right;
+    unsatisfiable = p.unsatisfiable;
+    says = refl;
+    files = refl;
+  };
+}
+verified c old new ends.No p code before earlier told heard = cc
+verified c old new ends.Undecided p code before earlier told heard = cc
+verified c old new ends.BadUsage p code before earlier told heard = cc
+verified c old new ends.BadInput p code before earlier told heard = cc
+verified c old new ends.CannotRead p code before earlier told heard = cc
+verified c old new ends.CannotWrite p code before earlier told heard = cc
+verified c old new ends.OutOfMemory p code before earlier told heard = cc

@@ -1,0 +1,11 @@
+use Rattle.cec_top.proofs.CompleteLemmas.{complete}
+use Rattle.cec_top.proofs.ProvenLemmas.{complete-lrat}
+use Rattle.cec_top.proofs.laws.completeness.Goals as goal
+
+pub returns-clause-check : goal.returns-clause-check
+returns-clause-check call = λ words c old new status kept asks answers can none.
+    complete words old new status kept call.words_are_one_of.ensures.asked answers c asks can none
+
+pub returns-clause-lrat : goal.returns-clause-lrat
+returns-clause-lrat call = λ words c old new status kept asks answers can none.
+    complete-lrat words old new status kept call.words_are_one_of.ensures.asked answers c asks can none

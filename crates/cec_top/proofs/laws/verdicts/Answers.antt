@@ -1,0 +1,24 @@
+use Rattle.std.proofs.Common.{arith}
+use Rattle.cec_top.proofs.VerdictLemmas.{equivalent, different, undecided}
+use Rattle.cec_top.proofs.WordsLemmas.{answers-check, answers-lrat, verified}
+use Rattle.cec_top.proofs.laws.verdicts.Goals as goal
+
+pub returns-clause-equivalent : goal.returns-clause-equivalent
+returns-clause-equivalent call = λ words c old new status kept asks answers code.
+    equivalent c old new status kept
+    (answers-check words old new status kept call.words_are_one_of.ensures.asked answers c asks (omega (arith, code))) code
+
+pub returns-clause-different : goal.returns-clause-different
+returns-clause-different call = λ words c old new status kept asks answers code.
+    different c old new status kept
+    (answers-check words old new status kept call.words_are_one_of.ensures.asked answers c asks (omega (arith, code))) code
+
+pub returns-clause-undecided : goal.returns-clause-undecided
+returns-clause-undecided call = λ words c old new status kept asks answers code.
+    undecided c old new status kept
+    (answers-check words old new status kept call.words_are_one_of.ensures.asked answers c asks (omega (arith, code))) code
+
+pub returns-clause-verified : goal.returns-clause-verified
+returns-clause-verified call = λ words c old new status kept asks answers code.
+    verified c old new status
+    (answers-lrat words old new status kept call.words_are_one_of.ensures.asked answers c asks (omega (arith, code))) code

@@ -1,0 +1,46 @@
+-- When the program has to come to a verdict: nothing that it was given stands in its way.
+use Rattle.std.specs.Prelude.{◌≡◌, ◌⊎◌, ℕ, ◌≤◌, List, length, Some, IfSome, IsSomeAnd}
+use Rattle.desk_port.specs.Desk.{DeskState, Files, Rose}
+use Rattle.endings.specs.Reading.{limit}
+use Rattle.endings.specs.Status.{code_of}
+use Rattle.endings.specs.declared.status.Status.{Status}
+use Rattle.netlist.specs.Net.{AigPair}
+use Rattle.dimacs_text.specs.declared.cnf.Cnf.{Cnf}
+use Rattle.dimacs_text.specs.Reading.{SpellsCnf}
+use Rattle.lrat_text.specs.declared.step.Line.{Line}
+use Rattle.lrat_text.specs.Reading.{SpellsLrat}
+use Rattle.command_line.specs.Words.{CheckCommand, LratCommand}
+use Rattle.cec_top.specs.Headline.{SpellPair}
+
+-- the desk counted no fault of a read, and none of a write
+pub record NoFault (old new : DeskState) : Type 0 where
+  pub reads : ¬ Rose old.read_faults new.read_faults
+  pub writes : ¬ Rose old.write_faults new.write_faults
+
+-- the named file isn't longer than the limit
+abbrev pub IsWithinLimit : Files → List ℕ → Type 0
+IsWithinLimit files name = IfSome (files name) (λ bytes. length bytes ≤ limit)
+
+-- the named files spell two circuits that can be compared, and neither is too long
+pub record CanCheck (c : CheckCommand) (old : DeskState) : Type 0 where
+  pub files : Files
+  pub told : old.files ≡ Some files
+  pub net : AigPair
+  pub pair : SpellPair c files net
+  pub a : IsWithinLimit files c.a
+  pub b : IsWithinLimit files c.b
+
+-- the named files spell a formula and the lines of a proof about it, and neither is too long
+pub record CanVerify (c : LratCommand) (old : DeskState) : Type 0 where
+  pub files : Files
+  pub told : old.files ≡ Some files
+  pub formula : Cnf
+  pub lines : List Line
+  pub spells_formula : IsSomeAnd (files c.cnf) (λ bytes. SpellsCnf bytes formula)
+  pub spells_lines : IsSomeAnd (files c.proof) (λ bytes. SpellsLrat (length formula.clauses) bytes lines)
+  pub cnf : IsWithinLimit files c.cnf
+  pub proof : IsWithinLimit files c.proof
+
+-- the run has a verdict, or memory ran out
+abbrev pub HasVerdict : Status → Type 0
+HasVerdict status = (code_of status ≤ 2) ⊎ (code_of status ≡ 7)

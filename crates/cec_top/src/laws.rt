@@ -1,0 +1,69 @@
+//! What a run promises, each law the contract of a function that does nothing when it runs.
+ghost use Rattle.std.specs.Prelude.{◌≡◌, ◌⊎◌, ◌≤◌, ℕ, List};
+ghost use Rattle.desk_port.specs.Desk.{DeskState};
+ghost use Rattle.endings.specs.Status.{code_of};
+ghost use Rattle.endings.specs.declared.status.Status.{Status};
+ghost use Rattle.command_line.specs.Words.{CheckCommand, LratCommand, CheckIt, LratIt, Asks};
+ghost use Rattle.cec_top.specs.declared.kept.Kept.{Kept};
+ghost use Rattle.cec_top.specs.Answers.{Answers};
+ghost use Rattle.cec_top.specs.Check.{IsProof};
+ghost use Rattle.cec_top.specs.Complete.{CanCheck, CanVerify, NoFault, HasVerdict};
+ghost use Rattle.cec_top.specs.Finding.{Finds, Means};
+ghost use Rattle.cec_top.specs.Headline.{IsEquivalent, IsDifferent, IsUndecided, IsVerified, Shows};
+ghost use Rattle.cec_top.specs.Steps.{IsBookOf, finding_of};
+
+use lemma_book::Book;
+use netlist::Net;
+
+/// What each verdict promises, by the exit status: `specs/Headline.antt`.
+pub fn verdicts()
+    ensures equivalent { (words : List (List ℕ)) (c : CheckCommand)
+        (old new : DeskState) (status : Status) (kept : List Kept) →
+        Asks words (CheckIt c) → Answers words old new status kept
+        → code_of status ≡ 0 → Shows (IsEquivalent c) old new }
+    ensures different { (words : List (List ℕ)) (c : CheckCommand)
+        (old new : DeskState) (status : Status) (kept : List Kept) →
+        Asks words (CheckIt c) → Answers words old new status kept
+        → code_of status ≡ 1 → Shows (IsDifferent c) old new }
+    ensures undecided { (words : List (List ℕ)) (c : CheckCommand)
+        (old new : DeskState) (status : Status) (kept : List Kept) →
+        Asks words (CheckIt c) → Answers words old new status kept
+        → code_of status ≡ 2 → Shows (IsUndecided c) old new }
+    ensures verified { (words : List (List ℕ)) (c : LratCommand)
+        (old new : DeskState) (status : Status) (kept : List Kept) →
+        Asks words (LratIt c) → Answers words old new status kept
+        → code_of status ≡ 0 → Shows (IsVerified c) old new }
+{
+    command_line::words_are_one_of();
+}
+
+/// Arguments that ask for a check or for a proof's check, files that spell what they should and fit, and no fault of the
+/// desk leave only the statuses of verdicts, and want of memory.
+pub fn completeness()
+    ensures check { (words : List (List ℕ)) (c : CheckCommand)
+        (old new : DeskState) (status : Status) (kept : List Kept) →
+        Asks words (CheckIt c) → Answers words old new status kept
+        → CanCheck c old → NoFault old new → HasVerdict status }
+    ensures lrat { (words : List (List ℕ)) (c : LratCommand)
+        (old new : DeskState) (status : Status) (kept : List Kept) →
+        Asks words (LratIt c) → Answers words old new status kept
+        → CanVerify c old → NoFault old new → HasVerdict status }
+{
+    command_line::words_are_one_of();
+}
+
+/// A law of a book about all outputs: what its finding shows, and what that means of the circuits and of its proof.
+pub(crate) fn means(net: &Net, book: &Book)
+    requires { IsBookOf net.now book.now.out_budget book.now }
+    ensures finds { Finds net.now book.now.entries (finding_of book.now.entries) }
+    ensures means { Means net.now book.now.entries (finding_of book.now.entries) }
+    ensures proof { IsProof net.now book.now.entries (finding_of book.now.entries) }
+{
+    netlist::laws::is_net(net);
+    unit_prop::laws::lit::steps_hold();
+    netlist::laws::satisfiable_if_different(net);
+    netlist::laws::unsatisfiable_if_equal(net);
+    lrat_text::derived_lines();
+    proof_stitch::laws::refutes(net, book);
+    proof_stitch::laws::derives(net, book);
+}
