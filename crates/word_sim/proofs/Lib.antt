@@ -1,0 +1,3 @@
+mod DrawLemmas
+mod PoolLemmas
+mod BitLemmas
