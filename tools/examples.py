@@ -1,0 +1,49 @@
+#!/usr/bin/env python3
+"""Runs each command of examples/README.md and compares what it prints and its status.
+
+Usage: examples.py [PROGRAM]
+
+A command is a line `    $ cec WORDS`; the lines below it, up to `    status N`, are what it prints on standard output and on
+standard error. PROGRAM is the repository's own where it is left out. Status 1 where anything differs.
+"""
+import shutil
+import subprocess
+import sys
+import tempfile
+from pathlib import Path
+
+import house
+
+
+def examples(text):
+    """(words, lines, status) of each command."""
+    words, lines = None, []
+    for line in text.split("\n"):
+        if line.startswith("    $ cec "):
+            words, lines = line[len("    $ cec "):].split(), []
+        elif words and line.startswith("    status "):
+            yield words, lines, int(line.split()[1])
+            words = None
+        elif words:
+            lines.append(line[4:])
+
+
+def main():
+    program = house.program(sys.argv[1] if len(sys.argv) > 1 else None)
+    folder, wrong, count = house.TOP / "examples", 0, 0
+    with tempfile.TemporaryDirectory() as room:
+        for file in folder.iterdir():
+            shutil.copy(file, room)
+        for words, lines, status in examples((folder / "README.md").read_text()):
+            ran = subprocess.run([program, *words], cwd=room, capture_output=True, text=True)
+            said = (ran.stdout + ran.stderr).splitlines()
+            count += 1
+            if (said, ran.returncode) != (lines, status):
+                wrong += 1
+                print(f"cec {' '.join(words)}: {said} with status {ran.returncode}, and not {lines} with {status}")
+    print(f"{count} examples, {wrong} wrong")
+    sys.exit(1 if wrong or not count else 0)
+
+
+if __name__ == "__main__":
+    main()
