@@ -44,6 +44,29 @@ fn swapped_and(rt: HostRuntime) -> Result<(), Fail> {
     Ok(())
 }
 
+/// The second circuit in the binary form.
+#[test]
+fn binary_and(rt: HostRuntime) -> Result<(), Fail> {
+    let binary = b"aig 3 2 0 1 1\n6\n\x02\x02".as_slice();
+    let files = [("A", SWAPPED_A), ("B", binary)];
+    let ran = run_words(&rt, rt.alloc(), &files, &WORDS, &[])?;
+    assert!(rt; ran.status == Status::Done);
+    assert_eq!(rt; ran.desk.file("p.0.cnf"), Some(SWAPPED_CNF));
+    Ok(())
+}
+
+/// Gates that stand before their fanins go by level.
+#[test]
+fn cycle_and_order(rt: HostRuntime) -> Result<(), Fail> {
+    let turned = b"aag 4 2 0 1 2\n2\n4\n8\n8 6 4\n6 2 4\n".as_slice();
+    let files = [("A", turned), ("B", SWAPPED_B)];
+    let ran = run_words(&rt, rt.alloc(), &files, &WORDS, &[])?;
+    assert!(rt; ran.status == Status::Done);
+    let header = ran.desk.file("p.0.cnf").and_then(|cnf| cnf.get(..11));
+    assert_eq!(rt; header, Some(b"p cnf 7 15\n".as_slice()));
+    Ok(())
+}
+
 #[test]
 fn empty_circuits(rt: HostRuntime) -> Result<(), Fail> {
     let files = [("A", EMPTY), ("B", EMPTY)];
