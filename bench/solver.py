@@ -1,10 +1,10 @@
 #!/usr/bin/env python3
 """Measures `check` beside MiniSat and CaDiCaL on the same miters.
 
-Usage: solver.py FOLDER [--program PROGRAM] [--classes tiny small] [--limit SECONDS] [--rounds N] [--only REGEX]
+Usage: solver.py FOLDER [--program PROGRAM] [--options WORDS] [--classes tiny small] [--limit SECONDS] [--rounds N] [--only REGEX]
 
 FOLDER has pairs of circuits, `NAME.a.aag` and `NAME.b.aag`, and `manifest.tsv`, a table with a header: at least the columns
-`name`, `class` and `expected`. Each pair is given to `PROGRAM check A B --out P`, then `minisat P.0.cnf` and `cadical -q P.0.cnf`
+`name`, `class` and `expected`. Each pair is given to `PROGRAM check A B --out P` with the words of --options, then `minisat P.0.cnf` and `cadical -q P.0.cnf`
 get the miter that the program wrote, and the checker of proofs in C judges its proof. The seconds are those of the processor, the
 least of the rounds; a run that takes more than the limit has none.
 
@@ -63,6 +63,7 @@ def main():
     parser = argparse.ArgumentParser(description=__doc__.splitlines()[0])
     parser.add_argument("folder", type=Path)
     parser.add_argument("--program", help="the built program, else the repository's own")
+    parser.add_argument("--options", default="", help="further words for the program")
     parser.add_argument("--classes", nargs="+", default=["tiny", "small"])
     parser.add_argument("--limit", type=float, default=60)
     parser.add_argument("--rounds", type=int, default=1)
@@ -78,7 +79,7 @@ def main():
         prefix, reference = str(Path(place) / "p"), compiled(place)
         for row in rows:
             pair = [str(words.folder / f"{row['name']}.{side}.aag") for side in "ab"]
-            run = best([mine, "check", *pair, "--out", prefix], words.limit, words.rounds)
+            run = best([mine, "check", *pair, "--out", prefix, *words.options.split()], words.limit, words.rounds)
             verdict = run[2].split()[0] if run and run[2] else "-"
             others, lines, said = {}, 0, "-"
             if run and Path(prefix + ".0.cnf").exists():

@@ -1,1 +1,1 @@
-pub mod LoopLemmas
+mod LoopLemmas

@@ -3,7 +3,7 @@ use Rattle.std.proofs.Common.{◌≡◌, ℕ, zero, suc, ◌+◌, ◌-◌, ◌<�
 use Rattle.byte_scan.specs.declared.errors.AigerErr.{AigerErr}
 use Rattle.byte_scan.specs.Scanning.{Place}
 use Rattle.byte_scan.specs.Reading.{IsFault}
-use Rattle.byte_scan.proofs.ReadingLemmas.{IsFault-bind}
+use Rattle.byte_scan.proofs.Facts.{IsFault-bind}
 use Rattle.netlist.specs.Circuit.{Aig}
 use Rattle.aiger_ascii.specs.Ascii.{input_at, inputs_at, output_at, outputs_at, gate_at, gates_at}
 

@@ -1,9 +1,9 @@
 //! Reading ASCII AIGER files (A. Biere, The AIGER And-Inverter Graph Format, 2007, and AIGER 1.9) of
 //! combinational circuits.
 //!
-//! `read` answers the circuit that the bytes spell, or their first fault, with its place or number, and nothing else but
-//! want of memory. Gates may stand in any order. `specs/Ascii.antt` says what bytes spell and in which order faults are
-//! judged, above the lines of numbers of `byte_scan`.
+//! `read` answers the circuit that the bytes spell, or their first fault, with its place or number, and
+//! nothing else but want of memory. Gates may stand in any order. `specs/Ascii.antt` says what bytes spell
+//! and in which order faults are judged, above the lines of numbers of `byte_scan`.
 //!
 //! The reader goes over the bytes once and copies no line. Begin to read at `reader.rt`.
 #![tactic(auto)]

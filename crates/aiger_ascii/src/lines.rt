@@ -1,7 +1,7 @@
 ghost use Rattle.std.specs.Prelude.{◌≡◌, ◌≤◌, ◌<◌, ◌+◌, [], length, IfOk, OnOk};
 ghost use Rattle.aiger_ascii.specs.Ascii.{defined, input_at, output_at, gate_at, inputs_at, outputs_at, gates_at, Grows, IsNew};
 
-use byte_scan::{AigerErr, Scan, literal_line, number, number_line, space, used};
+use byte_scan::{AigerErr, Scan, VARIABLE_LIMIT, literal_line, number, number_line, space, used};
 use circuit_draft::Draft;
 use netlist::And;
 
@@ -12,7 +12,7 @@ pub(crate) fn inputs(
     most: u32,
     draft: &mut Draft,
 ) -> Result<(), AigerErr>
-    requires most { most ≤ 16777216 }
+    requires most { most ≤ VARIABLE_LIMIT }
     requires first { draft.old.gates ≡ [] }
     ensures reads { Grows result draft.new scan.new (inputs_at count most draft.old scan.old) }
     ensures outputs { OnOk result (draft.new.outputs ≡ draft.old.outputs) }
@@ -25,7 +25,7 @@ pub(crate) fn inputs(
 
 /// Reads the line of an input.
 fn input(scan: &mut Scan, most: u32, draft: &mut Draft) -> Result<(), AigerErr>
-    requires most { most ≤ 16777216 }
+    requires most { most ≤ VARIABLE_LIMIT }
     requires first { draft.old.gates ≡ [] }
     ensures reads { Grows result draft.new scan.new (input_at most draft.old scan.old) }
     ensures rest { OnOk result ((draft.new.gates ≡ []) × (draft.new.outputs ≡ draft.old.outputs)) }
@@ -43,8 +43,8 @@ pub(crate) fn outputs(
     most: u32,
     draft: &mut Draft,
 ) -> Result<(), AigerErr>
-    requires most { most ≤ 16777216 }
-    requires room { length draft.old.outputs + count ≤ 16777216 }
+    requires most { most ≤ VARIABLE_LIMIT }
+    requires room { length draft.old.outputs + count ≤ VARIABLE_LIMIT }
     ensures { Grows result draft.new scan.new (outputs_at count most draft.old scan.old) }
 {
     for _ in 0..count {
@@ -55,8 +55,8 @@ pub(crate) fn outputs(
 
 /// Reads the line of an output.
 fn output(scan: &mut Scan, most: u32, draft: &mut Draft) -> Result<(), AigerErr>
-    requires most { most ≤ 16777216 }
-    requires room { length draft.old.outputs < 16777216 }
+    requires most { most ≤ VARIABLE_LIMIT }
+    requires room { length draft.old.outputs < VARIABLE_LIMIT }
     ensures reads { Grows result draft.new scan.new (output_at most draft.old scan.old) }
     ensures count { OnOk result (length draft.new.outputs ≡ length draft.old.outputs + 1) }
 {
@@ -72,7 +72,7 @@ pub(crate) fn gates(
     most: u32,
     draft: &mut Draft,
 ) -> Result<(), AigerErr>
-    requires { most ≤ 16777216 }
+    requires { most ≤ VARIABLE_LIMIT }
     ensures { Grows result draft.new scan.new (gates_at count most draft.old scan.old) }
 {
     for _ in 0..count {
@@ -83,7 +83,7 @@ pub(crate) fn gates(
 
 /// Reads the line of a gate.
 fn gate(scan: &mut Scan, most: u32, draft: &mut Draft) -> Result<(), AigerErr>
-    requires { most ≤ 16777216 }
+    requires { most ≤ VARIABLE_LIMIT }
     ensures { Grows result draft.new scan.new (gate_at most draft.old scan.old) }
 {
     let lhs = number(scan)?;
@@ -100,7 +100,7 @@ fn gate(scan: &mut Scan, most: u32, draft: &mut Draft) -> Result<(), AigerErr>
 
 /// The variable of a literal that is defined and wasn't before.
 fn defined(n: u64, most: u32, draft: &Draft) -> Result<u32, AigerErr>
-    requires { most ≤ 16777216 }
+    requires { most ≤ VARIABLE_LIMIT }
     ensures reads { result ≡ defined most draft.now n }
     ensures new { IfOk result (IsNew most draft.now) }
 {

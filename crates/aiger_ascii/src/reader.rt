@@ -3,7 +3,7 @@ ghost use Rattle.byte_scan.specs.Reading.{Gives};
 ghost use Rattle.aiger_ascii.specs.Ascii.{ascii_in, body_at, Grows};
 
 use crate::lines::{gates, inputs, outputs};
-use byte_scan::{AigerErr, Header, Scan, header, tail};
+use byte_scan::{AigerErr, Header, Scan, VARIABLE_LIMIT, header, tail};
 use circuit_draft::Draft;
 use netlist::Circuit;
 use std::alloc::Global;
@@ -25,8 +25,8 @@ pub fn read(alloc: Global, bytes: &[u8]) -> Result<Circuit, AigerErr>
 /// Reads what the lines behind the header say.
 #[tactic(auto, unfolding(crate::specs::Ascii::body_at))]
 fn body(scan: &mut Scan, header: &Header, draft: &mut Draft) -> Result<(), AigerErr>
-    requires most { header.now.m ≤ 16777216 }
-    requires outputs { header.now.o ≤ 16777216 }
+    requires most { header.now.m ≤ VARIABLE_LIMIT }
+    requires outputs { header.now.o ≤ VARIABLE_LIMIT }
     requires first { draft.old ≡ record { inputs = []; gates = []; outputs = [] } }
     ensures { Grows result draft.new scan.new (body_at header.now scan.old) }
 {

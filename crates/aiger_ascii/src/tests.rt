@@ -1,10 +1,7 @@
 use super::*;
-use byte_scan::AigerErr;
+use byte_scan::{AigerErr, NUMBER_LIMIT};
 use netlist::And;
 use std::test::*;
-
-/// Greater numbers count as this one.
-const MOST: u64 = 1_000_000_000_000_000_000;
 
 const AND: &[u8] = b"aag 3 2 0 1 1\n2\n4\n6\n6 2 4\n";
 
@@ -79,7 +76,7 @@ fn faults_of_header_and_lines(rt: HostRuntime) {
         (b"aag 16777217 0 0 0 0\n", AigerErr::TooLarge(16777217)),
         (
             b"aag 1000000000000000000000 0 0 0 0\n",
-            AigerErr::TooLarge(MOST),
+            AigerErr::TooLarge(NUMBER_LIMIT),
         ),
         (b"aag 16777216 16777216 0 0 0\n", AigerErr::Truncated(28)),
         (b"aag 1 1 0 0 0\nx\n", AigerErr::BadNumber(14)),
@@ -108,7 +105,7 @@ fn faults_of_literals(rt: HostRuntime) {
         (b"aag 1 1 0 1 0\n2\n4\n", AigerErr::BadLiteral(4)),
         (
             b"aag 1 1 0 0 0\n18446744073709551618\n",
-            AigerErr::BadLiteral(MOST),
+            AigerErr::BadLiteral(NUMBER_LIMIT),
         ),
         (b"aag 3 2 0 0 0\n2\n2\n", AigerErr::DefinedTwice(2)),
         (b"aag 2 1 0 0 1\n2\n2 9 9\n", AigerErr::DefinedTwice(2)),

@@ -1,2 +1,3 @@
-pub mod StackLemmas
-pub mod LoopLemmas
+pub mod Facts
+mod StackLemmas
+mod LoopLemmas

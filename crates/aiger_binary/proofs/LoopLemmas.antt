@@ -7,7 +7,7 @@ use Rattle.byte_scan.specs.declared.errors.AigerErr.{AigerErr}
 use Rattle.byte_scan.specs.declared.errors.AigerErr.TheVariants.{Truncated}
 use Rattle.byte_scan.specs.Scanning.{Place, ahead, moved}
 use Rattle.byte_scan.specs.Reading.{◌>>=◌, IsFault, literal_line_at}
-use Rattle.byte_scan.proofs.ReadingLemmas.{IsFault-bind}
+use Rattle.byte_scan.proofs.Facts.{IsFault-bind}
 use Rattle.netlist.specs.declared.gate.And.{And}
 use Rattle.aiger_binary.specs.Binary.{outputs_at, gate_at, gates_at, groups_at, power_of}
 

@@ -4,6 +4,8 @@ use Rattle.std.specs.Prelude.{◌==◌, ◌&&◌, ◌||◌, not, nat_le, nat_lt}
 use Rattle.std.specs.List.{list_any, list_all, range_with_len}
 use Rattle.std.proofs.lemmas.Bool.Decides.{nat_tests}
 use Rattle.std.proofs.lemmas.List.Folds.{list_any-append}
+use Rattle.std.proofs.Math.Bool.{or-false, or_comm}
+use Rattle.std.proofs.lemmas.Bool.{or_right}
 use Rattle.lits.specs.Clause.{has, no_repeat}
 use Rattle.netlist.specs.declared.gate.And.{And}
 use Rattle.netlist.specs.Circuit.{Aig, IsCircuit, AreOrdered, gate_vars, variables_in, is_over, var_of, most}
@@ -25,18 +27,9 @@ Knows n known = (v : ℕ) → has ◌==◌ known v ≡ nat_lt v n
 lt_more : (v n : ℕ) → (n == v || nat_lt v n) ≡ nat_lt v (n + 1)
 lt_more v n = grind (arith, nat_tests)
 
-or_false : (a : Bool) → (a || false) ≡ a
-or_false true = refl
-or_false false = refl
-
-or_comm : (a b : Bool) → (a || b) ≡ (b || a)
-or_comm true true = refl
-or_comm true false = refl
-or_comm false b = sym (or_false b)
-
 Knows-push : (n : ℕ) (xs : List ℕ) → Knows n xs → Knows (n + 1) (xs ++ n ∷ [])
 Knows-push n xs knows v =
-    rw (list_any-append (λ y. y == v) xs (n ∷ []), knows v, or_false (n == v)) (or_comm (nat_lt v n) (n == v) ∙ lt_more v n)
+    rw (list_any-append (λ y. y == v) xs (n ∷ []), knows v, or-false (n == v)) (or_comm (nat_lt v n) (n == v) ∙ lt_more v n)
 
 Knows-range : (n k : ℕ) (xs : List ℕ) → Knows n xs → Knows (n + k) (xs ++ range_with_len n k)
 Knows-range n zero xs knows v = let e : n + zero ≡ n = omega arith in rw (append-nil xs, e) (knows v)
@@ -45,7 +38,7 @@ Knows-range n (suc k) xs knows v =
     rw (e, sym (append_assoc xs (n ∷ []) (range_with_len (n + 1) k))) (Knows-range (n + 1) k (xs ++ n ∷ []) (Knows-push n xs knows) v)
 
 zero_known : Knows 1 (0 ∷ [])
-zero_known v = rw (or_false (0 == v)) (grind (arith, nat_tests))
+zero_known v = rw (or-false (0 == v)) (grind (arith, nat_tests))
 
 Knows-inputs : (i : ℕ) → Knows (1 + i) (0 ∷ range_with_len 1 i)
 Knows-inputs i = Knows-range 1 i (0 ∷ []) zero_known
@@ -81,12 +74,8 @@ no_repeat-range (suc k) a = rw (range_above k (a + 1) a (omega arith), no_repeat
 
 all_from_has : (p : ℕ → Bool) (xs : List ℕ) → ((v : ℕ) → has ◌==◌ xs v ≡ true → p v ≡ true) → list_all p xs ≡ true
 all_from_has p [] each = refl
-all_from_has p (x ∷ xs) each = rw (each x here, all_from_has p xs (λ v h. each v (or_true (x == v) (has ◌==◌ xs v) h))) refl
+all_from_has p (x ∷ xs) each = rw (each x here, all_from_has p xs (λ v h. each v (or_right (x == v) (has ◌==◌ xs v) h))) refl
   where
-    or_true : (a b : Bool) → b ≡ true → (a || b) ≡ true
-    or_true true b e = refl
-    or_true false b e = e
-
     here : (x == x || has ◌==◌ xs x) ≡ true
     here = let t : (x == x) ≡ true = grind (arith, nat_tests) in rw t refl
 

@@ -3,7 +3,7 @@ ghost use Rattle.byte_scan.specs.Reading.{Reads};
 ghost use Rattle.netlist.specs.Circuit.{var_of};
 ghost use Rattle.aiger_binary.specs.Binary.{groups_at, first_fanin, second_fanin, gate_at, gates_at, Lists, AreStacked, power_of};
 
-use byte_scan::{AigerErr, Scan};
+use byte_scan::{AigerErr, Scan, VARIABLE_LIMIT};
 use netlist::And;
 
 /// A delta takes at most so many bytes, of 7 bits each.
@@ -16,7 +16,7 @@ pub(crate) fn gates(
     inputs: u32,
     gates: &mut Vec<And>,
 ) -> Result<(), AigerErr>
-    requires few { inputs + count ≤ 16777216 }
+    requires few { inputs + count ≤ VARIABLE_LIMIT }
     requires none { gates.old.items ≡ [] }
     ensures reads { Lists result gates.new.items scan.new (gates_at count inputs [] scan.old) }
     ensures stacked { OnOk result (AreStacked (inputs + 1) gates.new.items) }
@@ -31,7 +31,7 @@ pub(crate) fn gates(
 
 /// Reads the deltas of the gate of this number, which defines this variable.
 fn gate(scan: &mut Scan, number: u32, var: u32) -> Result<And, AigerErr>
-    requires range { var ≤ 16777216 }
+    requires range { var ≤ VARIABLE_LIMIT }
     requires some { 1 ≤ var }
     ensures reads { Reads result scan.new (gate_at number var scan.old) }
     ensures stacked { IfOk result (λ g. (g.var ≡ var) × ((var_of g.left < var) × (var_of g.right < var))) }

@@ -4,7 +4,7 @@ ghost use Rattle.byte_scan.specs.Reading.{Gives};
 ghost use Rattle.aiger_binary.specs.Binary.{binary_in, outputs_at, Lists, AreBelow};
 
 use crate::gates::gates as read_gates;
-use byte_scan::{AigerErr, Scan, header, literal_line, tail};
+use byte_scan::{AigerErr, Scan, VARIABLE_LIMIT, header, literal_line, tail};
 use netlist::Circuit;
 use std::alloc::{AllocError, Global};
 
@@ -26,7 +26,7 @@ pub fn read(alloc: Global, bytes: &[u8]) -> Result<Circuit, AigerErr>
 
 /// The variables of the inputs.
 fn inputs(alloc: Global, count: u32) -> Result<Vec<u32>, AllocError>
-    requires { count ≤ 16777216 }
+    requires { count ≤ VARIABLE_LIMIT }
     ensures { IfOk result (λ v. v.items ≡ range_with_len 1 count) }
 {
     let mut inputs = Vec::new(alloc);
@@ -43,7 +43,7 @@ fn read_outputs(
     most: u32,
     outputs: &mut Vec<u32>,
 ) -> Result<(), AigerErr>
-    requires most { most ≤ 16777216 }
+    requires most { most ≤ VARIABLE_LIMIT }
     requires none { outputs.old.items ≡ [] }
     ensures reads { Lists result outputs.new.items scan.new (outputs_at count most [] scan.old) }
     ensures below { OnOk result (AreBelow (most + 1) outputs.new.items) }

@@ -1,8 +1,8 @@
-//! Reading AIGER files of combinational circuits, in either form (A. Biere, The AIGER And-Inverter Graph Format, 2007, and
-//! AIGER 1.9).
+//! Reading AIGER files of combinational circuits, in either form (A. Biere, The AIGER And-Inverter Graph
+//! Format, 2007, and AIGER 1.9).
 //!
-//! `read` chooses by the first four bytes between the readers of `aiger_ascii` and `aiger_binary`, and answers the circuit
-//! that the bytes spell, or their first fault; `specs/File.antt` says which those are.
+//! `read` chooses by the first four bytes between the readers of `aiger_ascii` and `aiger_binary`, and
+//! answers the circuit that the bytes spell, or their first fault; `specs/File.antt` says which those are.
 #![tactic(auto)]
 
 ghost use Rattle.std.specs.Prelude.{◌≡◌};

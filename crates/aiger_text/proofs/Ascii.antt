@@ -7,7 +7,7 @@ use Rattle.byte_scan.specs.declared.errors.AigerErr.{AigerErr}
 use Rattle.byte_scan.specs.Scanning.{Place, ahead}
 use Rattle.byte_scan.specs.Reading.{start, lines_ahead, lines_from, tail_of}
 use Rattle.netlist.specs.Circuit.{Aig, IsCircuit}
-use Rattle.netlist.proofs.VariableLemmas.{variables}
+use Rattle.netlist.proofs.Facts.{variables}
 use Rattle.aiger_ascii.specs.Ascii.{ascii_in, body_at}
 use Rattle.byte_scan.specs.declared.errors.AigerErr.TheVariants.{BadHeader}
 use Rattle.aiger_binary.specs.Binary.{binary_in}

@@ -9,11 +9,12 @@ use Rattle.byte_scan.specs.declared.errors.AigerErr.TheVariants.{BadHeader}
 use Rattle.byte_scan.specs.Reading.{start}
 use Rattle.netlist.specs.declared.gate.And.{And}
 use Rattle.netlist.specs.Circuit.{Aig, IsCircuit, gate_vars, variables_in}
-use Rattle.netlist.proofs.VariableLemmas.{few_gates_of}
+use Rattle.netlist.proofs.Facts.{few_gates_of}
 use Rattle.aiger_ascii.specs.Ascii.{ascii_in}
 use Rattle.aiger_binary.specs.Binary.{binary_in}
 use Rattle.aiger_file.specs.File.{aiger_in, is_form, SpellsAiger}
 use Rattle.aiger_text.specs.Lines.{header_line, output_line}
+use Rattle.aiger_text.specs.AsciiText.{IsBound}
 use Rattle.aiger_text.specs.BinaryText.{AreInSequence, IsInSequence, gate_deltas, binary_text}
 use Rattle.aiger_text.proofs.HeaderLine.{AreCounts, header-found}
 use Rattle.aiger_text.proofs.Within.{AreUpTo, outputs_within}
@@ -44,6 +45,10 @@ all-up c is =
     let gates = sequence-up m (length c.inputs + 1) c.gates is.gates (omega arith) in
     let none : nat_le 0 m ≡ true = grind (arith, nat_tests) in
     rw (none, list_all-append (λ v. nat_le v m) c.inputs (gate_vars c.gates), inputs, gates) refl
+
+pub IsBound-sequence : (c : Aig) → IsCircuit c → IsInSequence c
+    → IsBound (length c.inputs + length c.gates) c
+IsBound-sequence c circuit is = record { covers = all-up c is; range = few_gates_of c circuit }
 
 -- ---- the file
 

@@ -3,14 +3,14 @@ use Rattle.std.proofs.Common.{◌≡◌, ℕ, Bool, true, false, List, [], ◌�
 use Rattle.std.specs.Prelude.{◌==◌, ◌||◌, ◌&&◌, not}
 use Rattle.std.specs.List.{list_all, find, flat_map}
 use Rattle.std.proofs.lemmas.List.Folds.{list_any-append, list_all-append}
+use Rattle.std.proofs.lemmas.Bool.{or_left, or_right}
 use Rattle.lits.specs.Clause.{has}
 use Rattle.netlist.specs.declared.gate.And.{And}
 use Rattle.netlist.specs.Circuit.{Aig, IsCircuit, AreOrdered, gate_vars, variables_in, is_over, var_of}
-use Rattle.netlist.proofs.VariableLemmas.{variables}
+use Rattle.netlist.proofs.Facts.{variables}
 use Rattle.circuit_draft.specs.Draft.{undefined_in, uses_in, finished}
 use Rattle.circuit_draft.specs.Levels.{is_in_order}
-use Rattle.circuit_draft.proofs.InOrderLemmas.{no_cycle-order}
-use Rattle.circuit_draft.proofs.FinishLemmas.{finished-order}
+use Rattle.circuit_draft.proofs.Facts.{no_cycle-order, finished-order}
 
 -- known lists that hold the same variables
 abbrev Same : List ℕ → List ℕ → Type 0
@@ -39,14 +39,6 @@ in_order known others (g ∷ gs) same ordered =
     ordered.1)
 
 -- ---- each fanin is over the circuit's variables
-
-or_left : (a b : Bool) → a ≡ true → (a || b) ≡ true
-or_left true b e = refl
-or_left false b e = absurd (cc)
-
-or_right : (a b : Bool) → b ≡ true → (a || b) ≡ true
-or_right true b e = refl
-or_right false b e = e
 
 abbrev pub fanins_in : List And → List ℕ
 fanins_in gates = flat_map (λ g. g.left ∷ g.right ∷ []) gates

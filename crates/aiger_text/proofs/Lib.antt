@@ -1,3 +1,4 @@
+pub mod Facts
 mod Reading
 mod Lines
 mod Finished

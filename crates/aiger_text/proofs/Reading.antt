@@ -13,7 +13,7 @@ use Rattle.byte_scan.specs.declared.errors.AigerErr.{AigerErr}
 use Rattle.byte_scan.specs.Scanning.{Place, ahead, moved, digits, value, number_of}
 use Rattle.byte_scan.specs.HeaderLine.{is_number}
 use Rattle.byte_scan.specs.Reading.{number_at, number_or, space_at, space_in, line_end_at, line_end_in, number_line_at, literal_line_at, used}
-use Rattle.tokens.proofs.Facts.{size_in-decimal}
+use Rattle.tokens.proofs.Facts.{size_in-decimal, ahead-moved}
 use Rattle.aiger_text.specs.Lines.{number_line, output_line}
 
 -- x is read, and these bytes are left
@@ -28,20 +28,6 @@ pub record Passes (found : Result Place AigerErr) (rest : List ℕ) : Type 0 whe
   pub place : Place
   pub is : found ≡ Ok place
   pub behind : ahead place ≡ rest
-
-pub ahead-moved : (p : Place) (n : ℕ) → ahead (moved p n) ≡ drop n (ahead p)
-ahead-moved p n = go (cases_lt (p.at + n) (length p.bytes)) ∙ sym (drop-drop n p.at p.bytes)
-  where
-    go : (p.at + n < length p.bytes) ⊎ (length p.bytes ≤ p.at + n)
-        → ahead (moved p n) ≡ drop (p.at + n) p.bytes
-    go (inl less) =
-        let same : min (p.at + n) (length p.bytes) ≡ p.at + n = omega arith in
-        ap (λ (k : ℕ). drop k p.bytes) same
-    go (inr end) =
-        let same : min (p.at + n) (length p.bytes) ≡ length p.bytes = omega arith in
-        ap (λ (k : ℕ). drop k p.bytes) same
-        ∙ drop_of_length-le p.bytes {i = length p.bytes} (omega arith)
-        ∙ sym (drop_of_length-le p.bytes end)
 
 -- behind a front part stands the rest
 pub behind-part : (p : Place) (front rest : List ℕ) → ahead p ≡ front ++ rest

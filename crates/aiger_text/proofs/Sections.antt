@@ -7,7 +7,7 @@ use Rattle.byte_scan.specs.Scanning.{Place, ahead}
 use Rattle.lits.specs.Clause.{has, no_repeat}
 use Rattle.netlist.specs.declared.gate.And.{And}
 use Rattle.netlist.specs.Circuit.{Aig, gate_vars}
-use Rattle.netlist.proofs.VariableLemmas.{no_repeat-split}
+use Rattle.netlist.proofs.Facts.{no_repeat-split}
 use Rattle.aiger_ascii.specs.Ascii.{inputs_at, outputs_at, gates_at}
 use Rattle.aiger_text.specs.Lines.{output_line}
 use Rattle.aiger_text.specs.AsciiText.{input_line, gate_line}

@@ -2,7 +2,7 @@
 use Rattle.std.proofs.Common.{◌≡◌, ℕ, ◌+◌, ◌*◌, ◌<◌, ◌≤◌, Bool, true, false, List, [], ◌∷◌, ◌++◌, length, refl, sym, ◌∙◌, arith, length-append}
 use Rattle.std.specs.Prelude.{◌==◌, ◌&&◌, ◌||◌, not, nat_le}
 use Rattle.std.specs.List.{list_any, list_all, AllByRecursion, IsDistinct}
-use Rattle.std.proofs.lemmas.Bool.{and_parts, or_parts}
+use Rattle.std.proofs.lemmas.Bool.{and_parts, or_parts, not-true}
 use Rattle.std.proofs.lemmas.Bool.Decides.{nat_tests}
 use Rattle.std.proofs.lemmas.List.{length-map}
 use Rattle.std.proofs.lemmas.List.Folds.{list_any-append, list_all-append}
@@ -10,7 +10,7 @@ use Rattle.std.proofs.lemmas.Map.Steps.{length-le_from_distinct_below}
 use Rattle.lits.specs.Clause.{has, no_repeat}
 use Rattle.netlist.specs.declared.gate.And.{And}
 use Rattle.netlist.specs.Circuit.{Aig, IsCircuit, gate_vars, variables_in, is_over, var_of}
-use Rattle.netlist.proofs.VariableLemmas.{variables}
+use Rattle.netlist.proofs.Facts.{variables}
 use Rattle.aiger_text.proofs.Lines.{IsWithin}
 use Rattle.aiger_text.proofs.Sections.{IsInput}
 use Rattle.aiger_text.proofs.Finished.{fanins_in, fanins_known}
@@ -18,10 +18,6 @@ use Rattle.aiger_text.proofs.Finished.{fanins_in, fanins_known}
 -- no variable is above m
 abbrev pub AreUpTo : ℕ → List ℕ → Type 0
 AreUpTo m vars = list_all (λ v. nat_le v m) vars ≡ true
-
-not_true : (b : Bool) → not b ≡ true → b ≡ false
-not_true true e = cc
-not_true false e = refl
 
 has-small : (m : ℕ) (vars : List ℕ) (v : ℕ) → AreUpTo m vars → has ◌==◌ vars v ≡ true → v ≤ m
 has-small m [] v all e = absurd (cc)
@@ -54,7 +50,7 @@ unfolding IsDistinct
 distinct [] e = tt
 distinct (x ∷ xs) e =
     let parts = and_parts (not (has ◌==◌ xs x)) (no_repeat ◌==◌ xs) e in
-    (apart xs (not_true (has ◌==◌ xs x) parts.0), distinct xs parts.1)
+    (apart xs (not-true (has ◌==◌ xs x) parts.0), distinct xs parts.1)
   where
     apart : (ys : List ℕ) → has ◌==◌ ys x ≡ false → AllByRecursion (λ y. (x == y) ≡ false) ys
     apart [] f = tt
@@ -136,7 +132,7 @@ parts_within m c circuit all = record {
     none : (has ◌==◌ c.inputs 0 ≡ false) × (has ◌==◌ (gate_vars c.gates) 0 ≡ false)
     none =
         or_parts (has ◌==◌ c.inputs 0) (has ◌==◌ (gate_vars c.gates) 0)
-        (sym (list_any-append (λ y. y == 0) c.inputs (gate_vars c.gates)) ∙ not_true _ once)
+        (sym (list_any-append (λ y. y == 0) c.inputs (gate_vars c.gates)) ∙ not-true _ once)
 
     up : AreUpTo m c.inputs × AreUpTo m (gate_vars c.gates)
     up =

@@ -1,11 +1,12 @@
 //! The text of a circuit in both forms of AIGER (A. Biere, The AIGER And-Inverter Graph Format, 2007).
 //!
-//! The definitions write a circuit plainly, line by line, and know nothing of the readers' grammar: `specs/AsciiText.antt`
-//! has the ASCII form and `specs/BinaryText.antt` the binary one, which only circuits in AIGER's order have; both stand on
-//! `specs/Lines.antt`. The laws say that each text spells the circuit that it is written from, so that a reader whose
+//! The definitions write a circuit plainly, line by line, and know nothing of the readers' grammar:
+//! `specs/AsciiText.antt` has the ASCII form and `specs/BinaryText.antt` the binary one, which only circuits
+//! in AIGER's order have; both stand on `specs/Lines.antt`. The laws say that each text spells the circuit
+//! that it is written from, and so both texts of one circuit are read as that circuit; a reader whose
 //! definition and code are wrong alike on such a file is refuted.
 #![tactic(auto)]
 
 mod laws;
 
-pub use laws::{written_ascii, written_binary};
+pub use laws::{written_ascii, written_binary, written_in_both_forms};

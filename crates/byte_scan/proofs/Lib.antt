@@ -1,7 +1,8 @@
-pub mod LineLemmas
-pub mod DigitLemmas
-pub mod WordLemmas
-pub mod NineLemmas
-pub mod WordsLemmas
-pub mod PlaceLemmas
-pub mod ReadingLemmas
+pub mod Facts
+mod LineLemmas
+mod DigitLemmas
+mod WordLemmas
+mod NineLemmas
+mod WordsLemmas
+mod PlaceLemmas
+mod ReadingLemmas

@@ -1,5 +1,6 @@
 -- A line as the search for its LF gives it.
 use Rattle.std.proofs.Common.{◌≡◌, ℕ, zero, suc, ◌<◌, Bool, true, false, eqb, List, [], ◌∷◌, length, take, refl, ap, arith}
+use Rattle.std.proofs.lemmas.Bool.{false_from_ne_true}
 use Rattle.memchr.specs.Find.{Nowhere, Passes, is_byte}
 use Rattle.byte_scan.specs.Scanning.{line_of}
 
@@ -8,11 +9,7 @@ later : (b : ℕ) (bs : List ℕ) (j : ℕ) → Nowhere (Passes (is_byte 10) (b 
 later b bs j none k low high p = none (suc k) (omega arith) (omega arith) p
 
 front : (b : ℕ) (bs : List ℕ) (j : ℕ) → Nowhere (Passes (is_byte 10) (b ∷ bs)) 0 (suc j) → eqb b 10 ≡ false
-front b bs j none = go (eqb b 10) (λ p. none 0 (omega arith) (omega arith) p)
-  where
-    go : (t : Bool) → (t ≡ true → ⊥) → t ≡ false
-    go true h = absurd (h refl)
-    go false h = refl
+front b bs j none = false_from_ne_true (eqb b 10) (λ p. none 0 (omega arith) (omega arith) p)
 
 pub line_of-no_end : (bytes : List ℕ) → Nowhere (Passes (is_byte 10) bytes) 0 (length bytes) → line_of bytes ≡ bytes
 line_of-no_end [] none = refl

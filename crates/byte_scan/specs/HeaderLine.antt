@@ -7,6 +7,7 @@ use Rattle.byte_scan.specs.declared.errors.AigerErr.TheVariants.{BadHeader, TooL
 use Rattle.byte_scan.specs.declared.counts.Header.{Header}
 use Rattle.byte_scan.specs.Scanning.{value}
 use Rattle.byte_scan.specs.Faults.{when, ◌or_else◌}
+use Rattle.byte_scan.specs.declared.header_line.TheConstants.{VARIABLE_LIMIT}
 
 -- the parts of a text between its spaces
 abbrev pub words_of : List ℕ → List (List ℕ)
@@ -44,9 +45,9 @@ header_of ns = record {
   f = slice_index ns 8;
 }
 
--- The first number above 16,777,216.
+-- The first number above the greatest that a header may have.
 abbrev pub too_large : List ℕ → Option AigerErr
-too_large ns = option_map TooLarge (find (λ n. nat_lt 16777216 n) ns)
+too_large ns = option_map TooLarge (find (λ n. nat_lt VARIABLE_LIMIT n) ns)
 
 -- The first of the sections `B` (66), `C` (67), `J` (74), `F` (70) that isn't empty, by its letter.
 abbrev pub property : Header → Option AigerErr
@@ -73,7 +74,7 @@ numbers_fault letter (Some ns) =
 -- A header without a fault: M and O are in range, and M is at least, in the binary form exactly, the number of inputs and
 -- gates.
 pub record IsFit (letter : ℕ) (h : Header) : Type 0 where
-  pub variables : h.m ≤ 16777216
-  pub outputs : h.o ≤ 16777216
+  pub variables : h.m ≤ VARIABLE_LIMIT
+  pub outputs : h.o ≤ VARIABLE_LIMIT
   pub counts : h.i + h.a ≤ h.m
   pub exact : letter ≡ 105 → h.m ≡ h.i + h.a

@@ -1,6 +1,7 @@
 -- Where a scan stands in its bytes, and what the next byte, number and line are.
 use Rattle.std.specs.Prelude.{ℕ, ◌+◌, ◌-◌, ◌*◌, ◌^◌, List, [], ◌∷◌, Option, None, Some, length, drop, min, if◌then◌else◌, ◌==◌}
 use Rattle.std.specs.Char.{is_ascii_digit}
+use Rattle.byte_scan.specs.declared.scan.TheConstants.{NUMBER_LIMIT}
 
 -- the bytes of an input, and how many of them lie behind
 pub record Place : Type 0 where
@@ -25,9 +26,9 @@ unfoldable pub value_from : ℕ → List ℕ → ℕ
 value_from n [] = n
 value_from n (d ∷ ds) = value_from (n * 10 + (d - 48)) ds
 
--- the value of some digits, or 10 ^ 18 where it is greater; leading zeros change nothing
+-- the value of some digits, or the limit, 10 ^ 18, where it is greater; leading zeros change nothing
 abbrev pub value : List ℕ → ℕ
-value ds = min (value_from 0 ds) (10 ^ 18)
+value ds = min (value_from 0 ds) NUMBER_LIMIT
 
 -- the number that stands in front: one or more digits, as many as stand there
 abbrev pub number_of : List ℕ → Option ℕ

@@ -1,6 +1,7 @@
 ghost use Rattle.std.specs.Prelude.{◌≡◌};
 ghost use Rattle.byte_scan.specs.declared.errors.AigerErr.TheVariants.{NoMemory};
 
+use crate::header_line::VARIABLE_LIMIT;
 use std::alloc::{AllocError, AllocFailed};
 use thiserror::Error;
 
@@ -10,7 +11,7 @@ pub enum AigerErr {
     #[error("bad header")]
     BadHeader,
     /// A number of the header.
-    #[error("{0} is above 16777216")]
+    #[error("{0} is above {limit}", limit = VARIABLE_LIMIT)]
     TooLarge(u64),
     /// How many.
     #[error("{0} latches")]

@@ -9,8 +9,8 @@ use crate::counts::Header;
 use crate::errors::AigerErr;
 use crate::scan::{Scan, leading_number};
 
-/// The greatest number that a header may have.
-const MOST: u64 = 16_777_216;
+/// The greatest number that a header may have, so the greatest variable, and number of outputs, of a file.
+pub const VARIABLE_LIMIT: u64 = 16_777_216;
 
 /// Reads the header line of an AIGER file: `aag`, or `aig` for the letter `i`, then five to nine
 /// numbers M I L O A B C J F, each after one space. The line is consumed, also where it has a fault.
@@ -90,15 +90,15 @@ fn judged(numbers: &[u64; 9], letter: u8) -> Result<Header, AigerErr>
 
 /// The first number that no header may have.
 fn first_too_large(numbers: &[u64; 9]) -> Option<u64>
-    ensures first { result ≡ find (λ n. nat_lt 16777216 n) numbers.now }
-    ensures none { IfNone result (All (λ n. n ≤ 16777216) numbers.now) }
+    ensures first { result ≡ find (λ n. nat_lt VARIABLE_LIMIT n) numbers.now }
+    ensures none { IfNone result (All (λ n. n ≤ VARIABLE_LIMIT) numbers.now) }
 {
-    numbers.iter().copied().find(|n| *n > MOST)
+    numbers.iter().copied().find(|n| *n > VARIABLE_LIMIT)
 }
 
 /// Nine numbers under their letters.
 fn named(numbers: &[u64; 9]) -> Header
-    requires { All (λ n. n ≤ 16777216) numbers.now }
+    requires { All (λ n. n ≤ VARIABLE_LIMIT) numbers.now }
     ensures { result ≡ header_of numbers.now }
 {
     Header {

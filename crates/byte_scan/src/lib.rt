@@ -18,9 +18,9 @@ mod symbols;
 
 pub use counts::Header;
 pub use errors::AigerErr;
-pub use header_line::header;
+pub use header_line::{VARIABLE_LIMIT, header};
 pub use line::{literal_line, number, number_line, space, used};
-pub use scan::Scan;
+pub use scan::{NUMBER_LIMIT, Scan};
 pub use symbols::tail;
 
 #[cfg(test)]

@@ -2,6 +2,7 @@ ghost use Rattle.std.specs.Prelude.{◌≡◌, ◌+◌, ◌*◌, ◌≤◌, IfOk
 ghost use Rattle.byte_scan.specs.Reading.{Passes, Reads, number_at, space_at, line_end_at, number_line_at, literal_line_at, misplaced_as, used};
 
 use crate::errors::AigerErr;
+use crate::header_line::VARIABLE_LIMIT;
 use crate::scan::Scan;
 
 /// Reads the number that is due.
@@ -58,7 +59,7 @@ pub fn number_line(scan: &mut Scan) -> Result<u64, AigerErr>
 
 /// Reads a line of one literal that is used, where `most` is the greatest variable.
 pub fn literal_line(scan: &mut Scan, most: u32) -> Result<u32, AigerErr>
-    requires { most ≤ 16777216 }
+    requires { most ≤ VARIABLE_LIMIT }
     ensures reads { Reads result scan.new (literal_line_at most scan.old) }
     ensures within { IfOk result (λ n. n ≤ 2 * most + 1) }
 {
@@ -68,7 +69,7 @@ pub fn literal_line(scan: &mut Scan, most: u32) -> Result<u32, AigerErr>
 
 /// A literal that is used, where `most` is the greatest variable.
 pub fn used(n: u64, most: u32) -> Result<u32, AigerErr>
-    requires { most ≤ 16777216 }
+    requires { most ≤ VARIABLE_LIMIT }
     ensures used { result ≡ used most n }
     ensures within { IfOk result (λ lit. lit ≤ 2 * most + 1) }
 {

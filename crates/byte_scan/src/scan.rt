@@ -7,7 +7,7 @@ use memchr::memchr;
 use std::marker::Model;
 
 /// Greater numbers count as this one, so that no number wraps.
-const MOST: u64 = 1_000_000_000_000_000_000;
+pub const NUMBER_LIMIT: u64 = 1_000_000_000_000_000_000;
 
 /// The bytes of an input, read from the front.
 #[derive(Drop)]
@@ -58,7 +58,7 @@ impl<'a> Scan<'a> {
     }
 
     /// The next decimal number: one or more digits, with or without leading zeros. A number above
-    /// 10^18 counts as 10^18. Where no digit stands nothing is consumed.
+    /// `NUMBER_LIMIT` counts as that. Where no digit stands nothing is consumed.
     pub fn number(&mut self) -> Option<u64>
         ensures number { result ≡ number_of (ahead self.old) }
         ensures moved { self.new ≡ moved self.old (length (digits (ahead self.old))) }
@@ -101,11 +101,11 @@ pub(crate) fn leading_number(bytes: &[u8]) -> (u64, usize)
 
 /// A number with one more digit at its end.
 fn with_digit(value: u64, digit: u8) -> u64
-    requires most { value ≤ 10 ^ 18 }
+    requires most { value ≤ NUMBER_LIMIT }
     requires digit { IsTrue (is_ascii_digit digit) }
-    ensures { result ≡ min (value * 10 + (digit - 48)) (10 ^ 18) }
+    ensures { result ≡ min (value * 10 + (digit - 48)) NUMBER_LIMIT }
 {
-    (value * 10 + u64::from(digit - b'0')).min(MOST)
+    (value * 10 + u64::from(digit - b'0')).min(NUMBER_LIMIT)
 }
 
 /// The bytes before the first LF, or all where there is none.

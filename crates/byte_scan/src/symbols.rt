@@ -4,8 +4,8 @@ ghost use Rattle.byte_scan.specs.Reading.{begins_with, is_named, is_symbol, line
 use crate::errors::AigerErr;
 use crate::scan::{Scan, leading_number};
 
-/// Reads what stands behind the last gate: symbols of the inputs and outputs, of which there are so many, up to the end
-/// of the input or to a comment.
+/// Reads what stands behind the last gate: symbols of the inputs and outputs, of which there are so many, up
+/// to the end of the input or to a comment.
 pub fn tail(scan: &mut Scan, inputs: u32, outputs: u32) -> Result<(), AigerErr>
     ensures { result ≡ tail_of inputs outputs (lines_ahead scan.old) }
 {

@@ -1,4 +1,5 @@
-//! The program `cec`: all that it does is `cec_top::run`, here over real files, standard output and standard error.
+//! The program `cec`: all that it does is `cec_top::run`, here over real files, standard output and standard
+//! error.
 #![tactic(auto)]
 
 use cec_top::{Status, run};

@@ -1,24 +1,13 @@
 //! Whole checks: what is said, warned and left, and with which status.
 use crate::desk::{Ran, run_words};
+use crate::files::{SWAPPED_A, SWAPPED_B, SWAPPED_CNF, TIGHT, WORDS, XOR_X, XOR_Y};
 use cec_top::Status;
 use lemma_book::Entry;
 use std::test::Fail;
 
-const SWAPPED_A: &[u8] = b"aag 3 2 0 1 1\n2\n4\n6\n6 2 4\n";
-
-const SWAPPED_B: &[u8] = b"aag 3 2 0 1 1\n2\n4\n6\n6 4 2\n";
-
-const SWAPPED_CNF: &[u8] =
-    b"p cnf 6 12\n1 0\n-4 2 0\n-4 3 0\n4 -2 -3 0\n-5 3 0\n-5 2 0\n5 -3 -2 0\n-6 4 5 0\n\
-    -6 -4 -5 0\n6 -4 5 0\n6 4 -5 0\n6 0\n";
-
 const EMPTY: &[u8] = b"aag 0 0 0 0 0\n";
 
 const EMPTY_CNF: &[u8] = b"p cnf 1 2\n1 0\n0\n";
-
-const XOR_X: &[u8] = b"aag 5 2 0 1 3\n2\n4\n11\n6 2 5\n8 3 4\n10 7 9\n";
-
-const XOR_Y: &[u8] = b"aag 5 2 0 1 3\n2\n4\n10\n6 2 4\n8 3 5\n10 7 9\n";
 
 const AGAINST_FALSE_CNF: &[u8] =
     b"p cnf 5 9\n1 0\n-4 2 0\n-4 3 0\n4 -2 -3 0\n-5 4 -1 0\n-5 -4 1 0\n5 -4 -1 0\n5 4 1 0\n5 0\n";
@@ -26,8 +15,6 @@ const AGAINST_FALSE_CNF: &[u8] =
 const CONSTANTS_CNF: &[u8] = b"p cnf 2 4\n1 0\n2 1 0\n2 -1 0\n2 0\n";
 
 const NOTHING: &[u8] = b"";
-
-const WORDS: [&str; 5] = ["check", "A", "B", "--out", "p"];
 
 #[test]
 fn swapped_and(rt: HostRuntime) -> Result<(), Fail> {
@@ -109,6 +96,8 @@ fn and_against_false(rt: HostRuntime) -> Result<(), Fail> {
     Ok(())
 }
 
+/// No gate of one side is an AND of the same literals as one of the other. Where the sweep spends its budget on the pair,
+/// the output's own query settles it.
 #[test]
 fn two_xors(rt: HostRuntime) -> Result<(), Fail> {
     let files = [("A", XOR_X), ("B", XOR_Y)];
@@ -117,14 +106,47 @@ fn two_xors(rt: HostRuntime) -> Result<(), Fail> {
     assert_eq!(rt; ran.desk.said(), b"EQUIVALENT\n".as_slice());
     let header = ran.desk.file("p.0.cnf").and_then(|cnf| cnf.get(..12));
     assert_eq!(rt; header, Some(b"p cnf 10 24\n".as_slice()));
+    let words = ["check", "A", "B", "--sweep-budget", "1"];
+    let ran = run_words(&rt, rt.alloc(), &files, &words, &[])?;
+    assert_eq!(rt; ran.desk.said(), b"EQUIVALENT\n".as_slice());
+    Ok(())
+}
+
+/// One gate is the AND of the input and itself, another that of the input and its negation.
+#[test]
+fn merged_to_input_and_false(rt: HostRuntime) -> Result<(), Fail> {
+    let files = [
+        ("A", b"aag 3 1 0 2 2\n2\n4\n6\n4 2 2\n6 2 3\n".as_slice()),
+        ("B", b"aag 1 1 0 2 0\n2\n2\n0\n".as_slice()),
+    ];
+    let ran = run_words(&rt, rt.alloc(), &files, &WORDS, &[])?;
+    assert!(rt; ran.status == Status::Done);
+    assert_eq!(rt; ran.desk.said(), b"EQUIVALENT\n".as_slice());
+    let cnf = ran.desk.file("p.0.cnf").unwrap_or(NOTHING);
+    assert!(rt; cnf.starts_with(b"p cnf 6 15\n1 0\n-3 2 0\n-3 2 0\n3 -2 0\n-4 2 0\n-4 -2 0\n"));
+    assert!(rt; cnf.ends_with(b"\n5 6 0\n"));
+    Ok(())
+}
+
+/// The AND of both inputs against their OR: some pattern tells them apart before any query.
+#[test]
+fn outputs_apart_by_a_pattern(rt: HostRuntime) -> Result<(), Fail> {
+    let files = [
+        ("A", SWAPPED_A),
+        ("B", b"aag 3 2 0 1 1\n2\n4\n7\n6 3 5\n".as_slice()),
+    ];
+    let ran = run_words(&rt, rt.alloc(), &files, &WORDS, &[])?;
+    assert!(rt; ran.status == Status::No);
+    let said = ran.desk.said();
+    let first = said == b"DIFFERENT\noutput 0\ninput 01\n".as_slice();
+    assert!(rt; first || said == b"DIFFERENT\noutput 0\ninput 10\n".as_slice());
     Ok(())
 }
 
 #[test]
 fn tight_budgets(rt: HostRuntime) -> Result<(), Fail> {
     let files = [("A", XOR_X), ("B", XOR_Y)];
-    let words = ["check", "A", "B", "--budget", "1", "--out", "p"];
-    let ran = run_words(&rt, rt.alloc(), &files, &words, &[])?;
+    let ran = run_words(&rt, rt.alloc(), &files, &TIGHT, &[])?;
     assert!(rt; ran.status == Status::Undecided);
     assert_eq!(rt; ran.status.code(), 2);
     assert_eq!(rt;
@@ -135,9 +157,12 @@ fn tight_budgets(rt: HostRuntime) -> Result<(), Fail> {
     assert_eq!(rt; proof.iter().filter(|byte| **byte == b'\n').count(), 1);
     assert!(rt; proof.starts_with(b"25 "));
     assert_eq!(rt; ran.kept.len(), 1);
-    let logs = match ran.kept.first().map(|kept| kept.book.entries()) {
-        Some([Entry::OutSpent { output: 0, log, .. }]) => log.len(),
-        _ => 0,
+    let logs = match ran.kept.first() {
+        Some(kept) => match kept.book.about(0) {
+            Some(Entry::OutSpent { log, .. }) => log.len(),
+            _ => 0,
+        },
+        None => 0,
     };
     assert_eq!(rt; logs, 1);
     Ok(())
@@ -156,8 +181,7 @@ fn one_output_equal_and_one_open(rt: HostRuntime) -> Result<(), Fail> {
             b"aag 5 2 0 2 3\n2\n4\n2\n10\n6 2 4\n8 3 5\n10 7 9\n".as_slice(),
         ),
     ];
-    let words = ["check", "A", "B", "--budget", "1", "--out", "p"];
-    let ran = run_words(&rt, rt.alloc(), &files, &words, &[])?;
+    let ran = run_words(&rt, rt.alloc(), &files, &TIGHT, &[])?;
     assert!(rt; ran.status == Status::Undecided);
     assert_eq!(rt;
         ran.desk.said(),
@@ -172,7 +196,7 @@ fn one_output_equal_and_one_open(rt: HostRuntime) -> Result<(), Fail> {
 #[test]
 fn tight_budget_without_files(rt: HostRuntime) -> Result<(), Fail> {
     let files = [("A", XOR_X), ("B", XOR_Y)];
-    let words = ["check", "A", "B", "--budget", "1"];
+    let words = ["check", "A", "B", "--sweep-budget", "1", "--budget", "1"];
     let ran = run_words(&rt, rt.alloc(), &files, &words, &[])?;
     assert!(rt; ran.status == Status::Undecided);
     assert_eq!(rt; ran.desk.said(), b"UNDECIDED\noutput 0\n".as_slice());
@@ -269,7 +293,7 @@ fn missing_file(rt: HostRuntime) -> Result<(), Fail> {
 
 #[test]
 fn words_that_are_refused(rt: HostRuntime) -> Result<(), Fail> {
-    let cases: [&[&str]; 9] = [
+    let cases: [&[&str]; 12] = [
         &[],
         &["help"],
         &["check", "A"],
@@ -277,6 +301,9 @@ fn words_that_are_refused(rt: HostRuntime) -> Result<(), Fail> {
         &["check", "A", "B", "--in", "p"],
         &["check", "A", "B", "--budget", "0"],
         &["check", "A", "B", "--budget", "1000000001"],
+        &["check", "A", "B", "--sweep-budget", "0"],
+        &["check", "A", "B", "--sweep-budget", "1000000001"],
+        &["check", "A", "B", "--words", "65"],
         &["check", "A", "B", "C"],
         &["lrat", "A"],
     ];

@@ -1,11 +1,13 @@
-//! Tests of the whole program over a desk in memory: worked cases with their files, the bytes said and warned, and the
-//! status. It has no code of its own.
+//! Tests of the whole program over a desk in memory: worked cases with their files, the bytes said and
+//! warned, and the status. It has no code of its own.
 #![tactic(auto)]
 
 #[cfg(test)]
 mod cases;
 #[cfg(test)]
 mod desk;
+#[cfg(test)]
+mod files;
 #[cfg(test)]
 mod proofs;
 #[cfg(test)]

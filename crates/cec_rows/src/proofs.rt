@@ -1,22 +1,11 @@
 //! Proofs that are checked against formulas, those of the program among them.
 use crate::desk::run_words;
+use crate::files::{SWAPPED_A, SWAPPED_B, SWAPPED_CNF, TIGHT, XOR_X, XOR_Y};
 use cec_top::Status;
 use std::alloc::Global;
 use std::sync::Wait;
 use std::test::Fail;
 use std::thread::Threads;
-
-const SWAPPED_A: &[u8] = b"aag 3 2 0 1 1\n2\n4\n6\n6 2 4\n";
-
-const SWAPPED_B: &[u8] = b"aag 3 2 0 1 1\n2\n4\n6\n6 4 2\n";
-
-const XOR_X: &[u8] = b"aag 5 2 0 1 3\n2\n4\n11\n6 2 5\n8 3 4\n10 7 9\n";
-
-const XOR_Y: &[u8] = b"aag 5 2 0 1 3\n2\n4\n10\n6 2 4\n8 3 5\n10 7 9\n";
-
-const SWAPPED_CNF: &[u8] =
-    b"p cnf 6 12\n1 0\n-4 2 0\n-4 3 0\n4 -2 -3 0\n-5 3 0\n-5 2 0\n5 -3 -2 0\n-6 4 5 0\n\
-    -6 -4 -5 0\n6 -4 5 0\n6 4 -5 0\n6 0\n";
 
 /// The lines behind the first one of a proof by hand.
 const REST: &str = "14 4 -5 0 5 6 4 0\n15 -6 4 0 8 14 0\n16 -6 0 15 13 9 0\n17 0 16 12 0\n";
@@ -77,8 +66,7 @@ fn own_proofs_are_checked(rt: HostRuntime) -> Result<(), Fail> {
     let said = said_of_files(&rt, alloc, &swapped, &["check", "A", "B", "--out", "p"])?;
     assert_eq!(rt; said.as_slice(), b"VERIFIED\n".as_slice());
     let xors = [("A", XOR_X), ("B", XOR_Y)];
-    let tight = ["check", "A", "B", "--out", "p", "--budget", "1"];
-    let said = said_of_files(&rt, alloc, &xors, &tight)?;
+    let said = said_of_files(&rt, alloc, &xors, &TIGHT)?;
     assert_eq!(rt; said.as_slice(), b"REFUSED no empty clause\n".as_slice());
     Ok(())
 }

@@ -1,9 +1,8 @@
-//! Files that are refused, each with the one line that says why.
+//! Files that are refused, each with the one line that says why, and one circuit in other forms.
 use crate::desk::run_words;
+use crate::files::{SWAPPED_A, SWAPPED_B, SWAPPED_CNF, WORDS};
 use cec_top::Status;
 use std::test::Fail;
-
-const AND: &str = "aag 3 2 0 1 1\n2\n4\n6\n6 2 4\n";
 
 #[test]
 fn ascii_faults(rt: HostRuntime) -> Result<(), Fail> {
@@ -24,14 +23,8 @@ fn ascii_faults(rt: HostRuntime) -> Result<(), Fail> {
         ("aag 3 2 0 1 1\n2\n4\n6\n6 2", "ends too early at byte 23"),
     ];
     for (file, text) in cases {
-        let files = [("A", file.as_bytes()), ("B", AND.as_bytes())];
-        let ran = run_words(
-            &rt,
-            rt.alloc(),
-            &files,
-            &["check", "A", "B", "--out", "p"],
-            &[],
-        )?;
+        let files = [("A", file.as_bytes()), ("B", SWAPPED_A)];
+        let ran = run_words(&rt, rt.alloc(), &files, &WORDS, &[])?;
         let line = format!(in rt.alloc(); "cec: A: {text}\n")?;
         assert_eq!(rt; ran.desk.warned(), line.as_bytes(), "{text}");
         assert!(rt; ran.status == Status::BadInput, "{text}");
@@ -43,16 +36,10 @@ fn ascii_faults(rt: HostRuntime) -> Result<(), Fail> {
 // Up to byte 12 the header is cut, and before byte 25 a line that has to be there.
 #[test]
 fn cut_at_each_byte(rt: HostRuntime) -> Result<(), Fail> {
-    let whole = AND.as_bytes();
+    let whole = SWAPPED_A;
     for n in 0..26u64 {
         let files = [("A", &whole[..n as usize]), ("B", whole)];
-        let ran = run_words(
-            &rt,
-            rt.alloc(),
-            &files,
-            &["check", "A", "B", "--out", "p"],
-            &[],
-        )?;
+        let ran = run_words(&rt, rt.alloc(), &files, &WORDS, &[])?;
         let line = match n {
             0..=12 => format!(in rt.alloc(); "cec: A: bad header\n")?,
             13..=24 => format!(in rt.alloc(); "cec: A: ends too early at byte {n}\n")?,
@@ -64,17 +51,17 @@ fn cut_at_each_byte(rt: HostRuntime) -> Result<(), Fail> {
 }
 
 #[test]
-fn last_newline(rt: HostRuntime) -> Result<(), Fail> {
-    let whole = AND.as_bytes();
-    let files = [("A", &whole[..25]), ("B", whole)];
-    let ran = run_words(
-        &rt,
-        rt.alloc(),
-        &files,
-        &["check", "A", "B", "--out", "p"],
-        &[],
-    )?;
-    assert!(rt; ran.status == Status::Done);
+fn comment_and_last_newline(rt: HostRuntime) -> Result<(), Fail> {
+    let forms: [(&[u8], &str); 2] = [
+        (b"aag 3 2 0 1 1\n2\n4\n6\n6 2 4\ncABC", "a comment"),
+        (b"aag 3 2 0 1 1\n2\n4\n6\n6 2 4", "no last newline"),
+    ];
+    for (file, name) in forms {
+        let files = [("A", file), ("B", SWAPPED_B)];
+        let ran = run_words(&rt, rt.alloc(), &files, &WORDS, &[])?;
+        assert!(rt; ran.status == Status::Done, "{name}");
+        assert_eq!(rt; ran.desk.file("p.0.cnf"), Some(SWAPPED_CNF), "{name}");
+    }
     Ok(())
 }
 
@@ -86,7 +73,7 @@ fn binary_faults(rt: HostRuntime) -> Result<(), Fail> {
         (b"abg 3 2 0 1 1\n6\n\x02\x02", "bad header"),
     ];
     for (file, text) in cases {
-        let files = [("A", AND.as_bytes()), ("B", file)];
+        let files = [("A", SWAPPED_A), ("B", file)];
         let ran = run_words(&rt, rt.alloc(), &files, &["check", "A", "B"], &[])?;
         let line = format!(in rt.alloc(); "cec: B: {text}\n")?;
         assert_eq!(rt; ran.desk.warned(), line.as_bytes(), "{text}");
@@ -98,13 +85,12 @@ fn binary_faults(rt: HostRuntime) -> Result<(), Fail> {
 /// One circuit in other forms: each agrees with its plain text.
 #[test]
 fn one_circuit_in_many_forms(rt: HostRuntime) -> Result<(), Fail> {
-    let forms: [(&[u8], &str); 5] = [
+    let forms: [(&[u8], &str); 4] = [
         (b"aig 3 2 0 1 1\n6\n\x02\x02", "binary"),
         (
             b"aig 3 2 0 1 1\n6\n\x82\x00\x02",
             "a delta that isn't shortest",
         ),
-        (b"aag 3 2 0 1 1\n2\n4\n6\n6 2 4\ncABC", "a comment"),
         (b"aig 3 2 0 1 1\n6\n\x02\x02i0 x\no0 y\nc\n", "symbols"),
         (
             b"aag 4 2 0 1 2\n2\n4\n8\n8 6 4\n6 2 4\n",
@@ -112,7 +98,7 @@ fn one_circuit_in_many_forms(rt: HostRuntime) -> Result<(), Fail> {
         ),
     ];
     for (file, name) in forms {
-        let files = [("A", file), ("B", AND.as_bytes())];
+        let files = [("A", file), ("B", SWAPPED_A)];
         let ran = run_words(&rt, rt.alloc(), &files, &["check", "A", "B"], &[])?;
         assert!(rt; ran.status == Status::Done, "{name}");
         assert_eq!(rt; ran.desk.said(), b"EQUIVALENT\n".as_slice(), "{name}");

@@ -6,10 +6,16 @@ use Rattle.endings.specs.declared.status.Status.{Status}
 use Rattle.endings.specs.declared.stop.Stop.{Stop}
 use Rattle.endings.specs.declared.stop.Stop.TheVariants.{CannotRead, TooLong, BadFile, NotAlike, CannotWrite, OutOfMemory}
 use Rattle.command_line.specs.Words.{CheckCommand}
+use Rattle.lemma_book.specs.Entry.{Entries}
+use Rattle.check_session.specs.declared.options.Options.{Options}
+use Rattle.check_session.specs.declared.verdict.Verdict.{Verdict}
+use Rattle.check_session.specs.Finding.{Finding, Finds}
+use Rattle.check_session.specs.Outputs.{finding_of}
+use Rattle.check_session.specs.Check.{State, IsSettled, IsFound}
 use Rattle.cec_top.specs.declared.kept.Kept.{Kept}
-use Rattle.cec_top.specs.Check.{Made, IsMade, Tells, status_of_finding, AreSome}
+use Rattle.cec_top.specs.Check.{Made, IsMade, IsProof, Tells, status_of_finding, AreSome}
 use Rattle.cec_top.specs.Answers.{KeepsOn, GoesOn, Ends, Stops}
-use Rattle.cec_top.specs.Steps.{ReadsPair, IsInOrder}
+use Rattle.cec_top.specs.Steps.{ReadsPair, options_of}
 
 module _ (c : CheckCommand) (old : DeskState) (net : AigPair) (mid : DeskState) (read : ReadsPair c old mid (Ok net)) where
   -- nothing is made so far
@@ -58,6 +64,24 @@ module _ (c : CheckCommand) (old : DeskState) (net : AigPair) (mid : DeskState) 
       keeps = keeps-on stop;
     })))
 
--- a check whose book is in order is right
-pub is-made : (c : CheckCommand) (m : Made) → IsInOrder c.budget m → IsMade c m
-is-made c m p = record { settled = p.settled; proof = p.proof }
+-- a check that was found is right
+pub is-made : (c : CheckCommand) (net : AigPair) (o : Options) (book : Entries) (v : Verdict) → o ≡ options_of c → IsFound net o book v
+    → ((f : Finding) → Finds net book.entries f → IsProof net book.entries f)
+    → IsMade c (record { net = net; book = book; finding = finding_of v })
+is-made c net o book v same found proves = record {
+  settled = subst (λ (p : Options). IsSettled net p.sweep_budget p.out_budget book (finding_of v)) same found.settled;
+  proof = proves (finding_of v) found.settled.finds;
+}
+
+-- so is one that a session's check found
+pub made-checked : (c : CheckCommand) (s : State) (v : Verdict) (net first : AigPair) (book one : Entries) → net ≡ s.net → book ≡ s.book
+    → first ≡ s.net → one ≡ s.book → s.options ≡ options_of c → IsFound s.net s.options s.book v
+    → ((f : Finding) → Finds first one.entries f → IsProof first one.entries f)
+    → IsMade c (record { net = net; book = book; finding = finding_of v })
+made-checked c s v net first book one net_is book_is first_is one_is same found proves =
+    let here : (f : Finding) → Finds s.net s.book.entries f → IsProof s.net s.book.entries f =
+    subst (λ (n : AigPair). (f : Finding) → Finds n s.book.entries f → IsProof n s.book.entries f) first_is
+    (subst (λ (b : Entries). (f : Finding) → Finds first b.entries f → IsProof first b.entries f) one_is proves) in
+    subst (λ (n : AigPair). IsMade c (record { net = n; book = book; finding = finding_of v })) (sym net_is)
+    (subst (λ (b : Entries). IsMade c (record { net = s.net; book = b; finding = finding_of v })) (sym book_is)
+    (is-made c s.net s.options s.book v same found here))

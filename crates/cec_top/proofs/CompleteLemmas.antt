@@ -1,10 +1,12 @@
 -- A check that can be made comes to a verdict, where the desk has no fault and memory suffices.
-use Rattle.std.proofs.Common.{◌≡◌, ℕ, ◌<◌, ◌≤◌, inl, inr, List, [], ◌∷◌, ◌++◌, length, map, Option, Some, None, Ok, Err, refl, sym, ap, ◌∙◌, subst, arith, eq-eqb}
+use Rattle.std.proofs.Common.{◌≡◌, ◌≢◌, ℕ, ◌<◌, ◌≤◌, ◌^◌, inl, inr, List, [], ◌∷◌, ◌++◌, length, map, Option, Some, None, Ok, Err, refl, sym, ap, ap₂, ◌∙◌, subst, arith, eq-eqb}
 use Rattle.std.specs.Prelude.{Result, ◌⊎◌, IfSome, IsSomeAnd}
 use Rattle.std.proofs.lemmas.Option.{none-some, same_Some}
 use Rattle.desk_port.specs.Desk.{DeskState, Files, Rose, HasMore, after_read}
 use Rattle.byte_scan.specs.declared.errors.AigerErr.{AigerErr}
 use Rattle.netlist.specs.Circuit.{Aig}
+use Rattle.netlist.specs.Net.{AigPair}
+use Rattle.netlist.specs.Miter.{variables_of}
 use Rattle.netlist.specs.Unlike.{unlike_of}
 use Rattle.aiger_file.specs.File.{SpellsAiger}
 use Rattle.endings.specs.declared.status.Status.{Status}
@@ -16,12 +18,14 @@ use Rattle.endings.specs.Writing.{Output, Leaves, after_file}
 use Rattle.endings.specs.Stops.{IsWarned, Warns, status_of, stop_line}
 use Rattle.command_line.specs.Words.{CheckCommand, Request, CheckIt, LratIt, Asks, WantHelp, AreRefused}
 use Rattle.cec_top.specs.declared.kept.Kept.{Kept}
-use Rattle.cec_top.specs.Headline.{FileSpells}
-use Rattle.cec_top.specs.Finding.{Finding, Equivalent, Different, Undecided}
+use Rattle.cec_top.specs.Headline.{FileSpells, SpellPair}
+use Rattle.check_session.specs.Finding.{Finding, Equivalent, Different, Undecided}
+use Rattle.check_session.specs.Check.{IsWithinFor}
 use Rattle.cec_top.specs.Check.{Made, status_of_finding, AreTold, outputs_of as files_of, text_of_check}
 use Rattle.cec_top.specs.Answers.{fault_in, Answers, AnswersCheck, AreUnlike, BreaksOff, Stops, IsAtOnce, circuit_file, inputs_of, names_of}
-use Rattle.cec_top.specs.Complete.{NoFault, IsWithinLimit, CanCheck, HasVerdict}
+use Rattle.cec_top.specs.Complete.{NoFault, IsWithinLimit, CanCheck, IsAmple, HasVerdict}
 use Rattle.cec_top.proofs.VerdictLemmas.{only-check}
+use Rattle.cec_top.proofs.HeadlineLemmas.{ends-code, spells-pair}
 use Rattle.cec_top.proofs.WordsLemmas.{check_or}
 
 -- memory ran out, or a fault was counted
@@ -164,6 +168,41 @@ check-complete c old new status kept can none (inr p) = go p.warns (stops-excuse
     go (inl w) (inr (inr writes)) =
         absurd (none.writes (subst (λ (n : ℕ). Rose old.write_faults n) (sym (warned-counts p.mid new _ w.1).1) writes))
 
+-- ---- a budget that no query spends
+
+-- a file spells one circuit at most
+spells-one : (files : Files) (name : List ℕ) (x y : Aig) → FileSpells files name x → FileSpells files name y → x ≡ y
+spells-one files name x y p q = go (files name) p q
+  where
+    go : (o : Option (List ℕ)) → IsSomeAnd o (λ b. SpellsAiger b x) → IsSomeAnd o (λ b. SpellsAiger b y) → x ≡ y
+    go None p q = absurd p
+    go (Some b) p q = ok-equal x y (sym p ∙ q)
+
+-- so two files spell one pair at most
+pair-one : (c : CheckCommand) (files : Files) (m n : AigPair) → SpellPair c files m → SpellPair c files n → m ≡ n
+pair-one c files m n p q =
+    ap₂ (λ (x y : Aig). record { a = x; b = y }) (spells-one files c.a m.a n.a p.a q.a) (spells-one files c.b m.b n.b p.b q.b)
+
+within-code : (net : AigPair) (budget : ℕ) (f : Finding) → IsWithinFor net budget f → code_of (status_of_finding f) ≡ 2
+    → budget ≤ 3 ^ length (variables_of net)
+within-code net budget Undecided within code = within
+within-code net budget Equivalent within code = cc
+within-code net budget (Different j input) within code = cc
+
+check-decided : (c : CheckCommand) (old new : DeskState) (status : Status) (kept : List Kept) → IsAmple c old
+    → AnswersCheck c old new status kept → code_of status ≢ 2
+check-decided c old new status kept ample (inl p) = λ code.
+    let only = only-check c old new status kept p in
+    let settled = only.is_made.settled in
+    let within : only.check.book.out_budget ≤ 3 ^ length (variables_of only.check.net) =
+    within-code only.check.net only.check.book.out_budget only.check.finding settled.within (ap code_of only.status_is ∙ code) in
+    let same : only.check.net ≡ ample.net =
+    pair-one c ample.files only.check.net ample.net (spells-pair c old ample.files ample.told only.check.net only.reads only.alike) ample.pair in
+    let count : 3 ^ length (variables_of only.check.net) ≡ 3 ^ length (variables_of ample.net) =
+    ap (λ (n : AigPair). 3 ^ length (variables_of n)) same in
+    absurd (omega (arith, within, count, settled.budget_is, ample.ample))
+check-decided c old new status kept ample (inr p) = λ code. absurd (omega (arith, code, ends-code _ _ new status p))
+
 module _ (words : List (List ℕ)) (old new : DeskState) (status : Status) (kept : List Kept)
     (asked : (words : List (List ℕ)) (r : Request) → Asks words r → ¬ (WantHelp words ⊎ AreRefused words))
     (answers : Answers words old new status kept) where
@@ -181,3 +220,14 @@ module _ (words : List (List ℕ)) (old new : DeskState) (status : Status) (kept
       at-once : (stop : Stop) (mid : DeskState) → IsAtOnce old mid stop → Warns (stop_line [] stop) (status_of stop) mid new status → HasVerdict status
       at-once stop mid cause (inl w) = inr (ap code_of w.0 ∙ ap (λ (s : Stop). code_of (status_of s)) cause.0)
       at-once stop mid cause (inr w) = inr (ap code_of w.0)
+
+  pub decided : (c : CheckCommand) → Asks words (CheckIt c) → IsAmple c old → code_of status ≢ 2
+  decided c asks ample = λ code. elim answers [
+    | inl p ↦
+        let same : p.command ≡ c = ap (check_or c) (same_Some (CheckIt p.command) (CheckIt c) (sym p.asked ∙ asks)) in
+        check-decided c old new status kept ample (subst (λ (d : CheckCommand). AnswersCheck d old new status kept) same p.answers) code
+    | inr (inl p) ↦ let t : LratIt p.command ≡ CheckIt c = same_Some (LratIt p.command) (CheckIt c) (sym p.asked ∙ asks) in cc
+    | inr (inr (inl p)) ↦ absurd (asked words (CheckIt c) asks (inl p.wanted))
+    | inr (inr (inr (inl p))) ↦ absurd (asked words (CheckIt c) asks (inr p.refused))
+    | inr (inr (inr (inr p))) ↦ absurd (omega (arith, code, ends-code _ _ new status p.ends))
+  ]

@@ -8,7 +8,7 @@ use Rattle.desk_port.specs.Desk.{Files, DeskState, put, after_say}
 use Rattle.netlist.specs.Circuit.{Aig}
 use Rattle.netlist.specs.Net.{AigPair}
 use Rattle.netlist.specs.Unlike.{unlike_of}
-use Rattle.netlist.proofs.LawNodes.{equal-number}
+use Rattle.netlist.proofs.Facts.{equal-number}
 use Rattle.aiger_file.specs.File.{SpellsAiger}
 use Rattle.command_line.specs.Words.{CheckCommand}
 use Rattle.endings.specs.declared.status.Status.{Status}

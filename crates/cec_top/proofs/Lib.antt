@@ -1,6 +1,3 @@
-mod SettledLemmas
-mod FindingLemmas
-mod EqualLemmas
 mod MeansLemmas
 mod TellLemmas
 mod ReadLemmas

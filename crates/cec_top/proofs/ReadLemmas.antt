@@ -11,6 +11,7 @@ use Rattle.endings.specs.declared.stop.Stop.{Stop}
 use Rattle.endings.specs.declared.stop.Stop.TheVariants.{NotAlike, OutOfMemory}
 use Rattle.endings.specs.Reading.{ReadsAs, StopsAt, FileIs, after_reads}
 use Rattle.command_line.specs.Words.{CheckCommand}
+use Rattle.check_session.specs.Check.{State}
 use Rattle.cec_top.specs.Lines.{unlike_text}
 use Rattle.cec_top.specs.Answers.{ReadsCircuits, circuit_file, inputs_of}
 use Rattle.cec_top.specs.Steps.{ReadsPair}
@@ -76,11 +77,10 @@ module _ (c : CheckCommand) (old : DeskState) where
         new_is = at-end;
       })
 
-abbrev pub ok_is : AigPair → Unlike → Type 0
-ok_is net u = let r : Result AigPair Unlike = Ok net in r ≡ Err u
+abbrev pub ok_is : State → Unlike → Type 0
+ok_is s u = let r : Result State Unlike = Ok s in r ≡ Err u
 
 -- two circuits that are paired can be compared
-pub paired : (o : Option Unlike) (net pair : AigPair) → IfSome o (λ u. ok_is net u) → IfNone o (net ≡ pair)
-    → (o ≡ None) × (net ≡ pair)
-paired None net pair some none = (refl, none)
-paired (Some u) net pair some none = cc
+pub paired : (o : Option Unlike) (s t : State) → IfSome o (λ u. ok_is s u) → IfNone o (s ≡ t) → (o ≡ None) × (s ≡ t)
+paired None s t some none = (refl, none)
+paired (Some u) s t some none = cc

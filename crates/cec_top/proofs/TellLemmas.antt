@@ -1,13 +1,18 @@
 -- How a check goes on from a file to the next, and from its files to its verdict.
-use Rattle.std.proofs.Common.{◌≡◌, ℕ, inl, inr, List, [], ◌∷◌, ◌++◌, Option, Some, None, Ok, Err, Result, sym, ap, ◌∙◌, subst}
+use Rattle.std.proofs.Common.{◌≡◌, ℕ, inl, inr, List, [], ◌∷◌, ◌++◌, Option, Some, None, Ok, Err, Result, refl, sym, ap, ◌∙◌, subst}
 use Rattle.desk_port.specs.Desk.{DeskState}
 use Rattle.endings.specs.declared.stop.Stop.{Stop}
 use Rattle.endings.specs.declared.stop.Stop.TheVariants.{OutOfMemory}
 use Rattle.endings.specs.Writing.{Output, StopsIn, Says, Leaves, after_file}
-use Rattle.cec_top.specs.Finding.{open_outputs}
+use Rattle.netlist.specs.Net.{AigPair}
+use Rattle.lemma_book.specs.declared.entry.Entry.{Entry}
+use Rattle.check_session.specs.declared.verdict.Verdict.{Verdict}
+use Rattle.check_session.specs.declared.verdict.Verdict.TheVariants as verdict
+use Rattle.check_session.specs.Finding.{open_outputs}
+use Rattle.check_session.specs.Outputs.{ListsOpen, finding_of}
 use Rattle.cec_top.specs.Texts.{open_text}
 use Rattle.cec_top.specs.Check.{Made, outputs_of, text_of, text_of_check}
-use Rattle.cec_top.specs.Steps.{after_outputs, open_text_of}
+use Rattle.cec_top.specs.Steps.{after_outputs, opens_in}
 
 -- what stops behind files that are left stops all that is left
 pub stops-behind : (os more : List Output) (old mid new : DeskState) (stop : Stop) → mid ≡ after_outputs old os
@@ -41,13 +46,12 @@ stops-second a b m n x y same_a same_b old mid new stop at p any =
 
 module _ (out : Option (List ℕ)) (number : ℕ) (m : Made) (old mid new : DeskState) where
   -- nothing is left, and the verdict is said
-  pub told-plain : out ≡ None → open_text_of m.book.entries ≡ open_text (open_outputs m.net m.book.entries)
-      → (said : List ℕ) → said ≡ text_of m.finding (open_text_of m.book.entries) → mid ≡ old
+  pub told-plain : out ≡ None → (said : List ℕ) → said ≡ text_of m.finding (open_text (open_outputs m.net m.book.entries)) → mid ≡ old
       → (result : Result (Unit {0}) Stop) → Says said mid new result → Leaves (outputs_of out number m) (text_of_check out m) old new result
-  told-plain none opens said is at result p =
+  told-plain none said is at result p =
       subst (λ (o : Option (List ℕ)). Leaves (outputs_of o number m) (text_of_check o m) old new result) (sym none)
       (says-behind [] (text_of_check None m) old mid new result at
-      (subst (λ (text : List ℕ). Says text mid new result) (is ∙ ap (text_of m.finding) opens) p))
+      (subst (λ (text : List ℕ). Says text mid new result) is p))
 
   -- the files are left, and the verdict is said
   pub told-files : (prefix : List ℕ) → out ≡ Some prefix → (said : List ℕ) → said ≡ text_of_check (Some prefix) m
@@ -65,3 +69,10 @@ module _ (out : Option (List ℕ)) (number : ℕ) (m : Made) (old mid new : Desk
   stops-files prefix some stop p =
       subst (λ (o : Option (List ℕ)). Leaves (outputs_of o number m) (text_of_check o m) old new (Err stop)) (sym some)
       (p (text_of_check (Some prefix) m))
+
+-- a verdict names the outputs that are open
+pub plain-text : (net : AigPair) (entries : List Entry) (v : Verdict) → ListsOpen net entries v
+    → text_of (finding_of v) (open_text (opens_in v)) ≡ text_of (finding_of v) (open_text (open_outputs net entries))
+plain-text net entries verdict.Equivalent lists = refl
+plain-text net entries (verdict.Different output input) lists = refl
+plain-text net entries (verdict.Undecided outputs) lists = ap open_text lists

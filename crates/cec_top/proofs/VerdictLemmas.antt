@@ -1,28 +1,32 @@
 -- What each verdict promises, from what the program answers.
 use Rattle.std.proofs.Common.{◌≡◌, ℕ, suc, zero, ◌+◌, ◌<◌, inl, inr, Bool, true, false, List, [], ◌∷◌, ◌++◌, length, map, filter, option_map, Option, Some, None, refl, sym, ap, ◌∙◌, subst, arith}
 use Rattle.std.specs.Prelude.{slice_index_or, All}
-use Rattle.std.specs.List.{AllByRecursion}
-use Rattle.std.proofs.lemmas.Option.{same_Some}
+use Rattle.std.specs.List.{AllByRecursion, find}
+use Rattle.std.proofs.lemmas.Option.{none-some, same_Some}
 use Rattle.desk_port.specs.Desk.{Files, DeskState, after_say}
-use Rattle.lits.specs.declared.node.Node.TheVariants.{Xor}
 use Rattle.netlist.specs.Net.{AigPair}
 use Rattle.netlist.specs.Unlike.{unlike_of}
-use Rattle.netlist.proofs.LawNodes.{equal-number}
 use Rattle.unit_prop.specs.Log.{InTurn}
 use Rattle.lemma_book.specs.declared.entry.Entry.{Entry}
-use Rattle.lemma_book.specs.declared.entry.Entry.TheVariants.{Out, OutApart, OutSpent}
-use Rattle.lemma_book.specs.Cone.{IsCone}
-use Rattle.lemma_book.specs.Entry.{Entries, IsGood}
+use Rattle.lemma_book.specs.declared.entry.Entry.TheVariants.{Merge, Apart, Spent, Out, OutApart, OutSpent}
+use Rattle.lemma_book.specs.declared.entry.Subject.TheVariants.{Output}
+use Rattle.lemma_book.specs.Entry.{Entries, is_on, about}
+use Rattle.lemma_book.specs.Good.{IsGood, Count}
+use Rattle.lemma_book.specs.Book.{IsLegal}
+use Rattle.lemma_book.proofs.Facts.{legal-last}
+use Rattle.check_session.proofs.Facts.{about-subject}
 use Rattle.proof_stitch.specs.declared.logs.Span.{Span}
+use Rattle.proof_stitch.specs.Written.{shown_ids}
 use Rattle.proof_stitch.specs.Stitch.{refutation_of}
-use Rattle.proof_stitch.specs.Derivation.{is_spent, has_spent, spent_log, derivation_of, spans_of, outputs_of, AreSpans}
+use Rattle.proof_stitch.specs.Derivation.{has_spent, spent_log, derivation_of, spans_of, outputs_of, AreSpans}
 use Rattle.command_line.specs.Words.{CheckCommand}
 use Rattle.endings.specs.declared.status.Status.{Status}
 use Rattle.endings.specs.Status.{code_of}
 use Rattle.endings.specs.Reading.{after_reads}
 use Rattle.cec_top.specs.declared.kept.Kept.{Kept}
 use Rattle.cec_top.specs.Headline.{SpellPair, IsEquivalent, IsDifferent, IsUndecided, EquivalentFiles, DifferentFiles, UndecidedFiles, SpendsBudget, HasLog, Left, Shows}
-use Rattle.cec_top.specs.Finding.{Finding, Equivalent, Different, Undecided, open_outputs, IsSettled}
+use Rattle.check_session.specs.Finding.{Finding, Equivalent, Different, Undecided, open_outputs}
+use Rattle.check_session.specs.Check.{IsSettled}
 use Rattle.cec_top.specs.Check.{Made, IsMade, IsProof, AreTold, status_of_finding, outputs_of as files_of, proof_bytes, text_of_check, last_finding}
 use Rattle.cec_top.specs.Answers.{ReadsCircuits, Ends, AnswersCheck, inputs_of}
 use Rattle.cec_top.specs.Steps.{after_outputs}
@@ -37,28 +41,56 @@ head-equal x y xs ys e = ap (head_or x) e
 
 -- ---- the logs of open outputs
 
-module _ (net : AigPair) (budget : ℕ) where
-  abbrev pub IsGoodOver : List Entry → Entry → Type 0
-  IsGoodOver before e = IsGood net (record { out_budget = budget; entries = before }) e
+-- a legal book's entry is good over a legal book
+found-legal : (net : AigPair) (sweep out : ℕ) (p : Entry → Bool) (before es : List Entry) (e : Entry)
+    → IsLegal net (record { sweep_budget = sweep; out_budget = out; entries = before })
+    → InTurn (λ earlier x. IsGood net (record { sweep_budget = sweep; out_budget = out; entries = earlier }) x) before es
+    → find p es ≡ Some e
+    → (earlier : List Entry) × IsLegal net (record { sweep_budget = sweep; out_budget = out; entries = earlier })
+    × IsGood net (record { sweep_budget = sweep; out_budget = out; entries = earlier }) e
+found-legal net sweep out p before [] e legal turn found = absurd (none-some e found)
+found-legal net sweep out p before (x ∷ xs) e legal turn found =
+    let book : Entries = record { sweep_budget = sweep; out_budget = out; entries = before } in
+    go (p x) refl found
+    (found-legal net sweep out p (before ++ x ∷ []) xs e (legal-last net book x legal turn.0) turn.1)
+  where
+    go : (b : Bool) → p x ≡ b → find p (x ∷ xs) ≡ Some e
+        → (find p xs ≡ Some e → (earlier : List Entry) × IsLegal net (record { sweep_budget = sweep; out_budget = out; entries = earlier })
+        × IsGood net (record { sweep_budget = sweep; out_budget = out; entries = earlier }) e)
+        → (earlier : List Entry) × IsLegal net (record { sweep_budget = sweep; out_budget = out; entries = earlier })
+        × IsGood net (record { sweep_budget = sweep; out_budget = out; entries = earlier }) e
+    go true is f rest = (
+      before,
+      legal,
+      subst (λ (y : Entry). IsGood net (record { sweep_budget = sweep; out_budget = out; entries = before }) y)
+          (same_Some x e (rw is at f)) turn.0,
+    )
+    go false is f rest = rest (rw is at f)
 
+module _ (net : AigPair) (book : Entries) (budget : ℕ) (budget_is : book.out_budget ≡ budget) (legal : IsLegal net book) where
   -- an open output's log spends the whole budget
-  pub spends-log : (before es : List Entry) (j : ℕ) → InTurn IsGoodOver before es → has_spent es j ≡ true → SpendsBudget net budget j (spent_log es j)
-  spends-log before [] j legal has = cc
-  spends-log before (e ∷ es) j legal has = go (is_spent j e) refl (spends-log (before ++ e ∷ []) es j legal.1)
+  pub spends-log : (j : ℕ) → has_spent book.entries j ≡ true → SpendsBudget net budget j (spent_log book.entries j)
+  spends-log j has = go (about book.entries j) refl
     where
-      here : (x : Entry) → IsGoodOver before x → is_spent j x ≡ true → SpendsBudget net budget j (spent_log (x ∷ es) j)
-      here (Out k steps) good same = cc
-      here (OutApart k input) good same = cc
-      here (OutSpent k seen log) good same = rw same (record {
-        cone = good.shown.cone;
-        is_cone = subst (λ (i : ℕ). IsCone net (Xor i ∷ []) good.shown.cone) (equal-number k j same) good.shown.is_cone;
-        spent = good.shown.spent;
-      })
-
-      go : (b : Bool) → is_spent j e ≡ b → (has_spent es j ≡ true → SpendsBudget net budget j (spent_log es j))
-          → SpendsBudget net budget j (spent_log (e ∷ es) j)
-      go true same rest = here e legal.0 same
-      go false other rest = rw other (rest (rw other at has))
+      go : (o : Option Entry) → about book.entries j ≡ o → SpendsBudget net budget j (spent_log book.entries j)
+      go None is = let t : false ≡ true = rw is at has in cc
+      go (Some (Merge node lit steps)) is = let t : false ≡ true = rw is at has in cc
+      go (Some (Apart node lit input)) is = let t : false ≡ true = rw is at has in cc
+      go (Some (Spent node lit seen log)) is = let t : false ≡ true = rw is at has in cc
+      go (Some (Out k steps)) is = let t : false ≡ true = rw is at has in cc
+      go (Some (OutApart k input)) is = let t : false ≡ true = rw is at has in cc
+      go (Some (OutSpent k seen log)) is =
+          let found = found-legal net book.sweep_budget book.out_budget (is_on (Output j)) [] book.entries (OutSpent k seen log) tt legal is in
+          let subject : Some (Output k) ≡ Some (Output j) = about-subject book.entries j (OutSpent k seen log) is in
+          let number : k ≡ j = cc in
+          let first : Entries = record { sweep_budget = book.sweep_budget; out_budget = book.out_budget; entries = found.0 } in
+          rw is (record {
+            book = first;
+            legal = found.1;
+            budget_is = budget_is;
+            seen = seen;
+            good = subst (λ (i : ℕ). IsGood net first (OutSpent i seen log)) number found.2;
+          })
 
   filter-passes : (p : ℕ → Bool) (xs : List ℕ) → AllByRecursion (λ x. p x ≡ true) (filter p xs)
   filter-passes p [] = tt
@@ -75,19 +107,21 @@ module _ (net : AigPair) (budget : ℕ) where
   outputs-pass p (s ∷ ss) all (suc k) d below = outputs-pass p ss all.1 k d (omega arith)
 
   -- the lines that are said are the logs
-  pub spans-logs : (es : List Entry) → InTurn IsGoodOver [] es → AreSpans net es (spans_of net es)
-      → All (HasLog net budget (derivation_of net es)) (spans_of net es)
-  spans-logs es legal are = λ k d below.
+  pub spans-logs : AreSpans net book.entries (spans_of net book.entries)
+      → All (HasLog net budget (derivation_of net book.entries)) (spans_of net book.entries)
+  spans-logs are = λ k d below.
+      let es = book.entries in
       let span = slice_index_or (spans_of net es) k d in
       let is = are.each k d below in
       let passes : AllByRecursion (λ j. has_spent es j ≡ true) (map (λ (s : Span). s.output) (spans_of net es)) =
       subst (λ (js : List ℕ). AllByRecursion (λ j. has_spent es j ≡ true) js) (sym are.outputs) (filter-passes (has_spent es) (outputs_of net)) in
-      let spends = spends-log [] es span.output legal (outputs-pass (has_spent es) (spans_of net es) passes k d below) in
+      let spends = spends-log span.output (outputs-pass (has_spent es) (spans_of net es) passes k d below) in
       record {
         log = spent_log es span.output;
         spends = spends;
+        shown = shown_ids net es;
         there = is.lines;
-        whole = is.count ∙ ap (λ (n : ℕ). span.first + n) spends.spent.whole;
+        whole = is.count ∙ ap (λ (n : ℕ). span.first + n) (spends.good Count ∙ spends.budget_is);
       }
 
 -- ---- each verdict
@@ -100,7 +134,7 @@ module _ (c : CheckCommand) (old new : DeskState) (before : Files) (earlier : Li
   abbrev Whole : Finding → Type 0
   Whole f = new ≡ after_say (after_outputs (after_reads old (inputs_of c)) (files_of c.out 0 (made f))) (text_of_check c.out (made f))
 
-  pub shows-equivalent : (f : Finding) → IsSettled net c.budget book f → IsProof net book.entries f → Whole f → code_of (status_of_finding f) ≡ 0
+  pub shows-equivalent : (f : Finding) → IsSettled net c.sweep_budget c.budget book f → IsProof net book.entries f → Whole f → code_of (status_of_finding f) ≡ 0
       → Left (IsEquivalent c) old new before earlier
   shows-equivalent Equivalent settled proof whole code =
       left-check c old new before earlier told heard (made Equivalent) pair whole (IsEquivalent c) (record {
@@ -121,7 +155,7 @@ module _ (c : CheckCommand) (old new : DeskState) (before : Files) (earlier : Li
   shows-equivalent (Different j input) settled proof whole code = cc
   shows-equivalent Undecided settled proof whole code = cc
 
-  pub shows-different : (f : Finding) → IsSettled net c.budget book f → Whole f → code_of (status_of_finding f) ≡ 1 → Left (IsDifferent c) old new before earlier
+  pub shows-different : (f : Finding) → IsSettled net c.sweep_budget c.budget book f → Whole f → code_of (status_of_finding f) ≡ 1 → Left (IsDifferent c) old new before earlier
   shows-different (Different j input) settled whole code =
       left-check c old new before earlier told heard (made (Different j input)) pair whole (IsDifferent c) (record {
         net = net;
@@ -141,7 +175,7 @@ module _ (c : CheckCommand) (old new : DeskState) (before : Files) (earlier : Li
   shows-different Equivalent settled whole code = cc
   shows-different Undecided settled whole code = cc
 
-  pub shows-undecided : (f : Finding) → IsSettled net c.budget book f → IsProof net book.entries f → Whole f → code_of (status_of_finding f) ≡ 2
+  pub shows-undecided : (f : Finding) → IsSettled net c.sweep_budget c.budget book f → IsProof net book.entries f → Whole f → code_of (status_of_finding f) ≡ 2
       → Left (IsUndecided c) old new before earlier
   shows-undecided Undecided settled proof whole code =
       left-check c old new before earlier told heard (made Undecided) pair whole (IsUndecided c) (record {
@@ -151,14 +185,11 @@ module _ (c : CheckCommand) (old new : DeskState) (before : Files) (earlier : Li
         opens = open_outputs net book.entries;
         opens_are = refl;
         some_open = settled.finds.some_open;
-        spent = λ j below has. (spent_log book.entries j, spends-log net c.budget [] book.entries j legal has);
+        spent = λ j below has. (spent_log book.entries j, spends-log net book c.budget settled.budget_is settled.legal j has);
         others = settled.means;
         files = go c.out;
       })
     where
-      legal : InTurn (IsGoodOver net c.budget) [] book.entries
-      legal = subst (λ (b : ℕ). InTurn (IsGoodOver net b) [] book.entries) settled.budget_is settled.legal
-
       go : (out : Option (List ℕ)) → UndecidedFiles out net c.budget (open_outputs net book.entries) before
           (left_by out net (proof_bytes (made Undecided)) before) (text_of_check out (made Undecided))
       go None = (refl, refl)
@@ -170,7 +201,7 @@ module _ (c : CheckCommand) (old new : DeskState) (before : Files) (earlier : Li
         derives = proof.0.derives;
         spans = spans_of net book.entries;
         outputs = proof.1.outputs;
-        logs = spans-logs net c.budget book.entries legal proof.1;
+        logs = spans-logs net book c.budget settled.budget_is settled.legal proof.1;
         says = refl;
       }
   shows-undecided Equivalent settled proof whole code = cc

@@ -14,7 +14,8 @@ use Rattle.proof_stitch.specs.Stitch.{IsRefutation, refutation_of}
 use Rattle.proof_stitch.specs.Derivation.{IsDerivation, AreSpans, derivation_of, spans_of}
 use Rattle.command_line.specs.Words.{CheckCommand}
 use Rattle.cec_top.specs.declared.kept.Kept.{Kept}
-use Rattle.cec_top.specs.Finding.{Finding, Equivalent, Different, Undecided, open_outputs, IsSettled}
+use Rattle.check_session.specs.Finding.{Finding, Equivalent, Different, Undecided, open_outputs}
+use Rattle.check_session.specs.Check.{IsSettled}
 use Rattle.cec_top.specs.Headline.{cnf_text_of}
 use Rattle.cec_top.specs.Names.{cnf_name, proof_name}
 use Rattle.cec_top.specs.Texts.{different_text, open_text, open_text_with}
@@ -67,9 +68,9 @@ verdict_text out net entries finding = text_of finding (open_part_of out net ent
 abbrev pub text_of_check : Option (List ℕ) → Made → List ℕ
 text_of_check out m = verdict_text out m.net m.book.entries m.finding
 
--- the check is right under the command's budget
+-- the check is right under the command's budgets
 pub record IsMade (c : CheckCommand) (m : Made) : Type 0 where
-  pub settled : IsSettled m.net c.budget m.book m.finding
+  pub settled : IsSettled m.net c.sweep_budget c.budget m.book m.finding
   pub proof : IsProof m.net m.book.entries m.finding
 
 -- the files that it leaves under its number, if there is a prefix for them

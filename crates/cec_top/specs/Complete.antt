@@ -1,10 +1,11 @@
 -- When the program has to come to a verdict: nothing that it was given stands in its way.
-use Rattle.std.specs.Prelude.{◌≡◌, ◌⊎◌, ℕ, ◌≤◌, List, length, Some, IfSome, IsSomeAnd}
+use Rattle.std.specs.Prelude.{◌≡◌, ◌⊎◌, ℕ, ◌<◌, ◌≤◌, ◌^◌, List, length, Some, IfSome, IsSomeAnd}
 use Rattle.desk_port.specs.Desk.{DeskState, Files, Rose}
 use Rattle.endings.specs.Reading.{limit}
 use Rattle.endings.specs.Status.{code_of}
 use Rattle.endings.specs.declared.status.Status.{Status}
 use Rattle.netlist.specs.Net.{AigPair}
+use Rattle.netlist.specs.Miter.{variables_of}
 use Rattle.dimacs_text.specs.declared.cnf.Cnf.{Cnf}
 use Rattle.dimacs_text.specs.Reading.{SpellsCnf}
 use Rattle.lrat_text.specs.declared.step.Line.{Line}
@@ -40,6 +41,15 @@ pub record CanVerify (c : LratCommand) (old : DeskState) : Type 0 where
   pub spells_lines : IsSomeAnd (files c.proof) (λ bytes. SpellsLrat (length formula.clauses) bytes lines)
   pub cnf : IsWithinLimit files c.cnf
   pub proof : IsWithinLimit files c.proof
+
+-- the named files spell two circuits, and an output's query has more units than clauses can be learned over the variables
+-- of their CNF: 3^V, since each variable is in a clause, its negation is, or neither
+pub record IsAmple (c : CheckCommand) (old : DeskState) : Type 0 where
+  pub files : Files
+  pub told : old.files ≡ Some files
+  pub net : AigPair
+  pub pair : SpellPair c files net
+  pub ample : 3 ^ length (variables_of net) < c.budget
 
 -- the run has a verdict, or memory ran out
 abbrev pub HasVerdict : Status → Type 0

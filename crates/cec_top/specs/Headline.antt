@@ -4,8 +4,6 @@ use Rattle.std.specs.Prelude.{◌≡◌, ◌≢◌, ◌↔◌, ℕ, ◌+◌, ◌
 use Rattle.std.specs.List.{range_with_len}
 use Rattle.lits.specs.Assignment.{IsSatisfiable}
 use Rattle.lits.specs.Same.{opposite_dim}
-use Rattle.lits.specs.declared.node.Node.TheVariants.{Xor}
-use Rattle.lits.specs.declared.step.Named.{Named}
 use Rattle.lits.specs.declared.step.Step.{Step}
 use Rattle.desk_port.specs.Desk.{Files, DeskState}
 use Rattle.netlist.specs.Circuit.{Aig, output_value}
@@ -15,8 +13,11 @@ use Rattle.dimacs_text.specs.declared.cnf.Cnf.{Cnf}
 use Rattle.dimacs_text.specs.CnfText.{cnf_text}
 use Rattle.dimacs_text.specs.Reading.{SpellsCnf}
 use Rattle.aiger_file.specs.File.{SpellsAiger}
-use Rattle.unit_prop.specs.Log.{IsBudgetLog}
-use Rattle.lemma_book.specs.Cone.{IsCone}
+use Rattle.lemma_book.specs.declared.entry.Entry.TheVariants.{OutSpent}
+use Rattle.lemma_book.specs.Entry.{Entries}
+use Rattle.lemma_book.specs.Good.{IsGood}
+use Rattle.lemma_book.specs.Book.{IsLegal}
+use Rattle.lemma_book.specs.Agreement.{IsSame}
 use Rattle.lrat_text.specs.declared.step.Line.{Line}
 use Rattle.lrat_text.specs.declared.step.LratStep.{LratStep}
 use Rattle.lrat_text.specs.Reading.{SpellsLrat}
@@ -98,22 +99,22 @@ pub record IsDifferent (c : CheckCommand) (before after : Files) (said : List �
 
 -- ---- UNDECIDED
 
--- the log of a query of the output that spent its whole budget: as many proof steps over the output's cone, one after the
--- other, each with a clause that unit propagation alone doesn't find
+-- the log of a query of the output that spent its whole budget: over some legal book it is a good entry, so it has as many
+-- proof steps over the output's cone, one after the other, each with a clause that unit propagation alone doesn't find
 pub record SpendsBudget (net : AigPair) (budget j : ℕ) (log : List Step) : Type 0 where
-  pub cone : List Named
-  pub is_cone : IsCone net (Xor j ∷ []) cone
-  pub spent : IsBudgetLog cone budget log
+  pub book : Entries
+  pub legal : IsLegal net book
+  pub budget_is : book.out_budget ≡ budget
+  pub seen : ℕ
+  pub good : IsGood net book (OutSpent j seen log)
 
--- output j has one value in both circuits, for all truth values of the inputs
-abbrev pub IsEqualAt : AigPair → ℕ → Type 0
-IsEqualAt net j = (bits : List Bool) → length bits ≡ length net.a.inputs → output_value net.a bits j ≡ output_value net.b bits j
-
--- the lines with the ids from the first to the last are the additions of such a log
+-- the lines with the ids from the first to the last are the additions of such a log, which cites entries by the ids of the
+-- clauses that these show
 pub record HasLog (net : AigPair) (budget : ℕ) (lines : List LratStep) (s : Span) : Type 0 where
   pub log : List Step
   pub spends : SpendsBudget net budget s.output log
-  pub there : with_ids s.first s.last lines ≡ additions_from net s.first s.first log
+  pub shown : List ℕ
+  pub there : with_ids s.first s.last lines ≡ additions_from net shown s.first s.first log
   pub whole : s.last + 1 ≡ s.first + budget
 
 -- the files of UNDECIDED under a prefix: the proof's lines derive from the CNF, the logs among them stand where it is said
@@ -142,7 +143,7 @@ pub record IsUndecided (c : CheckCommand) (before after : Files) (said : List �
   pub opens_are : opens ≡ filter is_open (range_with_len 0 (length net.a.outputs))
   pub some_open : opens ≢ []
   pub spent : (j : ℕ) → j < length net.a.outputs → is_open j ≡ true → (log : List Step) × SpendsBudget net c.budget j log
-  pub others : (j : ℕ) → j < length net.a.outputs → is_open j ≡ false → IsEqualAt net j
+  pub others : (j : ℕ) → j < length net.a.outputs → is_open j ≡ false → IsSame net j
   pub files : UndecidedFiles c.out net c.budget opens before after said
 
 -- ---- VERIFIED

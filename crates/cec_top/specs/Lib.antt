@@ -1,7 +1,6 @@
 pub mod Names
 pub mod Lines
 pub mod Headline
-pub mod Finding
 pub mod Texts
 pub mod Check
 pub mod Answers

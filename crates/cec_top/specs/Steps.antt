@@ -1,13 +1,10 @@
--- How the program goes about a check, for the crate's own functions: its book has an entry for each output, in order.
-use Rattle.std.specs.Prelude.{◌≡◌, ◌⊎◌, ℕ, ◌+◌, Bool, true, false, List, [], ◌∷◌, ◌++◌, length, codes, Option, None, Some, Result, Ok, Err, string_bytes}
-use Rattle.std.specs.List.{flat_map, list_any, find}
+-- How the program goes about a check, for the crate's own functions.
+use Rattle.std.specs.Prelude.{◌≡◌, ◌⊎◌, ℕ, List, [], ◌∷◌, Option, None, Some, Result, Ok, Err, string_bytes}
 use Rattle.std.specs.Global.{Vec}
 use Rattle.desk_port.specs.Desk.{DeskState}
 use Rattle.netlist.specs.Net.{AigPair}
 use Rattle.netlist.specs.Unlike.{unlike_of}
 use Rattle.lemma_book.specs.declared.entry.Entry.{Entry}
-use Rattle.lemma_book.specs.declared.entry.Entry.TheVariants.{Out, OutApart, OutSpent}
-use Rattle.lemma_book.specs.Entry.{Entries, output_of}
 use Rattle.lemma_book.specs.Book.{IsLegal}
 use Rattle.proof_stitch.specs.Derivation.{spans_of}
 use Rattle.proof_stitch.specs.declared.logs.Span.{Span}
@@ -20,13 +17,15 @@ use Rattle.endings.specs.declared.status.Status.TheVariants as ends
 use Rattle.command_line.specs.declared.reading.Refusal.{Refusal}
 use Rattle.command_line.specs.declared.reading.Refusal.TheVariants.{Help, Usage, NoMemory}
 use Rattle.command_line.specs.Words.{CheckCommand}
-use Rattle.cec_top.specs.declared.finding.Finding.{Finding as Found}
-use Rattle.cec_top.specs.declared.finding.Finding.TheVariants as found
+use Rattle.check_session.specs.declared.options.Options.{Options}
+use Rattle.check_session.specs.declared.verdict.Verdict.{Verdict}
+use Rattle.check_session.specs.declared.verdict.Verdict.TheVariants as verdict
+use Rattle.check_session.specs.Finding.{Finding, Equivalent, Different, Undecided, Finds}
+use Rattle.check_session.specs.Outputs.{ListsOpen, finding_of}
+use Rattle.check_session.specs.Check.{State}
 use Rattle.cec_top.specs.declared.settled.Settled.{Settled}
-use Rattle.cec_top.specs.Finding.{Finding, Equivalent, Different, Undecided, is_apart, Finds, IsSettled}
-use Rattle.cec_top.specs.Check.{Made, IsProof}
+use Rattle.cec_top.specs.Check.{Made}
 use Rattle.cec_top.specs.Answers.{ReadsCircuits, AreUnlike, SaysHelp, IsAtOnce, inputs_of}
-use Rattle.cec_top.specs.Texts.{output_line}
 
 -- ---- the pair is read
 
@@ -35,68 +34,30 @@ ReadsPair c old new (Ok net) =
     ReadsCircuits c old net × (unlike_of net.a net.b ≡ None) × (new ≡ after_reads old (inputs_of c))
 ReadsPair c old new (Err stop) = ReadsUpTo 0 [] (inputs_of c) old new stop ⊎ AreUnlike c old new stop
 
--- ---- the outputs are settled, in order
+-- the numbers that the command gives
+abbrev pub options_of : CheckCommand → Options
+options_of c = record { seed = c.seed; words = c.words; sweep_budget = c.sweep_budget; out_budget = c.budget }
 
--- one more entry, about output j
-pub record Appends (j : ℕ) (old new : List Entry) : Type 0 where
-  pub entry : Entry
-  pub appended : new ≡ old ++ entry ∷ []
-  pub about : output_of entry ≡ j
+-- a session for the pair, under the command's numbers
+abbrev pub ReadsSession : CheckCommand → DeskState → DeskState → Result State Stop → Type 0
+ReadsSession c old new (Ok s) = ReadsPair c old new (Ok s.net) × (s.options ≡ options_of c)
+ReadsSession c old new (Err stop) = ReadsPair c old new (Err stop)
 
--- the entries are about one output after another, from output j on
-abbrev pub AreAbout : ℕ → List Entry → Type 0
-AreAbout j [] = Unit {0}
-AreAbout j (e ∷ es) = (output_of e ≡ j) × AreAbout (j + 1) es
-
--- a book about all outputs, one entry each, in order: each entry is good over those before it
-pub record IsBookOf (net : AigPair) (budget : ℕ) (book : Entries) : Type 0 where
-  pub budget_is : book.out_budget ≡ budget
-  pub legal : IsLegal net book
-  pub about : AreAbout 0 book.entries
-  pub whole : length book.entries ≡ length net.a.outputs
-
--- ---- what such a book shows
-
--- the entry says that a query of its output spent its budget
-abbrev pub is_open : Entry → Bool
-is_open (Out j steps) = false
-is_open (OutApart j input) = false
-is_open (OutSpent j seen log) = true
-
-abbrev pub unless_open : Bool → Finding
-unless_open true = Undecided
-unless_open false = Equivalent
-
--- the finding, of the first entry with an input on which its output differs, if there is one
-abbrev pub found_first : Option Entry → Bool → Finding
-found_first None open_too = unless_open open_too
-found_first (Some (Out j steps)) open_too = unless_open open_too
-found_first (Some (OutApart j input)) open_too = Different j input
-found_first (Some (OutSpent j seen log)) open_too = unless_open open_too
-
-abbrev pub finding_of : List Entry → Finding
-finding_of entries = found_first (find is_apart entries) (list_any is_open entries)
-
--- a finding as the program has it
-abbrev pub finding_in : Found → Finding
-finding_in found.Equivalent = Equivalent
-finding_in (found.Different output input) = Different output input.now
-finding_in found.Undecided = Undecided
+-- ---- what the check found
 
 -- a settled check as the program has it
 abbrev pub made_of : Settled → Made
-made_of s = record { net = s.net.now; book = s.book.now; finding = finding_in s.finding }
-
--- it is right, and its book is in order
-pub record IsInOrder (budget : ℕ) (m : Made) : Type 0 where
-  pub book : IsBookOf m.net budget m.book
-  pub settled : IsSettled m.net budget m.book m.finding
-  pub proof : IsProof m.net m.book.entries m.finding
+made_of s = record { net = s.net.now; book = s.book.now; finding = finding_of s.verdict.now }
 
 -- the book may be written as a proof of the finding
 pub record HasBook (m : Made) : Type 0 where
   pub legal : IsLegal m.net m.book
   pub finds : Finds m.net m.book.entries m.finding
+
+-- its book may be written, and its verdict names the outputs that are open
+pub record IsTold (s : Settled) : Type 0 where
+  pub book : HasBook (made_of s)
+  pub open_are : ListsOpen s.net.now s.book.now.entries s.verdict.now
 
 -- the spans are those of the logs, where outputs are open
 abbrev pub AreSpansIn : AigPair → List Entry → Finding → List Span → Type 0
@@ -115,15 +76,11 @@ AnswersRefusal NoMemory old new status = EndsBy [] (IsAtOnce old) new status
 
 -- ---- the check is told
 
--- the line of an entry's output if it is open
-abbrev pub line_if_open : Entry → List ℕ
-line_if_open (Out j steps) = []
-line_if_open (OutApart j input) = []
-line_if_open (OutSpent j seen log) = output_line j
-
--- the open outputs in the order of the book
-unfoldable pub open_text_of : List Entry → List ℕ
-open_text_of entries = codes "UNDECIDED\n" ++ flat_map line_if_open entries
+-- the outputs that a verdict leaves open
+abbrev pub opens_in : Verdict → List ℕ
+opens_in verdict.Equivalent = []
+opens_in (verdict.Different output input) = []
+opens_in (verdict.Undecided outputs) = outputs
 
 -- the desk after the files were written and closed, one after the other
 abbrev pub after_outputs : DeskState → List Output → DeskState

@@ -1,15 +1,17 @@
 ghost use Rattle.std.specs.Prelude.{◌≡◌, [], IfOk, IfErr, ◌++◌, decimal, codes, string_bytes};
+ghost use Rattle.check_session.specs.Outputs.{finding_of};
 ghost use Rattle.command_line.specs.Answers.{check_texts};
 ghost use Rattle.cec_top.specs.Answers.{Ends, Stops};
-ghost use Rattle.cec_top.specs.Check.{Tells, outputs_of, text_of_check};
-ghost use Rattle.cec_top.specs.Steps.{HasBook, IsInOrder, LeavesFiles, made_of};
+ghost use Rattle.cec_top.specs.Check.{Tells, outputs_of, status_of_finding, text_of_check};
+ghost use Rattle.cec_top.specs.Steps.{HasBook, IsTold, LeavesFiles, made_of};
 
 use crate::content::{Miter, Proof};
 use crate::kept::Kept;
-use crate::reading::read_pair;
+use crate::laws::proves;
+use crate::reading::read_session;
 use crate::settled::Settled;
-use crate::settling::settle;
 use crate::texts::{plain_text, text_with_lines};
+use check_session::Verdict;
 use command_line::CheckWords;
 use desk_port::Desk;
 use endings::{Status, Stop, say, write_file};
@@ -44,7 +46,7 @@ fn leave_files<D: Desk>(
     let proof = named(alloc, prefix, number, ".lrat")?;
     write_file(alloc, desk, cnf.as_str(), &Miter(check.net))?;
     let spans = write_file(alloc, desk, proof.as_str(), &Proof(check))?;
-    Ok(text_with_lines(alloc, spans.as_slice(), check.finding)?)
+    Ok(text_with_lines(alloc, spans.as_slice(), check.verdict)?)
 }
 
 /// Leaves the files of a check, if there is a prefix for them, and then says its verdict.
@@ -56,12 +58,12 @@ fn tell<D: Desk>(
     check: Settled<'_>,
 ) -> Result<(), Stop>
     requires started { (D.state desk.old).started ≡ None }
-    requires right { IsInOrder words.budget (made_of check) }
+    requires right { IsTold check }
     ensures { Tells (check_texts words.entry) number (made_of check.entry)
         (D.state desk.old) (D.state desk.new) result }
 {
     let text = match words.out {
-        None => plain_text(alloc, check.book.entries(), check.finding)?,
+        None => plain_text(alloc, check.verdict)?,
         Some(prefix) => leave_files(alloc, desk, prefix, number, check)?,
     };
     say(desk, text.as_slice())
@@ -80,15 +82,32 @@ pub(crate) fn check<D: Desk>(
         Ends (check_texts words.entry) (D.state desk.old) (D.state desk.new) status kept.new.items) }
     ensures err { IfErr result (Stops (check_texts words.entry) (D.state desk.old) kept.new.items (D.state desk.new)) }
 {
-    let net = read_pair(alloc, desk, words)?;
+    let mut session = read_session(alloc, desk, words)?;
     kept.reserve(1)?;
-    let book = settle(alloc, &net, words.budget)?;
-    let check = Settled::of(&net, &book);
+    let verdict = session.check(alloc)?;
+    proves(session.net(), session.book());
+    let check = Settled {
+        net: session.net(),
+        book: session.book(),
+        verdict: &verdict,
+    };
     let told = tell(alloc, desk, words, 0, check);
-    let status = check.finding.status();
+    let status = status_of(&verdict);
+    let book = session.into_book();
     kept.push_reserved(Kept { check: 0, book });
     match told {
         Ok(()) => Ok(status),
         Err(stop) => Err(stop),
+    }
+}
+
+/// The status with which the program ends where the verdict was said.
+fn status_of(verdict: &Verdict) -> Status
+    ensures { result ≡ status_of_finding (finding_of verdict.now) }
+{
+    match verdict {
+        Verdict::Equivalent => Status::Done,
+        Verdict::Different { .. } => Status::No,
+        Verdict::Undecided { .. } => Status::Undecided,
     }
 }

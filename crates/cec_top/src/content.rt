@@ -1,5 +1,5 @@
-use crate::finding::Finding;
 use crate::settled::Settled;
+use check_session::Verdict;
 use desk_port::{Desk, PutErr};
 use endings::Content;
 use netlist::Net;
@@ -47,15 +47,15 @@ impl Content for Proof<'_> {
     ghost tells = { λ p spans. AreSpansOf (made_of p.0) spans.items };
 
     fn put<D: Desk>(&self, alloc: Global, desk: &mut D) -> Result<Vec<Span>, PutErr> {
-        let Settled { net, book, finding } = self.0;
-        match finding {
-            Finding::Equivalent => match proof_stitch::refutation(alloc, net, book, desk) {
+        let Settled { net, book, verdict } = self.0;
+        match verdict {
+            Verdict::Equivalent => match proof_stitch::refutation(alloc, net, book, desk) {
                 Ok(_) => Ok(Vec::new(alloc)),
                 Err(StitchErr::Write) => Err(PutErr::Failed),
                 Err(StitchErr::NoMemory) => Err(PutErr::NoMemory),
             },
-            Finding::Different { .. } => Ok(Vec::new(alloc)),
-            Finding::Undecided => match proof_stitch::derivation(alloc, net, book, desk) {
+            Verdict::Different { .. } => Ok(Vec::new(alloc)),
+            Verdict::Undecided { .. } => match proof_stitch::derivation(alloc, net, book, desk) {
                 Ok(spans) => Ok(spans),
                 Err(StitchErr::Write) => Err(PutErr::Failed),
                 Err(StitchErr::NoMemory) => Err(PutErr::NoMemory),

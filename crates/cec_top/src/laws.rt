@@ -1,16 +1,16 @@
 //! What a run promises, each law the contract of a function that does nothing when it runs.
-ghost use Rattle.std.specs.Prelude.{◌≡◌, ◌⊎◌, ◌≤◌, ℕ, List};
+ghost use Rattle.std.specs.Prelude.{◌≡◌, ◌≢◌, ◌⊎◌, ◌≤◌, ℕ, List};
 ghost use Rattle.desk_port.specs.Desk.{DeskState};
 ghost use Rattle.endings.specs.Status.{code_of};
 ghost use Rattle.endings.specs.declared.status.Status.{Status};
 ghost use Rattle.command_line.specs.Words.{CheckCommand, LratCommand, CheckIt, LratIt, Asks};
+ghost use Rattle.lemma_book.specs.Book.{IsLegal};
+ghost use Rattle.check_session.specs.Finding.{Finding, Finds};
 ghost use Rattle.cec_top.specs.declared.kept.Kept.{Kept};
 ghost use Rattle.cec_top.specs.Answers.{Answers};
 ghost use Rattle.cec_top.specs.Check.{IsProof};
-ghost use Rattle.cec_top.specs.Complete.{CanCheck, CanVerify, NoFault, HasVerdict};
-ghost use Rattle.cec_top.specs.Finding.{Finds, Means};
+ghost use Rattle.cec_top.specs.Complete.{CanCheck, CanVerify, NoFault, IsAmple, HasVerdict};
 ghost use Rattle.cec_top.specs.Headline.{IsEquivalent, IsDifferent, IsUndecided, IsVerified, Shows};
-ghost use Rattle.cec_top.specs.Steps.{IsBookOf, finding_of};
 
 use lemma_book::Book;
 use netlist::Net;
@@ -48,22 +48,21 @@ pub fn completeness()
         (old new : DeskState) (status : Status) (kept : List Kept) →
         Asks words (LratIt c) → Answers words old new status kept
         → CanVerify c old → NoFault old new → HasVerdict status }
+
+    // No output is left open where the budget is greater than the number of clauses that can be learned.
+    ensures decided { (words : List (List ℕ)) (c : CheckCommand)
+        (old new : DeskState) (status : Status) (kept : List Kept) →
+        Asks words (CheckIt c) → Answers words old new status kept
+        → IsAmple c old → code_of status ≢ 2 }
 {
     command_line::words_are_one_of();
 }
 
-/// A law of a book about all outputs: what its finding shows, and what that means of the circuits and of its proof.
-pub(crate) fn means(net: &Net, book: &Book)
-    requires { IsBookOf net.now book.now.out_budget book.now }
-    ensures finds { Finds net.now book.now.entries (finding_of book.now.entries) }
-    ensures means { Means net.now book.now.entries (finding_of book.now.entries) }
-    ensures proof { IsProof net.now book.now.entries (finding_of book.now.entries) }
+/// A law: a legal book that shows a finding has a proof of it.
+pub(crate) fn proves(net: &Net, book: &Book)
+    requires { IsLegal net.now book.now }
+    ensures { (finding : Finding) → Finds net.now book.now.entries finding → IsProof net.now book.now.entries finding }
 {
-    netlist::laws::is_net(net);
-    unit_prop::laws::lit::steps_hold();
-    netlist::laws::satisfiable_if_different(net);
-    netlist::laws::unsatisfiable_if_equal(net);
-    lrat_text::derived_lines();
     proof_stitch::laws::refutes(net, book);
     proof_stitch::laws::derives(net, book);
 }

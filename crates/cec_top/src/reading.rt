@@ -1,16 +1,18 @@
-ghost use Rattle.std.specs.Prelude.{ℕ, List};
+ghost use Rattle.std.specs.Prelude.{◌≡◌, ℕ, List};
 ghost use Rattle.endings.specs.Reading.{ReadsAs};
 ghost use Rattle.aiger_file.specs.File.{SpellsAiger};
 ghost use Rattle.command_line.specs.Answers.{check_texts};
 ghost use Rattle.cec_top.specs.Answers.{circuit_file};
-ghost use Rattle.cec_top.specs.Steps.{ReadsPair};
+ghost use Rattle.check_session.specs.Check.{AreInRange};
+ghost use Rattle.cec_top.specs.Steps.{ReadsSession, options_of};
 
 use crate::lines::{aiger_fault, unlike_fault};
 use byte_scan::AigerErr;
+use check_session::{Options, Session};
 use command_line::CheckWords;
 use desk_port::Desk;
 use endings::{Stop, read_file};
-use netlist::{Circuit, Net, Unlike};
+use netlist::{Circuit, Unlike};
 use std::alloc::Global;
 
 /// The circuit of the named file, which is this one of those that are read.
@@ -34,22 +36,35 @@ fn read_circuit<D: Desk>(
     }
 }
 
-/// The pair of circuits, A read before B.
-pub(crate) fn read_pair<D: Desk>(
+/// A session for the pair of circuits, A read before B.
+pub(crate) fn read_session<D: Desk>(
     alloc: Global,
     desk: &mut D,
     words: CheckWords<'_>,
-) -> Result<Net, Stop>
-    ensures { ReadsPair (check_texts words.entry) (D.state desk.old) (D.state desk.new) result }
+) -> Result<Session, Stop>
+    ensures { ReadsSession (check_texts words.entry) (D.state desk.old) (D.state desk.new) result }
 {
     let a = read_circuit(alloc, desk, words.a, 0)?;
     let b = read_circuit(alloc, desk, words.b, 1)?;
-    match Net::of(alloc, a, b) {
-        Ok(net) => Ok(net),
+    match Session::open(alloc, a, b, options_of(words)) {
+        Ok(session) => Ok(session),
         Err(Unlike::NoMemory) => Err(Stop::OutOfMemory),
         Err(unlike) => {
             let text = unlike_fault(alloc, unlike)?;
             Err(Stop::NotAlike(text))
         }
+    }
+}
+
+/// The numbers that the arguments give.
+fn options_of(words: CheckWords<'_>) -> Options
+    ensures options { result ≡ options_of (check_texts words.entry) }
+    ensures range { AreInRange result }
+{
+    Options {
+        seed: words.seed,
+        words: words.words as u32,
+        sweep_budget: words.sweep_budget,
+        out_budget: words.budget,
     }
 }

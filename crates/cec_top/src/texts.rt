@@ -1,41 +1,37 @@
 ghost use Rattle.std.specs.Prelude.{◌≡◌, ◌++◌, map, IfOk, OnOk};
 ghost use Rattle.cec_top.specs.Check.{text_of};
-ghost use Rattle.cec_top.specs.Steps.{finding_in, open_text_of, line_if_open};
-ghost use Rattle.cec_top.specs.Texts.{digit_of, input_text, output_line, span_line, different_text, open_text_with};
+ghost use Rattle.cec_top.specs.Steps.{opens_in};
+ghost use Rattle.check_session.specs.Outputs.{finding_of};
+ghost use Rattle.cec_top.specs.Texts.{digit_of, input_text, output_line, span_line, different_text, open_text, open_text_with};
 
-use crate::finding::Finding;
+use check_session::Verdict;
 use itoa::Buffer;
-use lemma_book::Entry;
 use proof_stitch::Span;
 use std::alloc::{AllocError, Global};
 
-/// The text of a finding that leaves no files.
-pub(crate) fn plain_text(
-    alloc: Global,
-    entries: &[Entry],
-    finding: Finding<'_>,
-) -> Result<Vec<u8>, AllocError>
-    ensures { IfOk result (λ v. v.items ≡ text_of (finding_in finding.entry) (open_text_of entries.now)) }
+/// The text of a verdict that leaves no files.
+pub(crate) fn plain_text(alloc: Global, verdict: &Verdict) -> Result<Vec<u8>, AllocError>
+    ensures { IfOk result (λ v. v.items ≡ text_of (finding_of verdict.now) (open_text (opens_in verdict.now))) }
 {
-    match finding {
-        Finding::Equivalent => Vec::from_slice(alloc, b"EQUIVALENT\n"),
-        Finding::Different { output, input } => different_text(alloc, output, input),
-        Finding::Undecided => open_text(alloc, entries),
+    match verdict {
+        Verdict::Equivalent => Vec::from_slice(alloc, b"EQUIVALENT\n"),
+        Verdict::Different { output, input } => different_text(alloc, *output, input.as_slice()),
+        Verdict::Undecided { outputs } => open_text(alloc, outputs.as_slice()),
     }
 }
 
-/// The text of a finding whose proof's file has the logs of open outputs at these lines.
+/// The text of a verdict whose proof's file has the logs of open outputs at these lines.
 pub(crate) fn text_with_lines(
     alloc: Global,
     spans: &[Span],
-    finding: Finding<'_>,
+    verdict: &Verdict,
 ) -> Result<Vec<u8>, AllocError>
-    ensures { IfOk result (λ v. v.items ≡ text_of (finding_in finding.entry) (open_text_with spans.now)) }
+    ensures { IfOk result (λ v. v.items ≡ text_of (finding_of verdict.now) (open_text_with spans.now)) }
 {
-    match finding {
-        Finding::Equivalent => Vec::from_slice(alloc, b"EQUIVALENT\n"),
-        Finding::Different { output, input } => different_text(alloc, output, input),
-        Finding::Undecided => open_text_with(alloc, spans),
+    match verdict {
+        Verdict::Equivalent => Vec::from_slice(alloc, b"EQUIVALENT\n"),
+        Verdict::Different { output, input } => different_text(alloc, *output, input.as_slice()),
+        Verdict::Undecided { .. } => open_text_with(alloc, spans),
     }
 }
 
@@ -53,19 +49,19 @@ fn different_text(alloc: Global, output: u32, input: &[bool]) -> Result<Vec<u8>,
     Ok(text)
 }
 
-/// The text of the outputs that a book leaves open.
-#[tactic(auto, unfolding(crate::specs::Steps::open_text_of))]
-fn open_text(alloc: Global, entries: &[Entry]) -> Result<Vec<u8>, AllocError>
-    ensures { IfOk result (λ v. v.items ≡ open_text_of entries.now) }
+/// The text of the outputs that are left open.
+#[tactic(auto, unfolding(crate::specs::Texts::open_text))]
+fn open_text(alloc: Global, outputs: &[u32]) -> Result<Vec<u8>, AllocError>
+    ensures { IfOk result (λ v. v.items ≡ open_text outputs.now) }
 {
     let mut text = Vec::from_slice(alloc, b"UNDECIDED\n")?;
-    for entry in entries {
-        push_open(&mut text, entry)?;
+    for output in outputs {
+        push_output(&mut text, *output)?;
     }
     Ok(text)
 }
 
-/// The text of the outputs that a book leaves open, with the lines of their logs.
+/// The text of the outputs that are left open, with the lines of their logs.
 #[tactic(auto, unfolding(crate::specs::Texts::open_text_with))]
 fn open_text_with(alloc: Global, spans: &[Span]) -> Result<Vec<u8>, AllocError>
     ensures { IfOk result (λ v. v.items ≡ open_text_with spans.now) }
@@ -75,15 +71,6 @@ fn open_text_with(alloc: Global, spans: &[Span]) -> Result<Vec<u8>, AllocError>
         push_span(&mut text, *span)?;
     }
     Ok(text)
-}
-
-fn push_open(text: &mut Vec<u8>, entry: &Entry) -> Result<(), AllocError>
-    ensures { OnOk result (text.new.items ≡ text.old.items ++ line_if_open entry.now) }
-{
-    if let Entry::OutSpent { output, .. } = entry {
-        push_output(text, *output)?;
-    }
-    Ok(())
 }
 
 #[tactic(auto, unfolding(crate::specs::Texts::output_line))]

@@ -1,5 +1,5 @@
 -- The first gate without a level, and what follows where each gate has one.
-use Rattle.std.proofs.Common.{◌≡◌, ◌≢◌, ℕ, zero, suc, ◌+◌, ◌*◌, ◌<◌, ◌≤◌, Bool, true, false, Option, None, Some, List, [], ◌∷◌, length, replicate, refl, sym, ap, ◌∙◌, subst, arith, get_or}
+use Rattle.std.proofs.Common.{◌≡◌, ◌≢◌, ℕ, zero, suc, ◌+◌, ◌*◌, ◌<◌, ◌≤◌, Bool, true, false, None, Some, List, [], ◌∷◌, length, replicate, refl, ap, ◌∙◌, subst, arith, get_or}
 use Rattle.std.specs.Prelude.{◌==◌, slice_index, slice_index_or, is_none}
 use Rattle.std.specs.List.{find}
 use Rattle.std.specs.Option.{option_map}
@@ -9,11 +9,11 @@ use Rattle.byte_scan.specs.declared.errors.AigerErr.TheVariants.{Cycle}
 use Rattle.netlist.specs.declared.gate.And.{And}
 use Rattle.netlist.specs.Circuit.{Aig}
 use Rattle.netlist.specs.VariableTable.{AreVariables}
-use Rattle.circuit_draft.specs.Levels.{level_of, on_cycle, gates_at, by_level}
+use Rattle.circuit_draft.specs.Levels.{level_of, on_cycle}
 use Rattle.circuit_draft.specs.Steps.{gate_at, AreLevels, AreAllLevels}
 use Rattle.circuit_draft.specs.Buckets.{AreWithin}
 use Rattle.circuit_draft.proofs.LevelLemmas.{level-some, level-bound}
-use Rattle.circuit_draft.proofs.VariableFacts.{few_gates}
+use Rattle.circuit_draft.proofs.VariableLemmas.{few_gates}
 
 find_first : (test : And → Bool) (gates : List And) (i : ℕ) → i < length gates
     → ((p : ℕ) → p < i → test (slice_index_or gates p (record { var = 0; left = 0; right = 0 })) ≡ false)

@@ -1,20 +1,18 @@
 -- A draft whose uses are defined is a circuit once its gates are in order.
-use Rattle.std.proofs.Common.{◌≡◌, ◌≢◌, ℕ, zero, suc, ◌+◌, ◌-◌, ◌<◌, ◌≤◌, max, Bool, true, false, not, Option, None, Some, List, [], ◌∷◌, ◌++◌, length, take, drop, get_or, refl, sym, ap, ◌∙◌, subst, arith, inl, inr}
-use Rattle.std.specs.Prelude.{◌==◌, ◌&&◌, ◌||◌, nat_le, nat_lt, filter, cond, ⊤, is_none, slice_index_or}
-use Rattle.std.specs.List.{find, flat_map, list_any, list_all, range_with_len}
+use Rattle.std.proofs.Common.{◌≡◌, ℕ, zero, suc, ◌<◌, Bool, true, false, not, None, Some, List, [], ◌∷◌, ◌++◌, length, refl, sym, ◌∙◌, arith}
+use Rattle.std.specs.Prelude.{◌==◌, ◌&&◌, ◌||◌, cond, slice_index_or}
+use Rattle.std.specs.List.{find, flat_map, list_all}
 use Rattle.std.proofs.lemmas.Bool.Decides.{nat_tests}
-use Rattle.std.proofs.lemmas.Option.{none-some, same_Some}
-use Rattle.std.proofs.lemmas.List.{append-nil, append_assoc, length-append, length-map}
+use Rattle.std.proofs.lemmas.List.{append_assoc}
 use Rattle.std.proofs.lemmas.List.Folds.{list_any-append, list_all-append}
 use Rattle.lits.specs.Clause.{has, no_repeat}
 use Rattle.netlist.specs.declared.gate.And.{And}
-use Rattle.netlist.specs.Circuit.{Aig, IsCircuit, IsNext, AreOrdered, gate_vars, variables_in, is_over, var_of, most}
-use Rattle.netlist.specs.VariableTable.{AreVariables}
-use Rattle.circuit_draft.specs.Levels.{level_of, level_within, is_in_order, is_level, gates_at, by_level, on_cycle}
+use Rattle.netlist.specs.Circuit.{Aig, IsCircuit, AreOrdered, gate_vars, variables_in, is_over, var_of}
+use Rattle.circuit_draft.specs.Levels.{is_in_order, by_level, on_cycle}
 use Rattle.std.specs.Prelude.{Ok}
+use Rattle.std.proofs.lemmas.Bool.{and_parts, or_parts, not-true}
 use Rattle.circuit_draft.specs.Draft.{IsDraft, undefined_in, uses_in, finished}
-use Rattle.circuit_draft.specs.Steps.{gate_at, AreDefined, AreAllLevels}
-use Rattle.circuit_draft.proofs.VariableFacts.{both, neither, not_true}
+use Rattle.circuit_draft.specs.Steps.{AreDefined}
 
 -- ---- nothing is undefined
 
@@ -30,17 +28,17 @@ none_found test (x ∷ xs) e = go (test x) refl e (none_found test xs)
 pub all_uses : (c : Aig) → undefined_in c ≡ None
     → (list_all (is_over (variables_in c)) c.outputs ≡ true) × (list_all (is_over (variables_in c)) (flat_map (λ g. g.left ∷ g.right ∷ []) c.gates) ≡ true)
 all_uses c e =
-    both _ _ (sym (list_all-append (is_over (variables_in c)) c.outputs (flat_map (λ g. g.left ∷ g.right ∷ []) c.gates)) ∙ none_found (is_over (variables_in c)) (uses_in c) e)
+    and_parts _ _ (sym (list_all-append (is_over (variables_in c)) c.outputs (flat_map (λ g. g.left ∷ g.right ∷ []) c.gates)) ∙ none_found (is_over (variables_in c)) (uses_in c) e)
 
 fanins_at : (test : ℕ → Bool) (gates : List And) (p : ℕ) → p < length gates → list_all test (flat_map (λ g. g.left ∷ g.right ∷ []) gates) ≡ true
     → (test (slice_index_or gates p (record { var = 0; left = 0; right = 0 })).left ≡ true) × (test (slice_index_or gates p (record { var = 0; left = 0; right = 0 })).right ≡ true)
 fanins_at test [] p lt e = absurd (omega arith)
 fanins_at test (g ∷ gs) zero lt e =
-    let first = both (test g.left) _ e in
-    let second = both (test g.right) _ first.1 in (first.0, second.0)
+    let first = and_parts (test g.left) _ e in
+    let second = and_parts (test g.right) _ first.1 in (first.0, second.0)
 fanins_at test (g ∷ gs) (suc p) lt e =
-    let first = both (test g.left) _ e in
-    let second = both (test g.right) _ first.1 in fanins_at test gs p (omega arith) second.1
+    let first = and_parts (test g.left) _ e in
+    let second = and_parts (test g.right) _ first.1 in fanins_at test gs p (omega arith) second.1
 
 pub AreDefined-uses : (c : Aig) → undefined_in c ≡ None → AreDefined c
 AreDefined-uses c e = record {
@@ -75,11 +73,11 @@ Same-push known others v same w =
 middle_new : (xs ys : List ℕ) (y : ℕ) → no_repeat ◌==◌ (xs ++ y ∷ ys) ≡ true → has ◌==◌ xs y ≡ false
 middle_new [] ys y e = refl
 middle_new (x ∷ xs) ys y e =
-    let parts = both (not (has ◌==◌ (xs ++ y ∷ ys) x)) (no_repeat ◌==◌ (xs ++ y ∷ ys)) e in
-    let first : has ◌==◌ (xs ++ y ∷ ys) x ≡ false = not_true (has ◌==◌ (xs ++ y ∷ ys) x) parts.0 in
+    let parts = and_parts (not (has ◌==◌ (xs ++ y ∷ ys) x)) (no_repeat ◌==◌ (xs ++ y ∷ ys)) e in
+    let first : has ◌==◌ (xs ++ y ∷ ys) x ≡ false = not-true (has ◌==◌ (xs ++ y ∷ ys) x) parts.0 in
     let split : (has ◌==◌ xs x || has ◌==◌ (y ∷ ys) x) ≡ false = sym (list_any-append (λ z. z == x) xs (y ∷ ys)) ∙ first in
-    let behind = neither (has ◌==◌ xs x) (has ◌==◌ (y ∷ ys) x) split in
-    let apart = neither (y == x) (has ◌==◌ ys x) behind.1 in
+    let behind = or_parts (has ◌==◌ xs x) (has ◌==◌ (y ∷ ys) x) split in
+    let apart = or_parts (y == x) (has ◌==◌ ys x) behind.1 in
     let swapped : (x == y) ≡ (y == x) = grind (arith, nat_tests) in
     rw (swapped, apart.0, middle_new xs ys y parts.1) refl
 
@@ -87,8 +85,8 @@ AreOrdered-order : (known others : List ℕ) (gates : List And) → Same known o
     → is_in_order others gates ≡ true → AreOrdered known gates
 AreOrdered-order known others [] same once order = tt
 AreOrdered-order known others (g ∷ gs) same once order =
-    let first = both (is_over others g.left && is_over others g.right) (is_in_order (others ++ g.var ∷ []) gs) order in
-    let fanins = both (is_over others g.left) (is_over others g.right) first.0 in (
+    let first = and_parts (is_over others g.left && is_over others g.right) (is_in_order (others ++ g.var ∷ []) gs) order in
+    let fanins = and_parts (is_over others g.left) (is_over others g.right) first.0 in (
       record {
         new = same g.var ∙ middle_new others (gate_vars gs) g.var once;
         left = same (var_of g.left) ∙ fanins.0;
@@ -101,10 +99,10 @@ AreOrdered-order known others (g ∷ gs) same once order =
 pub front_once : (xs ys : List ℕ) → no_repeat ◌==◌ (xs ++ ys) ≡ true → no_repeat ◌==◌ xs ≡ true
 front_once [] ys e = refl
 front_once (x ∷ xs) ys e =
-    let parts = both (not (has ◌==◌ (xs ++ ys) x)) (no_repeat ◌==◌ (xs ++ ys)) e in
-    let first : has ◌==◌ (xs ++ ys) x ≡ false = not_true (has ◌==◌ (xs ++ ys) x) parts.0 in
+    let parts = and_parts (not (has ◌==◌ (xs ++ ys) x)) (no_repeat ◌==◌ (xs ++ ys)) e in
+    let first : has ◌==◌ (xs ++ ys) x ≡ false = not-true (has ◌==◌ (xs ++ ys) x) parts.0 in
     let split : (has ◌==◌ xs x || has ◌==◌ ys x) ≡ false = sym (list_any-append (λ z. z == x) xs ys) ∙ first in
-    let apart = neither (has ◌==◌ xs x) (has ◌==◌ ys x) split in
+    let apart = or_parts (has ◌==◌ xs x) (has ◌==◌ ys x) split in
     rw (apart.0, front_once xs ys parts.1) refl
 
 pub IsCircuit-order : (c : Aig) → IsDraft c → undefined_in c ≡ None → is_in_order (0 ∷ c.inputs) c.gates ≡ true → IsCircuit c

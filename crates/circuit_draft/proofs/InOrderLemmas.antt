@@ -1,15 +1,16 @@
 -- Where the file's order serves, each gate has a level.
-use Rattle.std.proofs.Common.{◌≡◌, ◌≢◌, ℕ, zero, suc, ◌+◌, ◌<◌, ◌≤◌, max, Bool, true, false, Option, None, Some, List, [], ◌∷◌, ◌++◌, length, refl, sym, ap, ◌∙◌, subst, arith}
+use Rattle.std.proofs.Common.{◌≡◌, ℕ, zero, suc, ◌+◌, ◌<◌, max, Bool, true, false, None, Some, List, [], ◌∷◌, ◌++◌, length, refl, sym, ◌∙◌, subst, arith}
 use Rattle.std.specs.Prelude.{◌==◌, ◌&&◌, ◌||◌, is_none, slice_index_or}
 use Rattle.std.proofs.lemmas.Bool.Decides.{nat_tests}
 use Rattle.std.proofs.lemmas.List.Folds.{list_any-append}
+use Rattle.std.proofs.lemmas.Bool.{and_parts}
 use Rattle.lits.specs.Clause.{has}
 use Rattle.netlist.specs.declared.gate.And.{And}
 use Rattle.netlist.specs.Circuit.{Aig, is_over, var_of}
 use Rattle.netlist.specs.VariableTable.{AreVariables}
 use Rattle.circuit_draft.specs.Levels.{gate_for, level_within, level_of, on_cycle, is_in_order}
 use Rattle.circuit_draft.specs.Steps.{gate_at}
-use Rattle.circuit_draft.proofs.VariableFacts.{both, gate_for-at, no_source}
+use Rattle.circuit_draft.proofs.VariableLemmas.{gate_for-at, no_source}
 use Rattle.circuit_draft.proofs.LevelLemmas.{level-source, level-gate, level-low, level-bound, above-made}
 use Rattle.circuit_draft.proofs.CycleLemmas.{find_none}
 
@@ -44,10 +45,10 @@ ranked c (g ∷ gs) known n gates none have order k lt =
     (HaveLevels-push c known n g.var here.0 have here.1) parts.1 j l)
   where
     parts : ((is_over known g.left && is_over known g.right) ≡ true) × (is_in_order (known ++ g.var ∷ []) gs ≡ true)
-    parts = both (is_over known g.left && is_over known g.right) (is_in_order (known ++ g.var ∷ []) gs) order
+    parts = and_parts (is_over known g.left && is_over known g.right) (is_in_order (known ++ g.var ∷ []) gs) order
 
     fanins : (is_over known g.left ≡ true) × (is_over known g.right ≡ true)
-    fanins = both (is_over known g.left) (is_over known g.right) parts.0
+    fanins = and_parts (is_over known g.left) (is_over known g.right) parts.0
 
     here : (m : ℕ) × (level_within c (suc n) g.var ≡ Some m)
     here = level_next c known n g (gates 0 (omega arith)) (none 0 (omega arith)) have fanins.0 fanins.1

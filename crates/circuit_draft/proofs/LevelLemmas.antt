@@ -1,15 +1,15 @@
 -- Levels: each is below the bound, whatever the bound, and a fanin's level is below the gate's.
-use Rattle.std.proofs.Common.{◌≡◌, ◌≢◌, ℕ, zero, suc, ◌+◌, ◌<◌, ◌≤◌, max, Bool, true, false, cond, Option, None, Some, List, [], ◌∷◌, length, get_or, refl, sym, ap, ◌∙◌, subst, arith, inl, inr}
-use Rattle.std.specs.Prelude.{◌==◌, ◌⊎◌, slice_index, slice_set}
+use Rattle.std.proofs.Common.{◌≡◌, ◌≢◌, ℕ, zero, suc, ◌+◌, ◌<◌, ◌≤◌, max, Bool, true, false, cond, Option, None, Some, List, [], ◌∷◌, length, refl, sym, ap, ◌∙◌, subst, arith, inl, inr}
+use Rattle.std.specs.Prelude.{◌==◌, slice_index, slice_set}
 use Rattle.std.proofs.lemmas.Option.{none-some, same_Some}
 use Rattle.std.proofs.lemmas.Bool.Decides.{nat_tests}
 use Rattle.lits.specs.Clause.{has}
 use Rattle.netlist.specs.declared.gate.And.{And}
 use Rattle.netlist.specs.Circuit.{Aig, var_of}
 use Rattle.netlist.specs.VariableTable.{AreVariables}
-use Rattle.circuit_draft.specs.Levels.{above, gate_level, gate_for, level_within, level_of}
-use Rattle.circuit_draft.specs.Steps.{gate_at, open_in, AreLevels, Uses}
-use Rattle.circuit_draft.proofs.VariableFacts.{gate_for-at, no_source}
+use Rattle.circuit_draft.specs.Levels.{above, gate_for, level_within, level_of}
+use Rattle.circuit_draft.specs.Steps.{gate_at, open_in, Uses}
+use Rattle.circuit_draft.proofs.VariableLemmas.{gate_for-at, no_source}
 
 -- ---- sources
 

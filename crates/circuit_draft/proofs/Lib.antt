@@ -1,10 +1,11 @@
-pub mod VariableFacts
-pub mod LevelLemmas
-pub mod FaninFacts
-pub mod PathLemmas
-pub mod BucketLemmas
-pub mod OrderLemmas
-pub mod CycleLemmas
-pub mod FinishLemmas
-pub mod ByLevelLemmas
-pub mod InOrderLemmas
+pub mod Facts
+mod VariableLemmas
+mod LevelLemmas
+mod FaninLemmas
+mod PathLemmas
+mod BucketLemmas
+mod OrderLemmas
+mod CycleLemmas
+mod FinishLemmas
+mod ByLevelLemmas
+mod InOrderLemmas

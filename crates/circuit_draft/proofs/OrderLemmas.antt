@@ -1,13 +1,12 @@
 -- What is undefined, and whether gates stand behind their fanins, gate by gate.
-use Rattle.std.proofs.Common.{◌≡◌, ◌≢◌, ℕ, zero, suc, ◌+◌, ◌-◌, ◌<◌, ◌≤◌, Bool, true, false, not, cond, Option, None, Some, List, [], ◌∷◌, ◌++◌, length, take, drop, get_or, refl, sym, ap, ◌∙◌, subst, arith, add-one}
-use Rattle.std.specs.Prelude.{◌==◌, ◌&&◌, ◌||◌, nat_lt, slice_index_or}
-use Rattle.std.specs.List.{find, flat_map, list_any}
-use Rattle.std.specs.Option.{option_map, option_map_or, is_some}
+use Rattle.std.proofs.Common.{◌≡◌, ℕ, zero, suc, ◌+◌, ◌<◌, ◌≤◌, Bool, true, false, cond, Option, None, Some, List, [], ◌∷◌, ◌++◌, length, take, drop, get_or, refl, sym, ap, ◌∙◌, subst, arith}
+use Rattle.std.specs.Prelude.{◌==◌, ◌&&◌, ◌||◌, nat_lt}
+use Rattle.std.specs.Option.{option_map, option_map_or}
 use Rattle.std.proofs.lemmas.Bool.Decides.{nat_tests}
-use Rattle.std.proofs.lemmas.List.{append-nil, drop_more, take_more, map-append, append_assoc, take_at, take-append-le, length-append, length-map, length-take}
+use Rattle.std.proofs.lemmas.List.{append-nil, drop_more, take_more, map-append, append_assoc, take_at, length-append, length-map, length-take}
 use Rattle.lits.specs.Clause.{has}
 use Rattle.netlist.specs.declared.gate.And.{And}
-use Rattle.netlist.specs.Circuit.{Aig, gate_vars, variables_in, is_over, var_of}
+use Rattle.netlist.specs.Circuit.{Aig, gate_vars, variables_in, is_over}
 use Rattle.netlist.specs.Place.{place_of}
 use Rattle.circuit_draft.specs.Levels.{is_in_order}
 

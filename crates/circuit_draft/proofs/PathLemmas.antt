@@ -1,6 +1,6 @@
 -- A path of gates, each of which uses the next: what the level of its last gate says of the others, and why a path with
 -- more gates than the circuit has begins at one without a level.
-use Rattle.std.proofs.Common.{◌≡◌, ◌≢◌, ℕ, zero, suc, ◌+◌, ◌-◌, ◌<◌, ◌≤◌, Bool, true, false, Option, None, Some, List, [], ◌∷◌, ◌++◌, length, refl, sym, ap, ◌∙◌, subst, arith, get_or-set_same, get_or-set_other, length-set}
+use Rattle.std.proofs.Common.{◌≡◌, ◌≢◌, ℕ, ◌+◌, ◌<◌, ◌≤◌, Bool, true, false, Option, None, Some, List, [], ◌∷◌, ◌++◌, length, refl, sym, ap, ◌∙◌, subst, arith, get_or-set_same, get_or-set_other, length-set}
 use Rattle.std.specs.Prelude.{◌==◌, slice_index, slice_set, ⊤}
 use Rattle.std.proofs.lemmas.Bool.Decides.{nat_tests}
 use Rattle.std.proofs.lemmas.Option.{none-some, same_Some}
@@ -8,7 +8,7 @@ use Rattle.netlist.specs.Circuit.{Aig}
 use Rattle.netlist.specs.VariableTable.{AreVariables}
 use Rattle.circuit_draft.specs.Levels.{level_of}
 use Rattle.circuit_draft.specs.Steps.{gate_at, open_in, AreLevels, Uses, IsOpen, Keeps}
-use Rattle.circuit_draft.proofs.LevelLemmas.{level-uses, level-some, open-set, open-le, level-bound}
+use Rattle.circuit_draft.proofs.LevelLemmas.{level-uses, level-some, open-set, level-bound}
 
 -- each gate is open and uses the next one
 abbrev pub IsPath : Aig → List ℕ → List ℕ → Type 0

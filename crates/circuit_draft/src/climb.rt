@@ -60,11 +60,12 @@ impl Draft {
         }
     }
 
-    /// Finds the level of the gate at `root`, and of the gates below it that it needs; `false` where it has none.
+    /// Finds the level of the gate at `root`, and of the gates below it that it needs; `false` where it has
+    /// none.
     ///
-    /// The path from the root to the gate whose level is sought stands on `path`, a stack of its own, so a long chain of
-    /// gates needs no more than that. A gate is put on the path once, unless it is on a cycle: then the path grows until
-    /// more gates stand on it than there are.
+    /// The path from the root to the gate whose level is sought stands on `path`, a stack of its own, so a
+    /// long chain of gates needs no more than that. A gate is put on the path once, unless it is on a cycle:
+    /// then the path grows until more gates stand on it than there are.
     pub(crate) fn climb(
         &self,
         levels: &mut [u32],

@@ -5,9 +5,8 @@ ghost use Rattle.byte_scan.specs.Reading.{Gives};
 ghost use Rattle.circuit_draft.specs.Draft.{finished};
 
 use crate::buckets::Buckets;
-use crate::table::Table;
 use byte_scan::AigerErr;
-use netlist::{And, Circuit};
+use netlist::{And, Circuit, VariableTable};
 use std::alloc::{AllocError, Global};
 use std::marker::Model;
 
@@ -17,7 +16,7 @@ pub struct Draft {
     pub(crate) inputs: Vec<u32>,
     pub(crate) gates: Vec<And>,
     pub(crate) outputs: Vec<u32>,
-    pub(crate) table: Table,
+    pub(crate) table: VariableTable,
 }
 
 impl Model for Draft {
@@ -26,9 +25,17 @@ impl Model for Draft {
 
     ghost Value = { Aig };
 
-    ghost view = { λ d. record { inputs = d.inputs.items; gates = d.gates.items; outputs = d.outputs.items } };
+    ghost view = { λ d. record {
+      inputs = d.inputs.items;
+      gates = d.gates.items;
+      outputs = d.outputs.items;
+    } };
 
-    ghost invariant = { λ d. IsIndexedDraft (record { inputs = d.inputs.items; gates = d.gates.items; outputs = d.outputs.items }) d.table };
+    ghost invariant = { λ d. IsIndexedDraft (record {
+      inputs = d.inputs.items;
+      gates = d.gates.items;
+      outputs = d.outputs.items;
+    }) d.table };
 }
 
 impl Draft {
@@ -40,7 +47,7 @@ impl Draft {
             inputs: Vec::new(alloc),
             gates: Vec::new(alloc),
             outputs: Vec::new(alloc),
-            table: Table::new(alloc),
+            table: VariableTable::new(alloc),
         }
     }
 
@@ -100,9 +107,9 @@ impl Draft {
                 inputs,
                 gates,
                 outputs,
-                table: _,
+                table,
             } = self;
-            return Ok(Circuit::of(alloc, inputs, gates, outputs)?);
+            return Ok(Circuit::with_table(inputs, gates, outputs, table));
         }
         let levels = self.levels(alloc)?;
         let gates = Buckets::of(alloc, levels)?.sorted(alloc, self.gates.as_slice())?;

@@ -1,11 +1,11 @@
-pub mod TableLemmas
-pub mod FoundLemmas
-pub mod HelpLemmas
-pub mod RowLemmas
-pub mod WalkingLemmas
-pub mod LevelLemmas
-pub mod RequestLemmas
-pub mod GetterLemmas
-pub mod AnswerLemmas
-pub mod CaseLemmas
+mod TableLemmas
+mod FoundLemmas
+mod HelpLemmas
+mod RowLemmas
+mod WalkingLemmas
+mod LevelLemmas
+mod RequestLemmas
+mod GetterLemmas
+mod AnswerLemmas
+mod CaseLemmas
 mod PlainLemmas

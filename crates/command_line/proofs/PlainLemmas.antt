@@ -13,9 +13,10 @@ use Rattle.clap.specs.ValueTests.{is_unsigned_in}
 use Rattle.clap.specs.Simple.{Shape, built_leaf, inherited, marked_built, on_top, with_leaf_noted}
 use Rattle.clap.specs.Walk.{Held, Rule, Step, Text, Waiting, Walk, after_step, finished, idle, is_empty, nothing_held, settled, option, plain_word, positional, walk_from, walked, word_met}
 use Rattle.clap.specs.Faults.{check_fault, defaults_fault, settle_fault, step_fault, turn_fault, walk_fault}
-use Rattle.command_line.specs.Commands.{cec_app, check_command, lrat_command}
-use Rattle.command_line.specs.Words.{CheckIt, LratIt, Request, budget_in, check_of, faults, request_in, request_of}
-use Rattle.command_line.specs.Plain.{IsPlain, WritesBudget}
+use Rattle.command_line.specs.Commands.{cec_app, check_command, lrat_command, most_seed}
+use Rattle.command_line.specs.declared.asked.TheConstants.{BUDGET_LIMIT, WORDS_LIMIT}
+use Rattle.command_line.specs.Words.{CheckIt, LratIt, Request, check_of, faults, number_in, request_in, request_of}
+use Rattle.command_line.specs.Plain.{IsPlain, Writes, plain_check}
 
 no_end : (word : Text) → IsPlain word → bytes_eq word (45 ∷ 45 ∷ []) ≡ false
 no_end [] plain = refl
@@ -131,73 +132,114 @@ other_first k d ds none digits = elim (cases_eq d k) [
   | inr apart ↦ ne_eqb d k apart
 ]
 
-digits-plain : (n : Text) (m : ℕ) → WritesBudget n m → IsPlain n
-digits-plain [] m writes = refl
-digits-plain (d ∷ ds) m writes = other_first 45 d ds refl writes.digits
+digits-plain : (least most : ℕ) (n : Text) (m : ℕ) → Writes least most n m → IsPlain n
+digits-plain least most [] m writes = refl
+digits-plain least most (d ∷ ds) m writes = other_first 45 d ds refl writes.digits
 
 no_plus : (n : Text) → list_all (λ d. nat_lt (digit_value d) 10) n ≡ true → without_leading_plus n ≡ n
 no_plus [] digits = refl
 no_plus (d ∷ ds) digits = simp (other_first 43 d ds refl digits) refl
 
-some_digit : (n : Text) (m : ℕ) → WritesBudget n m → nat_lt 0 (length n) ≡ true
-some_digit [] m writes = absurd (omega (arith, writes.value, writes.least))
-some_digit (d ∷ ds) m writes = lt-ltb 0 (length (d ∷ ds)) (omega arith)
-
-within : (m : ℕ) → m ≤ 1000000000 → m < 2 ^ 64
-within m most = omega (arith, lit< {m = 1000000000} {n = 2 ^ 64} tt)
+within : (m : ℕ) → m ≤ most_seed → m < 2 ^ 64
+within m most = omega (arith, lit< {m = 18446744073709551615} {n = 2 ^ 64} tt)
 
 -- a number that is in range
-in_range : (n : Text) (m : ℕ) → WritesBudget n m → is_unsigned_in 1 1000000000 n ≡ true
-in_range n m writes =
-    rw (no_plus n writes.digits, writes.value, some_digit n m writes, writes.digits)
-    (rw (lt-ltb m (2 ^ 64) (within m writes.most), le-leb 1 m writes.least, le-leb m 1000000000 writes.most) refl)
+in_range : (least most : ℕ) (n : Text) (m : ℕ) → most ≤ most_seed → Writes least most n m → is_unsigned_in least most n ≡ true
+in_range least most n m fits writes =
+    rw (no_plus n writes.digits, writes.value, writes.some, writes.digits)
+    (rw (lt-ltb m (2 ^ 64) (within m (omega (arith, fits, writes.below))), le-leb least m writes.above, le-leb m most writes.below) refl)
 
-accepted : (n : Text) (m : ℕ) → WritesBudget n m → values_kinds false (Unsigned 1 1000000000) (n ∷ []) ≡ []
-accepted n m writes = rw (in_range n m writes) refl
+accepted : (least most : ℕ) (n : Text) (m : ℕ) → most ≤ most_seed → Writes least most n m → values_kinds false (Unsigned least most) (n ∷ []) ≡ []
+accepted least most n m fits writes = rw (in_range least most n m fits writes) refl
 
-known_budget : (n : Text) (m : ℕ) → WritesBudget n m → budget_in n ≡ Some m
-known_budget n m writes = rw (in_range n m writes) (ap Some (ap (digits_value 10) (no_plus n writes.digits) ∙ writes.value))
+known_number : (least most : ℕ) (n : Text) (m : ℕ) → most ≤ most_seed → Writes least most n m → number_in least most n ≡ Some m
+known_number least most n m fits writes =
+    rw (in_range least most n m fits writes) (ap Some (ap (digits_value 10) (no_plus n writes.digits) ∙ writes.value))
+
+few_words : WORDS_LIMIT ≤ most_seed
+few_words = omega (arith, lit< {m = 64} {n = 18446744073709551615} tt)
+
+small_budget : BUDGET_LIMIT ≤ most_seed
+small_budget = omega (arith, lit< {m = 1000000000} {n = 18446744073709551615} tt)
 
 module _ (program a b : Text) (plain_a : IsPlain a) (plain_b : IsPlain b) where
   pub asks-lrat : request_of (program ∷ codes "lrat" ∷ a ∷ b ∷ []) ≡ Some (LratIt (record { cnf = a; proof = b }))
   unfolding request_of faults walked walk_fault defaults_fault
   asks-lrat = request-marked (completed lrat_command) (plain a ∷ plain b ∷ []) (plain_a, refl, (plain_b, refl, tt))
 
-  pub asks-check : request_of (program ∷ codes "check" ∷ a ∷ b ∷ []) ≡ Some (CheckIt (record { a = a; b = b; out = None; budget = 100000 }))
+  pub asks-check : request_of (program ∷ codes "check" ∷ a ∷ b ∷ []) ≡ Some (CheckIt (plain_check a b))
   unfolding request_of faults walked walk_fault defaults_fault
   asks-check = request-marked (completed check_command) (plain a ∷ plain b ∷ []) (plain_a, refl, (plain_b, refl, tt))
 
   pub asks-out : (p : Text) → IsPlain p → request_of (program ∷ codes "check" ∷ a ∷ b ∷ codes "--out" ∷ p ∷ [])
-      ≡ Some (CheckIt (record { a = a; b = b; out = Some p; budget = 100000 }))
+      ≡ Some (CheckIt (record (plain_check a b) { out = Some p }))
   unfolding request_of faults walked walk_fault defaults_fault
   asks-out p plain_p = request-marked (completed check_command) (plain a ∷ plain b ∷ flag (codes "--out") ∷ plain p ∷ [])
       (plain_a, refl, (plain_b, refl, (plain_p, refl, tt)))
 
-  module _ (n : Text) (m : ℕ) (writes : WritesBudget n m) where
+  pub asks-seed : (n : Text) (m : ℕ) → Writes 0 most_seed n m → request_of (program ∷ codes "check" ∷ a ∷ b ∷ codes "--seed" ∷ n ∷ [])
+      ≡ Some (CheckIt (record (plain_check a b) { seed = m }))
+  unfolding request_of faults walked walk_fault defaults_fault
+  asks-seed n m writes =
+      request-marked (completed check_command) (plain a ∷ plain b ∷ flag (codes "--seed") ∷ plain n ∷ [])
+      (plain_a, refl, (plain_b, refl, (digits-plain 0 most_seed n m writes, refl, tt)))
+      ∙ ap (λ (k : Kinds). if is_empty (or_else (or_else k []) []) then check_of (Some a) (Some b) None (number_in 0 most_seed n) (Some 4) (Some 100) (Some 100000) else None)
+      (accepted 0 most_seed n m (omega arith) writes)
+      ∙ ap (λ (v : Option ℕ). check_of (Some a) (Some b) None v (Some 4) (Some 100) (Some 100000)) (known_number 0 most_seed n m (omega arith) writes)
+
+  pub asks-words : (n : Text) (m : ℕ) → Writes 1 WORDS_LIMIT n m → request_of (program ∷ codes "check" ∷ a ∷ b ∷ codes "--words" ∷ n ∷ [])
+      ≡ Some (CheckIt (record (plain_check a b) { words = m }))
+  unfolding request_of faults walked walk_fault defaults_fault
+  asks-words n m writes =
+      request-marked (completed check_command) (plain a ∷ plain b ∷ flag (codes "--words") ∷ plain n ∷ [])
+      (plain_a, refl, (plain_b, refl, (digits-plain 1 WORDS_LIMIT n m writes, refl, tt)))
+      ∙ ap (λ (k : Kinds). if is_empty (or_else (or_else k []) []) then check_of (Some a) (Some b) None (Some 1) (number_in 1 WORDS_LIMIT n) (Some 100) (Some 100000) else None)
+      (accepted 1 WORDS_LIMIT n m few_words writes)
+      ∙ ap (λ (v : Option ℕ). check_of (Some a) (Some b) None (Some 1) v (Some 100) (Some 100000)) (known_number 1 WORDS_LIMIT n m few_words writes)
+
+  module _ (n : Text) (m : ℕ) (writes : Writes 1 BUDGET_LIMIT n m) where
+    plain_n : IsPlain n
+    plain_n = digits-plain 1 BUDGET_LIMIT n m writes
+
+    taken : values_kinds false (Unsigned 1 BUDGET_LIMIT) (n ∷ []) ≡ []
+    taken = accepted 1 BUDGET_LIMIT n m small_budget writes
+
+    known : number_in 1 BUDGET_LIMIT n ≡ Some m
+    known = known_number 1 BUDGET_LIMIT n m small_budget writes
+
+    pub asks-sweep_budget : request_of (program ∷ codes "check" ∷ a ∷ b ∷ codes "--sweep-budget" ∷ n ∷ [])
+        ≡ Some (CheckIt (record (plain_check a b) { sweep_budget = m }))
+    unfolding request_of faults walked walk_fault defaults_fault
+    asks-sweep_budget =
+        request-marked (completed check_command) (plain a ∷ plain b ∷ flag (codes "--sweep-budget") ∷ plain n ∷ [])
+        (plain_a, refl, (plain_b, refl, (plain_n, refl, tt)))
+        ∙ ap (λ (k : Kinds). if is_empty (or_else (or_else k []) []) then check_of (Some a) (Some b) None (Some 1) (Some 4) (number_in 1 BUDGET_LIMIT n) (Some 100000) else None) taken
+        ∙ ap (λ (v : Option ℕ). check_of (Some a) (Some b) None (Some 1) (Some 4) v (Some 100000)) known
+
     pub asks-budget : request_of (program ∷ codes "check" ∷ a ∷ b ∷ codes "--budget" ∷ n ∷ [])
-        ≡ Some (CheckIt (record { a = a; b = b; out = None; budget = m }))
+        ≡ Some (CheckIt (record (plain_check a b) { budget = m }))
     unfolding request_of faults walked walk_fault defaults_fault
     asks-budget =
         request-marked (completed check_command) (plain a ∷ plain b ∷ flag (codes "--budget") ∷ plain n ∷ [])
-        (plain_a, refl, (plain_b, refl, (digits-plain n m writes, refl, tt)))
-        ∙ ap (λ (k : Kinds). if is_empty (or_else (or_else k []) []) then check_of (Some a) (Some b) None (budget_in n) else None) (accepted n m writes)
-        ∙ ap (check_of (Some a) (Some b) None) (known_budget n m writes)
+        (plain_a, refl, (plain_b, refl, (plain_n, refl, tt)))
+        ∙ ap (λ (k : Kinds). if is_empty (or_else (or_else k []) []) then check_of (Some a) (Some b) None (Some 1) (Some 4) (Some 100) (number_in 1 BUDGET_LIMIT n) else None) taken
+        ∙ ap (check_of (Some a) (Some b) None (Some 1) (Some 4) (Some 100)) known
 
     module _ (p : Text) (plain_p : IsPlain p) where
       pub asks-out_budget : request_of (program ∷ codes "check" ∷ a ∷ b ∷ codes "--out" ∷ p ∷ codes "--budget" ∷ n ∷ [])
-          ≡ Some (CheckIt (record { a = a; b = b; out = Some p; budget = m }))
+          ≡ Some (CheckIt (record (plain_check a b) { out = Some p; budget = m }))
       unfolding request_of faults walked walk_fault defaults_fault
       asks-out_budget =
           request-marked (completed check_command) (plain a ∷ plain b ∷ flag (codes "--out") ∷ plain p ∷ flag (codes "--budget") ∷ plain n ∷ [])
-          (plain_a, refl, (plain_b, refl, (plain_p, refl, (digits-plain n m writes, refl, tt))))
-          ∙ ap (λ (k : Kinds). if is_empty (or_else (or_else k []) []) then check_of (Some a) (Some b) (Some p) (budget_in n) else None) (accepted n m writes)
-          ∙ ap (check_of (Some a) (Some b) (Some p)) (known_budget n m writes)
+          (plain_a, refl, (plain_b, refl, (plain_p, refl, (plain_n, refl, tt))))
+          ∙ ap (λ (k : Kinds). if is_empty (or_else (or_else k []) []) then check_of (Some a) (Some b) (Some p) (Some 1) (Some 4) (Some 100) (number_in 1 BUDGET_LIMIT n) else None) taken
+          ∙ ap (check_of (Some a) (Some b) (Some p) (Some 1) (Some 4) (Some 100)) known
 
       pub asks-budget_out : request_of (program ∷ codes "check" ∷ a ∷ b ∷ codes "--budget" ∷ n ∷ codes "--out" ∷ p ∷ [])
-          ≡ Some (CheckIt (record { a = a; b = b; out = Some p; budget = m }))
+          ≡ Some (CheckIt (record (plain_check a b) { out = Some p; budget = m }))
       unfolding request_of faults walked walk_fault defaults_fault
       asks-budget_out =
           request-marked (completed check_command) (plain a ∷ plain b ∷ flag (codes "--budget") ∷ plain n ∷ flag (codes "--out") ∷ plain p ∷ [])
-          (plain_a, refl, (plain_b, refl, (digits-plain n m writes, refl, (plain_p, refl, tt))))
-          ∙ ap (λ (k : Kinds). if is_empty (or_else (or_else (or_else (or_else k []) []) []) []) then check_of (Some a) (Some b) (Some p) (budget_in n) else None) (accepted n m writes)
-          ∙ ap (check_of (Some a) (Some b) (Some p)) (known_budget n m writes)
+          (plain_a, refl, (plain_b, refl, (plain_n, refl, (plain_p, refl, tt))))
+          ∙ ap (λ (k : Kinds). if is_empty (or_else (or_else (or_else (or_else k []) []) []) []) then check_of (Some a) (Some b) (Some p) (Some 1) (Some 4) (Some 100) (number_in 1 BUDGET_LIMIT n) else None) taken
+          ∙ ap (check_of (Some a) (Some b) (Some p) (Some 1) (Some 4) (Some 100)) known

@@ -10,7 +10,15 @@ use Rattle.command_line.specs.declared.reading.Refusal.{Refusal}
 use Rattle.command_line.specs.declared.reading.Refusal.TheVariants.{Help, Usage, NoMemory}
 
 abbrev pub check_texts : CheckWords → CheckCommand
-check_texts c = record { a = c.a.now; b = c.b.now; out = option_map (λ out. out.now) c.out; budget = c.budget }
+check_texts c = record {
+  a = c.a.now;
+  b = c.b.now;
+  out = option_map (λ out. out.now) c.out;
+  seed = c.seed;
+  words = c.words;
+  sweep_budget = c.sweep_budget;
+  budget = c.budget;
+}
 
 abbrev pub lrat_texts : LratWords → LratCommand
 lrat_texts c = record { cnf = c.cnf.now; proof = c.proof.now }

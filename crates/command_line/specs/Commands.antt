@@ -2,7 +2,12 @@
 use Rattle.std.specs.Prelude.{ℕ, true, List, [], ◌∷◌, Some, codes}
 use Rattle.clap.specs.Walk.{Rule, Text, is_empty}
 use Rattle.clap.specs.Simple.{App, Shape, new_rule, new_shape}
+use Rattle.command_line.specs.declared.asked.TheConstants.{BUDGET_LIMIT, WORDS_LIMIT}
 use Rattle.clap.specs.declared.builder.value_parser.ValueParser.TheVariants.{Unsigned}
+
+-- the greatest number of 64 bits
+abbrev pub most_seed : ℕ
+most_seed = 18446744073709551615
 
 -- an argument without a name, which has to be there
 abbrev pub place : Text → Rule
@@ -21,11 +26,13 @@ number_option id least most default =
 abbrev pub command : Text → List Rule → Shape
 command name rules = record (new_shape name) { rules = rules }
 
--- `cec check A B [--out PREFIX] [--budget N]`
+-- `cec check A B [--out PREFIX] [--seed N] [--words N] [--sweep-budget N] [--budget N]`
 abbrev pub check_command : Shape
 check_command = command (codes "check")
     (place (codes "a") ∷ place (codes "b") ∷ text_option (codes "out")
-    ∷ number_option (codes "budget") 1 1000000000 (codes "100000") ∷ [])
+    ∷ number_option (codes "seed") 0 most_seed (codes "1") ∷ number_option (codes "words") 1 WORDS_LIMIT (codes "4")
+    ∷ number_option (codes "sweep-budget") 1 BUDGET_LIMIT (codes "100")
+    ∷ number_option (codes "budget") 1 BUDGET_LIMIT (codes "100000") ∷ [])
 
 -- `cec lrat CNF PROOF`
 abbrev pub lrat_command : Shape

@@ -11,14 +11,19 @@ use Rattle.clap.specs.ValueTests.{is_unsigned_in}
 use Rattle.clap.specs.Walk.{Row, Text, first_of, is_empty}
 use Rattle.clap.specs.declared.error.kind.ErrorKind.{ErrorKind}
 use Rattle.clap.specs.declared.error.kind.ErrorKind.TheVariants.{DisplayHelp}
-use Rattle.command_line.specs.Commands.{cec_app}
+use Rattle.command_line.specs.Commands.{cec_app, most_seed}
+use Rattle.command_line.specs.declared.asked.TheConstants.{BUDGET_LIMIT, WORDS_LIMIT}
 
 -- `check A B`: the names of the two circuits' files, what the names of the written files begin with, if any are to be
--- written, and how many clauses a solver may learn for an output
+-- written, from which seed how many words of 64 patterns are drawn, and how many clauses a solver may learn for a pair of
+-- nodes and for an output
 pub record CheckCommand : Type 0 where
   pub a : List ℕ
   pub b : List ℕ
   pub out : Option (List ℕ)
+  pub seed : ℕ
+  pub words : ℕ
+  pub sweep_budget : ℕ
   pub budget : ℕ
 
 -- `lrat CNF PROOF`: the names of the files of a formula and of its proof
@@ -31,27 +36,37 @@ pub data Request : Type 0 where
   CheckIt : CheckCommand → Request
   LratIt : LratCommand → Request
 
--- the number that a text spells, if it is a budget: decimal digits, which zeros and one + may precede
-abbrev pub budget_in : Text → Option ℕ
-budget_in text =
-    if is_unsigned_in 1 1000000000 text then Some (digits_value 10 (without_leading_plus text)) else None
+-- the number that a text spells, if it is in a range: decimal digits, which zeros and one + may precede
+abbrev pub number_in : ℕ → ℕ → Text → Option ℕ
+number_in least most text =
+    if is_unsigned_in least most text then Some (digits_value 10 (without_leading_plus text)) else None
 
-abbrev pub check_of : Option Text → Option Text → Option Text → Option ℕ → Option Request
-check_of (Some a) (Some b) out (Some budget) = Some (CheckIt (record { a = a; b = b; out = out; budget = budget }))
-check_of a b out budget = None
+abbrev pub check_of : Option Text → Option Text → Option Text → Option ℕ → Option ℕ → Option ℕ → Option ℕ → Option Request
+check_of (Some a) (Some b) out (Some seed) (Some words) (Some sweep_budget) (Some budget) = Some (CheckIt (record {
+  a = a;
+  b = b;
+  out = out;
+  seed = seed;
+  words = words;
+  sweep_budget = sweep_budget;
+  budget = budget;
+}))
+check_of a b out seed words sweep_budget budget = None
 
 abbrev pub lrat_of : Option Text → Option Text → Option Request
 lrat_of (Some cnf) (Some proof) = Some (LratIt (record { cnf = cnf; proof = proof }))
 lrat_of cnf proof = None
 
--- the value of `--budget`
-abbrev pub budget_of : List Row → Option ℕ
-budget_of rows = option_and_then budget_in (first_of (codes "budget") rows)
+-- the number that is the value of an option
+abbrev pub number_of : Text → ℕ → ℕ → List Row → Option ℕ
+number_of id least most rows = option_and_then (number_in least most) (first_of id rows)
 
 -- the requests that the values of the arguments make
 abbrev pub check_in : List Row → Option Request
 check_in rows =
-    check_of (first_of (codes "a") rows) (first_of (codes "b") rows) (first_of (codes "out") rows) (budget_of rows)
+    check_of (first_of (codes "a") rows) (first_of (codes "b") rows) (first_of (codes "out") rows)
+    (number_of (codes "seed") 0 most_seed rows) (number_of (codes "words") 1 WORDS_LIMIT rows)
+    (number_of (codes "sweep-budget") 1 BUDGET_LIMIT rows) (number_of (codes "budget") 1 BUDGET_LIMIT rows)
 
 abbrev pub lrat_in : List Row → Option Request
 lrat_in rows = lrat_of (first_of (codes "cnf") rows) (first_of (codes "proof") rows)

@@ -1,4 +1,11 @@
 ghost use Rattle.std.specs.Prelude.{◌≤◌};
+ghost use Rattle.command_line.specs.declared.asked.TheConstants.{BUDGET_LIMIT, WORDS_LIMIT};
+
+/// No budget is greater: so many clauses a solver may learn for a pair of nodes or an output.
+pub const BUDGET_LIMIT: u64 = 1_000_000_000;
+
+/// No more words of 64 patterns are drawn for each input.
+pub const WORDS_LIMIT: u64 = 64;
 
 /// What `check` was given.
 #[derive(Clone, Copy)]
@@ -9,10 +16,20 @@ pub struct CheckWords<'a> {
     pub b: &'a str,
     /// What the names of the written files begin with, if any are to be written.
     pub out: Option<&'a str>,
+    /// What the patterns are drawn from.
+    pub seed: u64,
+    /// How many words of 64 patterns are drawn for each input.
+    pub words: u64,
+    /// How many clauses a solver may learn for a pair of nodes.
+    pub sweep_budget: u64,
     /// How many clauses a solver may learn for an output.
     pub budget: u64,
+    pub ghost least_words: { 1 ≤ words },
+    pub ghost most_words: { words ≤ WORDS_LIMIT },
+    pub ghost least_sweep_budget: { 1 ≤ sweep_budget },
+    pub ghost most_sweep_budget: { sweep_budget ≤ BUDGET_LIMIT },
     pub ghost least: { 1 ≤ budget },
-    pub ghost most: { budget ≤ 1000000000 },
+    pub ghost most: { budget ≤ BUDGET_LIMIT },
 }
 
 /// What `lrat` was given.

@@ -1,10 +1,10 @@
 ghost use Rattle.std.specs.Prelude.{◌≡◌, ◌≤◌, Some, true, is_some};
 ghost use Rattle.clap.specs.Words.{first_of, found_of, rows_of};
-ghost use Rattle.command_line.specs.Words.{CheckIt, LratIt, budget_of, check_in, lrat_in};
+ghost use Rattle.command_line.specs.Words.{CheckIt, LratIt, check_in, lrat_in, number_of};
 ghost use Rattle.command_line.specs.Answers.{check_texts, lrat_texts, request};
 ghost use Rattle.command_line.specs.Parsing.{requested};
 
-use crate::asked::{Asked, CheckWords, LratWords};
+use crate::asked::{Asked, BUDGET_LIMIT, CheckWords, LratWords, WORDS_LIMIT};
 use clap::ArgMatches;
 
 /// What the matches of the program's command ask for.
@@ -27,7 +27,10 @@ fn check_words<'a>(matches: &ArgMatches<'a>) -> CheckWords<'a>
         a: text(matches, "a"),
         b: text(matches, "b"),
         out: matches.get_str("out"),
-        budget: budget(matches),
+        seed: number(matches, "seed", 0, u64::MAX),
+        words: number(matches, "words", 1, WORDS_LIMIT),
+        sweep_budget: number(matches, "sweep-budget", 1, BUDGET_LIMIT),
+        budget: number(matches, "budget", 1, BUDGET_LIMIT),
     }
 }
 
@@ -41,12 +44,13 @@ fn lrat_words<'a>(matches: &ArgMatches<'a>) -> LratWords<'a>
     }
 }
 
-fn budget(matches: &ArgMatches<'_>) -> u64
-    requires { is_some (budget_of (rows_of (found_of matches.now))) ≡ true }
-    ensures value { budget_of (rows_of (found_of matches.now)) ≡ Some result }
-    ensures range { (1 ≤ result) × (result ≤ 1000000000) }
+/// The number behind an option, which is in its range.
+fn number(matches: &ArgMatches<'_>, id: &str, least: u64, most: u64) -> u64
+    requires { is_some (number_of id.now least most (rows_of (found_of matches.now))) ≡ true }
+    ensures value { number_of id.now least most (rows_of (found_of matches.now)) ≡ Some result }
+    ensures range { (least ≤ result) × (result ≤ most) }
 {
-    text(matches, "budget").parse::<u64>().unwrap()
+    text(matches, id).parse::<u64>().unwrap()
 }
 
 /// The value of an argument that has one.

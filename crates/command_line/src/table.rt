@@ -1,5 +1,7 @@
-//! All that the command line can say. A new option is a row here, a rule in `specs/Commands.antt` and a field of what
-//! `read` hands out.
+//! All that the command line can say. A new option is a row here, a rule in `specs/Commands.antt` and a field
+//! of what `read` hands out.
+
+use crate::asked::{BUDGET_LIMIT, WORDS_LIMIT};
 
 /// What an argument takes.
 #[derive(Clone, Copy)]
@@ -68,11 +70,41 @@ pub(crate) static COMMANDS: [CommandRow; 2] = [
                 help: "Leave the question and its proof in files whose names begin with PREFIX",
             },
             ArgumentRow {
+                name: "seed",
+                value_name: "N",
+                takes: Takes::Number {
+                    least: 0,
+                    most: u64::MAX,
+                    default: "1",
+                },
+                help: "Draw the first patterns from N, from 0 to 18446744073709551615",
+            },
+            ArgumentRow {
+                name: "words",
+                value_name: "N",
+                takes: Takes::Number {
+                    least: 1,
+                    most: WORDS_LIMIT,
+                    default: "4",
+                },
+                help: "Draw 64 times N first patterns, N from 1 to 64",
+            },
+            ArgumentRow {
+                name: "sweep-budget",
+                value_name: "N",
+                takes: Takes::Number {
+                    least: 1,
+                    most: BUDGET_LIMIT,
+                    default: "100",
+                },
+                help: "Give up on a pair of nodes after N learned clauses, from 1 to 1000000000",
+            },
+            ArgumentRow {
                 name: "budget",
                 value_name: "N",
                 takes: Takes::Number {
                     least: 1,
-                    most: 1_000_000_000,
+                    most: BUDGET_LIMIT,
                     default: "100000",
                 },
                 help: "Give up on an output after N learned clauses, from 1 to 1000000000",

@@ -36,9 +36,12 @@ Arguments:
   <B>  Another one, with as many inputs and outputs
 
 Options:
-      --out <PREFIX>  Leave the question and its proof in files whose names begin with PREFIX
-      --budget <N>    Give up on an output after N learned clauses, from 1 to 1000000000 [default: 100000]
-  -h, --help          Print help
+      --out <PREFIX>      Leave the question and its proof in files whose names begin with PREFIX
+      --seed <N>          Draw the first patterns from N, from 0 to 18446744073709551615 [default: 1]
+      --words <N>         Draw 64 times N first patterns, N from 1 to 64 [default: 4]
+      --sweep-budget <N>  Give up on a pair of nodes after N learned clauses, from 1 to 1000000000 [default: 100]
+      --budget <N>        Give up on an output after N learned clauses, from 1 to 1000000000 [default: 100000]
+  -h, --help              Print help
 
 Says, and ends with the status before it:
   0  EQUIVALENT
@@ -81,32 +84,76 @@ For more information, try '--help'.
 const NO_HELP: &str = "usage: cec: no command help\n";
 
 /// Words, and what they are told.
-const TAKEN: [(&str, &str); 12] = [
-    ("cec check x y", "x and y, to nowhere, by 100000"),
-    ("cec check x y --out p", "x and y, to p, by 100000"),
-    ("cec check x y --budget 7", "x and y, to nowhere, by 7"),
-    ("cec check x y --budget 7 --out p", "x and y, to p, by 7"),
-    ("cec check --out p --budget 7 x y", "x and y, to p, by 7"),
-    ("cec check x --budget=7 y --out=p", "x and y, to p, by 7"),
-    ("cec check x y --budget 1", "x and y, to nowhere, by 1"),
+const TAKEN: [(&str, &str); 17] = [
+    (
+        "cec check x y",
+        "x and y, to nowhere, by 1, 4, 100 and 100000",
+    ),
+    (
+        "cec check x y --out p",
+        "x and y, to p, by 1, 4, 100 and 100000",
+    ),
+    (
+        "cec check x y --budget 7",
+        "x and y, to nowhere, by 1, 4, 100 and 7",
+    ),
+    (
+        "cec check x y --budget 7 --out p",
+        "x and y, to p, by 1, 4, 100 and 7",
+    ),
+    (
+        "cec check --out p --budget 7 x y",
+        "x and y, to p, by 1, 4, 100 and 7",
+    ),
+    (
+        "cec check x --budget=7 y --out=p",
+        "x and y, to p, by 1, 4, 100 and 7",
+    ),
+    (
+        "cec check x y --budget 1",
+        "x and y, to nowhere, by 1, 4, 100 and 1",
+    ),
     (
         "cec check x y --budget 1000000000",
-        "x and y, to nowhere, by 1000000000",
+        "x and y, to nowhere, by 1, 4, 100 and 1000000000",
     ),
-    ("cec check x y --budget +007", "x and y, to nowhere, by 7"),
+    (
+        "cec check x y --budget +007",
+        "x and y, to nowhere, by 1, 4, 100 and 7",
+    ),
     (
         "cec check help check",
-        "help and check, to nowhere, by 100000",
+        "help and check, to nowhere, by 1, 4, 100 and 100000",
     ),
     (
         "cec check -- -x --out",
-        "-x and --out, to nowhere, by 100000",
+        "-x and --out, to nowhere, by 1, 4, 100 and 100000",
+    ),
+    (
+        "cec check x y --seed 0 --words 1 --sweep-budget 1",
+        "x and y, to nowhere, by 0, 1, 1 and 100000",
+    ),
+    (
+        "cec check x y --words 64 --seed 18446744073709551615",
+        "x and y, to nowhere, by 18446744073709551615, 64, 100 and 100000",
+    ),
+    (
+        "cec check x y --sweep-budget 1000000000",
+        "x and y, to nowhere, by 1, 4, 1000000000 and 100000",
+    ),
+    (
+        "cec check x y --seed=7 --budget 8",
+        "x and y, to nowhere, by 7, 4, 100 and 8",
+    ),
+    (
+        "cec check --sweep-budget 5 x --words 6 y --out p",
+        "x and y, to p, by 1, 6, 5 and 100000",
     ),
     ("cec lrat f p", "p of f"),
 ];
 
 /// Words, and how the text of their refusal begins.
-const REFUSED: [(&str, &str); 12] = [
+const REFUSED: [(&str, &str); 18] = [
     (
         "cec check x y --budget 0",
         "invalid value '0' for '--budget <N>': 0 is not in 1..=1000000000\n",
@@ -141,14 +188,39 @@ const REFUSED: [(&str, &str); 12] = [
     ),
     ("cec check x y z", "unexpected argument 'z' found\n"),
     (
-        "cec check x y --seed 1",
-        "unexpected argument '--seed' found\n",
+        "cec check x y --words 0",
+        "invalid value '0' for '--words <N>': 0 is not in 1..=64\n",
+    ),
+    (
+        "cec check x y --words 65",
+        "invalid value '65' for '--words <N>': 65 is not in 1..=64\n",
+    ),
+    (
+        "cec check x y --sweep-budget 0",
+        "invalid value '0' for '--sweep-budget <N>': 0 is not in 1..=1000000000\n",
+    ),
+    (
+        "cec check x y --sweep-budget 1000000001",
+        "invalid value '1000000001' for '--sweep-budget <N>': 1000000001 is not in 1..=1000000000\n",
+    ),
+    (
+        "cec check x y --seed 18446744073709551616",
+        "invalid value '18446744073709551616' for '--seed <N>': number too large to fit in target type\n",
+    ),
+    (
+        "cec check x y --seed -1",
+        "unexpected argument '-1' found\n",
+    ),
+    (
+        "cec check x y --workers 4",
+        "unexpected argument '--workers' found\n",
     ),
     ("cec --version", "unexpected argument '--version' found\n"),
     ("cec self adder 4", "unrecognized subcommand 'self'\n"),
 ];
 
-/// What `read` answers to the words of a line: the request, or the text of the refusal with its kind before it.
+/// What `read` answers to the words of a line: the request, or the text of the refusal with its kind before
+/// it.
 fn told(alloc: Global, line: &str) -> Result<String, Fail> {
     let mut words = Vec::new(alloc);
     for word in line.split(' ') {
@@ -158,8 +230,8 @@ fn told(alloc: Global, line: &str) -> Result<String, Fail> {
         Ok(Asked::Check(check)) => {
             let out = check.out.unwrap_or("nowhere");
             format!(in alloc;
-                "{} and {}, to {out}, by {}",
-                check.a, check.b, check.budget
+                "{} and {}, to {out}, by {}, {}, {} and {}",
+                check.a, check.b, check.seed, check.words, check.sweep_budget, check.budget
             )?
         }
         Ok(Asked::Lrat(lrat)) => format!(in alloc; "{} of {}", lrat.proof, lrat.cnf)?,

@@ -13,9 +13,9 @@ use Rattle.lits.specs.declared.literal.Lit.{Lit}
 use Rattle.netlist.specs.Net.{AigPair}
 use Rattle.lits.specs.Same.{same_node, same_lit}
 use Rattle.netlist.specs.Miter.{positive, variable_of}
-use Rattle.netlist.proofs.LawThere.{has-position, input-below}
+use Rattle.netlist.proofs.Facts.{has-position, input-below}
 use Rattle.lemma_book.specs.Cone.{AreThere}
-use Rattle.lemma_book.proofs.ThereLemmas.{is_some-variable}
+use Rattle.lemma_book.proofs.Facts.{is_some-variable}
 use Rattle.cone_query.specs.Input.{input_from, marked, marked_at, IsBelow}
 
 module _ (net : AigPair) where

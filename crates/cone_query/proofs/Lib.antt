@@ -1,3 +1,13 @@
-pub mod InputLemmas
-pub mod OutsideLemmas
-pub mod QueryLemmas
+mod InputLemmas
+mod GateClauses
+mod GateOrder
+mod ConeModel
+mod LogLemmas
+mod ModelLiterals
+mod ReachedLemmas
+mod PairLemmas
+mod OccursLemmas
+mod ValueLemmas
+mod SetLemmas
+mod StartLemmas
+mod OutputLemmas

@@ -1,5 +1,5 @@
 -- The input that a model gives.
-use Rattle.std.specs.Prelude.{ℕ, Bool, true, List, length, map, slice_set, ◌<◌, ⊤, if◌then◌else◌}
+use Rattle.std.specs.Prelude.{ℕ, Bool, true, not, List, length, map, slice_set, ◌<◌, ⊤, if◌then◌else◌}
 use Rattle.std.specs.List.{range_with_len}
 use Rattle.lits.specs.Clause.{has}
 use Rattle.lits.specs.declared.node.Node.{Node}
@@ -21,6 +21,15 @@ marked_at _ bits = bits
 -- the truth values where the literal is true too, if it isn't negated
 abbrev pub marked : Lit → List Bool → List Bool
 marked lit bits = if lit.neg then bits else marked_at lit.node bits
+
+-- the truth values, with this one at the input that the node is
+abbrev pub with_input : Node → Bool → List Bool → List Bool
+with_input (Input k) value bits = slice_set bits k value
+with_input _ value bits = bits
+
+-- the truth value of a node that gives a literal of it, negated or not, another value than this one
+abbrev pub other_value : Bool → Bool → Bool
+other_value value neg = if value then neg else not neg
 
 -- an input's index is below the number of inputs
 abbrev pub IsBelow : ℕ → Node → Type 0

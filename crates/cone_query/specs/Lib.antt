@@ -1,2 +1,4 @@
 pub mod Input
 pub mod Query
+pub mod Asked
+pub mod Answered

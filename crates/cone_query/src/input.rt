@@ -1,6 +1,6 @@
 ghost use Rattle.std.specs.Prelude.{◌≡◌, IfOk, length};
 ghost use Rattle.lemma_book.specs.Cone.{AreThere};
-ghost use Rattle.cone_query.specs.Input.{input_from, marked, IsBelow};
+ghost use Rattle.cone_query.specs.Input.{input_from, marked, with_input, other_value, IsBelow};
 
 use lits::{Listed, Lit, Node, Side};
 use netlist::Net;
@@ -30,4 +30,21 @@ fn mark(input: &mut [bool], lit: Lit)
     {
         input[k as usize] = true;
     }
+}
+
+/// Gives the input that the node is, if it is one, a truth value.
+pub(crate) fn set(input: &mut Vec<bool>, node: Node, value: bool)
+    requires { IsBelow (length input.old.items) node }
+    ensures { input.new.items ≡ with_input node value input.old.items }
+{
+    if let Node::Input(k) = node {
+        input[k as usize] = value;
+    }
+}
+
+/// The truth value of a node that gives a literal of it, negated or not, another value than this one.
+pub(crate) fn other_value(value: bool, neg: bool) -> bool
+    ensures { result ≡ other_value value neg }
+{
+    if value { neg } else { !neg }
 }

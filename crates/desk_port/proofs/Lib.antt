@@ -1,2 +1,2 @@
-pub mod FilesLemmas
-pub mod Pieces
+mod FilesLemmas
+mod Pieces

@@ -1,13 +1,13 @@
 -- Clauses are their distinct literals already.
 use Rattle.std.proofs.Common.{◌≡◌, Bool, true, false, not, map, filter, List, [], ◌∷◌, refl, ◌∙◌}
 use Rattle.std.specs.List.{AllByRecursion}
-use Rattle.std.proofs.lemmas.Bool.{and_parts, or_parts}
+use Rattle.std.proofs.lemmas.Bool.{and_parts, or_parts, not-true}
 use Rattle.lits.specs.Clause.{has, firsts, no_repeat, IsClause}
 use Rattle.lits.specs.Dimacs.{DimacsLiteral}
 use Rattle.lits.specs.Same.{same_dim, opposite_dim}
 use Rattle.lits.specs.contracts.dimacs.DimEq.TheImpl.Laws as dim_eq
 use Rattle.lits.specs.contracts.dimacs.DimLiteral.TheImpl.Laws as dim
-use Rattle.lits.proofs.ClauseLemmas.{IsLiteral, is_literal}
+use Rattle.lits.proofs.Facts.{IsLiteral, is_literal}
 
 literal_laws : IsLiteral same_dim opposite_dim
 literal_laws = is_literal dim_eq.laws-law dim.exact-law dim.twice-law
@@ -25,11 +25,7 @@ firsts-distinct : (xs : List DimacsLiteral) → no_repeat same_dim xs ≡ true �
 firsts-distinct [] e = refl
 firsts-distinct (x ∷ xs) e =
     let parts = and_parts (not (has same_dim xs x)) (no_repeat same_dim xs) e in
-    rw (firsts-distinct xs parts.1, keeps_all x xs (none (has same_dim xs x) parts.0)) refl
-  where
-    none : (b : Bool) → not b ≡ true → b ≡ false
-    none true f = cc
-    none false f = refl
+    rw (firsts-distinct xs parts.1, keeps_all x xs (not-true (has same_dim xs x) parts.0)) refl
 
 pub firsts-clauses : (clauses : List (List DimacsLiteral))
     → AllByRecursion (IsClause same_dim opposite_dim) clauses

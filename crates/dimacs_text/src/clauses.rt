@@ -35,7 +35,9 @@ impl Clauses {
     /// The clauses that the words spell.
     pub(crate) fn read(alloc: Global, variables: u32, words: Words) -> Result<Clauses, CnfErr>
         requires { variables < 2 ^ 31 }
-        ensures ok { IfOk result (λ clauses. IsOkAnd (entries_in variables (words_left words.entry)) (λ entries. AreRead entries clauses)) }
+        ensures ok { IfOk result
+            (λ clauses. IsOkAnd (entries_in variables (words_left words.entry))
+            (λ entries. AreRead entries clauses)) }
         ensures err { IfErr result (λ e. Gives (Err e) (entries_in variables (words_left words.entry))) }
     {
         let mut clauses = Clauses::new(alloc);

@@ -60,8 +60,8 @@ fn check_faults(rt: &impl Abort, alloc: Global, rows: &[(&[u8], CnfErr)]) {
 #[test]
 fn dimacs_read(rt: HostRuntime) -> Result<(), Fail> {
     let alloc = rt.alloc();
-    let text =
-        b"p cnf 6 12\n1 0\n-4 2 0\n-4 3 0\n4 -2 -3 0\n-5 3 0\n-5 2 0\n5 -3 -2 0\n-6 4 5 0\n-6 -4 -5 0\n6 -4 5 0\n6 4 -5 0\n6 0\n";
+    let text = b"p cnf 6 12\n1 0\n-4 2 0\n-4 3 0\n4 -2 -3 0\n-5 3 0\n-5 2 0\n5 -3 -2 0\n\
+        -6 4 5 0\n-6 -4 -5 0\n6 -4 5 0\n6 4 -5 0\n6 0\n";
     let clauses = [
         1, 0, -4, 2, 0, -4, 3, 0, 4, -2, -3, 0, -5, 3, 0, -5, 2, 0, 5, -3, -2, 0, -6, 4, 5, 0, -6,
         -4, -5, 0, 6, -4, 5, 0, 6, 4, -5, 0, 6, 0,

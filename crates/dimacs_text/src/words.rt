@@ -55,7 +55,8 @@ impl<'a> Model for Words<'a> {
 
     ghost view = { λ w. record { line = record { at = w.at; bytes = w.line.now }; lines = w.lines } };
 
-    ghost invariant = { λ w. (w.at + length w.line.now ≤ w.lines.at) × (w.lines.at ≤ length w.lines.bytes) × (length w.lines.bytes < 2 ^ 64) };
+    ghost invariant = { λ w. (w.at + length w.line.now ≤ w.lines.at) × (w.lines.at ≤ length w.lines.bytes)
+        × (length w.lines.bytes < 2 ^ 64) };
 }
 
 impl<'a> Words<'a> {

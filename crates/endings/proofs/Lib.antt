@@ -1,2 +1,2 @@
-mod WritingLemmas
 pub mod Facts
+mod WritingLemmas

@@ -4,10 +4,11 @@ use Rattle.std.specs.Global.{Vec}
 use Rattle.desk_port.specs.Desk.{DeskState, HasMore, ReadFault, after_read}
 use Rattle.endings.specs.declared.stop.Stop.{Stop}
 use Rattle.endings.specs.declared.stop.Stop.TheVariants.{CannotRead, TooLong, BadFile, NotAlike, CannotWrite, OutOfMemory}
+use Rattle.endings.specs.declared.reading.TheConstants.{READ_LIMIT}
 
--- the greatest length of a file that is read
+-- the greatest length of a file that is read, 1,073,741,824 bytes
 abbrev pub limit : ℕ
-limit = 1073741824
+limit = READ_LIMIT
 
 -- the read gave these bytes, which are those of the named file where the desk tells its files
 abbrev pub FileIs : DeskState → List ℕ → List ℕ → Type 0

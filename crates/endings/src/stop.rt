@@ -5,7 +5,8 @@ use crate::status::Status;
 use desk_port::PutErr;
 use std::alloc::AllocError;
 
-/// Why a command ends without a verdict. Files are numbered from 0, in the order in which the command reads them.
+/// Why a command ends without a verdict. Files are numbered from 0, in the order in which the command reads
+/// them.
 #[derive(Drop, Debug)]
 pub enum Stop {
     CannotRead(usize),

@@ -17,7 +17,8 @@ pub fn warn<D: Desk>(desk: &mut D, line: &str, status: Status) -> Status
     }
 }
 
-/// Warns of the cause why a command over the files of these names ends without a verdict, and gives its status.
+/// Warns of the cause why a command over the files of these names ends without a verdict, and gives its
+/// status.
 pub fn end<D: Desk>(alloc: Global, desk: &mut D, names: &[&str], stop: &Stop) -> Status
     ensures { Warns (stop_line (map (λ s. s.now) names.now) stop.now)
         (status_of stop.now) (D.state desk.old) (D.state desk.new) result }

@@ -34,7 +34,8 @@ pub fn write_file<D: Desk, C: Content>(
 ) -> Result<C::Told, Stop>
     requires started { (D.state desk.old).started ≡ None }
     requires ready { C.is_ready content.now }
-    ensures writes { WritesFile (record { name = name.now; bytes = C.bytes content.now }) (D.state desk.old) (D.state desk.new) result }
+    ensures writes { WritesFile (record { name = name.now; bytes = C.bytes content.now }) (D.state desk.old)
+        (D.state desk.new) result }
     ensures tells { IfOk result (C.tells content.now) }
 {
     desk.start(name)?;

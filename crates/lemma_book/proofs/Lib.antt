@@ -1,12 +1,25 @@
-pub mod RepeatLemmas
-pub mod ThereLemmas
-pub mod FaninLemmas
-pub mod RisingLemmas
-pub mod ConeLemmas
-pub mod AxiomLemmas
-pub mod WalkLemmas
-pub mod ReachLemmas
-pub mod FaultLemmas
-pub mod FaultlessLemmas
-pub mod LogLemmas
-pub mod MeetLemmas
+pub mod Facts
+mod NamedClauses
+mod InTurn
+mod GoodEntries
+mod MoreClauses
+mod LongerBooks
+mod TrueEntries
+mod IndexLemmas
+mod RootLemmas
+mod RepeatLemmas
+mod ThereLemmas
+mod RisingLemmas
+mod AxiomLemmas
+mod FaninLemmas
+mod WalkLemmas
+mod ReachLemmas
+mod MergedNodes
+mod ConeLemmas
+mod UnmergedRoots
+mod Telling
+mod CauseOrder
+mod NodeValue
+mod NewClauses
+mod Judged
+mod PartLemmas

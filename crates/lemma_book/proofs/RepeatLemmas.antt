@@ -137,3 +137,10 @@ all-filtered P test (x ∷ xs) all = go (test x) refl (all-filtered P test xs al
     go : (b : Bool) → test x ≡ b → AllByRecursion P (filter test xs) → AllByRecursion P (filter test (x ∷ xs))
     go true e rest = rw e (all.0 e, rest)
     go false e rest = rw e rest
+
+pub filter-same : {X : Type 0} (p q : X → Bool) → ((x : X) → p x ≡ q x) → (xs : List X) → filter p xs ≡ filter q xs
+filter-same {X} p q same xs = filter-agree p q xs (all xs)
+  where
+    all : (ys : List X) → AllByRecursion (λ x. p x ≡ q x) ys
+    all [] = tt
+    all (y ∷ ys) = (same y, all ys)

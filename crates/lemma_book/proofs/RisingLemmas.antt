@@ -14,10 +14,9 @@ use Rattle.lits.specs.Clause.{has, no_repeat}
 use Rattle.lits.specs.declared.node.Node.{Node}
 use Rattle.netlist.specs.Net.{AigPair, IsNet}
 use Rattle.lits.specs.Same.{same_node}
+use Rattle.lits.proofs.Facts.{same-node_self, exact-node}
 use Rattle.netlist.specs.Miter.{variables_of}
-use Rattle.netlist.proofs.PlaceLemmas.{slice_get-right}
-use Rattle.netlist.proofs.LawNodes.{same-node_self, exact-node}
-use Rattle.netlist.proofs.LawNumbers.{variable_at}
+use Rattle.netlist.proofs.Facts.{slice_get-right, variable_at}
 use Rattle.lemma_book.specs.Walk.{AreNumbered}
 use Rattle.lemma_book.proofs.RepeatLemmas.{and_both, not_true, or_none, contrary, filter-agree, filter-nothing, has_from_filter}
 use Rattle.lemma_book.proofs.ThereLemmas.{variable-positive, variables-distinct}

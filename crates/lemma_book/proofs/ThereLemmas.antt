@@ -17,9 +17,7 @@ use Rattle.netlist.specs.Circuit.{gate_vars, Aig}
 use Rattle.netlist.specs.Net.{AigPair, IsNet, circuit_of, definition_of}
 use Rattle.lits.specs.Same.{same_node}
 use Rattle.netlist.specs.Miter.{xors_of, variables_of, variable_of}
-use Rattle.netlist.proofs.PlaceLemmas.{is_some-place}
-use Rattle.netlist.proofs.VariableLemmas.{variables}
-use Rattle.netlist.proofs.LawValues.{is_circuit}
+use Rattle.netlist.proofs.Facts.{is_some-place, variables, is_circuit}
 use Rattle.lemma_book.proofs.RepeatLemmas.{no_repeat-append, no_repeat-rest, no_repeat-map, no_repeat-range, has-map-none, all-made}
 
 -- a node has a variable exactly where it is among the nodes

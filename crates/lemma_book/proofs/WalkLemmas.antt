@@ -16,9 +16,9 @@ use Rattle.lits.specs.declared.node.Node.{Node}
 use Rattle.lits.specs.declared.literal.Lit.{Lit}
 use Rattle.netlist.specs.Net.{AigPair}
 use Rattle.lits.specs.Same.{same_node}
+use Rattle.lits.proofs.Facts.{exact-node, same-node_self}
 use Rattle.netlist.specs.Miter.{variable_of, cnf_number_of}
-use Rattle.netlist.proofs.LawNodes.{exact-node, same-node_self}
-use Rattle.netlist.proofs.LawNumbers.{variable-one}
+use Rattle.netlist.proofs.Facts.{variable-one}
 use Rattle.lemma_book.specs.declared.walk.Walk.{Walk}
 use Rattle.lemma_book.specs.Cone.{nodes_in}
 use Rattle.lemma_book.specs.Walk.{AreNumbered, is_found, is_pending, IsWalk, Finds}

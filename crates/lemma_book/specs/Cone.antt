@@ -1,17 +1,23 @@
--- The cone of some nodes: the clauses that define them, those that define their fanins, and so on down to the inputs
--- (the transitive fanin cone of Berkeley's ABC).
+-- The cone of some nodes over a book: the clauses that define these nodes, those that define what the clauses speak of,
+-- and so on down to the inputs (the transitive fanin cone of Berkeley's ABC), where a merged node stands for its target.
 use Rattle.std.specs.Prelude.{◌≡◌, ℕ, ◌+◌, Bool, true, List, [], ◌∷◌, ◌++◌, map, filter}
 use Rattle.std.specs.Option.{option_map_or, option_to_list, IsSome}
 use Rattle.std.specs.List.{flat_map, AllByRecursion}
+use Rattle.lits.specs.Clause.{has}
+use Rattle.lits.specs.Same.{same_node}
 use Rattle.lits.specs.declared.node.Side.TheVariants.{A, B}
 use Rattle.lits.specs.declared.node.Node.{Node}
 use Rattle.lits.specs.declared.node.Node.TheVariants.{Const, Input, Gate, Xor}
 use Rattle.lits.specs.declared.literal.Lit.{Lit}
-use Rattle.lits.specs.declared.step.Ref.TheVariants.{Axiom}
+use Rattle.lits.specs.declared.step.Ref.{Ref}
+use Rattle.lits.specs.declared.step.Ref.TheVariants.{Axiom, Entry as Shown}
 use Rattle.lits.specs.declared.step.Named.{Named}
 use Rattle.netlist.specs.Circuit.{var_of}
 use Rattle.netlist.specs.Net.{AigPair, circuit_of, node_of, gate_at, output_of}
 use Rattle.netlist.specs.Miter.{axioms_of, variables_of, variable_of}
+use Rattle.lemma_book.specs.declared.entry.Entry.{Entry}
+use Rattle.lemma_book.specs.Entry.{merge_clauses}
+use Rattle.lemma_book.specs.Root.{merge_of}
 
 -- the literals are over nodes that the miter has variables for
 abbrev pub AreThere : AigPair → List Lit → Type 0
@@ -29,30 +35,44 @@ fanins_of net (Gate side v) =
     (gate_at net side v) []
 fanins_of net (Xor j) = nodes_in (option_to_list (output_of net A j) ++ option_to_list (output_of net B j))
 
+-- where a node leads: a merged one to its target, another to its fanins
+abbrev pub next_of : AigPair → List Entry → Node → List Node
+next_of net entries n = option_map_or (λ m. m.lit.node ∷ []) (merge_of entries n) (fanins_of net n)
+
 abbrev pub AreIn : (Node → Bool) → List Node → Type 0
 AreIn set nodes = AllByRecursion (λ n. set n ≡ true) nodes
 
--- the set holds the seeds and, with each node, its fanins
-pub record IsClosed (net : AigPair) (seeds : List Node) (set : Node → Bool) : Type 0 where
+-- the set holds the seeds and, with each node, those to which it leads
+pub record IsClosed (next : Node → List Node) (seeds : List Node) (set : Node → Bool) : Type 0 where
   pub starts : AreIn set seeds
-  pub fanins : (n : Node) → set n ≡ true → AreIn set (fanins_of net n)
+  pub nexts : (n : Node) → set n ≡ true → AreIn set (next n)
 
--- the nodes that the seeds reach by fanins: the least such set
-pub record IsReach (net : AigPair) (seeds : List Node) (reached : Node → Bool) : Type 0 where
-  pub closed : IsClosed net seeds reached
-  pub least : (set : Node → Bool) → IsClosed net seeds set → (n : Node) → reached n ≡ true → set n ≡ true
+-- the nodes that the seeds reach: the least such set
+pub record IsReach (next : Node → List Node) (seeds : List Node) (reached : Node → Bool) : Type 0 where
+  pub closed : IsClosed next seeds reached
+  pub least : (set : Node → Bool) → IsClosed next seeds set → (n : Node) → reached n ≡ true → set n ≡ true
 
--- clauses that define a node, named by their places from k on
-abbrev pub named_from : Node → ℕ → List (List Lit) → List Named
-named_from node k [] = []
-named_from node k (c ∷ cs) = record { clause = c; by = Axiom node k } ∷ named_from node (k + 1) cs
+-- clauses with their names, which count from k on
+abbrev pub named_from : (ℕ → Ref) → ℕ → List (List Lit) → List Named
+named_from name k [] = []
+named_from name k (c ∷ cs) = record { clause = c; by = name k } ∷ named_from name (k + 1) cs
 
 -- the clauses that define a node, with their names
 abbrev pub named_axioms : AigPair → Node → List Named
-named_axioms net node = named_from node 0 (axioms_of net node)
+named_axioms net node = named_from (Axiom node) 0 (axioms_of net node)
 
--- the cone of the seeds: the clauses of the reached nodes, in the order of the miter
-pub record IsCone (net : AigPair) (seeds : List Node) (cone : List Named) : Type 0 where
+-- the clauses of a node in a cone: a merged one has those of its merge, another one those that define it
+abbrev pub named_clauses : AigPair → List Entry → Node → List Named
+named_clauses net entries n =
+    option_map_or (λ m. named_from (Shown m.entry) 0 (merge_clauses n m.lit)) (merge_of entries n) (named_axioms net n)
+
+-- the cone of the seeds over the entries: the clauses of the reached nodes, in the order of the miter, in which each node
+-- with a position comes by its position and XORs come last
+pub record IsCone (net : AigPair) (entries : List Entry) (seeds : List Node) (cone : List Named) : Type 0 where
   pub reached : Node → Bool
-  pub reach : IsReach net seeds reached
-  pub clauses : cone ≡ flat_map (named_axioms net) (filter reached (variables_of net))
+  pub reach : IsReach (next_of net entries) seeds reached
+  pub clauses : cone ≡ flat_map (named_clauses net entries) (filter reached (variables_of net))
+
+-- the clauses that a cone has of some of its nodes, in its order
+abbrev pub clauses_on : AigPair → List Entry → List Node → List Named
+clauses_on net entries nodes = flat_map (named_clauses net entries) (filter (has same_node nodes) (variables_of net))

@@ -1,86 +1,90 @@
--- When an entry is good over the entries before it, and the first fault of one that isn't.
-use Rattle.std.specs.Prelude.{◌≡◌, ◌≢◌, ℕ, ◌+◌, ◌<◌, ◌≤◌, ◌==◌, Bool, false, Option, None, List, [], ◌∷◌, ◌++◌, length}
-use Rattle.std.specs.List.{list_any, AllByRecursion}
+-- The entries of a book, what each of them is about, and the clauses that it shows. An entry is a lemma about two nodes
+-- or about an output (the lemmas of SAT sweeping; Kuehlmann, Paruthi, Krohm and Ganai 2002).
+use Rattle.std.specs.Prelude.{ℕ, Bool, false, ◌&&◌, Option, None, Some, List, [], ◌∷◌, ◌++◌, take}
+use Rattle.std.specs.Option.{option_map_or}
+use Rattle.std.specs.List.{list_any, find}
+use Rattle.lits.specs.declared.node.Node.{Node}
 use Rattle.lits.specs.declared.node.Node.TheVariants.{Xor}
 use Rattle.lits.specs.declared.literal.Lit.{Lit}
-use Rattle.lits.specs.declared.step.Ref.{Ref}
-use Rattle.lits.specs.declared.step.Ref.TheVariants.{Axiom, Entry as Shown, Own}
 use Rattle.lits.specs.declared.step.Step.{Step}
-use Rattle.lits.specs.declared.step.Named.{Named}
-use Rattle.netlist.specs.Circuit.{output_value}
-use Rattle.netlist.specs.Net.{AigPair}
-use Rattle.netlist.specs.Miter.{axiom_of, negative}
-use Rattle.unit_prop.specs.Refuter.{IsUndecided}
-use Rattle.unit_prop.specs.Log.{IsChain, IsBudgetLog, InTurn}
+use Rattle.lits.specs.Same.{same_node, same_lit, opposite}
+use Rattle.netlist.specs.Miter.{positive, negative}
+use Rattle.netlist.specs.Place.{place_of}
 use Rattle.lemma_book.specs.declared.entry.Entry.{Entry}
-use Rattle.lemma_book.specs.declared.entry.Entry.TheVariants.{Out, OutApart, OutSpent}
-use Rattle.lemma_book.specs.Cone.{AreThere, IsCone}
+use Rattle.lemma_book.specs.declared.entry.Entry.TheVariants.{Merge, Apart, Spent, Out, OutApart, OutSpent}
+use Rattle.lemma_book.specs.declared.entry.Subject.{Subject}
+use Rattle.lemma_book.specs.declared.entry.Subject.TheVariants.{Merged, Output}
+use Rattle.lemma_book.specs.contracts.entry.SubjectPartialEq.TheImpl as subject_eq
 
--- a book: the budget of an output's query, and the entries in order
+-- a book: the budgets of a query about two nodes and of one about an output, and the entries in order
 pub record Entries : Type 0 where
+  pub sweep_budget : ℕ
   pub out_budget : ℕ
   pub entries : List Entry
 
--- the output that an entry is about
-abbrev pub output_of : Entry → ℕ
-output_of (Out j steps) = j
-output_of (OutApart j input) = j
-output_of (OutSpent j seen log) = j
+-- the book as it was when it had so many entries
+abbrev pub first_entries : ℕ → Entries → Entries
+first_entries n book = record { sweep_budget = book.sweep_budget; out_budget = book.out_budget; entries = take n book.entries }
 
--- some entry is about the output
-abbrev pub has_output : List Entry → ℕ → Bool
-has_output entries j = list_any (λ e. output_of e == j) entries
+-- the book with one more entry
+abbrev pub with_last : Entries → Entry → Entries
+with_last book e = record { sweep_budget = book.sweep_budget; out_budget = book.out_budget; entries = book.entries ++ e ∷ [] }
+
+-- what a book has one entry of at most: the merge of a node, and what is known of an output
+abbrev pub subject_of : Entry → Option Subject
+subject_of (Merge node lit steps) = Some (Merged node)
+subject_of (Apart node lit input) = None
+subject_of (Spent node lit seen log) = None
+subject_of (Out j steps) = Some (Output j)
+subject_of (OutApart j input) = Some (Output j)
+subject_of (OutSpent j seen log) = Some (Output j)
+
+-- the `==` of subjects
+abbrev pub same_subject : Subject → Subject → Bool
+same_subject = subject_eq.ghosts.eq
+
+abbrev pub is_on : Subject → Entry → Bool
+is_on s e = option_map_or (λ t. same_subject t s) (subject_of e) false
+
+-- the place of the first entry on the subject
+abbrev pub place_on : List Entry → Subject → Option ℕ
+place_on entries s = place_of (is_on s) entries
+
+-- the place of the first entry that settles the offered one: both are on one subject
+abbrev pub settled_at : List Entry → Entry → Option ℕ
+settled_at entries e = option_map_or (place_on entries) (subject_of e) None
+
+-- the entry is the log of a query of the node and the literal
+abbrev pub is_spent_on : Node → Lit → Entry → Bool
+is_spent_on n l (Spent node lit seen log) = same_node node n && same_lit lit l
+is_spent_on n l _ = false
+
+-- some entry is
+abbrev pub has_spent : List Entry → Node → Lit → Bool
+has_spent entries n l = list_any (is_spent_on n l) entries
+
+-- the entry on the output
+abbrev pub about : List Entry → ℕ → Option Entry
+about entries j = find (is_on (Output j)) entries
+
+-- the clauses that say that a node and a literal have one value
+abbrev pub merge_clauses : Node → Lit → List (List Lit)
+merge_clauses node lit = (negative node ∷ lit ∷ []) ∷ (positive node ∷ opposite lit ∷ []) ∷ []
 
 -- the clause that says that both circuits give the output one value: its XOR is false
 abbrev pub equal_clause : ℕ → List Lit
 equal_clause j = negative (Xor j) ∷ []
 
--- the clause of a name: an axiom of the miter
-abbrev pub axiom_named : AigPair → Ref → Option (List Lit)
-axiom_named net (Axiom node k) = axiom_of net node k
-axiom_named net (Shown entry k) = None
-axiom_named net (Own k) = None
+-- the clauses that an entry shows of two nodes
+abbrev pub lemmas_of : Entry → List (List Lit)
+lemmas_of (Merge node lit steps) = merge_clauses node lit
+lemmas_of _ = []
 
--- each literal of the steps' clauses is over a node that the miter has a variable for
-abbrev pub AreOver : AigPair → List Step → Type 0
-AreOver net steps = AllByRecursion (λ s. AreThere net s.clause) steps
-
--- the last clause says that the output is equal
-pub record EndsEqual (j : ℕ) (steps : List Step) : Type 0 where
-  pub before : List Step
-  pub last : Step
-  pub parts : steps ≡ before ++ last ∷ []
-  pub unit : last.clause ≡ equal_clause j
-
--- the steps show that the output is the same in both circuits: a chain of proof steps over the miter's axioms
-pub record IsGoodOut (net : AigPair) (budget j : ℕ) (steps : List Step) : Type 0 where
-  pub over : AreOver net steps
-  pub shape : EndsEqual j steps
-  pub count : length steps ≤ budget + 2
-  pub chain : IsChain (axiom_named net) steps
-
--- the output differs on the input
-pub record IsApart (net : AigPair) (j : ℕ) (input : List Bool) : Type 0 where
-  pub whole : length input ≡ length net.a.inputs
-  pub apart : output_value net.a input j ≢ output_value net.b input j
-
--- the log is that of a whole budget over the cone of the output's XOR
-pub record IsGoodSpent (net : AigPair) (budget before j seen : ℕ) (log : List Step) : Type 0 where
-  pub over : AreOver net log
-  pub seen_before : seen ≤ before
-  pub cone : List Named
-  pub is_cone : IsCone net (Xor j ∷ []) cone
-  pub spent : IsBudgetLog cone budget log
-  pub undecided : InTurn (λ learned _. IsUndecided cone (equal_clause j) learned) [] log
-
--- what the entry says of its output is shown
-abbrev pub Shows : AigPair → Entries → Entry → Type 0
-Shows net book (Out j steps) = IsGoodOut net book.out_budget j steps
-Shows net book (OutApart j input) = IsApart net j input
-Shows net book (OutSpent j seen log) = IsGoodSpent net book.out_budget (length book.entries) j seen log
-
--- the entry is good over the book: its output is there and has no entry, and what it says is shown
-pub record IsGood (net : AigPair) (book : Entries) (entry : Entry) : Type 0 where
-  pub output : output_of entry < length net.a.outputs
-  pub unsettled : has_output book.entries (output_of entry) ≡ false
-  pub shown : Shows net book entry
+-- the steps of an entry, or its log
+abbrev pub steps_of : Entry → List Step
+steps_of (Merge node lit steps) = steps
+steps_of (Apart node lit input) = []
+steps_of (Spent node lit seen log) = log
+steps_of (Out j steps) = steps
+steps_of (OutApart j input) = []
+steps_of (OutSpent j seen log) = log

@@ -1,138 +1,105 @@
--- Why an entry isn't good over the entries before it: its first fault, in the order in which an entry is judged.
-use Rattle.std.specs.Prelude.{◌≡◌, ◌≢◌, ℕ, ◌+◌, ◌<◌, ◌≤◌, Bool, true, false, Option, Some, List, [], ◌∷◌, length, take, slice_get, ◌⊎◌}
-use Rattle.std.specs.List.{list_any}
-use Rattle.std.specs.Option.{is_none}
+-- The first cause for which an entry is refused, in the order in which entries are judged, and the answers that tell it.
+use Rattle.std.specs.Prelude.{◌≡◌, ℕ, ◌<◌, ◌⊎◌, ⊤, Option, Some, List, [], ◌∷◌, length, take, slice_get}
 use Rattle.lits.specs.declared.node.Node.TheVariants.{Xor}
 use Rattle.lits.specs.declared.literal.Lit.{Lit}
 use Rattle.lits.specs.declared.step.Ref.{Ref}
 use Rattle.lits.specs.declared.step.Step.{Step}
-use Rattle.lits.specs.declared.step.Named.{Named}
-use Rattle.netlist.specs.Circuit.{output_value}
+use Rattle.lits.specs.Same.{same_lit, opposite}
 use Rattle.netlist.specs.Net.{AigPair}
-use Rattle.netlist.specs.Miter.{variable_of}
 use Rattle.unit_prop.specs.declared.why.BadStep.{BadStep}
 use Rattle.unit_prop.specs.Step.{first_fault}
-use Rattle.unit_prop.specs.New.{IsNew}
-use Rattle.unit_prop.specs.Log.{base_clause, with_own, clauses_of}
-use Rattle.lits.specs.Same.{same_lit, opposite}
-use Rattle.unit_prop.specs.Refuter.{IsUndecided}
+use Rattle.unit_prop.specs.Log.{base_clause, with_own}
 use Rattle.lemma_book.specs.declared.entry.Entry.{Entry}
-use Rattle.lemma_book.specs.declared.entry.Entry.TheVariants.{Out, OutApart, OutSpent}
-use Rattle.lemma_book.specs.Cone.{IsCone}
-use Rattle.lemma_book.specs.Entry.{Entries, output_of, has_output, equal_clause, axiom_named, EndsEqual}
+use Rattle.lemma_book.specs.declared.entry.Entry.TheVariants.{Merge, Apart, Spent, Out, OutApart, OutSpent}
+use Rattle.lemma_book.specs.declared.refused.Fault.{Fault}
+use Rattle.lemma_book.specs.declared.refused.Fault.TheVariants as fault
+use Rattle.lemma_book.specs.declared.refused.Refused.{Refused}
+use Rattle.lemma_book.specs.declared.refused.Refused.TheVariants as refused
+use Rattle.lemma_book.specs.declared.refused.Offered.{Offered}
+use Rattle.lemma_book.specs.declared.refused.Offered.TheVariants.{At, Already as AlreadyAt}
+use Rattle.lemma_book.specs.declared.refused.Judgement.{Judgement}
+use Rattle.lemma_book.specs.declared.refused.Judgement.TheVariants as judged
+use Rattle.lemma_book.specs.Entry.{Entries, settled_at, with_last}
+use Rattle.lemma_book.specs.Good.{Cause, NoNode, Already, NotEarlier, NotApart, Shape, Count, Seen, NoStep, NotNew, node_clause, out_clause, OfCone, IsFreeOf, IsGood}
 
-pub data Fault : Type 0 where
-  -- there is no such output, or the miter has no variable for some literal of a step
-  NoNode : Fault
-  -- some entry is about the output
-  Already : Fault
-  -- the input has another length, or the output is equal on it
-  NotApart : Fault
-  -- the last clause doesn't say that the output is equal
-  Shape : Fault
-  -- there are too many steps, or the log isn't that of the whole budget
-  Count : Fault
-  -- more entries were seen than there are
-  Seen : Fault
-  -- the step at this place, from 0, is no step, for this cause
-  NoStep : ℕ → BadStep → Fault
-  -- the log's clause at this place, from 0, isn't new, or the output was decided before it
-  NotNew : ℕ → Fault
+abbrev pub Stands : AigPair → Entries → Entry → Cause → Type 0
+Stands net book e cause = ¬ IsFreeOf net book e cause
 
-abbrev pub steps_of : Entry → List Step
-steps_of (Out j steps) = steps
-steps_of (OutApart j input) = []
-steps_of (OutSpent j seen log) = log
-
--- whether the entry is judged by a log
-abbrev pub has_log : Entry → Bool
-has_log (Out j steps) = false
-has_log (OutApart j input) = false
-has_log (OutSpent j seen log) = true
-
--- the miter has no variable for some literal of the steps
-abbrev pub has_unknown : AigPair → List Step → Bool
-has_unknown net steps = list_any (λ s. list_any (λ l. is_none (variable_of net l.node)) s.clause) steps
-
-abbrev pub IsNotApart : AigPair → Entry → Type 0
-IsNotApart net (OutApart j input) =
-    (length input ≢ length net.a.inputs) ⊎ (output_value net.a input j ≡ output_value net.b input j)
-IsNotApart net _ = ⊥
-
-abbrev pub HasOtherShape : Entry → Type 0
-HasOtherShape (Out j steps) = ¬ EndsEqual j steps
-HasOtherShape _ = ⊥
-
-abbrev pub HasOtherCount : ℕ → Entry → Type 0
-HasOtherCount budget (Out j steps) = budget + 2 < length steps
-HasOtherCount budget (OutSpent j seen log) = length log ≢ budget
-HasOtherCount budget (OutApart j input) = ⊥
-
-abbrev pub SawMore : ℕ → Entry → Type 0
-SawMore before (OutSpent j seen log) = before < seen
-SawMore before _ = ⊥
-
--- the step at place k is none over the clauses that `find` gives and the steps before it
-pub record FailsAt (find : Ref → Option (List Lit)) (steps : List Step) (k : ℕ) (bad : BadStep) : Type 0 where
-  pub step : Step
-  pub place : slice_get steps k ≡ Some step
-  pub fault : first_fault same_lit opposite (with_own find (take k steps)) step.clause step.hints ≡ Some bad
-
--- the same over the cone of an XOR
-pub record FailsInCone (net : AigPair) (j : ℕ) (log : List Step) (k : ℕ) (bad : BadStep) : Type 0 where
-  pub cone : List Named
-  pub is_cone : IsCone net (Xor j ∷ []) cone
-  pub fails : FailsAt (base_clause cone) log k bad
-
-abbrev pub HasNoStep : AigPair → Entry → ℕ → BadStep → Type 0
-HasNoStep net (Out j steps) k bad = FailsAt (axiom_named net) steps k bad
-HasNoStep net (OutSpent j seen log) k bad = FailsInCone net j log k bad
-HasNoStep net (OutApart j input) k bad = ⊥
-
--- the clause at place k isn't new over the cone and the clauses before it, or unit propagation from the XOR clashes
--- already over these
-pub record IsStale (net : AigPair) (j : ℕ) (log : List Step) (k : ℕ) : Type 0 where
-  pub cone : List Named
-  pub is_cone : IsCone net (Xor j ∷ []) cone
-  pub step : Step
-  pub place : slice_get log k ≡ Some step
-  pub stale : (¬ IsNew same_lit opposite (clauses_of cone (take k log)) step.clause) ⊎ (¬ IsUndecided cone (equal_clause j) (take k log))
-
-abbrev pub HasStale : AigPair → Entry → ℕ → Type 0
-HasStale net (OutSpent j seen log) k = IsStale net j log k
-HasStale net _ k = ⊥
-
--- the entry has the fault over the book
-abbrev pub Stands : AigPair → Entries → Entry → Fault → Type 0
-Stands net book e NoNode = (length net.a.outputs ≤ output_of e) ⊎ (has_unknown net (steps_of e) ≡ true)
-Stands net book e Already = has_output book.entries (output_of e) ≡ true
-Stands net book e NotApart = IsNotApart net e
-Stands net book e Shape = HasOtherShape e
-Stands net book e Count = HasOtherCount book.out_budget e
-Stands net book e Seen = SawMore (length book.entries) e
-Stands net book e (NoStep k bad) = HasNoStep net e k bad
-Stands net book e (NotNew k) = HasStale net e k
-
--- the order in which the faults are looked for, and the place of the step
-abbrev pub turn_of : Fault → ℕ
+-- the order of the kinds of causes
+abbrev pub turn_of : Cause → ℕ
 turn_of NoNode = 0
 turn_of Already = 1
-turn_of NotApart = 2
-turn_of Shape = 3
-turn_of Count = 4
-turn_of Seen = 5
-turn_of (NoStep k bad) = 6
-turn_of (NotNew k) = 7
+turn_of NotEarlier = 2
+turn_of NotApart = 3
+turn_of Shape = 4
+turn_of Count = 5
+turn_of Seen = 6
+turn_of (NoStep k) = 7
+turn_of (NotNew k) = 8
 
-abbrev pub step_of : Fault → ℕ
-step_of (NoStep k bad) = k
+-- the place of the step that a cause is about
+abbrev pub step_of : Cause → ℕ
+step_of (NoStep k) = k
 step_of (NotNew k) = k
 step_of _ = 0
 
-abbrev pub ComesBefore : Fault → Fault → Type 0
-ComesBefore f g = (turn_of f < turn_of g) ⊎ ((turn_of f ≡ turn_of g) × (step_of f < step_of g))
+abbrev pub ComesBefore : Cause → Cause → Type 0
+ComesBefore c d = (turn_of c < turn_of d) ⊎ ((turn_of c ≡ turn_of d) × (step_of c < step_of d))
 
--- the fault stands, and none that comes before it
-pub record FirstFault (net : AigPair) (book : Entries) (entry : Entry) (fault : Fault) : Type 0 where
-  pub stands : Stands net book entry fault
-  pub first : (f : Fault) → ComesBefore f fault → ¬ Stands net book entry f
+-- no cause stands that comes before this one
+abbrev pub IsFreeBefore : AigPair → Entries → Entry → Cause → Type 0
+IsFreeBefore net book e cause = (c : Cause) → ComesBefore c cause → IsFreeOf net book e c
+
+-- the cause stands, and none that comes before it
+pub record IsFirst (net : AigPair) (book : Entries) (e : Entry) (cause : Cause) : Type 0 where
+  pub stands : Stands net book e cause
+  pub first : IsFreeBefore net book e cause
+
+-- the step at place k has this first fault over the clauses that `find` gives and the steps before it
+pub record FailsAt (find : Ref → Option (List Lit)) (steps : List Step) (k : ℕ) (bad : BadStep) : Type 0 where
+  pub step : Step
+  pub place : slice_get steps k ≡ Some step
+  pub fails : first_fault same_lit opposite (with_own find (take k steps)) step.clause step.hints ≡ Some bad
+
+-- the entry's step at place k has this first fault
+abbrev pub HasBadStep : AigPair → List Entry → ℕ → BadStep → Entry → Type 0
+HasBadStep net entries k bad (Merge node lit steps) = FailsAt (node_clause net entries) steps k bad
+HasBadStep net entries k bad (Apart node lit input) = ⊥
+HasBadStep net entries k bad (Spent node lit seen log) =
+    OfCone net (take seen entries) (node ∷ lit.node ∷ []) (λ cone. FailsAt (base_clause cone) log k bad)
+HasBadStep net entries k bad (Out j steps) = FailsAt (out_clause net entries) steps k bad
+HasBadStep net entries k bad (OutApart j input) = ⊥
+HasBadStep net entries k bad (OutSpent j seen log) =
+    OfCone net (take seen entries) (Xor j ∷ []) (λ cone. FailsAt (base_clause cone) log k bad)
+
+-- the fault is the entry's first cause
+abbrev pub IsFault : AigPair → Entries → Entry → Fault → Type 0
+IsFault net book e fault.NoNode = IsFirst net book e NoNode
+IsFault net book e fault.NotEarlier = IsFirst net book e NotEarlier
+IsFault net book e fault.Shape = IsFirst net book e Shape
+IsFault net book e fault.Count = IsFirst net book e Count
+IsFault net book e fault.Seen = IsFirst net book e Seen
+IsFault net book e (fault.Step k bad) = IsFirst net book e (NoStep k) × HasBadStep net book.entries k bad e
+IsFault net book e (fault.NotNew k) = IsFirst net book e (NotNew k)
+
+-- entry i settles the entry, and nothing is wrong with it before that
+abbrev pub IsSettled : AigPair → Entries → Entry → ℕ → Type 0
+IsSettled net book e i = IsFirst net book e Already × (settled_at book.entries e ≡ Some i)
+
+-- the judgement is right: good, or the first cause
+abbrev pub IsJudgement : AigPair → Entries → Entry → Judgement → Type 0
+IsJudgement net book e judged.Good = IsGood net book e
+IsJudgement net book e (judged.Settled i) = IsSettled net book e i
+IsJudgement net book e judged.NotApart = IsFirst net book e NotApart
+IsJudgement net book e (judged.Bad f) = IsFault net book e f
+
+-- the refusal is the first cause; memory tells nothing
+abbrev pub IsRefusal : AigPair → Entries → Entry → Refused → Type 0
+IsRefusal net book e (refused.Bad f) = IsFault net book e f
+IsRefusal net book e refused.NotApart = IsFirst net book e NotApart
+IsRefusal net book e refused.NoMemory = ⊤
+
+-- an offer is taken: a good entry is the last one, one that is settled changes nothing
+abbrev pub Takes : AigPair → Entries → Entry → Entries → Offered → Type 0
+Takes net old e new (At i) = IsGood net old e × (i ≡ length old.entries) × (new ≡ with_last old e)
+Takes net old e new (AlreadyAt i) = IsSettled net old e i × (new ≡ old)

@@ -1,5 +1,11 @@
+pub mod Entry
+pub mod Shelf
+pub mod Root
 pub mod Cone
 pub mod Walk
-pub mod Entry
+pub mod Good
 pub mod Fault
+pub mod Judging
 pub mod Book
+pub mod Agreement
+pub mod Machine

@@ -30,3 +30,9 @@ pub record Finds (net : AigPair) (old : Walk) (nodes : List Node) (new : Walk) :
   pub found : (n : Node) → is_found new n ≡ (is_found old n || has same_node nodes n)
   pub pending : (n : Node) → is_pending new n ≡ (is_pending old n || (has same_node nodes n && not (is_found old n)))
   pub count : length new.pending.items + length old.found.entries ≡ length old.pending.items + length new.found.entries
+
+-- these nodes are found, and all of them are still to be visited
+pub record BeginsAt (net : AigPair) (nodes : List Node) (w : Walk) : Type 0 where
+  pub walk : IsWalk net w
+  pub found : (n : Node) → is_found w n ≡ has same_node nodes n
+  pub pending : (n : Node) → is_pending w n ≡ has same_node nodes n

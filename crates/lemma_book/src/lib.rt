@@ -1,23 +1,34 @@
-//! The lemma book: what was found out about the outputs of a pair of circuits, each entry checkable on its own.
+//! The lemma book: what was found out about nodes and outputs of a pair of circuits, each entry checkable on its own.
 //!
-//! An `Out` shows by proof steps that an output is the same in both circuits, an `OutApart` has an input on which it
-//! differs, and an `OutSpent` has the log of a solver that spent its whole budget. `cone` gathers the clauses that a
-//! question about some nodes needs, and promises that these are the axioms of exactly the nodes that fanins reach. A
-//! book only keeps entries: that each is good over those before it is said of it by those who put them there.
+//! A `Merge` shows by proof steps that a node has the value of an earlier literal, an `Apart` has an input on which they
+//! differ, and a `Spent` has the log of a solver that spent its whole budget; `Out`, `OutApart` and `OutSpent` say the
+//! same of an output. Later entries may cite the clauses of earlier merges. `Book::judge` decides whether an entry is
+//! good over a book, `Book::offer` takes it where it is, and `Book::append` takes one that is known to be good. In a
+//! legal book a merge's node and target have one value on every input, and so have an `Out`'s outputs (`laws`).
 //!
-//! Definitions: `specs/Cone.antt` (cone), `specs/Entry.antt` (good entry), `specs/Fault.antt` (first fault of an
-//! entry), `specs/Book.antt` (legal book). Begin to read at `entry.rt`.
+//! Definitions: `specs/Entry.antt` (entries and their subjects), `specs/Root.antt` (roots), `specs/Cone.antt` (cones),
+//! `specs/Good.antt` (good entry), `specs/Fault.antt` (first cause of a refusal), `specs/Book.antt` (legal book),
+//! `specs/Machine.antt` (many workers at one book). Begin to read at `entry.rt`.
 #![tactic(auto)]
 
 pub use book::Book;
-pub use cones::cone;
-pub use entry::Entry;
-pub use faults::first_fault;
+pub use entry::{Entry, Subject, Task};
+pub use refused::{Fault, Judgement, Offered, Refused};
+pub use turn::{Turn, What};
 
+mod apart;
 mod book;
 mod cones;
 mod entry;
-mod faults;
-#[cfg(test)]
-mod tests;
+mod judge;
+pub mod laws;
+mod newness;
+mod offer;
+mod presence;
+mod refused;
+mod shape;
+mod shelf;
+mod sources;
+mod steps;
+mod turn;
 mod walk;

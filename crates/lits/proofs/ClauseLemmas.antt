@@ -5,6 +5,7 @@ use Rattle.std.specs.Cmp.{IsEquivalence}
 use Rattle.std.proofs.lemmas.List.{take_more, take-append-drop}
 use Rattle.std.proofs.lemmas.List.Folds.{list_any-append}
 use Rattle.std.proofs.lemmas.Map.Views.{any-filter_same}
+use Rattle.std.proofs.Math.Bool.{or-true}
 use Rattle.lits.specs.Clause.{has, firsts, no_repeat, has_pair, IsClause, Adds}
 
 -- what the lemmas use of a literal's `==` and negation
@@ -145,14 +146,10 @@ module _ {L : Type 0} {eq : L → L → Bool} {opposite : L → L} (laws : IsLit
   has_pair-append (x ∷ xs) ys h =
       go (has eq xs (opposite x)) refl (has_pair-append xs ys)
     where
-      or_true : (b : Bool) → (b || true) ≡ true
-      or_true true = refl
-      or_true false = refl
-
       go : (b : Bool) → has eq xs (opposite x) ≡ b → (has_pair eq opposite xs ≡ true → has_pair eq opposite (xs ++ ys) ≡ true)
           → has_pair eq opposite ((x ∷ xs) ++ ys) ≡ true
       go true e rest = rw (has-append xs ys (opposite x), e) refl
-      go false e rest = rw (rest (rw e at h)) (or_true (has eq (xs ++ ys) (opposite x)))
+      go false e rest = rw (rest (rw e at h)) (or-true (has eq (xs ++ ys) (opposite x)))
 
   seen : (lits : List L) (i : ℕ) (x : L) → i < length lits → x ≡ get_or lits i x
       → take (i + 1) lits ≡ take i lits ++ x ∷ []

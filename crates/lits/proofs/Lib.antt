@@ -1,2 +1,5 @@
-pub mod ClauseLemmas
-pub mod IndexLemmas
+pub mod Facts
+mod ListLemmas
+mod SameLemmas
+mod ClauseLemmas
+mod IndexLemmas

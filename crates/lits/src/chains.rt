@@ -11,11 +11,12 @@ const MULTIPLIER: u64 = 11_400_714_819_323_198_485;
 /// Among so many literals one is found by looking through them, which is as fast and needs no memory.
 const FEW: usize = 16;
 
-/// Finds literals in a list. A few are looked through; among more it goes by chains of places, one for each of the slots
-/// over which their codes are spread (hashing with separate chaining; Knuth, The Art of Computer Programming 6.4).
+/// Finds literals in a list. A few are looked through; among more it goes by chains of places, one for each
+/// of the slots over which their codes are spread (hashing with separate chaining; Knuth, The Art of Computer
+/// Programming 6.4).
 ///
-/// A place is named by its number and 1, and 0 ends a chain. Heads that stay behind from earlier lists do no harm,
-/// since what a chain finds is compared: so the index is emptied without a pass over the heads.
+/// A place is named by its number and 1, and 0 ends a chain. Heads that stay behind from earlier lists do no
+/// harm, since what a chain finds is compared: so the index is emptied without a pass over the heads.
 #[derive(Drop)]
 pub(crate) struct Chains {
     /// The last place of each slot.
@@ -50,7 +51,8 @@ impl Chains {
     fn add_all<L: Literal>(&mut self, lits: &[L]) -> Result<(), AllocError>
         requires slots { 0 < length self.old.heads.items }
         requires empty { self.old.links.items ≡ [] }
-        ensures index { OnOk result (IsIndex L.Literal.code self.new.heads.items self.new.links.items lits.now) }
+        ensures index { OnOk result
+            (IsIndex L.Literal.code self.new.heads.items self.new.links.items lits.now) }
         ensures slots { OnOk result (length self.new.heads.items ≡ length self.old.heads.items) }
     {
         for lit in lits {
@@ -62,7 +64,8 @@ impl Chains {
     /// Makes the index that of the literals, with more slots than places.
     fn make_room<L: Literal>(&mut self, alloc: Global, lits: &[L]) -> Result<(), AllocError>
         requires { IsReady L.Literal.code self.old.heads.items self.old.links.items lits.now }
-        ensures index { OnOk result (IsIndex L.Literal.code self.new.heads.items self.new.links.items lits.now) }
+        ensures index { OnOk result
+            (IsIndex L.Literal.code self.new.heads.items self.new.links.items lits.now) }
         ensures room { OnOk result (0 < length self.new.heads.items) }
         ensures err { OnErr result
             (IsReady L.Literal.code self.new.heads.items self.new.links.items lits.now) }
@@ -96,7 +99,8 @@ impl Chains {
         ensures links { OnOk result (self.new.links.items
             ≡ self.old.links.items ++ first_of self.old.heads.items self.old.links.items code ∷ []) }
         ensures heads { OnOk result (self.new.heads.items
-            ≡ slice_set self.old.heads.items (slot_of code (length self.old.heads.items)) (length self.old.links.items + 1)) }
+            ≡ slice_set self.old.heads.items (slot_of code (length self.old.heads.items))
+            (length self.old.links.items + 1)) }
         ensures err { OnErr result
             ((self.new.links.items ≡ self.old.links.items) × (self.new.heads.items ≡ self.old.heads.items)) }
     {

@@ -63,7 +63,8 @@ impl<L: Literal> Clause<L> {
     pub fn of(alloc: Global, lits: &[L]) -> Result<Clause<L>, ClauseErr>
         ensures kept { IfOk result (λ c. c ≡ firsts L.PartialEq.eq lits.now) }
         ensures clause { OnOk result (has_pair L.PartialEq.eq L.Literal.opposite lits.now ≡ false) }
-        ensures tautology { IfErr result (λ e. e ≡ ClauseErr.Tautology → has_pair L.PartialEq.eq L.Literal.opposite lits.now ≡ true) }
+        ensures tautology { IfErr result
+            (λ e. e ≡ ClauseErr.Tautology → has_pair L.PartialEq.eq L.Literal.opposite lits.now ≡ true) }
     {
         let mut kept = SmallVec::new(alloc);
         let mut chains = Chains::new(alloc);
@@ -117,8 +118,10 @@ impl<L: Literal> Clause<L> {
 fn add<L: Literal>(kept: &mut SmallVec<L, 3>, chains: &mut Chains, lit: L) -> Result<(), ClauseErr>
     requires { IsReady L.Literal.code chains.old.heads.items chains.old.links.items kept.old.items }
     ensures ok { OnOk result (Adds L.PartialEq.eq L.Literal.opposite kept.old.items lit kept.new.items) }
-    ensures ready { OnOk result (IsReady L.Literal.code chains.new.heads.items chains.new.links.items kept.new.items) }
-    ensures pair { IfErr result (λ e. e ≡ ClauseErr.Tautology → has L.PartialEq.eq kept.old.items (L.Literal.opposite lit) ≡ true) }
+    ensures ready { OnOk result
+        (IsReady L.Literal.code chains.new.heads.items chains.new.links.items kept.new.items) }
+    ensures pair { IfErr result
+        (λ e. e ≡ ClauseErr.Tautology → has L.PartialEq.eq kept.old.items (L.Literal.opposite lit) ≡ true) }
 {
     if chains.has(kept.as_slice(), lit.not()) {
         return Err(ClauseErr::Tautology);

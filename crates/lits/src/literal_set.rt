@@ -6,8 +6,8 @@ use crate::literal::Literal;
 use std::alloc::{AllocError, Global};
 use std::marker::Model;
 
-/// Literals in the order in which they came, each once. A few are looked through, and among more one is found in constant
-/// time on average.
+/// Literals in the order in which they came, each once. A few are looked through, and among more one is found
+/// in constant time on average.
 #[derive(Drop)]
 pub struct LiteralSet<L: Literal> {
     order: Vec<L>,

@@ -7,8 +7,8 @@ pub enum Side {
 
 /// A node of the pair of circuits. Both circuits read the same inputs.
 ///
-/// Inputs and XORs are named by their index from 0, gates by their circuit and their AIGER variable, so that an
-/// edit of one gate renames no other node.
+/// Inputs and XORs are named by their index from 0, gates by their circuit and their AIGER variable, so that
+/// an edit of one gate renames no other node.
 #[derive(Clone, Copy, Debug, PartialEq, Eq, PartialOrd, Ord, Hash)]
 pub enum Node {
     /// The constant true.

@@ -12,9 +12,9 @@ use lrat_text::{Line, LratStep, derived_lines};
 use std::alloc::{AllocError, Global};
 use unit_prop::StepCheck;
 
-/// Judges each line of a proof over the clauses that are live then, at first those of the formula, whose ids are their
-/// places from 1. Lines behind the empty clause are judged too. Clauses stay where they stand, and are only looked up; each
-/// line takes time by the literals of its hints' clauses.
+/// Judges each line of a proof over the clauses that are live then, at first those of the formula, whose ids
+/// are their places from 1. Lines behind the empty clause are judged too. Clauses stay where they stand, and
+/// are only looked up; each line takes time by the literals of its hints' clauses.
 pub fn check(alloc: Global, cnf: &Cnf, lines: &[Line]) -> Result<Verdict, AllocError>
     ensures verdict { IfOk result (IsVerdict cnf.now.clauses lines.now) }
     ensures unsatisfiable { IfOk result (λ v. v ≡ Verdict.Refuted →

@@ -1,12 +1,13 @@
-//! The strict checker of proofs in the format LRAT (Cruz-Filipe, Heule, Hunt, Kaufmann and Schneider-Kamp 2017).
+//! The strict checker of proofs in the format LRAT (Cruz-Filipe, Heule, Hunt, Kaufmann and Schneider-Kamp
+//! 2017).
 //!
-//! `check` judges the lines of a proof one after another over the clauses that are live, and names the first line
-//! whose addition is no step. It says that the lines refute the formula exactly where they derive and add the empty
-//! clause, and then no assignment meets the formula.
+//! `check` judges the lines of a proof one after another over the clauses that are live, and names the first
+//! line whose addition is no step. It says that the lines refute the formula exactly where they derive and
+//! add the empty clause, and then no assignment meets the formula.
 //!
-//! Definitions: `specs/Verdict.antt` (what each verdict says of formula and lines), over what the steps of a proof
-//! derive (`lrat_text`, `specs/Derivation.antt`); `specs/Live.antt` (how the live clauses are kept). Begin to read at
-//! `checking.rt`.
+//! Definitions: `specs/Verdict.antt` (what each verdict says of formula and lines), over what the steps of a
+//! proof derive (`lrat_text`, `specs/Derivation.antt`); `specs/Live.antt` (how the live clauses are kept).
+//! Begin to read at `checking.rt`.
 #![tactic(auto)]
 
 pub use checking::check;

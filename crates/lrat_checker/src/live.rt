@@ -8,10 +8,11 @@ use std::alloc::{AllocError, Global};
 use std::collections::HashMap;
 use unit_prop::Clauses;
 
-/// The clauses that are live, by their ids. They stand in the formula and in the lines of the proof, and are only lent.
+/// The clauses that are live, by their ids. They stand in the formula and in the lines of the proof, and are
+/// only lent.
 ///
-/// A clause stands in the slot that its id numbers, as all do in a proof whose ids have no gaps. Ids behind a gap have
-/// no slot, and a map holds their clauses. (A map of all clauses took two to three times as long.)
+/// A clause stands in the slot that its id numbers, as all do in a proof whose ids have no gaps. Ids behind a
+/// gap have no slot, and a map holds their clauses. (A map of all clauses took two to three times as long.)
 #[derive(Drop)]
 pub(crate) struct LiveClauses<'a> {
     slots: Vec<Option<&'a [Dim]>>,
@@ -110,7 +111,8 @@ fn slots_of<'a>(
     alloc: Global,
     formula: &'a [Listed<Dim>],
 ) -> Result<Vec<Option<&'a [Dim]>>, AllocError>
-    ensures { IfOk result (λ slots. map (option_map (λ clause. clause.now)) slots.items ≡ None ∷ map Some formula.now) }
+    ensures { IfOk result
+        (λ slots. map (option_map (λ clause. clause.now)) slots.items ≡ None ∷ map Some formula.now) }
 {
     let mut slots = vec![in alloc; None]?;
     for clause in formula {

@@ -31,7 +31,8 @@ pub(crate) fn read_lines<D: Desk>(
     m: u64,
 ) -> Result<Vec<Line>, Stop>
     ensures { (earlier : List (List ℕ)) → clauses_in earlier ≡ m →
-        ReadsAs (λ bytes lines. SpellsLrat m bytes lines.items) 1 (proof_input name.now) earlier (D.state desk.old) (D.state desk.new) result }
+        ReadsAs (λ bytes lines. SpellsLrat m bytes lines.items) 1 (proof_input name.now) earlier
+        (D.state desk.old) (D.state desk.new) result }
 {
     let bytes = read_file(alloc, desk, name, 1)?;
     match lrat_text::read(alloc, bytes.as_slice(), m) {

@@ -35,7 +35,8 @@ fn desk_with(
     Ok(MemDesk::new(alloc, files, Vec::from_slice(alloc, fails)?)?)
 }
 
-/// The status that the command should answer, what it should say and warn, and the names of the files that it should read.
+/// The status that the command should answer, what it should say and warn, and the names of the files that it
+/// should read.
 #[derive(Drop)]
 struct Want<'a> {
     status: Status,

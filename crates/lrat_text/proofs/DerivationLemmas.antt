@@ -3,13 +3,13 @@ use Rattle.std.proofs.Common.{◌≡◌, ℕ, ◌-◌, Bool, true, false, ◌||�
 use Rattle.std.specs.List.{list_any}
 use Rattle.std.proofs.lemmas.Bool.{or_cases}
 use Rattle.std.proofs.lemmas.List.Folds.{list_any-append}
+use Rattle.std.proofs.Math.Bool.{or-true}
 use Rattle.lits.specs.Assignment.{IsAssignment, Holds, Meets, IsSatisfiable, Follows}
 use Rattle.lits.specs.Dimacs.{DimacsLiteral}
 use Rattle.lits.specs.contracts.dimacs.DimEq.TheImpl.Laws as dim_eq
 use Rattle.lits.specs.contracts.dimacs.DimLiteral.TheImpl.Laws as dim
-use Rattle.lits.proofs.ClauseLemmas.{IsLiteral, is_literal}
-use Rattle.unit_prop.proofs.StepLemmas.{step-holds}
-use Rattle.unit_prop.proofs.ChainLemmas.{all-slice_get}
+use Rattle.lits.proofs.Facts.{IsLiteral, is_literal, all-slice_get}
+use Rattle.unit_prop.proofs.Facts.{step-holds}
 use Rattle.lrat_text.specs.declared.step.Line.{Line}
 use Rattle.lrat_text.specs.declared.step.LratStep.{LratStep}
 use Rattle.lrat_text.specs.declared.step.LratStep.TheVariants.{Add, Del}
@@ -116,9 +116,5 @@ pub refutes-push : (formula : List (List DimacsLiteral)) (lines : List Line) (li
 refutes-push formula lines line derives step e = record {
   derives = derives-push (formula_live formula) lines line derives step;
   empty = list_any-append (λ l. adds_empty l.step) lines (line ∷ [])
-      ∙ rw e (or_true (list_any (λ l. adds_empty l.step) lines));
+      ∙ rw e (or-true (list_any (λ l. adds_empty l.step) lines));
 }
-  where
-    or_true : (b : Bool) → (b || true) ≡ true
-    or_true true = refl
-    or_true false = refl

@@ -4,6 +4,7 @@ use Rattle.std.specs.Prelude.{if◌then◌else◌, option_map}
 use Rattle.std.specs.List.{list_any, list_all, AllByRecursion}
 use Rattle.std.proofs.lemmas.Bool.{lt-ltb}
 use Rattle.std.proofs.lemmas.List.Folds.{list_any-append}
+use Rattle.std.proofs.Math.Bool.{or-true}
 use Rattle.byte_scan.specs.Scanning.{value_from}
 use Rattle.lits.specs.Dimacs.{DimacsLiteral}
 use Rattle.tokens.specs.declared.number.Number.{Number}
@@ -142,11 +143,7 @@ past : (xs ys : List Number) → list_any is_zero xs ≡ false → past_zero (xs
 past xs ys e = past_zero-append xs (plain 0 ∷ ys) ∙ rw e refl
 
 any_zero : (xs ys : List Number) → list_any is_zero (xs ++ plain 0 ∷ ys) ≡ true
-any_zero xs ys = list_any-append is_zero xs (plain 0 ∷ ys) ∙ or_true (list_any is_zero xs)
-  where
-    or_true : (b : Bool) → (b || true) ≡ true
-    or_true true = refl
-    or_true false = refl
+any_zero xs ys = list_any-append is_zero xs (plain 0 ∷ ys) ∙ or-true (list_any is_zero xs)
 
 -- the numbers of a written addition spell it
 pub addition-written : (at last id : ℕ) (clause : List DimacsLiteral) (hints : List ℕ)

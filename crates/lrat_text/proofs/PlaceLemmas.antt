@@ -5,6 +5,7 @@ use Rattle.std.specs.List.{list_any, list_all}
 use Rattle.std.proofs.lemmas.Bool.{and_parts}
 use Rattle.std.proofs.lemmas.List.{map_push}
 use Rattle.std.proofs.lemmas.List.Folds.{list_any-append, list_all-append}
+use Rattle.std.proofs.Math.Bool.{or-false}
 use Rattle.lits.specs.Dimacs.{DimacsLiteral}
 use Rattle.lrat_text.specs.declared.error.LratErr.{LratErr}
 use Rattle.lrat_text.specs.declared.error.LratErr.TheVariants.{BadNumber, Truncated, Order, Rat, NoMemory}
@@ -49,10 +50,6 @@ end_false : (a b : Bool) → (a && (b && false)) ≡ false
 end_false true true = refl
 end_false true false = refl
 end_false false b = refl
-
-or_false : (a : Bool) → (a || false) ≡ a
-or_false true = refl
-or_false false = refl
 
 not_empty : (xs : List Number) (x : Number) (ys : List Number) → is_empty (xs ++ x ∷ ys) ≡ false
 not_empty [] x ys = refl
@@ -150,7 +147,7 @@ read-hint ns n ls hs minus other fits r =
           rw (past, hints)
           (ap (λ (b : Bool). b || n.minus) r.minus_is
           ∙ ap (λ (b : Bool). list_any (λ m. m.minus) (up_to_zero behind) || b)
-          (sym (or_false n.minus))
+          (sym (or-false n.minus))
           ∙ sym (list_any-append (λ m. m.minus) (up_to_zero behind) (n ∷ [])));
       first_zero = list_any-append is_zero ns (n ∷ []) ∙ rw r.first_zero refl;
       second_zero =

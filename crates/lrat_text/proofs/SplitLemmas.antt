@@ -2,9 +2,10 @@
 use Rattle.std.proofs.Common.{◌≡◌, ℕ, ◌^◌, ◌<◌, false, eqb, List, [], ◌∷◌, ◌++◌, map, decimal, refl, arith}
 use Rattle.std.specs.List.{list_any, AllByRecursion}
 use Rattle.lits.specs.Dimacs.{DimacsLiteral}
+use Rattle.lits.proofs.Facts.{all-append}
 use Rattle.tokens.specs.Words.{is_space}
 use Rattle.tokens.specs.Text.{literal_text, IsInRange}
-use Rattle.tokens.proofs.Facts.{IsToken, IsToken-decimal, IsToken-literal, PartsTokens-space, words_by-joined, joined-one_line, all-append}
+use Rattle.tokens.proofs.Facts.{IsToken, IsToken-decimal, IsToken-literal, PartsTokens-space, words_by-joined, joined-one_line}
 use Rattle.lrat_text.specs.declared.step.LratStep.{LratStep}
 use Rattle.lrat_text.specs.declared.step.LratStep.TheVariants.{Add, Del}
 use Rattle.lrat_text.specs.Reading.{words_in}

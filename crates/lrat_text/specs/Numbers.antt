@@ -4,21 +4,22 @@ use Rattle.std.specs.List.{list_all}
 use Rattle.lits.specs.Dimacs.{DimacsLiteral}
 use Rattle.tokens.specs.declared.number.Number.{Number}
 use Rattle.tokens.specs.Words.{is_empty}
+use Rattle.byte_scan.specs.declared.scan.TheConstants.{NUMBER_LIMIT}
 
 abbrev pub is_zero : Number → Bool
 is_zero n = n.size == 0
 
--- from 1 to below 10 ^ 18
+-- from 1 to below the limit of numbers, 10 ^ 18
 abbrev pub is_id : Number → Bool
-is_id n = not n.minus && (nat_lt 0 n.size && nat_lt n.size (10 ^ 18))
+is_id n = not n.minus && (nat_lt 0 n.size && nat_lt n.size NUMBER_LIMIT)
 
 -- a literal's variable is at most 2,147,483,647
 abbrev pub is_literal : Number → Bool
 is_literal n = nat_lt n.size (2 ^ 31)
 
--- a hint is below 10 ^ 18 in size
+-- a hint is below that limit in size
 abbrev pub is_hint : Number → Bool
-is_hint n = nat_lt n.size (10 ^ 18)
+is_hint n = nat_lt n.size NUMBER_LIMIT
 
 abbrev pub literal_of : Number → DimacsLiteral
 literal_of n = record { var = n.size; neg = n.minus }

@@ -7,6 +7,7 @@ use Rattle.lrat_text.specs.declared.step.LratStep.TheVariants.{Add, Del}
 use Rattle.lrat_text.specs.Steps.{id_after}
 use Rattle.lrat_text.specs.Reading.{steps_from}
 use Rattle.tokens.specs.Text.{literal_text, joined, ended}
+use Rattle.byte_scan.specs.declared.scan.TheConstants.{NUMBER_LIMIT}
 pub use Rattle.tokens.specs.Text.{IsInRange}
 
 -- the words of a step behind its first one
@@ -37,14 +38,14 @@ abbrev pub numbered : ℕ → List LratStep → List Line
 numbered at [] = []
 numbered at (step ∷ steps) = record { at = at; step = step } ∷ numbered (at + 1) steps
 
--- an id, from 1 to below 10 ^ 18
+-- an id, from 1 to below the limit of numbers, 10 ^ 18
 abbrev pub IsId : ℕ → Type 0
-IsId id = (1 ≤ id) × (id < 10 ^ 18)
+IsId id = (1 ≤ id) × (id < NUMBER_LIMIT)
 
 -- what the text of a step can say behind additions with ids up to `last`
 abbrev pub IsWritable : ℕ → LratStep → Type 0
 IsWritable last (Add id clause hints) =
-    (last < id) × (id < 10 ^ 18) × AllByRecursion IsInRange clause × AllByRecursion IsId hints
+    (last < id) × (id < NUMBER_LIMIT) × AllByRecursion IsInRange clause × AllByRecursion IsId hints
 IsWritable last (Del ids) = AllByRecursion IsId ids
 
 -- the same of some steps, one behind the other: ids of additions rise

@@ -10,8 +10,8 @@ ghost use Rattle.lrat_text.specs.Writing.{line_text, text_from, numbered, IsWrit
 
 use lits::{Dim, Literal};
 
-/// What lines derive follows from the formula, so a formula that is refuted has no assignment that meets it. A
-/// derivation starts from no line and grows at its end, `live` saying what a step may then cite.
+/// What lines derive follows from the formula, so a formula that is refuted has no assignment that meets it.
+/// A derivation starts from no line and grows at its end, `live` saying what a step may then cite.
 pub fn derived_lines()
     ensures unsatisfiable { (formula : List (List DimacsLiteral)) (lines : List Line) →
         Refutes formula lines → ¬ IsSatisfiable ⟦<Dim as Literal>⟧.opposite formula }
@@ -34,8 +34,8 @@ pub fn derived_lines()
         adds_empty line.step ≡ true → Refutes formula (lines ++ line ∷ []) }
 {}
 
-/// What is written line by line spells its steps, so that reading gives them back. A writer keeps `IsWritten` from
-/// `nothing` on by `line`, and `spells` says what it comes to.
+/// What is written line by line spells its steps, so that reading gives them back. A writer keeps `IsWritten`
+/// from `nothing` on by `line`, and `spells` says what it comes to.
 pub fn written_text()
     ensures nothing { (m : ℕ) → IsWritten m [] [] }
     ensures line { (m last : ℕ) (text : List ℕ) (lines : List Line) (step : LratStep) →

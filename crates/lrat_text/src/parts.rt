@@ -4,12 +4,10 @@ ghost use Rattle.lrat_text.specs.Numbers.{in_place, literal_of};
 ghost use Rattle.lrat_text.specs.Reading.{words_in};
 
 use crate::error::LratErr;
+use byte_scan::NUMBER_LIMIT;
 use lits::Dim;
 use std::alloc::Global;
 use tokens::{Number, Space, Words, number_in};
-
-/// No id and no hint is as large.
-pub(crate) const TOO_LARGE: u64 = 1_000_000_000_000_000_000;
 
 /// Which numbers of a line come next.
 #[derive(Clone, Copy)]
@@ -79,7 +77,7 @@ impl Parts {
             Place::Literals => self.literals.push(literal(at, number)?)?,
             Place::Hints if number.size == 0 => self.place = Place::End,
             Place::Hints => {
-                if number.size >= TOO_LARGE {
+                if number.size >= NUMBER_LIMIT {
                     return Err(LratErr::BadNumber(at));
                 }
                 self.hints.push(number.size)?;

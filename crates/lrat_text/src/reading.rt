@@ -4,9 +4,9 @@ ghost use Rattle.lrat_text.specs.Reading.{addition_in, deletion_in, step_of, ste
 ghost use Rattle.lrat_text.specs.Parts.{addition_of, deletion_of};
 
 use crate::error::LratErr;
-use crate::parts::{Parts, Place, TOO_LARGE};
+use crate::parts::{Parts, Place};
 use crate::step::{Line, LratStep};
-use byte_scan::Scan;
+use byte_scan::{NUMBER_LIMIT, Scan};
 use lits::Listed;
 use std::alloc::Global;
 use tokens::{Number, Space, first_word, number_in};
@@ -48,7 +48,7 @@ fn step_of(alloc: Global, at: u64, last: u64, line: &[u8]) -> Result<Option<Lrat
 fn addition(alloc: Global, at: u64, last: u64, id: Number, rest: &[u8]) -> Result<LratStep, LratErr>
     ensures { Gives result (addition_in at last id (words_in rest.now)) }
 {
-    if id.minus || id.size == 0 || id.size >= TOO_LARGE {
+    if id.minus || id.size == 0 || id.size >= NUMBER_LIMIT {
         return Err(LratErr::BadNumber(at));
     }
     let parts = Parts::read(alloc, at, Place::Literals, rest)?;

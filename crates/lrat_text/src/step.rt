@@ -3,7 +3,8 @@ use lits::{Dim, Listed};
 /// A step of a proof, which changes the clauses that are live.
 #[derive(Debug, Drop)]
 pub enum LratStep {
-    /// A clause joins the live ones under an id of its own; the hints are the ids of the clauses that show it.
+    /// A clause joins the live ones under an id of its own; the hints are the ids of the clauses that show
+    /// it.
     Add {
         id: u64,
         clause: Listed<Dim>,

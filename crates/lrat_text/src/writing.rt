@@ -9,8 +9,8 @@ use lits::Dim;
 use std::alloc::AllocError;
 use tokens::push_number;
 
-/// Appends the line of a step, with its LF. An addition begins with its id, and a deletion with `last`, by convention
-/// the id of the last addition.
+/// Appends the line of a step, with its LF. An addition begins with its id, and a deletion with `last`, by
+/// convention the id of the last addition.
 pub fn push_line(buf: &mut Vec<u8>, last: u64, step: &LratStep) -> Result<(), AllocError>
     ensures ok { OnOk result (buf.new.items ≡ buf.old.items ++ line_text last step.now) }
     ensures err { OnErr result (buf.new.items ≡ buf.old.items) }

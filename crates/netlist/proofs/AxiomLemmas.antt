@@ -5,6 +5,7 @@ use Rattle.std.specs.Option.{option_map, option_map_or, option_to_list}
 use Rattle.std.specs.List.{AllByRecursion}
 use Rattle.std.proofs.lemmas.Option.{none-some, same_Some}
 use Rattle.std.proofs.lemmas.List.{append-nil, append_assoc}
+use Rattle.std.proofs.lemmas.Bool.{both_ways}
 use Rattle.lits.specs.Clause.{has, firsts, has_pair, IsClause}
 use Rattle.lits.specs.Same.{same_node, same_lit, opposite}
 use Rattle.lits.specs.declared.node.Side.{Side}
@@ -13,6 +14,7 @@ use Rattle.lits.specs.declared.node.Node.{Node}
 use Rattle.lits.specs.declared.node.Node.TheVariants.{Const, Input, Gate, Xor}
 use Rattle.lits.specs.declared.literal.Lit.{Lit}
 use Rattle.lits.specs.contracts.literal.LitEq.TheImpl.Laws as lit_eq
+use Rattle.lits.proofs.Facts.{exact-lit, exact-node, same-node_self}
 use Rattle.netlist.specs.declared.gate.And.{And}
 use Rattle.netlist.specs.declared.gate.Definition.{Definition}
 use Rattle.netlist.specs.Place.{place_of}
@@ -20,7 +22,7 @@ use Rattle.netlist.specs.Circuit.{Aig, AreOrdered, var_of}
 use Rattle.netlist.specs.Net.{AigPair, IsNet, circuit_of, node_of, lit_named, definition_of, defined_by, difference, gate_at, output_of}
 use Rattle.netlist.specs.Miter.{positive, negative, kept, gate_clauses, xor_clauses, xor_axioms, axioms_of}
 use Rattle.netlist.specs.Short.{kept_clause, IsApart}
-use Rattle.netlist.proofs.LawNodes.{exact-lit, exact-node, same-node_self, found-one}
+use Rattle.netlist.proofs.SameNodes.{found-one}
 use Rattle.netlist.proofs.PlaceLemmas.{find-place}
 
 -- literals over two nodes differ
@@ -323,14 +325,11 @@ apart-gates : (known : List ℕ) (gates : List And) → AreOrdered known gates
 apart-gates known [] ordered = tt
 apart-gates known (g ∷ gs) ordered = (
   (
-    λ e. clash (has ◌==◌ known g.var) ordered.0.new (subst (λ (v : ℕ). has ◌==◌ known v ≡ true) e ordered.0.left),
-    λ e. clash (has ◌==◌ known g.var) ordered.0.new (subst (λ (v : ℕ). has ◌==◌ known v ≡ true) e ordered.0.right),
+    λ e. both_ways (has ◌==◌ known g.var) ordered.0.new (subst (λ (v : ℕ). has ◌==◌ known v ≡ true) e ordered.0.left),
+    λ e. both_ways (has ◌==◌ known g.var) ordered.0.new (subst (λ (v : ℕ). has ◌==◌ known v ≡ true) e ordered.0.right),
   ),
   apart-gates (g.var ∷ known) gs ordered.1,
 )
-  where
-    clash : (b : Bool) → b ≡ false → b ≡ true → ⊥
-    clash b e f = cc
 
 -- the node of a variable is the gate of that variable, if of any, and no XOR
 node_of-gate : (side : Side) (c : Aig) (v w : ℕ) → Gate side w ≡ node_of side c v → v ≡ w

@@ -1,20 +1,22 @@
+pub mod Facts
 mod WorkedRows
-pub mod LawNodes
-pub mod LawRun
-pub mod LawClauses
-pub mod LawValues
-pub mod LawThere
-pub mod LawEvaluations
-pub mod LawCones
-pub mod LawOver
-pub mod LawNumbers
-pub mod LawMiter
-pub mod PlaceLemmas
-pub mod VariableLemmas
-pub mod TableLemmas
-pub mod SourceLemmas
-pub mod RunLemmas
-pub mod NetLemmas
-pub mod AxiomLemmas
-pub mod StartLemmas
-pub mod MiterLemmas
+mod SameNodes
+mod RunValues
+mod ClauseMeaning
+mod NodeValues
+mod NodesThere
+mod ConeValues
+mod ConeModels
+mod ClausesOver
+mod NumberedClauses
+mod SatisfiableMiter
+mod PlaceLemmas
+mod VariableLemmas
+mod TableLemmas
+mod SourceLemmas
+mod RunLemmas
+mod NetLemmas
+mod AxiomLemmas
+mod StartLemmas
+mod MiterLemmas
+mod GateLemmas

@@ -1,44 +1,36 @@
 -- The numbered clauses of the miter.
 use Rattle.std.proofs.Common.{◌≡◌, ℕ, zero, suc, ◌+◌, ◌<◌, ◌≤◌, Bool, true, false, not, Option, Some, None, List, [], ◌∷◌, ◌++◌, length, take, map, get_or, add-one, zero-add, refl, sym, ap, ◌∙◌, subst, arith}
-use Rattle.std.specs.Prelude.{◌&&◌, ◌||◌, filter, slice_get, slice_set, IfSome}
+use Rattle.std.specs.Prelude.{◌&&◌, ◌||◌, slice_get, slice_set, IfSome}
 use Rattle.std.specs.Option.{option_map, option_map_or}
 use Rattle.std.specs.List.{AllByRecursion, range_with_len, flat_map}
 use Rattle.std.proofs.Math.Seq.{take-length, take-suc-set}
 use Rattle.std.proofs.lemmas.List.{map-append, take_more, take_all, length-set}
 use Rattle.std.proofs.lemmas.Option.{none-some, same_Some, slice_get-get_or}
-use Rattle.lits.specs.Clause.{has, firsts, no_repeat, has_pair, IsClause}
+use Rattle.std.proofs.lemmas.Bool.{or_right}
+use Rattle.lits.specs.Clause.{has, no_repeat, has_pair, IsClause}
 use Rattle.lits.specs.Dimacs.{DimacsLiteral}
 use Rattle.lits.specs.declared.node.Node.{Node}
 use Rattle.lits.specs.declared.node.Node.TheVariants.{Const, Xor}
 use Rattle.lits.specs.declared.literal.Lit.{Lit}
-use Rattle.lits.specs.contracts.dimacs.DimEq.TheImpl.Laws as dim_eq
 use Rattle.netlist.specs.Net.{AigPair, IsNet}
 use Rattle.lits.specs.Same.{same_node, same_lit, opposite, same_dim, opposite_dim}
+use Rattle.lits.proofs.Facts.{take_next, all-parts, same-node_self, exact-lit, all-slice_get}
 use Rattle.netlist.specs.Miter.{positive, axioms_of, axiom_of, xors_of, variables_of, variable_of, numbered, miter_of}
 use Rattle.netlist.specs.Numbered.{AreThere, numbered_at, numbered_before}
-use Rattle.netlist.proofs.StartLemmas.{flat_next, take_next}
-use Rattle.netlist.proofs.LawNumbers.{numbered-same}
-use Rattle.netlist.proofs.LawOver.{over-variables, over-clauses}
-use Rattle.netlist.proofs.LawNodes.{all-parts, same-node_self, exact-lit, range-has}
+use Rattle.netlist.proofs.StartLemmas.{flat_next}
+use Rattle.netlist.proofs.NumberedClauses.{numbered-same}
+use Rattle.netlist.proofs.ClausesOver.{over-variables, over-clauses}
+use Rattle.netlist.proofs.SameNodes.{range-has}
 use Rattle.netlist.proofs.NetLemmas.{axioms_of-none}
-use Rattle.netlist.proofs.LawThere.{has-xor}
+use Rattle.netlist.proofs.NodesThere.{has-xor}
 use Rattle.netlist.proofs.PlaceLemmas.{place_none}
-
-pub all-get : {X : Type 0} (P : X → Type 0) (xs : List X) (k : ℕ) (x : X) → AllByRecursion P xs → slice_get xs k ≡ Some x → P x
-all-get P [] k x all e = absurd (none-some x e)
-all-get P (y ∷ ys) zero x all e = subst P (same_Some y x e) all.0
-all-get P (y ∷ ys) (suc k) x all e = all-get P ys k x all.1 e
 
 -- a node at a place is there
 pub has-get : (xs : List Node) (k : ℕ) (n : Node) → slice_get xs k ≡ Some n → has same_node xs n ≡ true
 has-get [] k n e = absurd (none-some n e)
 has-get (x ∷ xs) zero n e =
     let here : same_node x n ≡ true = subst (λ (m : Node). same_node x m ≡ true) (same_Some x n e) (same-node_self x) in rw here refl
-has-get (x ∷ xs) (suc k) n e = or_true (same_node x n) (has same_node xs n) (has-get xs k n e)
-  where
-    or_true : (a b : Bool) → b ≡ true → (a || b) ≡ true
-    or_true true b h = refl
-    or_true false b h = h
+has-get (x ∷ xs) (suc k) n e = or_right (same_node x n) (has same_node xs n) (has-get xs k n e)
 
 -- numbering keeps clauses
 has-numbered : (net : AigPair) (xs : List Lit) (x : Lit) → AreThere net xs → has same_node (variables_of net) x.node ≡ true
@@ -71,7 +63,7 @@ pub axiom-there : (net : AigPair) (node : Node) (k : ℕ) (c : List Lit) → IsN
 axiom-there net node k c is e = go (has same_node (variables_of net) node) refl
   where
     go : (b : Bool) → has same_node (variables_of net) node ≡ b → AreThere net c
-    go true t = all-get (AreThere net) (axioms_of net node) k c (over-variables net is node t) e
+    go true t = all-slice_get (AreThere net) (axioms_of net node) k c (over-variables net is node t) e
     go false f =
         let none : variable_of net node ≡ None = ap (option_map (λ n. n + 1)) (place_none (λ n. same_node n node) (variables_of net) f) in
         absurd (none-some c (sym (ap (λ (cs : List (List Lit)). slice_get cs k) (axioms_of-none net node none)) ∙ e))
@@ -138,7 +130,7 @@ numbered_whole net lits numbers i e done =
 
 pub there-at : (net : AigPair) (lits : List Lit) (i : ℕ) (d : Lit) → AreThere net lits → i < length lits
     → has same_node (variables_of net) (get_or lits i d).node ≡ true
-there-at net lits i d all l = all-get (λ l. has same_node (variables_of net) l.node ≡ true) lits i (get_or lits i d) all (slice_get-get_or lits i d l)
+there-at net lits i d all l = all-slice_get (λ l. has same_node (variables_of net) l.node ≡ true) lits i (get_or lits i d) all (slice_get-get_or lits i d l)
 
 -- the numbers of the first j XORs
 pub numbered_xors : AigPair → ℕ → List DimacsLiteral

@@ -21,9 +21,10 @@ use Rattle.netlist.specs.Miter.{xors_of, variables_of, variable_of, kept, axioms
 use Rattle.netlist.specs.declared.gate.Definition.{Definition}
 use Rattle.netlist.proofs.AxiomLemmas.{axioms_of-gate, defined-no_gate}
 use Rattle.lits.specs.declared.literal.Lit.{Lit}
+use Rattle.lits.proofs.Facts.{exact-node}
 use Rattle.netlist.proofs.PlaceLemmas.{or_place, place_of-append, place_of-map, place_none-all, place-range_in, place-range_out, length-range, slice_get-left, slice_get-right, slice_get-range}
-use Rattle.netlist.proofs.LawNodes.{exact-node}
 use Rattle.netlist.proofs.VariableLemmas.{few_gates_of}
+use Rattle.netlist.proofs.TableLemmas.{or_place-none}
 
 pub length-definitions : (net : AigPair) → length (definitions net) ≡ length net.a.gates + length net.b.gates
 length-definitions net =
@@ -76,10 +77,6 @@ parts net test e = rw e (ap (option_map (λ k. k + 1)) (
         ∙ ap (λ (n : ℕ). or_place (place_of (λ d. test d.node) (map (definition_of A net.a) net.a.gates)) (option_map (λ k. n + k) (place_of (λ d. test d.node) (map (definition_of B net.b) net.b.gates))))
         (length-map net.a.gates (definition_of A net.a))
         ∙ rw (place_of-map (λ d. test d.node) (definition_of A net.a) net.a.gates, place_of-map (λ d. test d.node) (definition_of B net.b) net.b.gates) refl
-
-or_place-none : (o : Option ℕ) → or_place o None ≡ o
-or_place-none None = refl
-or_place-none (Some k) = refl
 
 pub position_of-input : (net : AigPair) (k : ℕ) → position_of net (Input k) ≡ cond (nat_lt k (length net.a.inputs)) (Some (k + 1)) None
 position_of-input net k = parts net (λ n. same_node n (Input k)) refl ∙ go (nat_lt k (length net.a.inputs)) refl
@@ -210,7 +207,7 @@ node_at-input net p k e l = node_at-position net p (Input k) (
     ∙ ap (option_map Input) (slice_get-range (length net.a.inputs) 0 k l ∙ ap Some (zero-add k)))
 
 -- the gates stand behind the inputs
-behind_inputs : (net : AigPair) (p i : ℕ) → p ≡ length net.a.inputs + i + 1
+pub behind_inputs : (net : AigPair) (p i : ℕ) → p ≡ length net.a.inputs + i + 1
     → slice_get (nodes_of net) p ≡ option_map (λ d. d.node) (slice_get (definitions net) i)
 behind_inputs net p i e =
     behind_constant net p (length (map Input (range_with_len 0 (length net.a.inputs))) + i)

@@ -1,5 +1,5 @@
 -- The gates of a circuit give their values one after another.
-use Rattle.std.proofs.Common.{◌≡◌, ◌≢◌, ℕ, zero, suc, ◌+◌, ◌<◌, Bool, true, false, cond, not, Option, None, Some, List, [], ◌∷◌, ◌++◌, length, take, drop, get_or, refl, sym, ap, ◌∙◌, subst, arith, length-take}
+use Rattle.std.proofs.Common.{◌≡◌, ◌≢◌, ℕ, zero, suc, ◌+◌, ◌<◌, Bool, true, false, cond, Option, None, Some, List, [], ◌∷◌, ◌++◌, length, take, drop, get_or, refl, sym, ap, ◌∙◌, subst, arith, length-take}
 use Rattle.std.specs.Prelude.{◌==◌, ◌&&◌, ◌||◌, slice_set, slice_get}
 use Rattle.std.specs.List.{slice_index_or}
 use Rattle.std.specs.Option.{option_map_or, is_some}
@@ -9,6 +9,8 @@ use Rattle.std.proofs.lemmas.Option.{none-some, get_or_from_slice_get}
 use Rattle.std.proofs.lemmas.List.{append_assoc, append-nil, map-append, take_more, take-append-drop}
 use Rattle.std.proofs.lemmas.List.Folds.{list_any-append}
 use Rattle.std.proofs.lemmas.Bool.Decides.{nat_tests}
+use Rattle.std.proofs.lemmas.Bool.{or_parts, not-true}
+use Rattle.std.proofs.Math.Bool.{or-false, or_assoc}
 use Rattle.lits.specs.Clause.{has, no_repeat}
 use Rattle.netlist.specs.declared.gate.And.{And}
 use Rattle.netlist.specs.declared.gate.Source.{Source}
@@ -37,15 +39,11 @@ or_move true false c = refl
 or_move false true c = refl
 or_move false false c = refl
 
-or_nothing : (b : Bool) → (b || false) ≡ b
-or_nothing true = refl
-or_nothing false = refl
-
 -- each gate comes next where the earlier gates' variables are known too
 pub next_at : (known : List ℕ) (gates : List And) (i : ℕ) (d : And) → AreOrdered known gates → i < length gates
     → (now : List ℕ) × (IsNext now (get_or gates i d)) × ((v : ℕ) → has ◌==◌ now v ≡ (has ◌==◌ known v || has ◌==◌ (gate_vars (take i gates)) v))
 next_at known [] i d ordered l = absurd (omega arith)
-next_at known (g ∷ gs) zero d ordered l = (known, ordered.0, λ v. sym (or_nothing (has ◌==◌ known v)))
+next_at known (g ∷ gs) zero d ordered l = (known, ordered.0, λ v. sym (or-false (has ◌==◌ known v)))
 next_at known (g ∷ gs) (suc i) d ordered l =
     let rest = next_at (g.var ∷ known) gs i d ordered.1 (omega arith) in
     (rest.0, rest.1, λ v. rest.2 v ∙ or_move (g.var == v) (has ◌==◌ known v) (has ◌==◌ (gate_vars (take i gs)) v))
@@ -55,10 +53,6 @@ has-known : (c : Aig) (i v : ℕ) → (has ◌==◌ (0 ∷ c.inputs) v || has �
 has-known c i v =
     or_assoc (0 == v) (has ◌==◌ c.inputs v) (has ◌==◌ (gate_vars (take i c.gates)) v)
     ∙ ap (λ (b : Bool). (0 == v) || b) (sym (list_any-append (λ x. x == v) c.inputs (gate_vars (take i c.gates))))
-  where
-    or_assoc : (a b d : Bool) → ((a || b) || d) ≡ (a || (b || d))
-    or_assoc true b d = refl
-    or_assoc false b d = refl
 
 -- the fanins of gate i are over what is known before it
 pub fanins_known : (c : Aig) (i : ℕ) (d : And) → IsCircuit c → i < length c.gates
@@ -86,17 +80,13 @@ fanins_over c i d circuit l =
     let known = fanins_known c i d circuit l in
     (known_all c i (var_of (get_or c.gates i d).left) known.0, known_all c i (var_of (get_or c.gates i d).right) known.1)
 
-or_false : (a b : Bool) → (a || b) ≡ false → (a ≡ false) × (b ≡ false)
-or_false true b e = cc
-or_false false b e = (refl, e)
-
 -- the place of a gate by its variable
 pub place-gate : (c : Aig) (i : ℕ) (d : And) → IsCircuit c → i < length c.gates
     → place_of (λ g. g.var == (get_or c.gates i d).var) c.gates ≡ Some i
 place-gate c i d circuit l =
     let v : ℕ = (get_or c.gates i d).var in
     let new = new_gate c.inputs c.gates i d (variables c circuit) l in
-    let later = or_false (has ◌==◌ (0 ∷ c.inputs) v) (has ◌==◌ (gate_vars (take i c.gates)) v) (has-known c i v ∙ new) in
+    let later = or_parts (has ◌==◌ (0 ∷ c.inputs) v) (has ◌==◌ (gate_vars (take i c.gates)) v) (has-known c i v ∙ new) in
     let none = place_none (λ g. g.var == v) (take i c.gates) (sym (list_any-vars (take i c.gates) v) ∙ later.1) in
     let here : (v == v) ≡ true = grind (arith, nat_tests) in
     let len : length (take i c.gates) + 0 ≡ i = omega (arith, length-take i c.gates) in
@@ -109,8 +99,8 @@ pub source-gate : (c : Aig) (i : ℕ) (d : And) → IsCircuit c → i < length c
 source-gate c i d circuit l =
     let v : ℕ = (get_or c.gates i d).var in
     let new = new_gate c.inputs c.gates i d (variables c circuit) l in
-    let early = or_false (has ◌==◌ (0 ∷ c.inputs) v) (has ◌==◌ (gate_vars (take i c.gates)) v) (has-known c i v ∙ new) in
-    let both = or_false (0 == v) (has ◌==◌ c.inputs v) early.0 in
+    let early = or_parts (has ◌==◌ (0 ∷ c.inputs) v) (has ◌==◌ (gate_vars (take i c.gates)) v) (has-known c i v ∙ new) in
+    let both = or_parts (0 == v) (has ◌==◌ c.inputs v) early.0 in
     let above : (v == 0) ≡ false = grind (arith, nat_tests, both.0) in
     let none = place_none (λ x. x == v) c.inputs both.1 in
     rw (above, none, place-gate c i d circuit l) refl
@@ -143,10 +133,6 @@ read-other inputs gates i x (Some (Gate g)) apart = get_or-set_other gates i g x
 lit_value-same : (v w : ℕ → Bool) (lit : ℕ) → v (var_of lit) ≡ w (var_of lit) → lit_value v lit ≡ lit_value w lit
 lit_value-same v w lit e = rw e refl
 
-not_true : (b : Bool) → not b ≡ true → b ≡ false
-not_true true e = cc
-not_true false e = refl
-
 and_left : (a b : Bool) → (a && b) ≡ true → a ≡ true
 and_left true b e = refl
 and_left false b e = cc
@@ -156,7 +142,7 @@ pub computed_none : (c : Aig) (inputs gates : List Bool) → IsCircuit c → IsC
 computed_none c inputs gates circuit = record { known = λ v e. go v (v == 0) refl (place_of (λ x. x == v) c.inputs) refl e }
   where
     constant : place_of (λ x. x == 0) c.inputs ≡ None
-    constant = place_none (λ x. x == 0) c.inputs (not_true (has ◌==◌ c.inputs 0) (and_left _ (no_repeat ◌==◌ c.inputs) circuit.inputs))
+    constant = place_none (λ x. x == 0) c.inputs (not-true (has ◌==◌ c.inputs 0) (and_left _ (no_repeat ◌==◌ c.inputs) circuit.inputs))
 
     go : (v : ℕ) (b : Bool) → (v == 0) ≡ b → (o : Option ℕ) → place_of (λ x. x == v) c.inputs ≡ o
         → has ◌==◌ (0 ∷ (c.inputs ++ [])) v ≡ true
@@ -177,7 +163,7 @@ computed_none c inputs gates circuit = record { known = λ v e. go v (v == 0) re
 shrink : (xs : List ℕ) (y v : ℕ) → (y == v) ≡ false → has ◌==◌ (0 ∷ (xs ++ y ∷ [])) v ≡ true → has ◌==◌ (0 ∷ xs) v ≡ true
 shrink xs y v apart e =
     let parts : has ◌==◌ (xs ++ y ∷ []) v ≡ (has ◌==◌ xs v || ((y == v) || false)) = list_any-append (λ x. x == v) xs (y ∷ []) in
-    let last : has ◌==◌ (xs ++ y ∷ []) v ≡ has ◌==◌ xs v = parts ∙ ap (λ (b : Bool). has ◌==◌ xs v || (b || false)) apart ∙ or_nothing (has ◌==◌ xs v) in
+    let last : has ◌==◌ (xs ++ y ∷ []) v ≡ has ◌==◌ xs v = parts ∙ ap (λ (b : Bool). has ◌==◌ xs v || (b || false)) apart ∙ or-false (has ◌==◌ xs v) in
     ap (λ (b : Bool). (0 == v) || b) (sym last) ∙ e
 
 -- one gate more is computed

@@ -4,6 +4,7 @@ use Rattle.std.specs.Prelude.{◌==◌, ◌||◌, nat_le, IfSome}
 use Rattle.std.specs.Option.{option_map, option_map_or, is_some}
 use Rattle.std.proofs.lemmas.Option.{slice_get_within}
 use Rattle.std.proofs.lemmas.Bool.Decides.{nat_tests}
+use Rattle.std.proofs.lemmas.Bool.{or_right}
 use Rattle.netlist.specs.declared.gate.Source.{Source}
 use Rattle.netlist.specs.declared.gate.Source.TheVariants.{Constant, Input, Gate}
 use Rattle.netlist.specs.Place.{place_of}
@@ -132,11 +133,7 @@ gate_from-source c v circuit = go (v == 0) refl (place_of (λ x. x == v) c.input
     go true t o e = let z : (0 == v) ≡ true = grind (arith, nat_tests, t) in sym (none (ap (λ (b : Bool). b || has ◌==◌ c.inputs v) z))
     go false f (Some k) e =
         let some : has ◌==◌ c.inputs v ≡ true = sym (is_some-place (λ x. x == v) c.inputs) ∙ ap is_some e in
-        sym (none (or_true (0 == v) (has ◌==◌ c.inputs v) some))
-      where
-        or_true : (a b : Bool) → b ≡ true → (a || b) ≡ true
-        or_true true b e = refl
-        or_true false b e = e
+        sym (none (or_right (0 == v) (has ◌==◌ c.inputs v) some))
     go false f None e = same (place_of (λ g. g.var == v) c.gates)
       where
         same : (o : Option ℕ) → gate_from (option_map Gate o) ≡ o

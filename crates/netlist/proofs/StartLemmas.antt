@@ -6,9 +6,9 @@ use Rattle.std.proofs.Math.Seq.{take-length, get_or-append_seam}
 use Rattle.std.proofs.Math.ListN.{get_or-append}
 use Rattle.std.proofs.Math.Nat.{eq-or-lt_of_le}
 use Rattle.std.specs.Option.{option_map}
-use Rattle.std.proofs.lemmas.List.{length-map, take_more, append-nil}
+use Rattle.std.proofs.lemmas.List.{length-map, append-nil}
 use Rattle.std.proofs.lemmas.Grind.{flat_map-append}
-use Rattle.std.proofs.lemmas.Option.{slice_get_within, get_or_from_slice_get, none-some, same_Some}
+use Rattle.std.proofs.lemmas.Option.{none-some, same_Some}
 use Rattle.lits.specs.declared.node.Node.{Node}
 use Rattle.lits.specs.declared.literal.Lit.{Lit}
 use Rattle.netlist.specs.Place.{place_of, before}
@@ -17,13 +17,9 @@ use Rattle.lits.specs.Same.{same_node}
 use Rattle.netlist.specs.Miter.{positive, axioms_of, xors_of, variables_of, variable_of, numbered, miter_of, clause_number_of}
 use Rattle.netlist.specs.Starts.{first_clause, AreStarts}
 use Rattle.std.proofs.lemmas.Bool.Decides.{nat_tests}
+use Rattle.lits.proofs.Facts.{take_next}
 use Rattle.netlist.proofs.PlaceLemmas.{before-take}
 use Rattle.netlist.proofs.SourceLemmas.{place_within}
-
--- one element more of a list
-pub take_next : {X : Type 0} (xs : List X) (i : ℕ) (x : X) → slice_get xs i ≡ Some x → take (i + 1) xs ≡ take i xs ++ x ∷ []
-take_next xs i x e =
-    take_more xs i x (slice_get_within xs i x e) ∙ ap (λ y. take i xs ++ y ∷ []) (get_or_from_slice_get xs i x x e)
 
 pub flat_next : {X Y : Type 0} (f : X → List Y) (xs : List X) (i : ℕ) (x : X) → slice_get xs i ≡ Some x
     → flat_map f (take (i + 1) xs) ≡ flat_map f (take i xs) ++ f x

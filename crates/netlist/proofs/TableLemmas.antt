@@ -8,7 +8,7 @@ use Rattle.netlist.specs.Place.{place_of}
 use Rattle.netlist.specs.VariableTable.{Places, place_in, IsTable}
 use Rattle.netlist.proofs.PlaceLemmas.{or_place, place_of-append, place_none, is_some-place}
 
-or_place-none : (o : Option ℕ) → or_place o None ≡ o
+pub or_place-none : (o : Option ℕ) → or_place o None ≡ o
 or_place-none None = refl
 or_place-none (Some k) = refl
 

@@ -8,6 +8,7 @@ use Rattle.std.proofs.lemmas.Map.Steps.{length-le_from_distinct_below}
 use Rattle.std.proofs.lemmas.Bool.Decides.{nat_tests}
 use Rattle.lits.specs.Clause.{has, no_repeat}
 use Rattle.std.proofs.Math.Seq.{split_at}
+use Rattle.std.proofs.lemmas.Bool.{not-true, or_parts}
 use Rattle.netlist.specs.declared.gate.And.{And}
 use Rattle.netlist.specs.Circuit.{Aig, IsCircuit, AreOrdered, most, gate_vars}
 use Rattle.netlist.specs.VariableTable.{AreVariables}
@@ -20,27 +21,19 @@ and_right : (a b : Bool) → (a && b) ≡ true → b ≡ true
 and_right true b e = e
 and_right false b e = cc
 
-not_true : (b : Bool) → not b ≡ true → b ≡ false
-not_true true e = cc
-not_true false e = refl
-
-or_false : (a b : Bool) → (a || b) ≡ false → (a ≡ false) × (b ≡ false)
-or_false true b e = cc
-or_false false b e = (refl, e)
-
 eq_swap : (a b : ℕ) → (a == b) ≡ (b == a)
 eq_swap a b = grind (arith, nat_tests)
 
 -- what is in a list is in a longer one
 has_not-middle : (xs ys : List ℕ) (y q : ℕ) → has ◌==◌ (xs ++ y ∷ ys) q ≡ false → (y == q) ≡ false
-has_not-middle [] ys y q e = (or_false (y == q) (has ◌==◌ ys q) e).0
-has_not-middle (x ∷ xs) ys y q e = has_not-middle xs ys y q (or_false (x == q) (has ◌==◌ (xs ++ y ∷ ys) q) e).1
+has_not-middle [] ys y q e = (or_parts (y == q) (has ◌==◌ ys q) e).0
+has_not-middle (x ∷ xs) ys y q e = has_not-middle xs ys y q (or_parts (x == q) (has ◌==◌ (xs ++ y ∷ ys) q) e).1
 
 -- in a list without repeats an element stands in no part before it
 pub no_repeat-split : (xs ys : List ℕ) (y : ℕ) → no_repeat ◌==◌ (xs ++ y ∷ ys) ≡ true → has ◌==◌ xs y ≡ false
 no_repeat-split [] ys y e = refl
 no_repeat-split (x ∷ xs) ys y e =
-    let first = not_true (has ◌==◌ (xs ++ y ∷ ys) x) (and_left _ (no_repeat ◌==◌ (xs ++ y ∷ ys)) e) in
+    let first = not-true (has ◌==◌ (xs ++ y ∷ ys) x) (and_left _ (no_repeat ◌==◌ (xs ++ y ∷ ys)) e) in
     let rest = no_repeat-split xs ys y (and_right (not (has ◌==◌ (xs ++ y ∷ ys) x)) _ e) in
     rw (eq_swap x y, has_not-middle xs ys y x first, rest) refl
 
@@ -48,11 +41,11 @@ IsDistinct_from : (xs : List ℕ) → no_repeat ◌==◌ xs ≡ true → IsDisti
 unfolding IsDistinct
 IsDistinct_from [] e = tt
 IsDistinct_from (x ∷ xs) e =
-    (apart xs (not_true (has ◌==◌ xs x) (and_left _ (no_repeat ◌==◌ xs) e)), IsDistinct_from xs (and_right (not (has ◌==◌ xs x)) _ e))
+    (apart xs (not-true (has ◌==◌ xs x) (and_left _ (no_repeat ◌==◌ xs) e)), IsDistinct_from xs (and_right (not (has ◌==◌ xs x)) _ e))
   where
     apart : (ys : List ℕ) → has ◌==◌ ys x ≡ false → AllByRecursion (λ y. (x == y) ≡ false) ys
     apart [] e = tt
-    apart (y ∷ ys) e = let both = or_false (y == x) (has ◌==◌ ys x) e in (eq_swap x y ∙ both.0, apart ys both.1)
+    apart (y ∷ ys) e = let both = or_parts (y == x) (has ◌==◌ ys x) e in (eq_swap x y ∙ both.0, apart ys both.1)
 
 below_from : (xs : List ℕ) (q : ℕ) → list_all (λ v. nat_le v most) xs ≡ true → list_any (λ y. q == y) xs ≡ true → q < most + 1
 below_from [] q all e = cc
@@ -129,8 +122,8 @@ vars_more inputs gates i d l =
 no_repeat_push : (xs : List ℕ) (y : ℕ) → no_repeat ◌==◌ xs ≡ true → has ◌==◌ xs y ≡ false → no_repeat ◌==◌ (xs ++ y ∷ []) ≡ true
 no_repeat_push [] y e f = refl
 no_repeat_push (x ∷ xs) y e f =
-    let apart = or_false (x == y) (has ◌==◌ xs y) f in
-    let first = not_true (has ◌==◌ xs x) (and_left _ (no_repeat ◌==◌ xs) e) in
+    let apart = or_parts (x == y) (has ◌==◌ xs y) f in
+    let first = not-true (has ◌==◌ xs x) (and_left _ (no_repeat ◌==◌ xs) e) in
     let rest = no_repeat_push xs y (and_right (not (has ◌==◌ xs x)) _ e) apart.1 in
     rw (list_any-append (λ z. z == x) xs (y ∷ []), first, eq_swap y x, apart.0, rest) refl
 
@@ -174,10 +167,10 @@ no_repeat-apart (x ∷ xs) ys v e in_xs =
     go (x == v) refl in_xs (no_repeat-apart xs ys v (and_right (not (has ◌==◌ (xs ++ ys) x)) _ e))
   where
     first : has ◌==◌ (xs ++ ys) x ≡ false
-    first = not_true (has ◌==◌ (xs ++ ys) x) (and_left _ (no_repeat ◌==◌ (xs ++ ys)) e)
+    first = not-true (has ◌==◌ (xs ++ ys) x) (and_left _ (no_repeat ◌==◌ (xs ++ ys)) e)
 
     out : has ◌==◌ ys x ≡ false
-    out = (or_false (has ◌==◌ xs x) (has ◌==◌ ys x) (sym (list_any-append (λ z. z == x) xs ys) ∙ first)).1
+    out = (or_parts (has ◌==◌ xs x) (has ◌==◌ ys x) (sym (list_any-append (λ z. z == x) xs ys) ∙ first)).1
 
     go : (b : Bool) → (x == v) ≡ b → (b || has ◌==◌ xs v) ≡ true → (has ◌==◌ xs v ≡ true → has ◌==◌ ys v ≡ false) → has ◌==◌ ys v ≡ false
     go true t h rest = let same : x ≡ v = grind (arith, nat_tests, t) in subst (λ (n : ℕ). has ◌==◌ ys n ≡ false) same out

@@ -72,6 +72,10 @@ abbrev pub nodes_of : AigPair → List Node
 nodes_of net =
     Const ∷ (map Input (range_with_len 0 (length net.a.inputs)) ++ map (λ d. d.node) (definitions net))
 
+-- the node at a position
+abbrev pub node_at : AigPair → ℕ → Node
+node_at net p = slice_index_or (nodes_of net) p Const
+
 -- the place of a node in that order; none for an XOR and for a node that isn't there
 abbrev pub position_of : AigPair → Node → Option ℕ
 position_of net node = place_of (λ n. same_node n node) (nodes_of net)
@@ -94,6 +98,10 @@ placed net l = record { position = unwrap_or (position_of net l.node) 0; neg = l
 
 abbrev pub fanins_of : AigPair → Definition → Fanins
 fanins_of net d = record { left = placed net d.left; right = placed net d.right }
+
+-- the fanins of all gates, in the order of positions
+abbrev pub all_fanins : AigPair → List Fanins
+all_fanins net = map (fanins_of net) (definitions net)
 
 -- the fanins of gate k, the gates counted from 0 in the order of positions
 abbrev pub fanins_at : AigPair → ℕ → Option Fanins

@@ -12,8 +12,8 @@ use std::marker::Model;
 
 /// A combinational circuit: input variables, AND gates and output literals, each in order.
 ///
-/// Variables are those of AIGER, from 1 to 16,777,216, each defined once, as an input or by a gate. A gate's fanins
-/// are constants, inputs or earlier gates.
+/// Variables are those of AIGER, from 1 to 16,777,216, each defined once, as an input or by a gate. A gate's
+/// fanins are constants, inputs or earlier gates.
 #[derive(Drop)]
 pub struct Circuit {
     inputs: Vec<u32>,
@@ -28,9 +28,17 @@ impl Model for Circuit {
 
     ghost Value = { Aig };
 
-    ghost view = { λ c. record { inputs = c.inputs.items; gates = c.gates.items; outputs = c.outputs.items } };
+    ghost view = { λ c. record {
+      inputs = c.inputs.items;
+      gates = c.gates.items;
+      outputs = c.outputs.items;
+    } };
 
-    ghost invariant = { λ c. IsIndexed (record { inputs = c.inputs.items; gates = c.gates.items; outputs = c.outputs.items }) c.table };
+    ghost invariant = { λ c. IsIndexed (record {
+      inputs = c.inputs.items;
+      gates = c.gates.items;
+      outputs = c.outputs.items;
+    }) c.table };
 }
 
 impl Circuit {
@@ -41,8 +49,10 @@ impl Circuit {
         gates: Vec<And>,
         outputs: Vec<u32>,
     ) -> Result<Circuit, AllocError>
-        requires { IsCircuit (record { inputs = inputs.items; gates = gates.items; outputs = outputs.items }) }
-        ensures { IfOk result (λ c. c ≡ record { inputs = inputs.items; gates = gates.items; outputs = outputs.items }) }
+        requires { IsCircuit
+            (record { inputs = inputs.items; gates = gates.items; outputs = outputs.items }) }
+        ensures { IfOk result
+            (λ c. c ≡ record { inputs = inputs.items; gates = gates.items; outputs = outputs.items }) }
     {
         let table = VariableTable::of(alloc, inputs.as_slice(), gates.as_slice())?;
         Ok(Circuit::with_table(inputs, gates, outputs, table))
@@ -55,7 +65,8 @@ impl Circuit {
         outputs: Vec<u32>,
         table: VariableTable,
     ) -> Circuit
-        requires circuit { IsCircuit (record { inputs = inputs.items; gates = gates.items; outputs = outputs.items }) }
+        requires circuit { IsCircuit
+            (record { inputs = inputs.items; gates = gates.items; outputs = outputs.items }) }
         requires table { IsTable table (0 ∷ (inputs.items ++ gate_vars gates.items)) }
         ensures { result ≡ record { inputs = inputs.items; gates = gates.items; outputs = outputs.items } }
     {
@@ -65,6 +76,18 @@ impl Circuit {
             outputs,
             table,
         }
+    }
+
+    /// The same circuit once more.
+    pub fn copy(&self, alloc: Global) -> Result<Circuit, AllocError>
+        ensures { IfOk result (λ c. c ≡ self.now) }
+    {
+        Ok(Circuit {
+            inputs: Vec::from_slice(alloc, self.inputs.as_slice())?,
+            gates: Vec::from_slice(alloc, self.gates.as_slice())?,
+            outputs: Vec::from_slice(alloc, self.outputs.as_slice())?,
+            table: self.table.copy(alloc)?,
+        })
     }
 
     /// The inputs' variables, in order.

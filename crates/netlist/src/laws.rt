@@ -15,10 +15,11 @@ pub fn is_net(net: &Net)
     let _circuit = net.circuit(Side::A);
 }
 
-/// A law of every net: its miter is satisfiable exactly if, for some truth values of the inputs, some output differs.
+/// A law of every net: its miter is satisfiable exactly if, for some truth values of the inputs, some output
+/// differs.
 ///
 /// It does nothing when it runs.
-#[tactic(auto, using(crate::proofs::LawMiter::satisfiable))]
+#[tactic(auto, using(crate::proofs::SatisfiableMiter::satisfiable))]
 pub fn satisfiable_if_different(net: &Net)
     ensures { IsSatisfiable ⟦<Dim as Literal>⟧.opposite (miter_of net.now) ↔ Differ net.now }
 {
@@ -28,7 +29,7 @@ pub fn satisfiable_if_different(net: &Net)
 /// A law of every net: its miter is unsatisfiable exactly if both circuits agree on every input.
 ///
 /// It does nothing when it runs.
-#[tactic(auto, using(crate::proofs::LawMiter::unsatisfiable))]
+#[tactic(auto, using(crate::proofs::SatisfiableMiter::unsatisfiable))]
 pub fn unsatisfiable_if_equal(net: &Net)
     ensures { (¬ IsSatisfiable ⟦<Dim as Literal>⟧.opposite (miter_of net.now)) ↔ Agree net.now }
 {

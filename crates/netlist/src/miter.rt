@@ -10,10 +10,11 @@ use crate::pair::CircuitPair;
 use lits::{Clause, Dim, Lit, Literal, Node};
 use std::alloc::{AllocError, Global};
 
-/// The clauses of the miter: those that define each node, in the order of the variables, and last the clause that some
-/// pair of outputs differs.
+/// The clauses of the miter: those that define each node, in the order of the variables, and last the clause
+/// that some pair of outputs differs.
 ///
-/// Room for `count` clauses is taken at once: of a net with millions of gates it is most of what a check needs.
+/// Room for `count` clauses is taken at once: of a net with millions of gates it is most of what a check
+/// needs.
 pub fn miter(alloc: Global, pair: &CircuitPair, count: u32) -> Result<Vec<Clause<Dim>>, AllocError>
     ensures { IfOk result (λ v. v.items ≡ miter_of pair.now) }
 {

@@ -1,5 +1,5 @@
-ghost use Rattle.std.specs.Prelude.{◌≡◌, IfOk, IfSome, IfNone, MatchResult, length};
-ghost use Rattle.netlist.specs.Net.{IsNet, circuit_of, defined_by, fanins_at, lit_of, nodes_of, output_of, position_of};
+ghost use Rattle.std.specs.Prelude.{◌≡◌, ◌<◌, IfOk, IfSome, IfNone, MatchResult, length};
+ghost use Rattle.netlist.specs.Net.{IsNet, all_fanins, circuit_of, defined_by, fanins_at, lit_of, node_at, nodes_of, output_of, position_of};
 ghost use Rattle.netlist.specs.Miter.{axiom_of, axioms_of, clause_number_of, cnf_number_of, miter_of, variables_of};
 ghost use Rattle.netlist.specs.Unlike.{unlike_of};
 
@@ -17,23 +17,26 @@ use std::marker::Model;
 
 /// Two circuits with equal numbers of inputs and of outputs. Input k of both is one node.
 ///
-/// The nodes are numbered twice. Positions count from 0: the constant, the inputs, the gates of A in order, the gates
-/// of B in order. CNF variables count from 1 in the same order, and behind them come the XORs, one per output.
+/// The nodes are numbered twice. Positions count from 0: the constant, the inputs, the gates of A in order,
+/// the gates of B in order. CNF variables count from 1 in the same order, and behind them come the XORs, one
+/// per output.
 #[derive(Drop)]
 pub struct Net {
     pair: CircuitPair,
+    fanins: Vec<Fanins>,
     starts: ClauseStarts,
 }
 
 impl Model for Net {
-    ghost use Rattle.netlist.specs.Net.{AigPair};
+    ghost use Rattle.std.specs.Prelude.{◌≡◌};
+    ghost use Rattle.netlist.specs.Net.{AigPair, all_fanins};
     ghost use Rattle.netlist.specs.Starts.{AreStarts};
 
     ghost Value = { AigPair };
 
     ghost view = { λ n. n.pair };
 
-    ghost invariant = { λ n. AreStarts n.pair n.starts };
+    ghost invariant = { λ n. (n.fanins.items ≡ all_fanins n.pair) × AreStarts n.pair n.starts };
 }
 
 impl Net {
@@ -47,8 +50,24 @@ impl Net {
             return Err(unlike);
         }
         let pair = CircuitPair::of(a, b);
+        let fanins = pair.all_fanins(alloc)?;
         let starts = ClauseStarts::of(alloc, &pair)?;
-        Ok(Net { pair, starts })
+        Ok(Net {
+            pair,
+            fanins,
+            starts,
+        })
+    }
+
+    /// The same net once more, for who works on it while another keeps its own.
+    pub fn copy(&self, alloc: Global) -> Result<Net, AllocError>
+        ensures { IfOk result (λ n. n ≡ self.now) }
+    {
+        Ok(Net {
+            pair: self.pair.copy(alloc)?,
+            fanins: Vec::from_slice(alloc, self.fanins.as_slice())?,
+            starts: self.starts.copy(alloc)?,
+        })
     }
 
     /// The circuit of one side.
@@ -80,20 +99,36 @@ impl Net {
         self.pair.position(node)
     }
 
-    /// What defines a node: a gate with its fanins, an XOR with its two outputs; none exactly for the constant, an input
-    /// and a node that isn't there.
+    /// The node at a position.
+    pub fn node(&self, position: u32) -> Node
+        requires { position < length (nodes_of self.now) }
+        ensures { result ≡ node_at self.now position }
+    {
+        self.pair.node(position)
+    }
+
+    /// What defines a node: a gate with its fanins, an XOR with its two outputs; none exactly for the
+    /// constant, an input and a node that isn't there.
     pub fn definition(&self, node: Node) -> Option<Definition>
         ensures { result ≡ defined_by self.now node }
     {
         self.pair.definition(node)
     }
 
-    /// The fanins of gate k, the gates of A and then of B counted from 0, by their positions; none exactly where there
-    /// are no more gates.
+    /// The fanins of gate k, the gates of A and then of B counted from 0, by their positions; none exactly
+    /// where there are no more gates.
     pub fn fanins(&self, k: u32) -> Option<Fanins>
         ensures { result ≡ fanins_at self.now k }
     {
-        self.pair.fanins(k)
+        self.fanins.get(k as usize).copied()
+    }
+
+    /// The fanins of all gates, in the order of positions: what goes over every gate finds no variable by its
+    /// name.
+    pub fn all_fanins(&self) -> &[Fanins]
+        ensures { result.now ≡ all_fanins self.now }
+    {
+        self.fanins.as_slice()
     }
 
     /// The clauses that define the node.
@@ -114,8 +149,8 @@ impl Net {
         }
     }
 
-    /// The number in the miter, from 1, of clause k of those that define the node; none exactly where there is no
-    /// such clause.
+    /// The number in the miter, from 1, of clause k of those that define the node; none exactly where there
+    /// is no such clause.
     pub fn clause_number(&self, node: Node, k: u8) -> Option<u32>
         ensures { result ≡ clause_number_of self.now node k }
     {

@@ -1,8 +1,8 @@
-ghost use Rattle.std.specs.Prelude.{◌≡◌, ◌+◌, ◌*◌, ◌<◌, ◌≤◌, true, Some, IfSome, length, slice_get};
+ghost use Rattle.std.specs.Prelude.{◌≡◌, ◌+◌, ◌*◌, ◌<◌, ◌≤◌, true, Some, IfOk, IfSome, length, slice_get};
 ghost use Rattle.std.specs.Option.{option_map};
 ghost use Rattle.lits.specs.Clause.{has};
 ghost use Rattle.netlist.specs.Circuit.{most, is_over, variables_in};
-ghost use Rattle.netlist.specs.Net.{IsNet, circuit_of, defined_by, definition_of, difference, fanins_at, fanins_of, placed, lit_named, lit_of, nodes_of, output_of, position_of};
+ghost use Rattle.netlist.specs.Net.{IsNet, all_fanins, circuit_of, defined_by, definition_of, difference, fanins_at, fanins_of, placed, lit_named, lit_of, nodes_of, output_of, position_of};
 ghost use Rattle.lits.specs.Same.{same_node};
 ghost use Rattle.netlist.specs.Miter.{axioms_of, numbered, variable_of, variables_of};
 ghost use Rattle.netlist.specs.Short.{IsApart};
@@ -13,6 +13,7 @@ use crate::axioms::{Axioms, gate_count, xor_count};
 use crate::circuit::Circuit;
 use crate::gate::{And, Definition, Fanins, Placed, Source};
 use lits::{Dim, Lit, Node, Side};
+use std::alloc::{AllocError, Global};
 use std::marker::Model;
 
 /// How many inputs, gates and outputs a pair of circuits has.
@@ -50,6 +51,16 @@ impl CircuitPair {
         ensures { result ≡ record { a = a; b = b } }
     {
         CircuitPair { a, b }
+    }
+
+    /// The same pair once more.
+    pub fn copy(&self, alloc: Global) -> Result<CircuitPair, AllocError>
+        ensures { IfOk result (λ p. p ≡ self.now) }
+    {
+        Ok(CircuitPair {
+            a: self.a.copy(alloc)?,
+            b: self.b.copy(alloc)?,
+        })
     }
 
     /// The circuit of one side.
@@ -151,6 +162,19 @@ impl CircuitPair {
         } else {
             None
         }
+    }
+
+    /// The fanins of all gates, in the order of positions.
+    pub fn all_fanins(&self, alloc: Global) -> Result<Vec<Fanins>, AllocError>
+        ensures { IfOk result (λ v. v.items ≡ all_fanins self.now) }
+    {
+        let sizes = self.sizes();
+        let gates = sizes.gates_a + sizes.gates_b;
+        let mut all = Vec::with_capacity(alloc, gates as usize)?;
+        for k in 0..gates {
+            all.push(self.fanins(k).unwrap())?;
+        }
+        Ok(all)
     }
 
     /// The fanins of the gate with an index.

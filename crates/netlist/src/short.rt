@@ -74,7 +74,8 @@ impl Short {
         }
     }
 
-    /// The clause of three literals, the first over a node of its own; none where the others are each other's negation.
+    /// The clause of three literals, the first over a node of its own; none where the others are each other's
+    /// negation.
     pub(crate) fn of_three(first: Lit, second: Lit, third: Lit) -> Option<Short>
         requires second { first.node ≢ second.node }
         requires third { first.node ≢ third.node }

@@ -20,8 +20,8 @@ impl Model for ClauseStarts {
 }
 
 impl ClauseStarts {
-    /// The numbers of the first clauses of the pair's nodes, in the order of their variables, and last that of the
-    /// miter's last clause.
+    /// The numbers of the first clauses of the pair's nodes, in the order of their variables, and last that
+    /// of the miter's last clause.
     pub fn of(alloc: Global, pair: &CircuitPair) -> Result<ClauseStarts, AllocError>
         ensures { IfOk result (AreStarts pair.now) }
     {
@@ -34,6 +34,15 @@ impl ClauseStarts {
         }
         numbers.push(next)?;
         Ok(ClauseStarts { numbers })
+    }
+
+    /// The same numbers once more.
+    pub fn copy(&self, alloc: Global) -> Result<ClauseStarts, AllocError>
+        ensures { IfOk result (λ s. s ≡ self.now) }
+    {
+        Ok(ClauseStarts {
+            numbers: Vec::from_slice(alloc, self.numbers.as_slice())?,
+        })
     }
 
     /// The number of the first clause of the node with a variable, the variable counted from 0.

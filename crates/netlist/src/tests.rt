@@ -14,7 +14,8 @@ fn circuit(
     outputs: &[u32],
 ) -> Result<Circuit, AllocError>
     requires { IsCircuit (record { inputs = inputs.now; gates = gates.now; outputs = outputs.now }) }
-    ensures { IfOk result (λ c. c ≡ record { inputs = inputs.now; gates = gates.now; outputs = outputs.now }) }
+    ensures { IfOk result
+        (λ c. c ≡ record { inputs = inputs.now; gates = gates.now; outputs = outputs.now }) }
 {
     Circuit::of(
         alloc,
@@ -170,6 +171,10 @@ fn miter_of_n1(rt: HostRuntime) -> Result<(), Fail> {
     assert_eq!(rt; net.cnf_number(not_gate), Dim::of(-5));
     let axiom = net.axiom(GATE, 0).ok_or("an axiom")?;
     assert_eq!(rt; axiom.lits().first().copied(), Some(not_gate));
+    let copy = net.copy(rt.alloc())?;
+    assert_eq!(rt; copy.circuit(Side::A).gates(), net.circuit(Side::A).gates());
+    assert_eq!(rt; copy.circuit(Side::B).gates(), net.circuit(Side::B).gates());
+    assert_eq!(rt; copy.clause_number(GATE, 2), Some(7));
     Ok(())
 }
 
@@ -210,6 +215,7 @@ fn fanins_by_position(rt: HostRuntime) -> Result<(), Fail> {
     assert_eq!(rt; net.fanins(0), Some(a));
     assert_eq!(rt; net.fanins(1), Some(b));
     assert_eq!(rt; net.fanins(2), None);
+    assert_eq!(rt; net.all_fanins(), [a, b].as_slice());
     Ok(())
 }
 

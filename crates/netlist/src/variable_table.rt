@@ -35,6 +35,16 @@ impl VariableTable {
         }
     }
 
+    /// The same table once more.
+    pub fn copy(&self, alloc: Global) -> Result<VariableTable, AllocError>
+        ensures { IfOk result (λ t. t ≡ self.now) }
+    {
+        Ok(VariableTable {
+            places: Vec::from_slice(alloc, self.places.as_slice())?,
+            count: self.count,
+        })
+    }
+
     /// Puts a new variable last. The table reaches as far as the greatest variable.
     pub fn add(&mut self, var: u32) -> Result<(), AllocError>
         requires { self.old.count < 2 ^ 31 }

@@ -1,1 +1,1 @@
-pub mod StreamsLemmas
+mod StreamsLemmas

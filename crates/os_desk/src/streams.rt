@@ -12,10 +12,12 @@ use std::io::{Read, Write};
 // How many bytes one read asks for at most.
 const PIECE: usize = 262144;
 
-/// The bytes of the file, where it has at most `limit`. Of a longer one no more than one byte past the limit is read.
+/// The bytes of the file, where it has at most `limit`. Of a longer one no more than one byte past the limit
+/// is read.
 pub fn read_within<F: Read>(file: &mut F, alloc: Global, limit: u64) -> Result<Vec<u8>, ReadErr>
     ensures limit { IfOk result (λ v. length v.items ≤ limit) }
-    ensures bytes { IfOk result (λ v. limit < u64.MAX → IfSome (F.remaining file.old) (λ all. v.items ≡ all)) }
+    ensures bytes { IfOk result
+        (λ v. limit < u64.MAX → IfSome (F.remaining file.old) (λ all. v.items ≡ all)) }
     ensures long { IfErr result (λ e. e ≡ ReadErr.TooLong →
         IfSome (F.remaining file.old) (λ all. limit < length all)) }
 {

@@ -14,12 +14,9 @@ use Rattle.netlist.specs.declared.gate.And.{And}
 use Rattle.netlist.specs.Place.{before}
 use Rattle.netlist.specs.Net.{AigPair, IsNet, circuit_of, definition_of, gate_at, output_of}
 use Rattle.lits.specs.Same.{same_node}
+use Rattle.lits.proofs.Facts.{exact-node, all-slice_get}
 use Rattle.netlist.specs.Miter.{gate_clauses, kept, xor_axioms, axioms_of, axiom_of, variables_of, clauses_of, clause_number_of, positive, xors_of}
-use Rattle.netlist.proofs.PlaceLemmas.{slice_get-left, slice_get-right}
-use Rattle.netlist.proofs.LawNodes.{exact-node, any_from_find, range-has}
-use Rattle.netlist.proofs.LawThere.{has-gate, has-xor, has-variable}
-use Rattle.netlist.proofs.LawOver.{over-variables}
-use Rattle.unit_prop.proofs.ChainLemmas.{all-slice_get}
+use Rattle.netlist.proofs.Facts.{slice_get-left, slice_get-right, any_from_find, range-has, has-gate, has-xor, has-variable, over-variables}
 
 -- the node has a CNF variable
 abbrev pub there : AigPair → Node → Bool

@@ -1,5 +1,5 @@
 -- What a call that writes a proof leaves of the desk's counts.
-use Rattle.std.proofs.Common.{◌≡◌, ◌≤◌, ℕ, List, [], ◌∷◌, Result, Ok, Err, sym, ap, subst, arith, inl, inr}
+use Rattle.std.proofs.Common.{◌≡◌, ℕ, List, [], ◌∷◌, Result, Ok, Err, sym, ap, subst, arith, inl, inr}
 use Rattle.desk_port.specs.Desk.{DeskState, after_write, WriteFault, NoCountFalls}
 use Rattle.proof_stitch.specs.declared.stitch_err.StitchErr.{StitchErr}
 use Rattle.proof_stitch.specs.declared.stitch_err.StitchErr.TheVariants.{Write, NoMemory}

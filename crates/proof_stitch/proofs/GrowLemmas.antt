@@ -10,7 +10,7 @@ use Rattle.lits.specs.Dimacs.{DimacsLiteral}
 use Rattle.lits.specs.Clause.{has_pair}
 use Rattle.unit_prop.specs.declared.why.Why.{Why}
 use Rattle.unit_prop.specs.Step.{State, start_of, after_hint, fault_from, IsStep}
-use Rattle.netlist.proofs.PlaceLemmas.{slice_get-left, slice_get-right}
+use Rattle.netlist.proofs.Facts.{slice_get-left, slice_get-right}
 use Rattle.lrat_text.specs.declared.step.LratStep.{LratStep}
 use Rattle.lrat_text.specs.declared.step.LratStep.TheVariants.{Add, Del}
 use Rattle.lrat_text.specs.Writing.{numbered, IsId, IsInRange, AreWritable}

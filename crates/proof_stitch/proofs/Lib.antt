@@ -1,15 +1,15 @@
-pub mod RenameLemmas
-pub mod AxiomLemmas
-pub mod GrowLemmas
-pub mod StepLemmas
-pub mod EmptyLemmas
-pub mod XorLemmas
-pub mod BookLemmas
-pub mod RefutationLemmas
-pub mod WriterLemmas
-pub mod PlaceLemmas
-pub mod LogLemmas
-pub mod DerivationLemmas
-pub mod SpanLemmas
-pub mod DeskLemmas
-pub mod WorkedRows
+mod RenameLemmas
+mod AxiomLemmas
+mod GrowLemmas
+mod StepLemmas
+mod ShownLemmas
+mod EmptyLemmas
+mod XorLemmas
+mod BookLemmas
+mod RefutationLemmas
+mod WriterLemmas
+mod DerivationLemmas
+mod LogLemmas
+mod SpanLemmas
+mod DeskLemmas
+mod WorkedRows

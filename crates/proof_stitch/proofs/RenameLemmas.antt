@@ -5,24 +5,16 @@ use Rattle.std.specs.Prelude.{filter, map}
 use Rattle.std.specs.List.{AllByRecursion}
 use Rattle.std.proofs.lemmas.List.{map-append}
 use Rattle.lits.specs.Clause.{has, has_pair, firsts}
+use Rattle.lits.proofs.Facts.{all-append, all-filter}
 use Rattle.unit_prop.specs.declared.why.Why.{Why}
 use Rattle.unit_prop.specs.declared.why.Why.TheVariants.{AfterFalse, Satisfied}
 use Rattle.unit_prop.specs.Step.{State, start_of, open_in, is_satisfied, after_open, after_hint, fault_from, IsStep}
-use Rattle.unit_prop.proofs.ChainLemmas.{all-append}
 
 -- f tells the literals apart that P holds of, and negates as they are negated
 pub record IsRenaming {L M : Type 0} (eq : L → L → Bool) (opposite : L → L) (eq' : M → M → Bool) (opposite' : M → M) (f : L → M) (P : L → Type 0) : Type 0 where
   pub same : (x y : L) → P x → P y → eq' (f x) (f y) ≡ eq x y
   pub flips : (x : L) → f (opposite x) ≡ opposite' (f x)
   pub closed : (x : L) → P x → P (opposite x)
-
-pub all-filter : {X : Type 0} (P : X → Type 0) (p : X → Bool) (xs : List X) → AllByRecursion P xs → AllByRecursion P (filter p xs)
-all-filter P p [] all = tt
-all-filter P p (x ∷ xs) all = go (p x) refl (all-filter P p xs all.1)
-  where
-    go : (b : Bool) → p x ≡ b → AllByRecursion P (filter p xs) → AllByRecursion P (filter p (x ∷ xs))
-    go true e rest = rw e (all.0, rest)
-    go false e rest = rw e rest
 
 filter-map : {X Y : Type 0} (f : X → Y) (p : X → Bool) (q : Y → Bool) (xs : List X) → AllByRecursion (λ x. q (f x) ≡ p x) xs
     → filter q (map f xs) ≡ map f (filter p xs)

@@ -1,5 +1,5 @@
 -- The lines with the ids of a span are the log of its output.
-use Rattle.std.proofs.Common.{◌≡◌, ℕ, zero, suc, ◌+◌, ◌-◌, ◌<◌, ◌≤◌, Bool, true, false, List, [], ◌∷◌, ◌++◌, length, map, All, if◌then◌else◌, refl, sym, ap, ◌∙◌, subst, arith, inl, inr, ◌⊎◌, append_assoc}
+use Rattle.std.proofs.Common.{◌≡◌, ℕ, suc, ◌+◌, ◌-◌, ◌<◌, ◌≤◌, Bool, true, false, List, [], ◌∷◌, ◌++◌, length, map, if◌then◌else◌, refl, sym, ap, ◌∙◌, subst, arith, inl, inr, ◌⊎◌, append_assoc}
 use Rattle.std.specs.Prelude.{filter, nat_le, ◌&&◌}
 use Rattle.std.specs.List.{AllByRecursion}
 use Rattle.std.proofs.lemmas.List.{append-nil}
@@ -7,15 +7,15 @@ use Rattle.std.proofs.lemmas.List.Elements.{filter-append, All-from_recursion}
 use Rattle.std.proofs.lemmas.Bool.{le-leb}
 use Rattle.std.proofs.lemmas.Bool.Decides.{leb_tells}
 use Rattle.lits.specs.declared.step.Step.{Step}
+use Rattle.lits.proofs.Facts.{all-append}
 use Rattle.netlist.specs.Net.{AigPair}
 use Rattle.netlist.specs.Miter.{miter_of}
-use Rattle.unit_prop.proofs.ChainLemmas.{all-append}
 use Rattle.lemma_book.specs.declared.entry.Entry.{Entry}
 use Rattle.lrat_text.specs.declared.step.LratStep.{LratStep}
 use Rattle.proof_stitch.specs.declared.logs.Span.{Span}
-use Rattle.proof_stitch.specs.Steps.{addition, additions_from, additions}
-use Rattle.proof_stitch.specs.Stitch.{out_steps, out_additions}
-use Rattle.proof_stitch.specs.Derivation.{has_spent, spent_log, outputs_of, derivation_of, id_in, with_ids, IsSpan, AreSpans, span_of, spans_from, spans_of}
+use Rattle.proof_stitch.specs.Steps.{additions_from, additions}
+use Rattle.proof_stitch.specs.Written.{written_steps, shown_ids, book_additions}
+use Rattle.proof_stitch.specs.Derivation.{has_spent, spent_log, outputs_of, derivation_of, id_in, with_ids, IsSpan, AreSpans, spans_from, spans_of}
 use Rattle.proof_stitch.proofs.BookLemmas.{total}
 use Rattle.proof_stitch.proofs.RefutationLemmas.{length-additions}
 use Rattle.proof_stitch.proofs.DerivationLemmas.{additions-append}
@@ -31,20 +31,20 @@ wider a b c d (x ∷ xs) low high all =
     let here : IsBetween a b x = all.0 in
     (record { low = omega (arith, here.low); high = omega (arith, here.high) }, wider a b c d xs low high all.1)
 
-between-from : (net : AigPair) (first id : ℕ) (steps : List Step) → AllByRecursion (IsBetween id (id + length steps)) (additions_from net first id steps)
-between-from net first id [] = tt
-between-from net first id (s ∷ ss) = (
+between-from : (net : AigPair) (shown : List ℕ) (first id : ℕ) (steps : List Step) → AllByRecursion (IsBetween id (id + length steps)) (additions_from net shown first id steps)
+between-from net shown first id [] = tt
+between-from net shown first id (s ∷ ss) = (
   record { low = omega arith; high = omega arith },
-  wider (id + 1) (id + 1 + length ss) id (id + suc (length ss)) (additions_from net first (id + 1) ss) (omega arith) (omega arith) (between-from net first (id + 1) ss),
+  wider (id + 1) (id + 1 + length ss) id (id + suc (length ss)) (additions_from net shown first (id + 1) ss) (omega arith) (omega arith) (between-from net shown first (id + 1) ss),
 )
 
-between-lists : (net : AigPair) (id : ℕ) (lists : List (List Step)) → AllByRecursion (IsBetween id (id + total lists)) (additions net id lists)
-between-lists net id [] = tt
-between-lists net id (steps ∷ lists) =
-    all-append (IsBetween id (id + (length steps + total lists))) (additions_from net id id steps) (additions net (id + length steps) lists)
-    (wider id (id + length steps) id (id + (length steps + total lists)) (additions_from net id id steps) (omega arith) (omega arith) (between-from net id id steps))
-    (wider (id + length steps) (id + length steps + total lists) id (id + (length steps + total lists)) (additions net (id + length steps) lists)
-    (omega arith) (omega arith) (between-lists net (id + length steps) lists))
+between-lists : (net : AigPair) (shown : List ℕ) (id : ℕ) (lists : List (List Step)) → AllByRecursion (IsBetween id (id + total lists)) (additions net shown id lists)
+between-lists net shown id [] = tt
+between-lists net shown id (steps ∷ lists) =
+    all-append (IsBetween id (id + (length steps + total lists))) (additions_from net shown id id steps) (additions net shown (id + length steps) lists)
+    (wider id (id + length steps) id (id + (length steps + total lists)) (additions_from net shown id id steps) (omega arith) (omega arith) (between-from net shown id id steps))
+    (wider (id + length steps) (id + length steps + total lists) id (id + (length steps + total lists)) (additions net shown (id + length steps) lists)
+    (omega arith) (omega arith) (between-lists net shown (id + length steps) lists))
 
 -- an id outside, and one inside
 is_out : (p q i : ℕ) → (i < p) ⊎ (q < i) → (nat_le p i && nat_le i q) ≡ false
@@ -96,28 +96,28 @@ own-lines before own behind first n end some low here high =
 -- the spans of some outputs' logs that stand behind other lines
 module _ (net : AigPair) (entries : List Entry) where
   abbrev Lines : List LratStep → Span → Type 0
-  Lines all s = with_ids s.first s.last all ≡ additions_from net s.first s.first (spent_log entries s.output)
+  Lines all s = with_ids s.first s.last all ≡ additions_from net (shown_ids net entries) s.first s.first (spent_log entries s.output)
 
   spans-lines : (before : List LratStep) (id : ℕ) (js : List ℕ) → 1 ≤ id → AllByRecursion (IsBetween 0 id) before
-      → AllByRecursion (Lines (before ++ additions net id (map (spent_log entries) js))) (spans_from entries id js)
+      → AllByRecursion (Lines (before ++ additions net (shown_ids net entries) id (map (spent_log entries) js))) (spans_from entries id js)
   spans-lines before id [] some low = tt
   spans-lines before id (j ∷ js) some low =
       go (has_spent entries j) refl
-      (spans-lines (before ++ additions_from net id id (spent_log entries j)) (id + length (spent_log entries j)) js (omega arith) further)
+      (spans-lines (before ++ additions_from net (shown_ids net entries) id id (spent_log entries j)) (id + length (spent_log entries j)) js (omega arith) further)
     where
       own : List LratStep
-      own = additions_from net id id (spent_log entries j)
+      own = additions_from net (shown_ids net entries) id id (spent_log entries j)
 
       next : ℕ
       next = id + length (spent_log entries j)
 
       behind : List LratStep
-      behind = additions net next (map (spent_log entries) js)
+      behind = additions net (shown_ids net entries) next (map (spent_log entries) js)
 
       further : AllByRecursion (IsBetween 0 next) (before ++ own)
       further =
           all-append (IsBetween 0 next) before own (wider 0 id 0 next before (omega arith) (omega arith) low)
-          (wider id next 0 next own (omega arith) (omega arith) (between-from net id id (spent_log entries j)))
+          (wider id next 0 next own (omega arith) (omega arith) (between-from net (shown_ids net entries) id id (spent_log entries j)))
 
       regrouped : AllByRecursion (Lines (before ++ own ++ behind)) (spans_from entries next js)
           → AllByRecursion (Lines (before ++ (own ++ behind))) (spans_from entries next js)
@@ -127,7 +127,7 @@ module _ (net : AigPair) (entries : List Entry) where
           → AllByRecursion (Lines (before ++ (own ++ behind))) ((if b then record { output = j; first = id; last = next - 1 } ∷ [] else []) ++ spans_from entries next js)
       go true f rest = (
         own-lines before own behind id (length (spent_log entries j)) (next + total (map (spent_log entries) js)) some low
-            (between-from net id id (spent_log entries j)) (between-lists net next (map (spent_log entries) js)),
+            (between-from net (shown_ids net entries) id id (spent_log entries j)) (between-lists net (shown_ids net entries) next (map (spent_log entries) js)),
         regrouped rest,
       )
       go false f rest = regrouped rest
@@ -165,23 +165,23 @@ module _ (net : AigPair) (entries : List Entry) where
       m = length (miter_of net)
 
       start : ℕ
-      start = m + length (out_additions net entries) + 1
+      start = m + length (book_additions net entries) + 1
 
-      parts : derivation_of net entries ≡ out_additions net entries ++ additions net start (map (spent_log entries) (outputs_of net))
+      parts : derivation_of net entries ≡ book_additions net entries ++ additions net (shown_ids net entries) start (map (spent_log entries) (outputs_of net))
       parts =
-          let e : m + 1 + total (map out_steps entries) ≡ start = omega (arith, length-additions net (m + 1) (map out_steps entries)) in
-          additions-append net (m + 1) (map out_steps entries) (map (spent_log entries) (outputs_of net))
-          ∙ ap (λ (n : ℕ). out_additions net entries ++ additions net n (map (spent_log entries) (outputs_of net))) e
+          let e : m + 1 + total (map written_steps entries) ≡ start = omega (arith, length-additions net (shown_ids net entries) (m + 1) (map written_steps entries)) in
+          additions-append net (shown_ids net entries) (m + 1) (map written_steps entries) (map (spent_log entries) (outputs_of net))
+          ∙ ap (λ (n : ℕ). book_additions net entries ++ additions net (shown_ids net entries) n (map (spent_log entries) (outputs_of net))) e
 
-      below : AllByRecursion (IsBetween 0 start) (out_additions net entries)
+      below : AllByRecursion (IsBetween 0 start) (book_additions net entries)
       below =
-          wider (m + 1) (m + 1 + total (map out_steps entries)) 0 start (out_additions net entries) (omega arith)
-          (omega (arith, length-additions net (m + 1) (map out_steps entries))) (between-lists net (m + 1) (map out_steps entries))
+          wider (m + 1) (m + 1 + total (map written_steps entries)) 0 start (book_additions net entries) (omega arith)
+          (omega (arith, length-additions net (shown_ids net entries) (m + 1) (map written_steps entries))) (between-lists net (shown_ids net entries) (m + 1) (map written_steps entries))
 
       lines : AllByRecursion (Lines (derivation_of net entries)) (spans_of net entries)
       lines =
           subst (λ (l : List LratStep). AllByRecursion (Lines l) (spans_of net entries)) (sym parts)
-          (spans-lines (out_additions net entries) start (outputs_of net) (omega arith) below)
+          (spans-lines (book_additions net entries) start (outputs_of net) (omega arith) below)
 
       both : (spans : List Span) → AllByRecursion (Lines (derivation_of net entries)) spans
           → AllByRecursion (λ s. s.last + 1 ≡ s.first + length (spent_log entries s.output)) spans → AllByRecursion (IsSpan net entries) spans

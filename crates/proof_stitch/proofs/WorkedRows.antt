@@ -1,77 +1,22 @@
--- The definitions computed on a small net: two outputs, the input and its negation, the same on both sides. Its miter is
--- 1: (1), 2: (-3 2), 3: (-3 -2), 4: (-4 -2), 5: (-4 2), 6: (3 4), by hand from the text of the definitions.
-use Rattle.std.proofs.Common.{◌≡◌, ℕ, zero, suc, ◌<◌, true, false, List, [], ◌∷◌, refl, arith, lit<, lit≤}
+-- The definitions computed on two small nets, by hand from the text of the definitions.
+use Rattle.std.proofs.Common.{◌≡◌, ℕ, true, false, List, [], ◌∷◌, refl, lit<, lit≤}
 use Rattle.lits.specs.Dimacs.{DimacsLiteral}
-use Rattle.lits.specs.declared.node.Node.TheVariants.{Input, Xor}
-use Rattle.lits.specs.declared.step.Ref.TheVariants.{Axiom, Own}
+use Rattle.lits.specs.declared.node.Side.TheVariants.{A, B}
+use Rattle.lits.specs.declared.node.Node.{Node}
+use Rattle.lits.specs.declared.node.Node.TheVariants.{Input, Gate, Xor}
+use Rattle.lits.specs.declared.step.Ref.TheVariants.{Axiom, Entry as Shown, Own}
 use Rattle.lits.specs.declared.step.Step.{Step}
-use Rattle.netlist.specs.Circuit.{Aig, IsCircuit}
+use Rattle.netlist.specs.Circuit.{Aig}
 use Rattle.netlist.specs.Net.{AigPair}
 use Rattle.netlist.specs.Miter.{positive, negative}
 use Rattle.lrat_text.specs.declared.step.LratStep.TheVariants.{Add}
 use Rattle.lemma_book.specs.declared.entry.Entry.{Entry}
-use Rattle.lemma_book.specs.declared.entry.Entry.TheVariants.{Out, OutSpent}
+use Rattle.lemma_book.specs.declared.entry.Entry.TheVariants.{Merge, Spent, Out, OutSpent}
 use Rattle.lemma_book.specs.Entry.{Entries}
 use Rattle.lemma_book.specs.Book.{IsLegal}
-use Rattle.proof_stitch.specs.Stitch.{HasOut, refutation_of}
+use Rattle.lemma_book.proofs.Facts.{good-merge, good-out}
+use Rattle.proof_stitch.specs.Stitch.{has_out, refutation_of}
 use Rattle.proof_stitch.specs.Derivation.{derivation_of, spans_of}
-
-abbrev pub wire : Aig
-wire = record { inputs = 1 ∷ []; gates = []; outputs = 2 ∷ 3 ∷ [] }
-
-abbrev pub wires : AigPair
-wires = record { a = wire; b = wire }
-
-pub wire_is_circuit : IsCircuit wire
-wire_is_circuit = record { inputs = refl; gates = tt; outputs = refl; range = refl; count = lit≤ tt }
-
--- output 1 in one step, and output 0 in two
-abbrev pub only : Step
-only = record { clause = negative (Xor 1) ∷ []; hints = Axiom (Xor 1) 0 ∷ Axiom (Xor 1) 1 ∷ [] }
-
-abbrev pub first : Step
-first = record { clause = negative (Xor 0) ∷ positive (Input 0) ∷ []; hints = Axiom (Xor 0) 0 ∷ [] }
-
-abbrev pub second : Step
-second = record { clause = negative (Xor 0) ∷ []; hints = Own 0 ∷ Axiom (Xor 0) 1 ∷ [] }
-
-abbrev pub wire_entries : List Entry
-wire_entries = Out 1 (only ∷ []) ∷ Out 0 (first ∷ second ∷ []) ∷ []
-
-abbrev pub wire_book : Entries
-wire_book = record { out_budget = 1; entries = wire_entries }
-
-pub wires_legal : IsLegal wires wire_book
-wires_legal = (
-  record {
-    output = lit< tt;
-    unsettled = refl;
-    shown = record {
-      over = ((refl, tt), tt);
-      shape = record { before = []; last = only; parts = refl; unit = refl };
-      count = lit≤ tt;
-      chain = (refl, tt);
-    };
-  },
-  (
-    record {
-      output = lit< tt;
-      unsettled = refl;
-      shown = record {
-        over = ((refl, (refl, tt)), ((refl, tt), tt));
-        shape = record { before = first ∷ []; last = second; parts = refl; unit = refl };
-        count = lit≤ tt;
-        chain = (refl, (refl, tt));
-      };
-    },
-    tt,
-  ),
-)
-
-pub wires_outs : (j : ℕ) → j < 2 → HasOut wire_entries j ≡ true
-wires_outs zero lt = refl
-wires_outs (suc zero) lt = refl
-wires_outs (suc (suc j)) lt = absurd (omega arith)
 
 abbrev n : ℕ → DimacsLiteral
 n v = record { var = v; neg = true }
@@ -79,7 +24,94 @@ n v = record { var = v; neg = true }
 abbrev p : ℕ → DimacsLiteral
 p v = record { var = v; neg = false }
 
-refutation_of-wires : refutation_of wires wire_entries
+-- Two AND gates of the same two inputs, in either order: gate a has the CNF variable 4, gate b 5 and the XOR 6. The miter
+-- is 1: (1), 2: (-4 2), 3: (-4 3), 4: (4 -2 -3), 5: (-5 3), 6: (-5 2), 7: (5 -3 -2), 8: (-6 4 5), 9: (-6 -4 -5),
+-- 10: (6 -4 5), 11: (6 4 -5), 12: (6).
+abbrev swapped : AigPair
+swapped = record {
+  a = record { inputs = 1 ∷ 2 ∷ []; gates = record { var = 3; left = 2; right = 4 } ∷ []; outputs = 6 ∷ [] };
+  b = record { inputs = 1 ∷ 2 ∷ []; gates = record { var = 3; left = 4; right = 2 } ∷ []; outputs = 6 ∷ [] };
+}
+
+abbrev a : Node
+a = Gate A 3
+
+abbrev b : Node
+b = Gate B 3
+
+-- b has a's value, and so the output is equal
+abbrev merge_steps : List Step
+merge_steps =
+    record { clause = negative b ∷ positive a ∷ []; hints = Axiom b 0 ∷ Axiom b 1 ∷ Axiom a 2 ∷ [] }
+    ∷ record { clause = positive b ∷ negative a ∷ []; hints = Axiom a 0 ∷ Axiom a 1 ∷ Axiom b 2 ∷ [] } ∷ []
+
+abbrev equal_steps : List Step
+equal_steps =
+    record { clause = negative (Xor 0) ∷ positive a ∷ []; hints = Axiom (Xor 0) 0 ∷ Shown 0 0 ∷ [] }
+    ∷ record { clause = negative (Xor 0) ∷ []; hints = Own 0 ∷ Shown 0 1 ∷ Axiom (Xor 0) 1 ∷ [] } ∷ []
+
+abbrev merged : Entry
+merged = Merge b (positive a) merge_steps
+
+abbrev swapped_book : Entries
+swapped_book = record { sweep_budget = 1; out_budget = 1; entries = merged ∷ Out 0 equal_steps ∷ [] }
+
+swapped_legal : IsLegal swapped swapped_book
+swapped_legal = (
+  good-merge swapped (record { sweep_budget = 1; out_budget = 1; entries = [] }) b (positive a) merge_steps (refl, refl)
+      ((refl, (refl, tt)), ((refl, (refl, tt)), tt)) refl (lit< tt)
+      (record { before = []; last = merge_steps; parts = refl; clauses_are = refl }) (lit≤ tt) (refl, (refl, tt)),
+  (
+    good-out swapped (record { sweep_budget = 1; out_budget = 1; entries = merged ∷ [] }) 0 equal_steps (lit< tt)
+        ((refl, (refl, tt)), ((refl, tt), tt)) refl
+        (record {
+          before = record { clause = negative (Xor 0) ∷ positive a ∷ []; hints = Axiom (Xor 0) 0 ∷ Shown 0 0 ∷ [] } ∷ [];
+          last = record { clause = negative (Xor 0) ∷ []; hints = Own 0 ∷ Shown 0 1 ∷ Axiom (Xor 0) 1 ∷ [] } ∷ [];
+          parts = refl;
+          clauses_are = refl;
+        })
+        (lit≤ tt) (refl, (refl, tt)),
+    tt,
+  ),
+)
+
+swapped_out : has_out (merged ∷ Out 0 equal_steps ∷ []) 0 ≡ true
+swapped_out = refl
+
+-- the steps of both entries by their ids, and the empty clause
+refutation_of-swapped : refutation_of swapped (merged ∷ Out 0 equal_steps ∷ [])
+    ≡ Add 13 (n 5 ∷ p 4 ∷ []) (5 ∷ 6 ∷ 4 ∷ []) ∷ Add 14 (p 5 ∷ n 4 ∷ []) (2 ∷ 3 ∷ 7 ∷ [])
+    ∷ Add 15 (n 6 ∷ p 4 ∷ []) (8 ∷ 13 ∷ []) ∷ Add 16 (n 6 ∷ []) (15 ∷ 14 ∷ 9 ∷ []) ∷ Add 17 [] (16 ∷ 12 ∷ []) ∷ []
+refutation_of-swapped = refl
+
+-- the log of a query about two nodes takes no ids
+spent_entries : List Entry
+spent_entries = Spent b (positive a) 0 merge_steps ∷ merged ∷ OutSpent 0 2 (record { clause = negative (Xor 0) ∷ positive a ∷ []; hints = Axiom (Xor 0) 0 ∷ Shown 1 0 ∷ [] } ∷ []) ∷ []
+
+derivation_of-swapped : derivation_of swapped spent_entries
+    ≡ Add 13 (n 5 ∷ p 4 ∷ []) (5 ∷ 6 ∷ 4 ∷ []) ∷ Add 14 (p 5 ∷ n 4 ∷ []) (2 ∷ 3 ∷ 7 ∷ []) ∷ Add 15 (n 6 ∷ p 4 ∷ []) (8 ∷ 13 ∷ []) ∷ []
+unfolding spent_entries
+derivation_of-swapped = refl
+
+-- Two outputs, the input and its negation, the same on both sides. The miter is 1: (1), 2: (-3 2), 3: (-3 -2), 4: (-4 -2),
+-- 5: (-4 2), 6: (3 4).
+abbrev wire : Aig
+wire = record { inputs = 1 ∷ []; gates = []; outputs = 2 ∷ 3 ∷ [] }
+
+abbrev wires : AigPair
+wires = record { a = wire; b = wire }
+
+-- output 1 in one step, and output 0 in two
+abbrev only : Step
+only = record { clause = negative (Xor 1) ∷ []; hints = Axiom (Xor 1) 0 ∷ Axiom (Xor 1) 1 ∷ [] }
+
+abbrev first : Step
+first = record { clause = negative (Xor 0) ∷ positive (Input 0) ∷ []; hints = Axiom (Xor 0) 0 ∷ [] }
+
+abbrev second : Step
+second = record { clause = negative (Xor 0) ∷ []; hints = Own 0 ∷ Axiom (Xor 0) 1 ∷ [] }
+
+refutation_of-wires : refutation_of wires (Out 1 (only ∷ []) ∷ Out 0 (first ∷ second ∷ []) ∷ [])
     ≡ Add 7 (n 4 ∷ []) (4 ∷ 5 ∷ []) ∷ Add 8 (n 3 ∷ p 2 ∷ []) (2 ∷ []) ∷ Add 9 (n 3 ∷ []) (8 ∷ 3 ∷ [])
     ∷ Add 10 [] (9 ∷ 7 ∷ 6 ∷ []) ∷ []
 refutation_of-wires = refl

@@ -11,14 +11,11 @@ use Rattle.lits.specs.contracts.dimacs.DimEq.TheImpl.Laws as dim_eq
 use Rattle.lits.specs.contracts.dimacs.DimLiteral.TheImpl.Laws as dim
 use Rattle.lits.specs.declared.node.Node.TheVariants.{Xor}
 use Rattle.lits.specs.declared.literal.Lit.{Lit}
-use Rattle.lits.proofs.ClauseLemmas.{IsLiteral, is_literal}
+use Rattle.lits.proofs.Facts.{IsLiteral, is_literal, exact-lit, list_any-map}
 use Rattle.netlist.specs.Net.{AigPair}
 use Rattle.netlist.specs.Miter.{positive, negative, axioms_of, variables_of, xors_of, clauses_of, numbered, miter_of}
 use Rattle.lits.specs.Same.{same_lit, same_dim, opposite_dim}
-use Rattle.netlist.proofs.PlaceLemmas.{slice_get-left, slice_get-right}
-use Rattle.netlist.proofs.LawNodes.{exact-lit, equal-number, list_any-map, range-has}
-use Rattle.netlist.proofs.LawThere.{has-xor}
-use Rattle.netlist.proofs.LawNumbers.{numbered-same}
+use Rattle.netlist.proofs.Facts.{slice_get-left, slice_get-right, equal-number, range-has, has-xor, numbered-same}
 use Rattle.lrat_text.specs.Derivation.{formula_live}
 use Rattle.proof_stitch.proofs.AxiomLemmas.{there}
 use Rattle.proof_stitch.proofs.GrowLemmas.{Formula, live-is}

@@ -1,7 +1,8 @@
--- What a book derives from the miter where queries of some outputs spent their budget: the steps of its Out entries, and
--- then the logs of those queries.
-use Rattle.std.specs.Prelude.{◌≡◌, ℕ, ◌+◌, ◌-◌, ◌==◌, ◌&&◌, nat_le, Bool, false, List, [], ◌∷◌, ◌++◌, length, map, filter, All, if◌then◌else◌}
-use Rattle.std.specs.List.{list_any, range_with_len}
+-- What a book derives from the miter where queries of some outputs spent their budget: the steps of its Merge and Out
+-- entries, and then the logs of those queries.
+use Rattle.std.specs.Prelude.{◌≡◌, ℕ, ◌+◌, ◌-◌, ◌&&◌, nat_le, Bool, true, false, List, [], ◌∷◌, ◌++◌, length, map, filter, All, if◌then◌else◌}
+use Rattle.std.specs.List.{range_with_len}
+use Rattle.std.specs.Option.{option_map_or}
 use Rattle.lits.specs.declared.step.Step.{Step}
 use Rattle.netlist.specs.Net.{AigPair}
 use Rattle.netlist.specs.Miter.{miter_of}
@@ -11,40 +12,49 @@ use Rattle.lrat_text.specs.Reading.{SpellsLrat}
 use Rattle.lrat_text.specs.Writing.{numbered}
 use Rattle.lrat_text.specs.Derivation.{Derives}
 use Rattle.lemma_book.specs.declared.entry.Entry.{Entry}
-use Rattle.lemma_book.specs.declared.entry.Entry.TheVariants.{Out, OutApart, OutSpent}
+use Rattle.lemma_book.specs.declared.entry.Entry.TheVariants.{Merge, Apart, Spent, Out, OutApart, OutSpent}
+use Rattle.lemma_book.specs.Entry.{about}
 use Rattle.proof_stitch.specs.Steps.{additions_from, additions}
 use Rattle.proof_stitch.specs.Text.{proof_text}
-use Rattle.proof_stitch.specs.Stitch.{out_steps, out_additions}
+use Rattle.proof_stitch.specs.Written.{written_steps, shown_ids, book_additions}
 use Rattle.proof_stitch.specs.declared.logs.Span.{Span}
 
--- the entry says that the output's query spent its budget
-abbrev pub is_spent : ℕ → Entry → Bool
-is_spent j (Out k steps) = false
-is_spent j (OutApart k input) = false
-is_spent j (OutSpent k seen log) = k == j
+-- the entry says that its output's query spent its budget
+abbrev pub is_spent : Entry → Bool
+is_spent (Merge node lit steps) = false
+is_spent (Apart node lit input) = false
+is_spent (Spent node lit seen log) = false
+is_spent (Out j steps) = false
+is_spent (OutApart j input) = false
+is_spent (OutSpent j seen log) = true
 
--- some entry does
+-- the output's entry does
 abbrev pub has_spent : List Entry → ℕ → Bool
-has_spent entries j = list_any (is_spent j) entries
+has_spent entries j = option_map_or is_spent (about entries j) false
 
+-- the log of an output's query that spent its budget
 abbrev pub log_of : Entry → List Step
+log_of (Merge node lit steps) = []
+log_of (Apart node lit input) = []
+log_of (Spent node lit seen log) = []
 log_of (Out j steps) = []
 log_of (OutApart j input) = []
 log_of (OutSpent j seen log) = log
 
 -- the log of the output's query, if it spent its budget
 abbrev pub spent_log : List Entry → ℕ → List Step
-spent_log [] j = []
-spent_log (e ∷ es) j = if is_spent j e then log_of e else spent_log es j
+spent_log entries j = option_map_or log_of (about entries j) []
 
 -- the outputs in order
 abbrev pub outputs_of : AigPair → List ℕ
 outputs_of net = range_with_len 0 (length net.a.outputs)
 
--- the derivation: the steps of the Out entries in the order of the book, then the logs in the order of the outputs
+-- the derivation: the steps of the Merge and Out entries in the order of the book, then the logs in the order of the
+-- outputs
 abbrev pub derivation_of : AigPair → List Entry → List LratStep
 derivation_of net entries =
-    additions net (length (miter_of net) + 1) (map out_steps entries ++ map (spent_log entries) (outputs_of net))
+    additions net (shown_ids net entries) (length (miter_of net) + 1)
+    (map written_steps entries ++ map (spent_log entries) (outputs_of net))
 
 -- the lines derive from the miter, and their text spells them
 pub record IsDerivation (net : AigPair) (lines : List LratStep) : Type 0 where
@@ -63,7 +73,7 @@ with_ids p q lines = filter (λ l. nat_le p (id_in l) && nat_le (id_in l) q) lin
 -- the derivation's lines with the span's ids are the log of the output's query, a line for each of its steps
 pub record IsSpan (net : AigPair) (entries : List Entry) (span : Span) : Type 0 where
   pub lines : with_ids span.first span.last (derivation_of net entries)
-      ≡ additions_from net span.first span.first (spent_log entries span.output)
+      ≡ additions_from net (shown_ids net entries) span.first span.first (spent_log entries span.output)
   pub count : span.last + 1 ≡ span.first + length (spent_log entries span.output)
 
 -- one span for each output whose query spent its budget, in the order of outputs
@@ -84,4 +94,4 @@ spans_from entries id (j ∷ js) = span_of entries id j ++ spans_from entries (i
 -- those of a book's derivation, computed: they are its spans (`laws::derives`)
 abbrev pub spans_of : AigPair → List Entry → List Span
 spans_of net entries =
-    spans_from entries (length (miter_of net) + length (out_additions net entries) + 1) (outputs_of net)
+    spans_from entries (length (miter_of net) + length (book_additions net entries) + 1) (outputs_of net)

@@ -1,6 +1,6 @@
 pub mod Steps
 pub mod Ids
 pub mod Text
-pub mod Derivation
-pub mod Places
+pub mod Written
 pub mod Stitch
+pub mod Derivation

@@ -1,5 +1,5 @@
-ghost use Rattle.std.specs.Prelude.{◌≡◌, IfOk, IsSome, map};
-ghost use Rattle.std.specs.List.{All};
+ghost use Rattle.std.specs.Prelude.{◌≡◌, ◌+◌, ◌<◌, ◌^◌, IfOk, IsSome, map};
+ghost use Rattle.std.specs.List.{All, slice_index_or};
 ghost use Rattle.netlist.specs.Miter.{numbered, cnf_number_of};
 ghost use Rattle.proof_stitch.specs.Steps.{id_of, addition};
 ghost use Rattle.proof_stitch.specs.Ids.{HasId, HasIds};
@@ -9,19 +9,21 @@ use lrat_text::LratStep;
 use netlist::Net;
 use std::alloc::{AllocError, Global};
 
-/// The addition of a step under that id. `first` is the id of the first step of its list.
+/// The addition of a step under that id. `first` is the id of the first step of its list, and `shown` has by entry of the
+/// book the id of the first of the clauses that the entry shows.
 pub fn addition(
     alloc: Global,
     net: &Net,
+    shown: &[u64],
     first: u64,
     id: u64,
     step: &Step,
 ) -> Result<LratStep, AllocError>
-    requires { HasIds net.now first step.now }
-    ensures { IfOk result (λ a. a ≡ addition net.now first id step.now) }
+    requires { HasIds net.now shown.now first step.now }
+    ensures { IfOk result (λ a. a ≡ addition net.now shown.now first id step.now) }
 {
     let clause = numbers(alloc, net, step.clause.lits())?;
-    let hints = ids(alloc, net, first, step.hints.as_slice())?;
+    let hints = ids(alloc, net, shown, first, step.hints.as_slice())?;
     Ok(LratStep::Add {
         id,
         clause: Listed::of(clause),
@@ -47,24 +49,37 @@ fn number(net: &Net, lit: Lit) -> Dim
     net.cnf_number(lit).unwrap()
 }
 
-fn ids(alloc: Global, net: &Net, first: u64, hints: &[Ref]) -> Result<Vec<u64>, AllocError>
-    requires { All (HasId net.now first) hints.now }
-    ensures { IfOk result (λ v. v.items ≡ map (id_of net.now first) hints.now) }
+fn ids(
+    alloc: Global,
+    net: &Net,
+    shown: &[u64],
+    first: u64,
+    hints: &[Ref],
+) -> Result<Vec<u64>, AllocError>
+    requires { All (HasId net.now shown.now first) hints.now }
+    ensures { IfOk result (λ v. v.items ≡ map (id_of net.now shown.now first) hints.now) }
 {
     let mut ids = Vec::with_capacity(alloc, hints.len())?;
     for hint in hints {
-        ids.push(id(net, first, *hint))?;
+        ids.push(id(net, shown, first, *hint))?;
     }
     Ok(ids)
 }
 
-fn id(net: &Net, first: u64, name: Ref) -> u64
-    requires { HasId net.now first name }
-    ensures { result ≡ id_of net.now first name }
+fn id(net: &Net, shown: &[u64], first: u64, name: Ref) -> u64
+    requires { HasId net.now shown.now first name }
+    ensures { result ≡ id_of net.now shown.now first name }
 {
     match name {
         Ref::Axiom(node, k) => u64::from(net.clause_number(node, k).unwrap()),
-        Ref::Entry(_, _) => 0,
+        Ref::Entry(entry, k) => first_shown(shown, entry) + u64::from(k),
         Ref::Own(k) => first + k,
     }
+}
+
+/// The id of the first of the clauses that an entry shows.
+pub fn first_shown(shown: &[u64], entry: u64) -> u64
+    ensures { result ≡ slice_index_or shown.now entry 0 }
+{
+    shown.get(entry as usize).copied().unwrap_or(0)
 }

@@ -2,7 +2,7 @@
 //! nothing when it runs.
 ghost use Rattle.std.specs.Prelude.{◌≡◌, ◌<◌, ℕ, length, true};
 ghost use Rattle.lemma_book.specs.Book.{IsLegal};
-ghost use Rattle.proof_stitch.specs.Stitch.{HasOut, refutation_of, IsRefutation};
+ghost use Rattle.proof_stitch.specs.Stitch.{has_out, refutation_of, IsRefutation};
 ghost use Rattle.proof_stitch.specs.Derivation.{derivation_of, spans_of, IsDerivation, AreSpans};
 
 use lemma_book::Book;
@@ -12,10 +12,11 @@ use netlist::Net;
 /// A legal book that shows each output equal refutes the miter.
 pub fn refutes(net: &Net, book: &Book)
     requires { IsLegal net.now book.now }
-    ensures { ((j : ℕ) → j < length net.now.a.outputs → HasOut book.now.entries j ≡ true)
+    ensures { ((j : ℕ) → j < length net.now.a.outputs → has_out book.now.entries j ≡ true)
         → IsRefutation net.now (refutation_of net.now book.now.entries) }
 {
     net.clauses();
+    book.sweep_budget();
     book.out_budget();
     written_text();
 }
@@ -27,6 +28,7 @@ pub fn derives(net: &Net, book: &Book)
     ensures spans { AreSpans net.now book.now.entries (spans_of net.now book.now.entries) }
 {
     net.clauses();
+    book.sweep_budget();
     book.out_budget();
     written_text();
 }

@@ -1,14 +1,12 @@
-ghost use Rattle.std.specs.Prelude.{◌≡◌, ◌+◌, ◌<◌, ◌==◌, ◌^◌, [], ◌∷◌, ◌++◌, All, IfOk, OnOk, length, map, true};
-ghost use Rattle.lits.specs.Clause.{no_repeat};
+ghost use Rattle.std.specs.Prelude.{◌≡◌, ◌+◌, ◌<◌, ◌^◌, [], ◌∷◌, ◌++◌, IfOk, OnOk, length, map};
+ghost use Rattle.std.specs.List.{All};
 ghost use Rattle.lrat_text.specs.Writing.{text_from};
-ghost use Rattle.lemma_book.specs.Entry.{output_of};
 ghost use Rattle.lemma_book.specs.Book.{IsLegal};
 ghost use Rattle.proof_stitch.specs.Steps.{additions_from, additions};
 ghost use Rattle.proof_stitch.specs.Ids.{HasIds};
-ghost use Rattle.proof_stitch.specs.Derivation.{is_spent, log_of, spent_log, outputs_of, span_of, spans_from};
-ghost use Rattle.proof_stitch.specs.Places.{IsPlace};
+ghost use Rattle.proof_stitch.specs.Written.{shown_ids};
+ghost use Rattle.proof_stitch.specs.Derivation.{spent_log, outputs_of, span_of, spans_from};
 
-use crate::places::spent_places;
 use crate::proof_text::ProofText;
 use lemma_book::{Book, Entry};
 use netlist::Net;
@@ -27,82 +25,51 @@ pub fn push_logs(
     alloc: Global,
     net: &Net,
     book: &Book,
+    shown: &[u64],
     proof: &mut ProofText,
 ) -> Result<Vec<Span>, AllocError>
     requires legal { IsLegal net.now book.now }
+    requires shown { shown.now ≡ shown_ids net.now book.now.entries }
     requires room { proof.old.last < 2 ^ 60 }
     ensures text { OnOk result (proof.new.text.items ≡ proof.old.text.items
         ++ text_from proof.old.last
-        (additions net.now (proof.old.last + 1) (map (spent_log book.now.entries) (outputs_of net.now)))) }
+        (additions net.now (shown_ids net.now book.now.entries) (proof.old.last + 1)
+        (map (spent_log book.now.entries) (outputs_of net.now)))) }
     ensures spans { IfOk result (λ spans. spans.items
         ≡ spans_from book.now.entries (proof.old.last + 1) (outputs_of net.now)) }
 {
+    net.clauses();
+    book.sweep_budget();
     book.out_budget();
-    let entries = book.entries();
-    let places = spent_places(alloc, entries, net.outputs())?;
     let mut spans = Vec::new(alloc);
     for output in 0..net.outputs() {
-        push_output(
-            alloc,
-            net,
-            entries,
-            output,
-            places[output as usize],
-            proof,
-            &mut spans,
-        )?;
+        push_log(alloc, net, book, shown, output, proof, &mut spans)?;
     }
     Ok(spans)
 }
 
-/// Adds the log of an output, whose entry stands at that place, if it has one.
-fn push_output(
-    alloc: Global,
-    net: &Net,
-    entries: &[Entry],
-    output: u32,
-    place: Option<usize>,
-    proof: &mut ProofText,
-    spans: &mut Vec<Span>,
-) -> Result<(), AllocError>
-    requires distinct { no_repeat ◌==◌ (map output_of entries.now) ≡ true }
-    requires place { IsPlace entries.now output place }
-    requires ids { All (HasIds net.now (proof.old.last + 1)) (spent_log entries.now output) }
-    requires room { proof.old.last + length (spent_log entries.now output) + 1 < 2 ^ 64 }
-    ensures text { OnOk result (proof.new.text.items ≡ proof.old.text.items
-        ++ text_from proof.old.last
-        (additions_from net.now (proof.old.last + 1) (proof.old.last + 1) (spent_log entries.now output))) }
-    ensures last { OnOk result (proof.new.last ≡ proof.old.last + length (spent_log entries.now output)) }
-    ensures spans { OnOk result (spans.new.items
-        ≡ spans.old.items ++ span_of entries.now (proof.old.last + 1) output) }
-{
-    match place {
-        Some(place) => push_log(alloc, net, output, &entries[place], proof, spans),
-        None => Ok(()),
-    }
-}
-
+/// Adds the log of an output, if its query spent its budget.
 fn push_log(
     alloc: Global,
     net: &Net,
+    book: &Book,
+    shown: &[u64],
     output: u32,
-    entry: &Entry,
     proof: &mut ProofText,
     spans: &mut Vec<Span>,
 ) -> Result<(), AllocError>
-    requires spent { is_spent output entry.now ≡ true }
-    requires ids { All (HasIds net.now (proof.old.last + 1)) (log_of entry.now) }
-    requires room { proof.old.last + length (log_of entry.now) + 1 < 2 ^ 64 }
+    requires ids { All (HasIds net.now shown.now (proof.old.last + 1)) (spent_log book.now.entries output) }
+    requires room { proof.old.last + length (spent_log book.now.entries output) + 1 < 2 ^ 64 }
     ensures text { OnOk result (proof.new.text.items ≡ proof.old.text.items
         ++ text_from proof.old.last
-        (additions_from net.now (proof.old.last + 1) (proof.old.last + 1) (log_of entry.now))) }
-    ensures last { OnOk result (proof.new.last ≡ proof.old.last + length (log_of entry.now)) }
-    ensures spans { OnOk result (spans.new.items ≡ spans.old.items
-        ++ record { output = output; first = proof.old.last + 1; last = proof.old.last + length (log_of entry.now) } ∷ []) }
+        (additions_from net.now shown.now (proof.old.last + 1) (proof.old.last + 1) (spent_log book.now.entries output))) }
+    ensures last { OnOk result (proof.new.last ≡ proof.old.last + length (spent_log book.now.entries output)) }
+    ensures spans { OnOk result (spans.new.items
+        ≡ spans.old.items ++ span_of book.now.entries (proof.old.last + 1) output) }
 {
-    if let Entry::OutSpent { log, .. } = entry {
+    if let Some(Entry::OutSpent { log, .. }) = book.about(output) {
         let first = proof.last + 1;
-        proof.push_steps(alloc, net, log.as_slice())?;
+        proof.push_steps(alloc, net, shown, log.as_slice())?;
         spans.push(Span {
             output,
             first,

@@ -55,17 +55,24 @@ impl ProofText {
         Ok(())
     }
 
-    /// Adds the clauses of a list of steps.
-    pub fn push_steps(&mut self, alloc: Global, net: &Net, steps: &[Step]) -> Result<(), AllocError>
-        requires ids { All (HasIds net.now (self.old.last + 1)) steps.now }
+    /// Adds the clauses of a list of steps. `shown` has by entry of the book the id of the first of the clauses that the
+    /// entry shows.
+    pub fn push_steps(
+        &mut self,
+        alloc: Global,
+        net: &Net,
+        shown: &[u64],
+        steps: &[Step],
+    ) -> Result<(), AllocError>
+        requires ids { All (HasIds net.now shown.now (self.old.last + 1)) steps.now }
         requires room { self.old.last + length steps.now + 1 < 2 ^ 64 }
         ensures text { OnOk result (self.new.text.items ≡ self.old.text.items
-            ++ text_from self.old.last (additions_from net.now (self.old.last + 1) (self.old.last + 1) steps.now)) }
+            ++ text_from self.old.last (additions_from net.now shown.now (self.old.last + 1) (self.old.last + 1) steps.now)) }
         ensures last { OnOk result (self.new.last ≡ self.old.last + length steps.now) }
     {
         let first = self.last + 1;
         for step in steps {
-            self.push_step(alloc, net, first, step)?;
+            self.push_step(alloc, net, shown, first, step)?;
         }
         Ok(())
     }
@@ -75,16 +82,17 @@ impl ProofText {
         &mut self,
         alloc: Global,
         net: &Net,
+        shown: &[u64],
         first: u64,
         step: &Step,
     ) -> Result<(), AllocError>
-        requires ids { HasIds net.now first step.now }
+        requires ids { HasIds net.now shown.now first step.now }
         requires room { self.old.last + 1 < 2 ^ 64 }
         ensures text { OnOk result (self.new.text.items ≡ self.old.text.items
-            ++ line_text self.old.last (addition net.now first (self.old.last + 1) step.now)) }
+            ++ line_text self.old.last (addition net.now shown.now first (self.old.last + 1) step.now)) }
         ensures last { OnOk result (self.new.last ≡ self.old.last + 1) }
     {
-        let addition = addition(alloc, net, first, self.last + 1, step)?;
+        let addition = addition(alloc, net, shown, first, self.last + 1, step)?;
         self.push(&addition)
     }
 }

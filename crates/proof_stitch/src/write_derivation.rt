@@ -3,18 +3,19 @@ ghost use Rattle.lemma_book.specs.Book.{IsLegal};
 ghost use Rattle.proof_stitch.specs.Text.{proof_text, Stitches};
 ghost use Rattle.proof_stitch.specs.Derivation.{derivation_of, spans_of, IsDerivation, AreSpans};
 
+use crate::entries::push_entries;
 use crate::laws;
 use crate::logs::{Span, push_logs};
-use crate::outs::push_outs;
 use crate::proof_text::ProofText;
+use crate::shown::shown_ids;
 use crate::stitch_err::StitchErr;
 use desk_port::Desk;
 use lemma_book::Book;
 use netlist::Net;
 use std::alloc::{AllocError, Global};
 
-/// Writes to the started file what the book derives from the miter: the steps of its Out entries in order, and then the
-/// logs of its OutSpent entries in order of outputs. It gives the ids of the logs, output by output.
+/// Writes to the started file what the book derives from the miter: the steps of its Merge and Out entries in order,
+/// and then the logs of its OutSpent entries in order of outputs. It gives the ids of the logs, output by output.
 pub fn derivation<D: Desk>(
     alloc: Global,
     net: &Net,
@@ -48,9 +49,11 @@ fn whole_derivation(
     ensures spans { IfOk result (λ p. p.1.items ≡ spans_of net.now book.now.entries) }
     ensures whole { IfOk result (λ p. All (λ s. s.last + 1 ≡ s.first + book.now.out_budget) p.1.items) }
 {
+    book.sweep_budget();
     book.out_budget();
     let mut proof = ProofText::new(alloc, u64::from(net.clauses()));
-    push_outs(alloc, net, book, &mut proof)?;
-    let spans = push_logs(alloc, net, book, &mut proof)?;
+    let shown = shown_ids(alloc, net, book)?;
+    push_entries(alloc, net, book, shown.as_slice(), &mut proof)?;
+    let spans = push_logs(alloc, net, book, shown.as_slice(), &mut proof)?;
     Ok((proof, spans))
 }

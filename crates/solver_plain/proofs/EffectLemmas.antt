@@ -2,12 +2,13 @@
 use Rattle.std.proofs.Common.{◌≡◌, Bool, true, false, not, ◌||◌, List, [], ◌∷◌, ◌++◌, Some, None, Ok, refl, sym, ap, ◌∙◌, subst, ◌⊎◌, inl, inr}
 use Rattle.std.specs.Prelude.{filter}
 use Rattle.std.specs.List.{find}
+use Rattle.std.proofs.lemmas.Bool.{or_cases, and_parts, and_from}
 use Rattle.lits.specs.Clause.{has, firsts}
-use Rattle.lits.proofs.ClauseLemmas.{IsLiteral}
+use Rattle.lits.proofs.Facts.{IsLiteral}
 use Rattle.unit_prop.specs.Closure.{forces, is_negated}
 use Rattle.unit_prop.specs.Propagation.{IsConsistent}
 use Rattle.unit_prop.specs.Step.{open_in, is_satisfied, after_hint}
-use Rattle.unit_prop.proofs.LiteralLemmas.{or_cases, and_both, both, contrary, witness, has-filter, all-true, all-at}
+use Rattle.unit_prop.proofs.Facts.{contrary, witness, has-filter, all-true, all-at}
 use Rattle.solver_plain.specs.Effect.{IsUnit, IsQuiet}
 use Rattle.solver_plain.proofs.ListLemmas.{not_true, list_all-not, find-some, find-none, firsts-one}
 
@@ -26,7 +27,7 @@ module _ {L : Type 0} {eq : L → L → Bool} {opposite : L → L} (laws : IsLit
       → has eq set l ≡ false → forces eq opposite (has eq set) clause l ≡ true → IsUnit eq opposite set clause l
   unit-of_first set clause l e missing forced =
       let found = find-some laws (λ m. not (has eq set (opposite m))) clause l e in
-      record { free = record { fresh = missing; apart = not_true _ found.1 }; forced = both _ _ found.0 forced }
+      record { free = record { fresh = missing; apart = not_true _ found.1 }; forced = and_from _ _ found.0 forced }
 
   quiet-of_first : (set clause : List L) (l : L) → find (λ m. not (has eq set (opposite m))) clause ≡ Some l
       → (forces eq opposite (has eq set) clause l ≡ true → has eq set l ≡ true) → IsQuiet eq opposite set clause
@@ -69,7 +70,7 @@ module _ {L : Type 0} {eq : L → L → Bool} {opposite : L → L} (laws : IsLit
   not_satisfied-unit set clause l is unit = go (is_satisfied eq set clause) refl
     where
       forced : forces eq opposite (has eq set) clause l ≡ true
-      forced = (and_both (has eq clause l) (forces eq opposite (has eq set) clause l) unit.forced).1
+      forced = (and_parts (has eq clause l) (forces eq opposite (has eq set) clause l) unit.forced).1
 
       which : (m : L) → has eq set m ≡ true → (eq m l ≡ true) ⊎ (has eq set (opposite m) ≡ true) → is_satisfied eq set clause ≡ false
       which m h (inl f) = contrary _ h (ap (has eq set) (laws.exact m l f) ∙ unit.free.fresh)
@@ -89,7 +90,7 @@ module _ {L : Type 0} {eq : L → L → Bool} {opposite : L → L} (laws : IsLit
       empty : (xs : List L) → is_negated opposite (has eq set) xs ≡ true → filter (λ l. not (has eq set (opposite l))) xs ≡ []
       empty [] e = refl
       empty (x ∷ xs) e =
-          let parts = and_both (has eq set (opposite x)) (is_negated opposite (has eq set) xs) e in
+          let parts = and_parts (has eq set (opposite x)) (is_negated opposite (has eq set) xs) e in
           let here : has eq set (opposite x) ≡ true = parts.0 in
           rw here (empty xs parts.1)
 
@@ -102,13 +103,13 @@ module _ {L : Type 0} {eq : L → L → Bool} {opposite : L → L} (laws : IsLit
   after-unit set clause l is unit = rw (not_satisfied-unit set clause l is unit, one_open) refl
     where
       parts : (has eq clause l ≡ true) × (forces eq opposite (has eq set) clause l ≡ true)
-      parts = and_both (has eq clause l) (forces eq opposite (has eq set) clause l) unit.forced
+      parts = and_parts (has eq clause l) (forces eq opposite (has eq set) clause l) unit.forced
 
       inside : has eq (filter (λ m. not (has eq set (opposite m))) clause) l ≡ true
       inside = has-filter laws (λ m. not (has eq set (opposite m))) clause l ∙ rw (parts.0, unit.free.apart) refl
 
       same : (m : L) → has eq (filter (λ k. not (has eq set (opposite k))) clause) m ≡ true → eq m l ≡ true
-      same m h = go (and_both _ _ (sym (has-filter laws (λ k. not (has eq set (opposite k))) clause m) ∙ h))
+      same m h = go (and_parts _ _ (sym (has-filter laws (λ k. not (has eq set (opposite k))) clause m) ∙ h))
         where
           go : (has eq clause m ≡ true) × (not (has eq set (opposite m)) ≡ true) → eq m l ≡ true
           go in_both =

@@ -3,18 +3,17 @@ use Rattle.std.proofs.Common.{◌≡◌, ℕ, ◌+◌, ◌<◌, length, take, ge
 use Rattle.std.specs.Prelude.{map}
 use Rattle.std.specs.List.{AllByRecursion}
 use Rattle.std.proofs.lemmas.List.{take_more, map-append, append-nil}
+use Rattle.std.proofs.lemmas.Bool.{or_cases, or_left, or_right}
 use Rattle.lits.specs.Clause.{has, firsts}
 use Rattle.lits.specs.declared.literal.Lit.{Lit}
 use Rattle.lits.specs.declared.step.Named.{Named}
 use Rattle.lits.specs.declared.step.Step.{Step}
-use Rattle.lits.proofs.ClauseLemmas.{IsLiteral, has-append, has-firsts, firsts-push}
+use Rattle.lits.proofs.Facts.{IsLiteral, has-append, has-firsts, firsts-push, all-append}
 use Rattle.unit_prop.specs.New.{occurs}
 use Rattle.unit_prop.specs.Log.{base_clauses, clauses_of}
 use Rattle.lits.specs.Same.{same_lit, opposite}
 use Rattle.unit_prop.specs.Refuter.{is_over, IsOver}
-use Rattle.unit_prop.proofs.LitLaws.{lit_laws}
-use Rattle.unit_prop.proofs.LiteralLemmas.{or_cases, or_left, or_right}
-use Rattle.unit_prop.proofs.ChainLemmas.{all-append}
+use Rattle.unit_prop.proofs.Facts.{lit_laws}
 use Rattle.solver_plain.specs.Literals.{variable_of, is_free, with_lit}
 use Rattle.solver_plain.specs.Formula.{literals_of, variables_of, IsFormula}
 use Rattle.solver_plain.proofs.ListLemmas.{each-of, each-at, all-each}

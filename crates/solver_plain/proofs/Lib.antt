@@ -1,9 +1,10 @@
-pub mod ListLemmas
-pub mod EffectLemmas
-pub mod NameLemmas
-pub mod FormulaLemmas
-pub mod ScanLemmas
-pub mod SearchLemmas
-pub mod ModelLemmas
-pub mod SettleLemmas
-pub mod GuardLemmas
+pub mod Facts
+mod ListLemmas
+mod EffectLemmas
+mod NameLemmas
+mod FormulaLemmas
+mod ScanLemmas
+mod SearchLemmas
+mod ModelLemmas
+mod SettleLemmas
+mod GuardLemmas

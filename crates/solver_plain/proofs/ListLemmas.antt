@@ -2,9 +2,10 @@
 use Rattle.std.proofs.Common.{◌≡◌, ◌<◌, ◌≤◌, length, arith, Bool, true, false, not, ◌&&◌, List, [], ◌∷◌, ◌++◌, Some, None, refl, sym, ap, ◌∙◌, subst, ◌⊎◌, inl, inr}
 use Rattle.std.specs.Prelude.{filter}
 use Rattle.std.specs.List.{list_any, list_all, find, AllByRecursion}
+use Rattle.std.proofs.lemmas.Bool.{or_cases, or_left, or_right, and_parts}
 use Rattle.lits.specs.Clause.{has, firsts, no_repeat}
-use Rattle.lits.proofs.ClauseLemmas.{IsLiteral, has-firsts}
-use Rattle.unit_prop.proofs.LiteralLemmas.{or_cases, or_left, or_right, and_both, has-head, has-filter, all-at}
+use Rattle.lits.proofs.Facts.{IsLiteral, has-firsts}
+use Rattle.unit_prop.proofs.Facts.{has-head, has-filter, all-at}
 
 pub not_true : (b : Bool) → not b ≡ true → b ≡ false
 not_true true e = cc
@@ -114,7 +115,7 @@ module _ {L : Type 0} {eq : L → L → Bool} {opposite : L → L} (laws : IsLit
   firsts-same : (l : L) (xs : List L) → list_all (λ m. eq m l) xs ≡ true → (firsts eq xs ≡ []) ⊎ (firsts eq xs ≡ l ∷ [])
   firsts-same l [] all = inl refl
   firsts-same l (x ∷ xs) all =
-      let both = and_both (eq x l) (list_all (λ m. eq m l) xs) all in
+      let both = and_parts (eq x l) (list_all (λ m. eq m l) xs) all in
       inr (go both.0 (laws.exact x l both.0) (firsts-same l xs both.1))
     where
       go : eq x l ≡ true → x ≡ l → (firsts eq xs ≡ []) ⊎ (firsts eq xs ≡ l ∷ []) → firsts eq (x ∷ xs) ≡ l ∷ []
@@ -133,7 +134,7 @@ module _ {L : Type 0} {eq : L → L → Bool} {opposite : L → L} (laws : IsLit
   pub firsts-once : (xs : List L) → no_repeat eq xs ≡ true → firsts eq xs ≡ xs
   firsts-once [] once = refl
   firsts-once (x ∷ xs) once =
-      let both = and_both _ _ once in
+      let both = and_parts _ _ once in
       rw (firsts-once xs both.1) (ap (λ (ys : List L). x ∷ ys) (keep xs (not_true _ both.0)))
     where
       keep : (ys : List L) → has eq ys x ≡ false → filter (λ y. not (eq x y)) ys ≡ ys
@@ -150,7 +151,7 @@ module _ {L : Type 0} {eq : L → L → Bool} {opposite : L → L} (laws : IsLit
   pub no_repeat-filter : (p : L → Bool) (xs : List L) → no_repeat eq xs ≡ true → no_repeat eq (filter p xs) ≡ true
   no_repeat-filter p [] once = refl
   no_repeat-filter p (x ∷ xs) once =
-      let both = and_both _ _ once in
+      let both = and_parts _ _ once in
       go (p x) refl (not_true _ both.0) (no_repeat-filter p xs both.1)
     where
       go : (b : Bool) → p x ≡ b → has eq xs x ≡ false → no_repeat eq (filter p xs) ≡ true → no_repeat eq (filter p (x ∷ xs)) ≡ true

@@ -2,15 +2,15 @@
 use Rattle.std.proofs.Common.{◌≡◌, Bool, true, false, ◌||◌, List, [], ◌∷◌, None, refl, sym, ap, ◌∙◌, ◌⊎◌, inl, inr}
 use Rattle.std.specs.Prelude.{map}
 use Rattle.std.specs.List.{list_any, find, AllByRecursion}
+use Rattle.std.proofs.lemmas.Bool.{or_cases, or_left, or_right, and_parts}
 use Rattle.lits.specs.Clause.{has, no_repeat, has_pair, IsClause}
 use Rattle.lits.specs.declared.literal.Lit.{Lit}
-use Rattle.lits.proofs.ClauseLemmas.{IsLiteral}
+use Rattle.lits.proofs.Facts.{IsLiteral}
 use Rattle.unit_prop.specs.Closure.{is_negated}
 use Rattle.unit_prop.specs.Log.{base_clauses}
 use Rattle.lits.specs.Same.{same_lit, opposite}
 use Rattle.unit_prop.specs.Refuter.{is_over, IsOver, IsModel}
-use Rattle.unit_prop.proofs.LitLaws.{lit_laws}
-use Rattle.unit_prop.proofs.LiteralLemmas.{all-true, or_cases, or_left, or_right, and_both, has-head, has-map-opposite}
+use Rattle.unit_prop.proofs.Facts.{lit_laws, all-true, has-head, has-map-opposite}
 use Rattle.solver_plain.specs.Literals.{variable_of, is_free, value_in}
 use Rattle.solver_plain.specs.Formula.{Clauses, clauses_in, literals_of, variables_of}
 use Rattle.solver_plain.specs.Scan.{IsSound, IsOpenClosure}
@@ -24,7 +24,7 @@ module _ {L : Type 0} {eq : L → L → Bool} {opposite : L → L} (laws : IsLit
       → no_repeat eq (map f xs) ≡ true
   once-map f g [] undone once = refl
   once-map f g (x ∷ xs) undone once =
-      let both = and_both _ _ once in
+      let both = and_parts _ _ once in
       rw (
         apart xs (λ y h. undone y (or_right (eq x y) _ h)) (not_true _ both.0),
         once-map f g xs (λ y h. undone y (or_right (eq x y) _ h)) both.1,

@@ -4,6 +4,7 @@ use Rattle.std.specs.Prelude.{map, IfSome, IfNone}
 use Rattle.std.specs.List.{list_any, slice_get, AllByRecursion}
 use Rattle.std.proofs.lemmas.List.{take_more, take_all, map-append}
 use Rattle.std.proofs.lemmas.Option.{slice_get_read}
+use Rattle.std.proofs.lemmas.Bool.{and_parts, or_left, or_right}
 use Rattle.lits.specs.Clause.{has, no_repeat}
 use Rattle.lits.specs.declared.literal.Lit.{Lit}
 use Rattle.lits.specs.declared.step.Named.{Named}
@@ -11,11 +12,10 @@ use Rattle.lits.specs.declared.step.Step.{Step}
 use Rattle.lits.specs.declared.step.Ref.{Ref}
 use Rattle.lits.specs.declared.step.Ref.TheVariants.{Axiom, Entry, Own}
 use Rattle.lits.specs.contracts.step.RefEq.TheImpl.Laws as ref_eq
+use Rattle.lits.proofs.Facts.{all-slice_get, all-append}
 use Rattle.solver_plain.specs.Effect.{IsHint}
 use Rattle.solver_plain.specs.declared.formula.Hint.{Hint}
 use Rattle.unit_prop.specs.Log.{same_name, is_own, IsBase, base_clause, base_clauses, with_own, clauses_of}
-use Rattle.unit_prop.proofs.LiteralLemmas.{and_both, or_left, or_right}
-use Rattle.unit_prop.proofs.ChainLemmas.{all-slice_get, all-append}
 use Rattle.solver_plain.proofs.ListLemmas.{not_true, all-left, all-right, all-fail}
 
 -- what holds of each clause of a base holds of the one of a name
@@ -92,7 +92,7 @@ base_clause-at (x ∷ xs) differ zero n below at =
 base_clause-at (x ∷ xs) differ (suc i) n below at = go (same_name x.by n.by) refl (base_clause-at xs both.1 i n within at)
   where
     both : (not (has same_name (map (λ m. m.by) xs) x.by) ≡ true) × (no_repeat same_name (map (λ m. m.by) xs) ≡ true)
-    both = and_both _ _ differ
+    both = and_parts _ _ differ
 
     within : i < length xs
     within = omega (arith, below)

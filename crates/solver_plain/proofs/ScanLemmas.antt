@@ -3,21 +3,19 @@ use Rattle.std.proofs.Common.{◌≡◌, ℕ, ◌+◌, ◌<◌, length, take, ge
 use Rattle.std.specs.Prelude.{map, filter, if◌then◌else◌}
 use Rattle.std.specs.List.{AllByRecursion}
 use Rattle.std.proofs.lemmas.List.{take_more, map-append}
+use Rattle.std.proofs.lemmas.Bool.{or_left, or_right, and_parts}
 use Rattle.lits.specs.Clause.{has, firsts}
 use Rattle.lits.specs.declared.literal.Lit.{Lit}
 use Rattle.lits.specs.declared.step.Named.{Named}
 use Rattle.lits.specs.declared.step.Ref.{Ref}
 use Rattle.lits.specs.contracts.literal.LitLiteral.TheImpl.Laws as lit
-use Rattle.lits.proofs.ClauseLemmas.{has-append, has-firsts, firsts-push}
+use Rattle.lits.proofs.Facts.{has-append, has-firsts, firsts-push, all-append}
 use Rattle.unit_prop.specs.Closure.{is_negated}
 use Rattle.unit_prop.specs.Propagation.{IsFree, is_forced_by, IsSettled}
 use Rattle.unit_prop.specs.Step.{State, after_found, fault_from}
 use Rattle.lits.specs.Same.{same_lit, opposite}
 use Rattle.unit_prop.specs.Refuter.{is_over, IsOver}
-use Rattle.unit_prop.proofs.LitLaws.{lit_laws}
-use Rattle.unit_prop.proofs.LiteralLemmas.{or_left, or_right, and_both, contrary, has-map-opposite}
-use Rattle.unit_prop.proofs.ChainLemmas.{all-append}
-use Rattle.unit_prop.proofs.ClosureLemmas.{IsRound, round-next, round-clash, round-last, consistent-push}
+use Rattle.unit_prop.proofs.Facts.{lit_laws, contrary, has-map-opposite, IsRound, round-next, round-clash, round-last, consistent-push}
 use Rattle.solver_plain.specs.declared.effect.Effect.{Effect}
 use Rattle.solver_plain.specs.declared.effect.Effect.TheVariants.{Clashes, Forces}
 use Rattle.solver_plain.specs.declared.formula.Hint.{Hint}
@@ -90,7 +88,7 @@ free-less base set set' x more over free now =
 
     less : (l : Lit) → is_free set' l ≡ true → is_free set l ≡ true
     less l f =
-        let parts = and_both _ _ f in
+        let parts = and_parts _ _ f in
         rw (
           still l (has same_lit set l) refl (not_true _ parts.0),
           still (opposite l) (has same_lit set (opposite l)) refl (not_true _ parts.1),
@@ -131,7 +129,7 @@ module _ (f : Clauses) (over : AllByRecursion (IsOver f.base) (clauses_in f)) wh
   forces-over set h x hint e =
       each-at lit_laws (λ (l : Lit). is_over f.base l ≡ true) hint.clause x
       (all-named (IsOver f.base) f.base f.log h.by hint.clause over hint.named)
-      (and_both _ _ (hint-unit f set h x hint e).forced).0
+      (and_parts _ _ (hint-unit f set h x hint e).forced).0
 
   pub scanning-next : (given set : List Lit) (hints : List Ref) (h : Hint) (x : Lit) → IsScanning f given set hints
       → IsHint (clause_named f) set h → h.effect ≡ Forces x → IsScanning f given (set ++ x ∷ []) (hints ++ h.by ∷ [])

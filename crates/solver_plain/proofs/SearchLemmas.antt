@@ -6,12 +6,13 @@ use Rattle.std.specs.Option.{is_some}
 use Rattle.std.specs.List.{find}
 use Rattle.std.proofs.lemmas.List.{map-append}
 use Rattle.std.proofs.lemmas.List.Folds.{list_any-append}
+use Rattle.std.proofs.lemmas.Bool.{or_cases, or_left, or_right, and_parts}
 use Rattle.lits.specs.Clause.{has, firsts, no_repeat, has_pair, IsClause}
 use Rattle.lits.specs.declared.literal.Lit.{Lit}
 use Rattle.lits.specs.declared.step.Ref.{Ref}
 use Rattle.lits.specs.declared.step.Step.{Step}
 use Rattle.lits.specs.contracts.literal.LitLiteral.TheImpl.Laws as lit
-use Rattle.lits.proofs.ClauseLemmas.{has-append, no_repeat-push, has_pair-push}
+use Rattle.lits.proofs.Facts.{has-append, no_repeat-push, has_pair-push, all-append}
 use Rattle.unit_prop.specs.Closure.{IsClosed}
 use Rattle.unit_prop.specs.Propagation.{IsConsistent, IsFree}
 use Rattle.unit_prop.specs.New.{occurs, others_negated, Lacks, IsNew}
@@ -19,9 +20,7 @@ use Rattle.unit_prop.specs.Step.{IsStep}
 use Rattle.unit_prop.specs.Log.{base_clauses, clauses_of}
 use Rattle.lits.specs.Same.{same_lit, opposite}
 use Rattle.unit_prop.specs.Refuter.{is_over, IsOver}
-use Rattle.unit_prop.proofs.LitLaws.{lit_laws}
-use Rattle.unit_prop.proofs.LiteralLemmas.{or_cases, or_left, or_right, and_both, has-filter, has-map-opposite, contrary, alone}
-use Rattle.unit_prop.proofs.ChainLemmas.{all-append}
+use Rattle.unit_prop.proofs.Facts.{lit_laws, has-filter, has-map-opposite, contrary, alone}
 use Rattle.solver_plain.specs.Literals.{is_free}
 use Rattle.solver_plain.specs.Formula.{Clauses, clause_named, clauses_in, variables_of}
 use Rattle.solver_plain.specs.Scan.{IsSound, IsFreeVariable, IsOpenClosure, IsClash, IsScan, ClashesFrom}
@@ -103,7 +102,7 @@ pub record IsDeciding (f : Clauses) (target lits set : List Lit) : Type 0 where
 pub free-first : (f : Clauses) (set : List Lit) (v : Lit) → find (is_free set) (variables_of f.base) ≡ Some v → IsFreeVariable f set v
 free-first f set v e =
     let found = find-some lit_laws (is_free set) (variables_of f.base) v e in
-    let free = and_both _ _ found.1 in
+    let free = and_parts _ _ found.1 in
     record { over = variables-over f.base v found.0; free = record { fresh = not_true _ free.0; apart = not_true _ free.1 } }
 
 negation-free : (set : List Lit) (v : Lit) → IsFree same_lit opposite set v → IsFree same_lit opposite set (opposite v)
@@ -225,7 +224,7 @@ module _ (f : Clauses) (target lits set : List Lit) (v : Lit) (d : IsDeciding f 
       starts l h =
           let kept : has same_lit (filter (λ m. not (same_lit m v)) (lits ++ v ∷ [])) (opposite l) ≡ true =
           sym (has-map-opposite lit_laws (filter (λ m. not (same_lit m v)) (lits ++ v ∷ [])) l) ∙ h in
-          let both = and_both _ _ (sym (has-filter lit_laws (λ m. not (same_lit m v)) (lits ++ v ∷ []) (opposite l)) ∙ kept) in
+          let both = and_parts _ _ (sym (has-filter lit_laws (λ m. not (same_lit m v)) (lits ++ v ∷ []) (opposite l)) ∙ kept) in
           which (not_true _ both.1) (or_cases (has same_lit lits (opposite l)) (has same_lit (v ∷ []) (opposite l)) (sym (has-append lit_laws lits (v ∷ []) (opposite l)) ∙ both.0))
         where
           which : same_lit (opposite l) v ≡ false → (has same_lit lits (opposite l) ≡ true) ⊎ (has same_lit (v ∷ []) (opposite l) ≡ true) → has same_lit set l ≡ true

@@ -6,7 +6,7 @@ use Rattle.lits.specs.declared.step.Named.{Named}
 use Rattle.lits.specs.declared.step.Step.{Step}
 use Rattle.unit_prop.specs.Log.{InTurn, IsLearned}
 use Rattle.unit_prop.specs.Refuter.{IsUndecided, StaysUndecided}
-use Rattle.unit_prop.proofs.ChainLemmas.{in_turn-append}
+use Rattle.unit_prop.proofs.Facts.{in_turn-append}
 use Rattle.solver_plain.specs.Formula.{Clauses}
 use Rattle.solver_plain.specs.Search.{IsLearnedFor}
 

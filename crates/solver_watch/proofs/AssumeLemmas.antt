@@ -4,12 +4,12 @@ use Rattle.std.specs.Prelude.{is_none}
 use Rattle.std.specs.List.{AllByRecursion}
 use Rattle.std.proofs.lemmas.List.Elements.{All-get_or}
 use Rattle.std.proofs.Math.Nat.{eq-or-lt_of_le}
+use Rattle.std.proofs.lemmas.Bool.{or_cases, or_left, or_right}
 use Rattle.lits.specs.Clause.{has}
 use Rattle.lits.specs.Same.{same_lit, opposite}
 use Rattle.lits.specs.declared.literal.Lit.{Lit}
-use Rattle.unit_prop.proofs.LiteralLemmas.{or_cases, or_left, or_right}
-use Rattle.unit_prop.proofs.ChainLemmas.{all-append}
-use Rattle.solver_plain.proofs.ListLemmas.{all-each}
+use Rattle.lits.proofs.Facts.{all-append}
+use Rattle.solver_plain.proofs.Facts.{all-each}
 use Rattle.watch_lists.specs.Trail.{TrailState, IsTrail, Propagates, Decides, IsForced, put_at, lits_of, up_to, back_to, no_put}
 use Rattle.watch_lists.specs.declared.put.Put.{Put}
 use Rattle.solver_watch.specs.Assuming.{IsChosen, IsAssuming}

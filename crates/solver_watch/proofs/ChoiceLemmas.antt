@@ -2,13 +2,13 @@
 use Rattle.std.proofs.Common.{◌≡◌, ◌<◌, ◌+◌, ℕ, zero, suc, arith, true, false, inl, inr, List, [], ◌∷◌, take, get_or, length, None, sym, ap, subst, ◌∙◌}
 use Rattle.std.specs.List.{AllByRecursion}
 use Rattle.std.proofs.lemmas.List.{take_more}
+use Rattle.std.proofs.lemmas.Bool.{or_cases, or_left, or_right}
 use Rattle.lits.specs.Clause.{has, has_pair}
 use Rattle.lits.specs.Same.{same_lit, opposite}
 use Rattle.lits.specs.declared.literal.Lit.{Lit}
-use Rattle.lits.proofs.ClauseLemmas.{has-append}
-use Rattle.unit_prop.proofs.LitLaws.{lit_laws}
-use Rattle.unit_prop.proofs.LiteralLemmas.{contrary, or_cases, or_left, or_right, alone}
-use Rattle.solver_plain.proofs.SearchLemmas.{consistent-clause}
+use Rattle.lits.proofs.Facts.{has-append}
+use Rattle.unit_prop.proofs.Facts.{lit_laws, contrary, alone}
+use Rattle.solver_plain.proofs.Facts.{consistent-clause}
 use Rattle.watch_lists.specs.Codes.{flip, lit_at, IsCode}
 use Rattle.watch_lists.specs.Trail.{TrailState, IsTrail, put_at, lits_of}
 use Rattle.solver_watch.specs.Assuming.{IsChosen}

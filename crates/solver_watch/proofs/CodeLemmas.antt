@@ -1,13 +1,13 @@
 -- Codes of negations.
 use Rattle.std.proofs.Common.{◌≡◌, ◌<◌, ◌+◌, ◌-◌, ◌*◌, ◌/◌, ◌%◌, ℕ, arith, true, false, List, [], ◌∷◌, map, zero, suc, nat_eq, get_or, length, refl, ◌⊎◌, inl, inr}
 use Rattle.std.proofs.lemmas.Bool.Decides.{nat_tests}
+use Rattle.std.proofs.lemmas.Bool.{or_cases, or_left, or_right}
 use Rattle.lits.specs.Clause.{has}
 use Rattle.lits.specs.Same.{same_lit, opposite}
 use Rattle.lits.specs.declared.node.Node.{Node}
 use Rattle.lits.specs.declared.node.Node.TheVariants.{Const}
 use Rattle.lits.specs.declared.literal.Lit.{Lit}
-use Rattle.unit_prop.proofs.LitLaws.{lit_laws}
-use Rattle.unit_prop.proofs.LiteralLemmas.{or_cases, or_left, or_right}
+use Rattle.unit_prop.proofs.Facts.{lit_laws}
 use Rattle.watch_lists.specs.Codes.{flip, lit_at, IsCode}
 
 test-eq : (a b : ℕ) → a ≡ b → nat_eq a b ≡ true

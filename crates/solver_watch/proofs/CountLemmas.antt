@@ -3,7 +3,8 @@ use Rattle.std.proofs.Common.{◌≡◌, ◌≢◌, ◌<◌, ◌≤◌, ◌+◌,
 use Rattle.std.specs.Prelude.{if◌then◌else◌}
 use Rattle.std.proofs.lemmas.Bool.Decides.{nat_tests}
 use Rattle.std.proofs.Math.Nat.{eq-or-lt_of_le}
-use Rattle.unit_prop.proofs.LiteralLemmas.{contrary, or_left, or_right}
+use Rattle.std.proofs.lemmas.Bool.{or_left, or_right}
+use Rattle.unit_prop.proofs.Facts.{contrary}
 use Rattle.lits.specs.Clause.{has}
 use Rattle.watch_lists.specs.Trail.{put_at}
 use Rattle.watch_lists.specs.declared.put.Put.{Put}

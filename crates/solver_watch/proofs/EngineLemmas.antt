@@ -4,6 +4,7 @@ use Rattle.std.specs.Prelude.{map}
 use Rattle.std.specs.List.{list_any, AllByRecursion}
 use Rattle.std.proofs.lemmas.List.{map-append}
 use Rattle.std.proofs.Math.ListN.{get_or-append}
+use Rattle.std.proofs.lemmas.Bool.{or_cases, or_left, or_right}
 use Rattle.lits.specs.Clause.{has}
 use Rattle.lits.specs.Same.{same_lit, same_node, opposite}
 use Rattle.lits.specs.declared.node.Node.{Node}
@@ -14,17 +15,12 @@ use Rattle.unit_prop.specs.Closure.{is_negated, IsOpen}
 use Rattle.unit_prop.specs.Log.{IsBase, base_clauses, clauses_of}
 use Rattle.unit_prop.specs.Refuter.{is_over, IsOver, IsModel, IsAnswer, Answers}
 use Rattle.unit_prop.specs.declared.refuter.Refuted.{Refuted}
-use Rattle.solver_plain.proofs.SettleLemmas.{IsUnderWay}
+use Rattle.solver_plain.proofs.Facts.{IsUnderWay, each-of, each-at, all-fail, all-left, pair-none, over-opposite, all-occur}
 use Rattle.solver_watch.specs.declared.engine.Engine.{Engine}
 use Rattle.solver_watch.proofs.AssumeLemmas.{assuming-propagates}
-use Rattle.unit_prop.proofs.LitLaws.{lit_laws}
-use Rattle.unit_prop.proofs.LiteralLemmas.{contrary, or_cases, or_left, or_right, has-map-opposite, all-true, all-at, witness}
-use Rattle.unit_prop.proofs.ChainLemmas.{all-append}
+use Rattle.unit_prop.proofs.Facts.{lit_laws, contrary, has-map-opposite, all-true, all-at, witness}
 use Rattle.solver_plain.specs.Formula.{Clauses}
 use Rattle.solver_plain.specs.Search.{IsLearnedFor}
-use Rattle.solver_plain.proofs.ListLemmas.{each-of, each-at, all-fail, all-left}
-use Rattle.solver_plain.proofs.ModelLemmas.{pair-none}
-use Rattle.solver_plain.proofs.FormulaLemmas.{over-opposite, all-occur}
 use Rattle.watch_lists.specs.Trail.{TrailState, IsTrail, IsComplete, IsConflict, IsGround, IsQuiet, Adds, Propagates, put_at, clause_at, lits_of, up_to, back_to}
 use Rattle.watch_lists.specs.declared.put.Put.{Put}
 use Rattle.solver_watch.specs.declared.formula.Formula.{Formula}
@@ -39,6 +35,7 @@ use Rattle.solver_watch.proofs.CodeLemmas.{lit_at-variable}
 use Rattle.solver_watch.proofs.WalkLemmas.{ground-of}
 use Rattle.unit_prop.specs.Propagation.{IsFree}
 use Rattle.lits.specs.declared.node.Node.TheVariants.{Const}
+use Rattle.lits.proofs.Facts.{all-append}
 use Rattle.watch_lists.specs.Codes.{lit_at}
 
 -- the trail of a formula may change where clauses and variables stay

@@ -2,22 +2,19 @@
 use Rattle.std.proofs.Common.{◌≡◌, ◌<◌, ◌≤◌, ◌+◌, ℕ, arith, Bool, true, false, ◌||◌, ◌⊎◌, inl, inr, List, [], ◌∷◌, ◌++◌, take, length, Option, Some, None, refl, sym, ap, subst, ◌∙◌}
 use Rattle.std.specs.Prelude.{map}
 use Rattle.std.proofs.Math.Nat.{eq-or-lt_of_le}
+use Rattle.std.proofs.lemmas.Bool.{or_cases, or_left, or_right, and_from}
 use Rattle.lits.specs.Clause.{has, firsts, has_pair}
 use Rattle.lits.specs.Same.{same_lit, opposite}
 use Rattle.lits.specs.declared.literal.Lit.{Lit}
 use Rattle.lits.specs.declared.step.Ref.{Ref}
 use Rattle.lits.specs.contracts.literal.LitLiteral.TheImpl.Laws as lit
-use Rattle.lits.proofs.ClauseLemmas.{has-append, has-firsts}
+use Rattle.lits.proofs.Facts.{has-append, has-firsts}
 use Rattle.unit_prop.specs.Closure.{is_negated}
 use Rattle.unit_prop.specs.Propagation.{IsConsistent, IsFree}
 use Rattle.unit_prop.specs.Step.{start_of, fault_from, IsStep}
-use Rattle.unit_prop.proofs.LitLaws.{lit_laws}
-use Rattle.unit_prop.proofs.LiteralLemmas.{contrary, or_cases, or_left, or_right, both, alone, has-map-opposite, all-true, all-at}
-use Rattle.unit_prop.proofs.ClosureLemmas.{consistent-push}
+use Rattle.unit_prop.proofs.Facts.{lit_laws, contrary, alone, has-map-opposite, all-true, all-at, consistent-push}
 use Rattle.solver_plain.specs.Effect.{IsUnit}
-use Rattle.solver_plain.proofs.EffectLemmas.{after-negated, after-unit}
-use Rattle.solver_plain.proofs.ScanLemmas.{Brings, brings-push, brings-fault}
-use Rattle.solver_plain.proofs.SearchLemmas.{consistent-clause}
+use Rattle.solver_plain.proofs.Facts.{after-negated, after-unit, Brings, brings-push, brings-fault, consistent-clause}
 use Rattle.watch_lists.specs.Trail.{TrailState, IsTrail, put_at, clause_at, lits_of}
 use Rattle.solver_watch.specs.Marked.{is_marked, IsMet, AreMet, IsResolved, IsSupported}
 use Rattle.solver_watch.proofs.TrailLemmas.{has-at, place-of, place-one, place-before}
@@ -217,7 +214,7 @@ module _ (find : Ref → Option (List Lit)) (t : TrailState) (trail : IsTrail t)
           unit : IsUnit same_lit opposite h.set (clause_at t.clauses by) (put_at t.puts at).lit
           unit = record {
             free = free;
-            forced = both _ _ (ground-of t at by trail within forced).1
+            forced = and_from _ _ (ground-of t at by trail within forced).1
                 (all-true lit_laws (λ m. same_lit m (put_at t.puts at).lit || has same_lit h.set (opposite m)) (clause_at t.clauses by)
                 (λ l inside. either l (other l inside)));
           }

@@ -3,11 +3,12 @@ use Rattle.std.proofs.Common.{◌≡◌, ◌≢◌, ◌<◌, ◌≤◌, ◌+◌,
 use Rattle.std.specs.Prelude.{map, filter}
 use Rattle.std.specs.List.{AllByRecursion}
 use Rattle.std.proofs.lemmas.List.Folds.{list_any-append}
+use Rattle.std.proofs.lemmas.Bool.{or_cases, or_left, or_right, and_parts}
 use Rattle.lits.specs.Clause.{has, firsts, has_pair}
 use Rattle.lits.specs.Same.{same_lit, same_node, opposite}
 use Rattle.lits.specs.declared.literal.Lit.{Lit}
 use Rattle.lits.specs.declared.step.Step.{Step}
-use Rattle.lits.proofs.ClauseLemmas.{has-firsts}
+use Rattle.lits.proofs.Facts.{has-firsts}
 use Rattle.unit_prop.specs.Closure.{forces}
 use Rattle.unit_prop.specs.New.{occurs, others_negated, IsNew}
 use Rattle.unit_prop.specs.Log.{base_clauses, clauses_of}
@@ -16,10 +17,8 @@ use Rattle.unit_prop.specs.Step.{IsStep}
 use Rattle.lits.specs.declared.step.Ref.{Ref}
 use Rattle.solver_plain.specs.Formula.{clause_named}
 use Rattle.solver_watch.specs.Search.{IsLesson}
-use Rattle.unit_prop.proofs.LitLaws.{lit_laws}
-use Rattle.unit_prop.proofs.LiteralLemmas.{contrary, or_cases, or_left, or_right, and_both, has-filter, has-map-opposite, all-at}
-use Rattle.solver_plain.proofs.ListLemmas.{not_true, all-each, each-of, list_all-not}
-use Rattle.solver_plain.proofs.ModelLemmas.{pair-none}
+use Rattle.unit_prop.proofs.Facts.{lit_laws, contrary, has-filter, has-map-opposite, all-at}
+use Rattle.solver_plain.proofs.Facts.{not_true, all-each, each-of, list_all-not, pair-none}
 use Rattle.watch_lists.specs.Trail.{TrailState, IsTrail, IsQuiet, IsConflict, put_at, clause_at, lits_of, up_to}
 use Rattle.watch_lists.specs.declared.put.Put.{Put}
 use Rattle.solver_watch.specs.declared.cut.Cut.{Cut}
@@ -219,7 +218,7 @@ module _ (t : TrailState) (trail : IsTrail t) (point : ℕ) (cut : Cut) (is_cut 
           (firsts same_lit (negations_at t.puts (point ∷ cut.below.items)))) l) ∙ h in
           let g = sym (has-filter lit_laws (λ m. not (same_lit m (opposite (put_at t.puts point).lit)))
           (firsts same_lit (negations_at t.puts (point ∷ cut.below.items))) (opposite l)) ∙ f in
-          let parts = and_both _ _ g in
+          let parts = and_parts _ _ g in
           start_of_place l parts.0 (not_true _ parts.1)
 
   -- below the second highest level two of the goal's literals aren't negated

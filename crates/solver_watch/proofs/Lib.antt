@@ -1,14 +1,14 @@
-pub mod MarkLemmas
-pub mod TrailLemmas
-pub mod CodeLemmas
-pub mod CountLemmas
-pub mod MarkedLemmas
-pub mod WalkLemmas
-pub mod HintLemmas
-pub mod NameLemmas
-pub mod LessonLemmas
-pub mod AssumeLemmas
-pub mod TargetLemmas
-pub mod EngineLemmas
-pub mod ChoiceLemmas
-pub mod StartLemmas
+mod MarkLemmas
+mod TrailLemmas
+mod CodeLemmas
+mod CountLemmas
+mod MarkedLemmas
+mod WalkLemmas
+mod HintLemmas
+mod NameLemmas
+mod LessonLemmas
+mod AssumeLemmas
+mod TargetLemmas
+mod EngineLemmas
+mod ChoiceLemmas
+mod StartLemmas

@@ -1,12 +1,12 @@
 -- The steps of an analysis: one more place, one more clause.
 use Rattle.std.proofs.Common.{◌≡◌, ◌<◌, ◌≤◌, ◌+◌, ℕ, arith, Bool, true, false, ◌||◌, ◌⊎◌, inl, inr, List, [], ◌∷◌, ◌++◌, nat_eq, get_or, set, length, refl, sym, ap, subst, ◌∙◌, length-set}
 use Rattle.lits.specs.Clause.{has}
-use Rattle.unit_prop.proofs.LiteralLemmas.{contrary, or_cases, or_left, or_right}
+use Rattle.unit_prop.proofs.Facts.{contrary, lit_laws}
 use Rattle.std.proofs.Math.Nat.{eq-or-lt_of_le}
 use Rattle.std.proofs.lemmas.List.Elements.{All-get_or}
+use Rattle.std.proofs.lemmas.Bool.{or_cases, or_left, or_right}
 use Rattle.lits.specs.Same.{same_lit, opposite}
 use Rattle.lits.specs.declared.literal.Lit.{Lit}
-use Rattle.unit_prop.proofs.LitLaws.{lit_laws}
 use Rattle.watch_lists.specs.Codes.{flip, lit_at, IsCode, AreCodesOf}
 use Rattle.watch_lists.specs.Trail.{TrailState, IsTrail, put_at, lits_of}
 use Rattle.watch_lists.specs.declared.put.Put.{Put}

@@ -9,7 +9,7 @@ use Rattle.lits.specs.declared.step.Step.{Step}
 use Rattle.lits.specs.declared.step.Ref.TheVariants.{Own}
 use Rattle.unit_prop.specs.Log.{base_clauses, clauses_of}
 use Rattle.solver_plain.specs.Formula.{clause_named}
-use Rattle.solver_plain.proofs.NameLemmas.{base_clause-at, named-base, named-log, own-at}
+use Rattle.solver_plain.proofs.Facts.{base_clause-at, named-base, named-log, own-at}
 use Rattle.watch_lists.specs.Trail.{clause_at}
 use Rattle.solver_watch.specs.declared.formula.Formula.{Formula}
 use Rattle.solver_watch.specs.Known.{IsKnown, clauses_known}

@@ -3,6 +3,7 @@ use Rattle.std.proofs.Common.{◌≡◌, ◌<◌, ◌≤◌, ◌+◌, ℕ, true,
 use Rattle.std.specs.List.{list_any}
 use Rattle.std.proofs.lemmas.List.{map-append, take_all, append-nil}
 use Rattle.std.proofs.lemmas.List.Folds.{list_any-append}
+use Rattle.std.proofs.lemmas.Bool.{or_cases, or_left, or_right}
 use Rattle.lits.specs.Clause.{has}
 use Rattle.lits.specs.Same.{same_lit, same_node, opposite}
 use Rattle.lits.specs.declared.node.Node.{Node}
@@ -10,10 +11,8 @@ use Rattle.lits.specs.declared.literal.Lit.{Lit}
 use Rattle.lits.specs.declared.step.Named.{Named}
 use Rattle.unit_prop.specs.Log.{IsBase, base_clauses}
 use Rattle.unit_prop.specs.Refuter.{is_over}
-use Rattle.unit_prop.proofs.LitLaws.{lit_laws}
-use Rattle.unit_prop.proofs.LiteralLemmas.{or_cases, or_left, or_right, witness}
-use Rattle.solver_plain.proofs.NameLemmas.{next}
-use Rattle.solver_plain.proofs.FormulaLemmas.{over-opposite}
+use Rattle.unit_prop.proofs.Facts.{lit_laws, witness}
+use Rattle.solver_plain.proofs.Facts.{next, over-opposite}
 use Rattle.watch_lists.specs.Trail.{Adds, empty_trail}
 use Rattle.solver_watch.specs.declared.formula.Formula.{Formula}
 use Rattle.solver_watch.specs.Known.{IsStarted}

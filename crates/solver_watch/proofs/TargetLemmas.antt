@@ -5,7 +5,7 @@ use Rattle.std.proofs.Math.Nat.{eq-or-lt_of_le}
 use Rattle.lits.specs.Clause.{has}
 use Rattle.lits.specs.Same.{same_lit, opposite}
 use Rattle.lits.specs.declared.literal.Lit.{Lit}
-use Rattle.unit_prop.proofs.LiteralLemmas.{contrary}
+use Rattle.unit_prop.proofs.Facts.{contrary}
 use Rattle.watch_lists.specs.Trail.{TrailState, IsTrail, put_at, clause_at}
 use Rattle.solver_watch.specs.declared.cut.Cut.{Cut}
 use Rattle.solver_watch.specs.Assuming.{IsChosen}

@@ -1,12 +1,12 @@
 -- Places of a trail.
 use Rattle.std.proofs.Common.{◌≡◌, ◌<◌, ◌≤◌, ℕ, zero, suc, arith, Bool, true, false, inl, inr, List, [], ◌∷◌, take, nat_le, length, refl, sym, ap, ◌∙◌}
 use Rattle.std.proofs.lemmas.Bool.Decides.{nat_tests}
+use Rattle.std.proofs.lemmas.Bool.{or_cases, or_left, or_right, and_parts}
 use Rattle.lits.specs.Clause.{has, no_repeat}
 use Rattle.lits.specs.Same.{same_lit}
 use Rattle.lits.specs.declared.literal.Lit.{Lit}
-use Rattle.unit_prop.proofs.LitLaws.{lit_laws}
-use Rattle.unit_prop.proofs.LiteralLemmas.{or_cases, or_left, or_right, and_both, contrary}
-use Rattle.solver_plain.proofs.ListLemmas.{not_true}
+use Rattle.unit_prop.proofs.Facts.{lit_laws, contrary}
+use Rattle.solver_plain.proofs.Facts.{not_true}
 use Rattle.watch_lists.specs.Trail.{put_at, lits_of, up_to}
 use Rattle.watch_lists.specs.declared.put.Put.{Put}
 
@@ -31,13 +31,13 @@ pub place-one : (puts : List Put) (j k : ℕ) → no_repeat same_lit (lits_of pu
 place-one [] j k once hj hk e = absurd (omega arith)
 place-one (p ∷ ps) zero zero once hj hk e = refl
 place-one (p ∷ ps) zero (suc k) once hj hk e =
-    let none = not_true _ (and_both _ _ once).0 in
+    let none = not_true _ (and_parts _ _ once).0 in
     contrary _ (has-at ps k (omega arith)) (ap (has same_lit (lits_of ps)) (sym e) ∙ none)
 place-one (p ∷ ps) (suc j) zero once hj hk e =
-    let none = not_true _ (and_both _ _ once).0 in
+    let none = not_true _ (and_parts _ _ once).0 in
     contrary _ (has-at ps j (omega arith)) (ap (has same_lit (lits_of ps)) e ∙ none)
 place-one (p ∷ ps) (suc j) (suc k) once hj hk e =
-    ap (λ (n : ℕ). suc n) (place-one ps j k (and_both _ _ once).1 (omega arith) (omega arith) e)
+    ap (λ (n : ℕ). suc n) (place-one ps j k (and_parts _ _ once).1 (omega arith) (omega arith) e)
 
 -- a place of a first part
 pub place-before : (puts : List Put) (n : ℕ) (l : Lit) → has same_lit (lits_of (take n puts)) l ≡ true

@@ -3,11 +3,11 @@ use Rattle.std.proofs.Common.{◌≡◌, ◌≢◌, ◌<◌, ◌≤◌, ◌+◌,
 use Rattle.std.specs.Prelude.{IsSome}
 use Rattle.std.specs.List.{list_any}
 use Rattle.std.proofs.Math.Nat.{eq-or-lt_of_le}
+use Rattle.std.proofs.lemmas.Bool.{or_cases, or_left, or_right}
 use Rattle.lits.specs.Clause.{has}
 use Rattle.lits.specs.Same.{same_lit, opposite}
 use Rattle.lits.specs.declared.literal.Lit.{Lit}
-use Rattle.unit_prop.proofs.LitLaws.{lit_laws}
-use Rattle.unit_prop.proofs.LiteralLemmas.{contrary, or_cases, or_left, or_right, all-true, all-at}
+use Rattle.unit_prop.proofs.Facts.{lit_laws, contrary, all-true, all-at}
 use Rattle.unit_prop.specs.Closure.{is_negated}
 use Rattle.watch_lists.specs.Trail.{TrailState, IsTrail, IsGround, IsConflict, put_at, clause_at, lits_of, up_to}
 use Rattle.watch_lists.specs.declared.put.Put.{Put}

@@ -8,6 +8,8 @@ pub use Rattle.tokens.proofs.GivesLemmas.{gives-same}
 pub use Rattle.tokens.proofs.GivesLemmas.{gives-fault}
 -- ---- lines that are read
 
+-- what is ahead behind some bytes more
+pub use Rattle.tokens.proofs.LineLemmas.{ahead-moved}
 -- a line is read from a place on, and the scan then stands at another
 pub use Rattle.tokens.proofs.LineLemmas.{ReadsLine}
 -- as `Scan::line` does
@@ -25,8 +27,6 @@ pub use Rattle.tokens.proofs.WordLemmas.{placed_words-none}
 pub use Rattle.tokens.proofs.TokenLemmas.{IsToken}
 -- the text of a number, and of a literal
 pub use Rattle.tokens.proofs.TokenLemmas.{IsToken-decimal, IsToken-literal}
--- what holds of the elements of two lists holds of those of both together
-pub use Rattle.tokens.proofs.TokenLemmas.{all-append}
 -- a test that takes the space for a blank, and no byte behind it: both tests of this crate do
 pub use Rattle.tokens.proofs.TokenLemmas.{PartsTokens, PartsTokens-space, PartsTokens-whitespace}
 -- words with one space between are the words of their line

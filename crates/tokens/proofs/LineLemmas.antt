@@ -52,7 +52,8 @@ next_line-some (b ∷ bs) line e =
     let f : Some line ≡ Some (line_of (b ∷ bs)) = e ∙ rw apart refl in
     (cc, omega arith)
 
-ahead-moved : (p : Place) (n : ℕ) → ahead (moved p n) ≡ drop n (ahead p)
+-- what is ahead behind n bytes more
+pub ahead-moved : (p : Place) (n : ℕ) → ahead (moved p n) ≡ drop n (ahead p)
 ahead-moved p n = go (cases_lt (p.at + n) (length p.bytes)) ∙ sym (drop-drop n p.at p.bytes)
   where
     go : (p.at + n < length p.bytes) ⊎ (length p.bytes ≤ p.at + n)

@@ -3,7 +3,7 @@ use Rattle.std.proofs.Common.{◌≡◌, ℕ, ◌<◌, ◌≤◌, Bool, true, fa
 use Rattle.std.specs.Prelude.{if◌then◌else◌}
 use Rattle.std.proofs.lemmas.Bool.{eqb-true}
 use Rattle.byte_scan.specs.Scanning.{digits, value, number_of}
-use Rattle.byte_scan.proofs.WordLemmas.{is_number-whole, is_number-other}
+use Rattle.byte_scan.proofs.Facts.{is_number-whole, is_number-other}
 use Rattle.tokens.specs.Numbers.{size_in}
 
 -- a word that is longer than its digits in front writes no size

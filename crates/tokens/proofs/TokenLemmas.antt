@@ -60,12 +60,6 @@ no_end : (word : List ℕ) → IsToken word → list_any (λ b. eqb b 10) word �
 no_end word is =
     none-printed (λ b. eqb b 10) word (λ b lt. ne_eqb b 10 (λ e. omega arith)) is.printed
 
-pub all-append : {X : Type 0} (P : X → Type 0) (xs ys : List X) → AllByRecursion P xs
-    → AllByRecursion P ys
-    → AllByRecursion P (xs ++ ys)
-all-append P [] ys all more = more
-all-append P (x ∷ xs) ys all more = (all.0, all-append P xs ys all.1 more)
-
 kept : (words : List (List ℕ)) → AllByRecursion IsToken words
     → filter (λ word. not (is_empty word)) words ≡ words
 kept [] all = refl

@@ -71,13 +71,17 @@ impl<'a, B: Blanks> Iterator for Words<'a, B> {
 
 /// The first word of a line, and what stands behind it.
 pub fn first_word<B: Blanks>(line: &[u8]) -> Option<(&[u8], &[u8])>
-    ensures word { IfSome result (λ found. words_by B.blank line.now ≡ found.0.now ∷ words_by B.blank found.1.now) }
+    ensures word { IfSome result
+        (λ found. words_by B.blank line.now ≡ found.0.now ∷ words_by B.blank found.1.now) }
     ensures none { IfNone result (words_by B.blank line.now ≡ []) }
 
     // The same with the places of the words, if the line stands at some place of a text.
     ensures within { IfSome result (λ found. length found.0.now + length found.1.now ≤ length line.now) }
     ensures placed { IfSome result (λ found. (at : ℕ) → placed_words B.blank at line.now
-        ≡ record { at = at + (length line.now - length found.0.now - length found.1.now); bytes = found.0.now }
+        ≡ record {
+          at = at + (length line.now - length found.0.now - length found.1.now);
+          bytes = found.0.now;
+        }
         ∷ placed_words B.blank (at + (length line.now - length found.1.now)) found.1.now) }
 {
     let (_, rest) = line.split_at(first_letter::<B>(line)?);

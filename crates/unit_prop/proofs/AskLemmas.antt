@@ -1,25 +1,26 @@
 -- What a clause asks for, by what is open in it.
 use Rattle.std.proofs.Common.{◌≡◌, Bool, true, false, not, ◌||◌, List, [], ◌∷◌, refl, sym, ap, ◌∙◌, subst, inl, inr}
 use Rattle.std.specs.Prelude.{filter}
+use Rattle.std.proofs.lemmas.Bool.{and_from, and_parts, or_cases, or_left, or_right}
 use Rattle.lits.specs.Clause.{has, firsts}
-use Rattle.lits.proofs.ClauseLemmas.{IsLiteral}
+use Rattle.lits.proofs.Facts.{IsLiteral}
 use Rattle.unit_prop.specs.Closure.{forces, is_negated}
 use Rattle.unit_prop.specs.Step.{open_in}
 use Rattle.unit_prop.specs.Propagation.{IsFree, IsSettled, is_forced_by}
-use Rattle.unit_prop.proofs.LiteralLemmas.{contrary, alone, both, and_both, or_cases, or_left, or_right, has-head, has-filter, all-true, all-at}
+use Rattle.unit_prop.proofs.LiteralLemmas.{contrary, alone, has-head, has-filter, all-true, all-at}
 use Rattle.unit_prop.proofs.StepLemmas.{has-open_in}
 
 module _ {L : Type 0} {eq : L → L → Bool} {opposite : L → L} (laws : IsLiteral eq opposite) (set clause : List L) where
   -- a literal whose negation is false is open
   not_negated : (m : L) → has eq (open_in eq opposite set clause) m ≡ true → has eq set (opposite m) ≡ false
-  not_negated m h = go (has eq set (opposite m)) (and_both _ _ (sym (has-open_in laws set clause m) ∙ h)).1
+  not_negated m h = go (has eq set (opposite m)) (and_parts _ _ (sym (has-open_in laws set clause m) ∙ h)).1
     where
       go : (b : Bool) → not b ≡ true → b ≡ false
       go true e = cc
       go false e = refl
 
   inside : (m : L) → has eq (open_in eq opposite set clause) m ≡ true → has eq clause m ≡ true
-  inside m h = (and_both _ _ (sym (has-open_in laws set clause m) ∙ h)).0
+  inside m h = (and_parts _ _ (sym (has-open_in laws set clause m) ∙ h)).0
 
   -- a literal is open or negated
   open_or_negated : (m : L) → has eq clause m ≡ true → has eq (open_in eq opposite set clause) m ≡ false → has eq set (opposite m) ≡ true
@@ -52,7 +53,7 @@ module _ {L : Type 0} {eq : L → L → Bool} {opposite : L → L} (laws : IsLit
 
   pub ask-unit : (l : L) → open_in eq opposite set clause ≡ l ∷ [] → has eq set l ≡ false
       → IsFree eq opposite set l × (is_forced_by eq opposite set l clause ≡ true)
-  ask-unit l e fresh = (record { fresh = fresh; apart = not_negated l (at_one l e) }, both _ _ (inside l (at_one l e)) forced)
+  ask-unit l e fresh = (record { fresh = fresh; apart = not_negated l (at_one l e) }, and_from _ _ (inside l (at_one l e)) forced)
     where
       forced : forces eq opposite (has eq set) clause l ≡ true
       forced = all-true laws (λ m. eq m l || has eq set (opposite m)) clause (λ m h. go m h (has eq (open_in eq opposite set clause) m) refl)
@@ -86,7 +87,7 @@ module _ {L : Type 0} {eq : L → L → Bool} {opposite : L → L} (laws : IsLit
           let g : x ≡ l = cc in
           let h : filter (λ y. not (eq x y)) (firsts eq xs) ≡ m ∷ ls = cc in
           let k : has eq (filter (λ y. not (eq x y)) (firsts eq xs)) m ≡ true = ap (λ (o : List L). has eq o m) h ∙ has-head laws m ls in
-          let n : not (eq x m) ≡ true = (and_both _ _ (sym (has-filter laws (λ y. not (eq x y)) (firsts eq xs) m) ∙ k)).1 in
+          let n : not (eq x m) ≡ true = (and_parts _ _ (sym (has-filter laws (λ y. not (eq x y)) (firsts eq xs) m) ∙ k)).1 in
           subst (λ (z : L). eq z m ≡ false) g (go (eq x m) n)
         where
           go : (b : Bool) → not b ≡ true → b ≡ false

@@ -3,7 +3,7 @@ use Rattle.std.proofs.Common.{◌≡◌, ℕ, ◌+◌, ◌<◌, Bool, true, fals
 use Rattle.std.specs.Prelude.{map}
 use Rattle.std.proofs.lemmas.List.{take_more, take-append-drop}
 use Rattle.lits.specs.Clause.{has, has_pair, firsts}
-use Rattle.lits.proofs.ClauseLemmas.{IsLiteral, has-firsts, firsts-push, has_pair-push, has_pair-append}
+use Rattle.lits.proofs.Facts.{IsLiteral, has-firsts, firsts-push, has_pair-push, has_pair-append}
 use Rattle.unit_prop.specs.declared.why.Why.{Why}
 use Rattle.unit_prop.specs.declared.why.StepErr.{StepErr}
 use Rattle.unit_prop.specs.declared.why.StepErr.TheVariants.{Bad, NoMemory}

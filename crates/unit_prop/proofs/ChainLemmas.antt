@@ -1,5 +1,5 @@
 -- What a chain of steps shows: each of its clauses holds wherever the clauses that it stands on hold.
-use Rattle.std.proofs.Common.{◌≡◌, ℕ, Bool, true, false, List, [], ◌∷◌, ◌++◌, Option, Some, None, refl, sym, subst, append_assoc, zero, suc}
+use Rattle.std.proofs.Common.{◌≡◌, ℕ, Bool, true, false, List, [], ◌∷◌, ◌++◌, Option, Some, None, refl, sym, subst, append_assoc}
 use Rattle.std.proofs.lemmas.List.{append-nil}
 use Rattle.std.specs.List.{slice_get, AllByRecursion}
 use Rattle.lits.specs.Assignment.{IsAssignment, Holds, Meets, Follows}
@@ -8,24 +8,13 @@ use Rattle.lits.specs.declared.step.Named.{Named}
 use Rattle.lits.specs.declared.step.Step.{Step}
 use Rattle.lits.specs.declared.step.Ref.{Ref}
 use Rattle.lits.specs.declared.step.Ref.TheVariants.{Axiom, Entry, Own}
-use Rattle.lits.proofs.ClauseLemmas.{IsLiteral}
+use Rattle.lits.proofs.Facts.{IsLiteral, all-slice_get, all-append}
 use Rattle.unit_prop.specs.Step.{IsStep, AllHold}
 use Rattle.unit_prop.specs.Log.{same_name, base_clause, base_clauses, with_own, InTurn, IsStepAfter, IsChain, IsLearned, IsLog}
 use Rattle.lits.specs.Same.{same_lit, opposite}
 use Rattle.unit_prop.specs.Refuter.{Answers}
 use Rattle.unit_prop.specs.declared.refuter.Refuted.{Refuted}
 use Rattle.unit_prop.proofs.StepLemmas.{step-holds}
-
-pub all-slice_get : {X : Type 0} (P : X → Type 0) (xs : List X) (k : ℕ) (x : X) → AllByRecursion P xs
-    → slice_get xs k ≡ Some x → P x
-all-slice_get P [] k x all e = let f : None ≡ Some x = e in cc
-all-slice_get P (y ∷ ys) zero x all e = let f : y ≡ x = cc in subst P f all.0
-all-slice_get P (y ∷ ys) (suc k) x all e = all-slice_get P ys k x all.1 e
-
-pub all-append : {X : Type 0} (P : X → Type 0) (xs ys : List X) → AllByRecursion P xs → AllByRecursion P ys
-    → AllByRecursion P (xs ++ ys)
-all-append P [] ys p q = q
-all-append P (x ∷ xs) ys p q = (p.0, all-append P xs ys p.1 q)
 
 pub in_turn-map : {X : Type 0} (P Q : List X → X → Type 0) (before xs : List X) → ((b : List X) (x : X) → P b x → Q b x)
     → InTurn P before xs → InTurn Q before xs

@@ -2,25 +2,17 @@
 use Rattle.std.proofs.Common.{◌≡◌, ℕ, ◌+◌, ◌<◌, ◌≤◌, Bool, true, false, not, ◌||◌, List, [], ◌∷◌, ◌++◌, length, refl, sym, ap, ◌∙◌, subst, ◌⊎◌, inl, inr, arith}
 use Rattle.std.specs.Prelude.{filter}
 use Rattle.std.specs.List.{list_any, list_all, AllByRecursion}
+use Rattle.std.proofs.lemmas.Bool.{and_from, and_parts, or_cases, or_left, or_right}
 use Rattle.lits.specs.Clause.{has}
-use Rattle.lits.proofs.ClauseLemmas.{IsLiteral, has-append, eq-opposite}
+use Rattle.lits.proofs.Facts.{IsLiteral, has-append, eq-opposite, list_any-more}
 use Rattle.unit_prop.specs.Closure.{forces, is_negated, IsClosed, Clashes, IsClosure, ClosureClashes}
 use Rattle.unit_prop.specs.Propagation.{IsConsistent, IsFree, IsSettled, is_forced_by}
-use Rattle.unit_prop.proofs.LiteralLemmas.{contrary, alone, both, and_both, or_cases, or_left, or_right}
-
-pub list_any-more : {X : Type 0} (p q : X → Bool) (xs : List X) → ((x : X) → p x ≡ true → q x ≡ true) → list_any p xs ≡ true
-    → list_any q xs ≡ true
-list_any-more p q [] f e = e
-list_any-more p q (x ∷ xs) f e =
-    elim (or_cases (p x) (list_any p xs) e) [
-      | inl h ↦ or_left _ _ (f x h)
-      | inr h ↦ or_right (q x) _ (list_any-more p q xs f h)
-    ]
+use Rattle.unit_prop.proofs.LiteralLemmas.{contrary, alone}
 
 pub list_all-more : {X : Type 0} (p q : X → Bool) (xs : List X) → ((x : X) → p x ≡ true → q x ≡ true) → list_all p xs ≡ true
     → list_all q xs ≡ true
 list_all-more p q [] f e = e
-list_all-more p q (x ∷ xs) f e = let h = and_both (p x) (list_all p xs) e in both _ _ (f x h.0) (list_all-more p q xs f h.1)
+list_all-more p q (x ∷ xs) f e = let h = and_parts (p x) (list_all p xs) e in and_from _ _ (f x h.0) (list_all-more p q xs f h.1)
 
 -- of the elements that all have P, one that passes
 pub any-all : {X : Type 0} (P : X → Type 0) (p : X → Bool) (xs : List X) → AllByRecursion P xs → list_any p xs ≡ true
@@ -96,7 +88,7 @@ module _ {L : Type 0} {eq : L → L → Bool} {opposite : L → L} (laws : IsLit
       forced : (p : L → Bool) → IsClosed eq opposite clauses given p → p l ≡ true
       forced p closed =
           let w = any-all _ (is_forced_by eq opposite set l) clauses closed.units e in
-          let parts = and_both (has eq w.0 l) (forces eq opposite (has eq set) w.0 l) w.1 in
+          let parts = and_parts (has eq w.0 l) (forces eq opposite (has eq set) w.0 l) w.1 in
           w.2 l parts.0 (forces-more eq opposite (has eq set) p w.0 l (round.least p closed) parts.1)
 
 -- how many places of the clauses have a literal that isn't in the set
@@ -154,7 +146,7 @@ module _ {L : Type 0} {eq : L → L → Bool} {opposite : L → L} (laws : IsLit
   missing_places-falls (c ∷ cs) h =
       elim (or_cases (is_forced_by eq opposite set l c) (list_any (is_forced_by eq opposite set l) cs) h) [
         | inl e ↦
-            let here = missing_in-falls c (and_both (has eq c l) (forces eq opposite (has eq set) c l) e).0 in
+            let here = missing_in-falls c (and_parts (has eq c l) (forces eq opposite (has eq set) c l) e).0 in
             let rest = missing_places-push cs in omega arith
         | inr e ↦ let here = missing_in-push c in let rest = missing_places-falls cs e in omega arith
       ]

@@ -3,15 +3,15 @@ use Rattle.std.proofs.Common.{◌≡◌, ℕ, ◌+◌, ◌<◌, Bool, true, fals
 use Rattle.std.specs.Prelude.{if◌then◌else◌}
 use Rattle.std.proofs.lemmas.List.Folds.{list_any_at}
 use Rattle.std.proofs.lemmas.List.{take-append-drop}
+use Rattle.std.proofs.lemmas.Bool.{or_left}
 use Rattle.lits.specs.Clause.{has}
-use Rattle.lits.proofs.ClauseLemmas.{IsLiteral, has-append}
+use Rattle.lits.proofs.Facts.{IsLiteral, has-append}
 use Rattle.unit_prop.specs.declared.propagation.Closure.{Closure}
 use Rattle.unit_prop.specs.declared.propagation.Closure.TheVariants.{Clash, Free}
 use Rattle.unit_prop.specs.Closure.{ClosureClashes, ClosesTo}
 use Rattle.unit_prop.specs.Propagation.{IsConsistent}
 use Rattle.unit_prop.proofs.AssumeLemmas.{seen-more}
 use Rattle.unit_prop.proofs.ClosureLemmas.{consistent-push}
-use Rattle.unit_prop.proofs.LiteralLemmas.{or_left}
 
 -- the set has what is given, and no literal beside its negation
 pub record StandsFor {L : Type 0} (eq : L → L → Bool) (opposite : L → L) (given set : List L) : Type 0 where

@@ -1,10 +1,15 @@
-pub mod LiteralLemmas
-pub mod StepLemmas
-pub mod ChainLemmas
-pub mod LitLaws
-pub mod OpenLemmas
-pub mod AssumeLemmas
-pub mod AskLemmas
-pub mod ClosureLemmas
-pub mod GivenLemmas
-pub mod LawLemmas
+pub mod Facts
+mod LiteralLemmas
+mod StepLemmas
+mod ChainLemmas
+mod LitLaws
+mod OpenLemmas
+mod AssumeLemmas
+mod AskLemmas
+mod ClosureLemmas
+mod GivenLemmas
+mod AssignmentLemmas
+mod CountLemmas
+mod BudgetLemmas
+mod HintScanLemmas
+mod NameLemmas

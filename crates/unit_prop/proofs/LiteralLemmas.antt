@@ -1,27 +1,10 @@
 -- What tests of literals find in lists of literals.
-use Rattle.std.proofs.Common.{◌≡◌, Bool, true, false, ◌&&◌, ◌||◌, List, [], ◌∷◌, refl, sym, ap, ◌∙◌, subst, ◌⊎◌, inl, inr}
+use Rattle.std.proofs.Common.{◌≡◌, Bool, true, false, ◌&&◌, ◌||◌, List, [], ◌∷◌, refl, sym, ap, ◌∙◌, subst, inl, inr}
 use Rattle.std.specs.Prelude.{filter, map}
 use Rattle.std.specs.List.{list_any, list_all}
+use Rattle.std.proofs.lemmas.Bool.{or_cases, or_left, or_right, and_parts}
 use Rattle.lits.specs.Clause.{has}
-use Rattle.lits.proofs.ClauseLemmas.{IsLiteral}
-
-pub or_cases : (a b : Bool) → (a || b) ≡ true → (a ≡ true) ⊎ (b ≡ true)
-or_cases true b e = inl refl
-or_cases false b e = inr e
-
-pub or_left : (a b : Bool) → a ≡ true → (a || b) ≡ true
-or_left a b e = rw e refl
-
-pub or_right : (a b : Bool) → b ≡ true → (a || b) ≡ true
-or_right true b e = refl
-or_right false b e = e
-
-pub and_both : (a b : Bool) → (a && b) ≡ true → (a ≡ true) × (b ≡ true)
-and_both true b e = (refl, e)
-and_both false b e = cc
-
-pub both : (a b : Bool) → a ≡ true → b ≡ true → (a && b) ≡ true
-both a b e f = rw (e, f) refl
+use Rattle.lits.proofs.Facts.{IsLiteral}
 
 pub alone : (b : Bool) → (b || false) ≡ true → b ≡ true
 alone true e = refl
@@ -98,7 +81,7 @@ module _ {L : Type 0} {eq : L → L → Bool} {opposite : L → L} (laws : IsLit
   pub all-at : (p : L → Bool) (xs : List L) (m : L) → list_all p xs ≡ true → has eq xs m ≡ true → p m ≡ true
   all-at p [] m all inside = cc
   all-at p (x ∷ xs) m all inside =
-      let parts = and_both (p x) (list_all p xs) all in
+      let parts = and_parts (p x) (list_all p xs) all in
       elim (or_cases (eq x m) (has eq xs m) inside) [
         | inl e ↦ sym (ap p (laws.exact x m e)) ∙ parts.0
         | inr e ↦ all-at p xs m parts.1 e

@@ -3,15 +3,16 @@ use Rattle.std.proofs.Common.{◌≡◌, ℕ, ◌+◌, ◌<◌, length, take, dr
 use Rattle.std.specs.Prelude.{filter, if◌then◌else◌, Result, OnOk, OnErr, IfErr}
 use Rattle.std.specs.List.{list_any}
 use Rattle.std.proofs.lemmas.List.{take-append-drop}
+use Rattle.std.proofs.lemmas.Bool.{and_parts, or_cases}
 use Rattle.lits.specs.Clause.{has, firsts}
-use Rattle.lits.proofs.ClauseLemmas.{IsLiteral, has-firsts}
+use Rattle.lits.proofs.Facts.{IsLiteral, has-firsts}
 use Rattle.unit_prop.specs.declared.why.Why.{Why}
 use Rattle.unit_prop.specs.declared.why.Why.TheVariants.{Satisfied, TwoFree}
 use Rattle.unit_prop.specs.declared.why.StepErr.{StepErr}
 use Rattle.unit_prop.specs.declared.why.StepErr.TheVariants.{Bad, NoMemory}
 use Rattle.unit_prop.specs.Step.{State, open_in, is_satisfied, after_open, after_hint, IfBad}
 use Rattle.unit_prop.specs.Propagation.{IsConsistent}
-use Rattle.unit_prop.proofs.LiteralLemmas.{has-head, has-filter, witness, passes, and_both, or_cases}
+use Rattle.unit_prop.proofs.LiteralLemmas.{has-head, has-filter, witness, passes}
 use Rattle.unit_prop.proofs.ClosureLemmas.{consistent-push}
 use Rattle.unit_prop.proofs.StepLemmas.{has-open_in}
 
@@ -48,8 +49,8 @@ module _ {L : Type 0} {eq : L → L → Bool} {opposite : L → L} (laws : IsLit
       go [] f = rw f refl
       go (y ∷ ys) f =
           let here : has eq (others l (filter p rest)) y ≡ true = ap (λ (o : List L). has eq o y) f ∙ has-head laws y ys in
-          let parts = and_both _ _ (sym (has-others l (filter p rest) y) ∙ here) in
-          let inside = and_both _ _ (sym (has-filter laws p rest y) ∙ parts.0) in
+          let parts = and_parts _ _ (sym (has-others l (filter p rest) y) ∙ here) in
+          let inside = and_parts _ _ (sym (has-filter laws p rest y) ∙ parts.0) in
           let some = passes laws (λ m. not (eq l m) && p m) rest y inside.0 (rw (parts.1, inside.1) refl) in
           cc
 
@@ -63,7 +64,7 @@ module _ {L : Type 0} {eq : L → L → Bool} {opposite : L → L} (laws : IsLit
 
       go : (os : List L) → others l (filter p rest) ≡ os → (m n : L) × (ls : List L) × (firsts eq (filter p (l ∷ rest)) ≡ m ∷ n ∷ ls)
       go [] f =
-          let parts : (not (eq l w.0) ≡ true) × (p w.0 ≡ true) = and_both _ _ w.2 in
+          let parts : (not (eq l w.0) ≡ true) × (p w.0 ≡ true) = and_parts _ _ w.2 in
           let kept : has eq (filter p rest) w.0 ≡ true = has-filter laws p rest w.0 ∙ rw (w.1, parts.1) refl in
           let here : has eq (others l (filter p rest)) w.0 ≡ true = has-others l (filter p rest) w.0 ∙ rw (kept, parts.0) refl in
           let none : has eq (others l (filter p rest)) w.0 ≡ false = ap (λ (o : List L). has eq o w.0) f in
@@ -90,7 +91,7 @@ module _ {L : Type 0} {eq : L → L → Bool} {opposite : L → L} (laws : IsLit
 
   -- the only literal that is open in a clause isn't negated
   pub open-apart : (set clause : List L) (l : L) → open_in eq opposite set clause ≡ l ∷ [] → has eq set (opposite l) ≡ false
-  open-apart set clause l e = go (has eq set (opposite l)) (and_both _ _ (sym (has-open_in laws set clause l) ∙ (ap (λ (o : List L). has eq o l) e ∙ has-head laws l []))).1
+  open-apart set clause l e = go (has eq set (opposite l)) (and_parts _ _ (sym (has-open_in laws set clause l) ∙ (ap (λ (o : List L). has eq o l) e ∙ has-head laws l []))).1
     where
       go : (b : Bool) → not b ≡ true → b ≡ false
       go true e = cc
@@ -120,7 +121,7 @@ module _ {L : Type 0} {eq : L → L → Bool} {opposite : L → L} (laws : IsLit
   satisfied-one set clause l consistent one = go (is_satisfied eq set clause) (has eq set l) refl refl
     where
       inside : has eq clause l ≡ true
-      inside = (and_both _ _ (sym (has-open_in laws set clause l) ∙ (ap (λ (o : List L). has eq o l) one ∙ has-head laws l []))).0
+      inside = (and_parts _ _ (sym (has-open_in laws set clause l) ∙ (ap (λ (o : List L). has eq o l) one ∙ has-head laws l []))).0
 
       go : (b d : Bool) → is_satisfied eq set clause ≡ b → has eq set l ≡ d → is_satisfied eq set clause ≡ has eq set l
       go true true e f = e ∙ sym f
@@ -151,7 +152,7 @@ module _ {L : Type 0} {eq : L → L → Bool} {opposite : L → L} (laws : IsLit
   pub hint-nothing : open_in eq opposite set clause ≡ [] → after_hint eq opposite s clause ≡ Ok (record { set = set; clashed = true })
   hint-nothing e = after [] (unsatisfied-nothing laws set clause at.consistent e) e
 
-  hint-one : {l : L} {new : List L} → open_in eq opposite set clause ≡ l ∷ [] → has eq set l ≡ false → new ≡ set ++ l ∷ []
+  pub hint-one : {l : L} {new : List L} → open_in eq opposite set clause ≡ l ∷ [] → has eq set l ≡ false → new ≡ set ++ l ∷ []
       → after_hint eq opposite s clause ≡ Ok (record { set = new; clashed = clashed })
   hint-one {l} {new} e f g = after (l ∷ []) (satisfied-one laws set clause l at.consistent e ∙ f) e ∙ rw (g, at.quiet) refl
 

@@ -2,13 +2,14 @@
 use Rattle.std.proofs.Common.{◌≡◌, ℕ, ◌+◌, Bool, true, false, not, ◌&&◌, ◌||◌, List, [], ◌∷◌, ◌++◌, Option, Some, None, Result, Ok, Err, refl, sym, ap, ◌∙◌, subst, inl, inr}
 use Rattle.std.specs.Prelude.{filter, map}
 use Rattle.std.specs.List.{list_any}
+use Rattle.std.proofs.lemmas.Bool.{or_cases}
 use Rattle.lits.specs.Clause.{has, has_pair, firsts}
 use Rattle.lits.specs.Assignment.{IsAssignment, Holds}
-use Rattle.lits.proofs.ClauseLemmas.{IsLiteral, has-firsts, has-append}
+use Rattle.lits.proofs.Facts.{IsLiteral, has-firsts, has-append}
 use Rattle.unit_prop.specs.declared.why.Why.{Why}
 use Rattle.unit_prop.specs.declared.why.Why.TheVariants.{Satisfied}
 use Rattle.unit_prop.specs.Step.{State, start_of, open_in, is_satisfied, after_open, after_hint, fault_from, IsStep}
-use Rattle.unit_prop.proofs.LiteralLemmas.{alone, or_cases, witness, passes, has-filter, has-map-opposite}
+use Rattle.unit_prop.proofs.LiteralLemmas.{alone, witness, passes, has-filter, has-map-opposite}
 
 -- every literal of the set is true under v
 pub record AreTrue {L : Type 0} (eq : L → L → Bool) (v : L → Bool) (set : List L) : Type 0 where

@@ -4,4 +4,6 @@ pub mod New
 pub mod Step
 pub mod StepCheck
 pub mod Log
+pub mod Variables
 pub mod Refuter
+pub mod HintScan

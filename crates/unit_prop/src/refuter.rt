@@ -20,8 +20,8 @@ pub enum Refuted {
 
 /// A solver that asks whether its base implies a clause, one clause after another.
 ///
-/// What it learns stays in its log, whose steps stand beside the base in later queries. After a refusal for want of
-/// memory the next call is `start`.
+/// What it learns stays in its log, whose steps stand beside the base in later queries. After a refusal for
+/// want of memory the next call is `start`.
 pub trait Refuter: Drop {
     ghost base_of: { Self → List Named };
 

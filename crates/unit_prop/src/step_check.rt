@@ -38,8 +38,8 @@ impl<L: Literal> StepCheck<L> {
         }
     }
 
-    /// Begins the step that adds the clause, and forgets the one before. The negations of the clause's literals are
-    /// assumed. After a refusal the next call is `begin`.
+    /// Begins the step that adds the clause, and forgets the one before. The negations of the clause's
+    /// literals are assumed. After a refusal the next call is `begin`.
     pub fn begin(&mut self, clause: &[L]) -> Result<(), StepErr>
         ensures state { OnOk result
             (self.new ≡ start_of L.PartialEq.eq L.Literal.opposite clause.now) }
@@ -78,7 +78,8 @@ impl<L: Literal> StepCheck<L> {
         }
     }
 
-    /// Ends the step, which shows its clause exactly if a hint's clause was wholly false. The next call is `begin`.
+    /// Ends the step, which shows its clause exactly if a hint's clause was wholly false. The next call is
+    /// `begin`.
     pub fn end(&mut self) -> Result<(), Why>
         ensures ok { OnOk result (self.old.clashed ≡ true) }
         ensures bad { IfErr result (λ w. w ≡ Why.NotFalse) }

@@ -19,7 +19,8 @@ pub trait Clauses<N, L> {
 }
 
 impl<L: Literal> StepCheck<L> {
-    /// The first fault of the step that adds the clause by these hints: its beginning, its hints one by one, and its end.
+    /// The first fault of the step that adds the clause by these hints: its beginning, its hints one by one,
+    /// and its end.
     pub fn fault_of<N: Copy, C: Clauses<N, L>>(
         &mut self,
         clauses: &C,
@@ -27,7 +28,8 @@ impl<L: Literal> StepCheck<L> {
         hints: &[N],
     ) -> Result<Option<BadStep>, AllocError>
         ensures { IfOk result (λ fault. fault
-            ≡ first_fault L.PartialEq.eq L.Literal.opposite (C.Clauses.find clauses.now) clause.now hints.now) }
+            ≡ first_fault L.PartialEq.eq L.Literal.opposite
+            (C.Clauses.find clauses.now) clause.now hints.now) }
     {
         if let Err(error) = self.begin(clause) {
             return bad_step(0, error).map(Some);
@@ -46,9 +48,11 @@ impl<L: Literal> StepCheck<L> {
     /// Takes the clause of the step's next hint, which has that name.
     fn take_hint<N: Copy, C: Clauses<N, L>>(&mut self, clauses: &C, name: N) -> Result<(), StepErr>
         ensures ok { OnOk result
-            (after_found L.PartialEq.eq L.Literal.opposite self.old (C.Clauses.find clauses.now name) ≡ Ok self.new) }
+            (after_found L.PartialEq.eq L.Literal.opposite self.old (C.Clauses.find clauses.now name)
+            ≡ Ok self.new) }
         ensures bad { IfErr result (λ e. IfBad e (λ w.
-            after_found L.PartialEq.eq L.Literal.opposite self.old (C.Clauses.find clauses.now name) ≡ Err w)) }
+            after_found L.PartialEq.eq L.Literal.opposite self.old (C.Clauses.find clauses.now name)
+            ≡ Err w)) }
     {
         match clauses.clause(name) {
             Some(clause) => self.hint(clause),

@@ -1,5 +1,11 @@
+ghost use Rattle.std.specs.Prelude.{◌≡◌};
+ghost use Rattle.std.specs.Bool.{OnTrue};
+ghost use Rattle.std.specs.List.{list_any};
+ghost use Rattle.unit_prop.specs.HintScan.{IsNamed};
+ghost use Rattle.unit_prop.specs.Log.{same_name};
+
 use crate::{BadStep, Clauses, Closure, StepCheck, Why};
-use lits::{Clause, Dim, Lit, Literal, Node, Side};
+use lits::{Clause, Dim, Lit, Literal, Named, Node, Ref, Side};
 use std::alloc::Global;
 use std::process::Abort;
 use std::test::Fail;
@@ -142,5 +148,75 @@ fn steps_over_nodes(rt: HostRuntime) -> Result<(), Fail> {
         Closure::Free(lits) => lits.into_vec(),
     };
     assert_eq!(rt; found.as_slice(), [b, y, x, a].as_slice());
+    Ok(())
+}
+
+/// The axioms of two gates of one meaning, `a` and `b`, in order of position.
+fn twin_gates(alloc: Global, a: Lit, b: Lit, x: Lit, y: Lit) -> Result<Vec<Named>, Fail> {
+    let mut base = Vec::new(alloc);
+    let axioms: [(Node, u8, &[Lit]); 6] = [
+        (a.node, 0, &[a.not(), x]),
+        (a.node, 1, &[a.not(), y]),
+        (a.node, 2, &[a, x.not(), y.not()]),
+        (b.node, 0, &[b.not(), y]),
+        (b.node, 1, &[b.not(), x]),
+        (b.node, 2, &[b, y.not(), x.not()]),
+    ];
+    for (node, place, lits) in axioms {
+        let clause = Clause::of(alloc, lits).map_err(|_| "a clause")?;
+        let by = Ref::Axiom(node, place);
+        base.push(Named { clause, by })?;
+    }
+    Ok(base)
+}
+
+/// Whether each name stands once.
+fn is_named(base: &[Named]) -> bool
+    ensures { OnTrue result (IsNamed base.now) }
+{
+    let Some((first, rest)) = base.split_first() else {
+        return true;
+    };
+    if has_name(rest, first.by) {
+        return false;
+    }
+    is_named(rest)
+}
+
+fn has_name(base: &[Named], name: Ref) -> bool
+    ensures { result ≡ list_any (λ n. same_name n.by name) base.now }
+{
+    base.iter().any(|named| named.by == name)
+}
+
+fn scanned(
+    rt: &impl Abort,
+    alloc: Global,
+    base: &[Named],
+    lits: &[Lit],
+) -> Result<Option<Vec<Ref>>, Fail> {
+    assert!(rt; is_named(base));
+    let clause = Clause::of(alloc, lits).map_err(|_| "a clause")?;
+    Ok(crate::scan(alloc, base, &clause)?)
+}
+
+#[test]
+fn hints_of_twin_gates(rt: HostRuntime) -> Result<(), Fail> {
+    let alloc = rt.alloc();
+    let lit = |node: Node| Lit { node, neg: false };
+    let (x, y) = (lit(Node::Input(0)), lit(Node::Input(1)));
+    let (a, b) = (lit(Node::Gate(Side::A, 3)), lit(Node::Gate(Side::B, 3)));
+    let base = twin_gates(alloc, a, b, x, y)?;
+    let of_a = |k| Ref::Axiom(a.node, k);
+    let of_b = |k| Ref::Axiom(b.node, k);
+    let cases: [(&[Lit], Option<&[Ref]>); 3] = [
+        (&[b.not(), a], Some(&[of_b(0), of_a(2), of_b(1)])),
+        (&[b, a.not()], Some(&[of_a(0), of_a(1), of_b(2)])),
+        (&[a.not()], None),
+    ];
+    for (lits, want) in cases {
+        let found = scanned(&rt, alloc, base.as_slice(), lits)?;
+        assert_eq!(rt; found.as_deref(), want);
+    }
     Ok(())
 }

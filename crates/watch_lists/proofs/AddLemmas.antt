@@ -3,7 +3,7 @@ use Rattle.std.proofs.Common.{◌≡◌, ◌≢◌, ℕ, ◌<◌, ◌≤◌, ◌
 use Rattle.std.specs.List.{All}
 use Rattle.std.proofs.lemmas.List.{get_or_append_left, get_or_push, length_push, get_or_past}
 use Rattle.lits.specs.Clause.{has}
-use Rattle.unit_prop.proofs.LiteralLemmas.{contrary}
+use Rattle.unit_prop.proofs.Facts.{contrary}
 use Rattle.watch_lists.specs.State.{IsWatch, IsJustified, AsksNothing, IsEngine, pairs_of}
 use Rattle.watch_lists.specs.Step.{IsAdded}
 use Rattle.watch_lists.proofs.CopyLemmas.{copies-more, pairs-length}

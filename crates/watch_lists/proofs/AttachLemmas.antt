@@ -1,9 +1,10 @@
 -- The pair of a new clause guards it.
 use Rattle.std.proofs.Common.{◌≡◌, ◌≢◌, ℕ, ◌<◌, ◌≤◌, true, false, ◌||◌, List, length, sym, subst, arith, take, nat_eq, ◌⊎◌, inl, inr}
 use Rattle.std.proofs.lemmas.List.{take_all}
+use Rattle.std.proofs.lemmas.Bool.{or_left, or_right}
 use Rattle.lits.specs.Clause.{has}
 use Rattle.unit_prop.specs.Closure.{forces, is_negated}
-use Rattle.unit_prop.proofs.LiteralLemmas.{contrary, or_left, or_right, all-true}
+use Rattle.unit_prop.proofs.Facts.{contrary, all-true}
 use Rattle.watch_lists.specs.Codes.{flip}
 use Rattle.watch_lists.specs.State.{height, Guards, IsBest, AsksNothing, is_met}
 use Rattle.watch_lists.specs.declared.flat.Pair.{Pair}

@@ -4,8 +4,9 @@ use Rattle.std.specs.Prelude.{not, ◌&&◌}
 use Rattle.std.proofs.lemmas.List.{take_all, take-take, get_or-take, length-take-le, length_push, get_or_append_left, get_or_push, take-append-le, take-append-drop, get_or-drop, length-drop, length-set, get_or_default}
 use Rattle.std.proofs.lemmas.List.Elements.{All-push, All-take}
 use Rattle.std.proofs.lemmas.Map.Keys.{IsDistinct-from_apart, apart_from_distinct}
+use Rattle.std.proofs.lemmas.Bool.{or_right}
 use Rattle.lits.specs.Clause.{has}
-use Rattle.unit_prop.proofs.LiteralLemmas.{contrary, or_right}
+use Rattle.unit_prop.proofs.Facts.{contrary}
 use Rattle.watch_lists.specs.Codes.{flip}
 use Rattle.watch_lists.specs.State.{codes_at, AreGuards, AreWatched, AsksNothing, AreLevels, IsEngine, no_level, level_at, pairs_of}
 use Rattle.watch_lists.specs.Step.{IsPut, IsRaised, IsCut}

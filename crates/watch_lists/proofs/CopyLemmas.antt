@@ -3,8 +3,9 @@ use Rattle.std.proofs.Common.{◌≡◌, ℕ, zero, suc, ◌<◌, ◌≤◌, Boo
 use Rattle.std.specs.Prelude.{slice_index, slice_set}
 use Rattle.std.proofs.lemmas.List.{get_or-map, length-map, map-set, map-append, length-set, get_or-set_same, get_or-set_other, get_or_append_left, get_or_push, length_push}
 use Rattle.std.proofs.lemmas.List.Elements.{All-push, All-set}
+use Rattle.std.proofs.lemmas.Bool.{or_cases}
 use Rattle.lits.specs.Clause.{has}
-use Rattle.unit_prop.proofs.LiteralLemmas.{contrary, or_cases, has-filter}
+use Rattle.unit_prop.proofs.Facts.{contrary, has-filter}
 use Rattle.watch_lists.specs.State.{codes_at, pair_at, no_pair, first_two, pairs_of, arranged, moved, AreCopies, IsOther}
 use Rattle.watch_lists.specs.declared.flat.Pair.{Pair}
 use Rattle.watch_lists.proofs.FlipLemmas.{is_literal-flip, same_exact}

@@ -4,21 +4,16 @@ use Rattle.std.specs.Prelude.{◌==◌, slice_index_or}
 use Rattle.std.proofs.lemmas.List.{get_or_append_left, length-append}
 use Rattle.std.proofs.lemmas.List.Folds.{list_any_at}
 use Rattle.std.proofs.lemmas.Bool.Decides.{nat_tests}
+use Rattle.std.proofs.lemmas.Bool.{or_cases, or_left, or_right, and_parts}
+use Rattle.lits.proofs.Facts.{same-node_self}
 use Rattle.lits.specs.Clause.{has, no_repeat}
 use Rattle.lits.specs.Same.{same_lit, same_node, opposite}
 use Rattle.lits.specs.declared.node.Node.{Node}
 use Rattle.lits.specs.declared.node.Node.TheVariants.{Const}
 use Rattle.lits.specs.declared.literal.Lit.{Lit}
-use Rattle.unit_prop.proofs.LiteralLemmas.{contrary, or_cases, or_left, or_right, and_both}
-use Rattle.unit_prop.proofs.LitLaws.{lit_laws}
+use Rattle.unit_prop.proofs.Facts.{contrary, lit_laws}
 use Rattle.watch_lists.specs.Codes.{flip, lit_at, IsCode}
 use Rattle.watch_lists.proofs.FlipLemmas.{flip-even, flip-odd, flip-below, same_exact, is_literal-flip}
-
-exact-node : (x y : Node) → same_node x y ≡ true → x ≡ y
-exact-node = search rules
-
-same-node_self : (x : Node) → same_node x x ≡ true
-same-node_self = search rules
 
 parity : (l : ℕ) → (l % 2 ≡ 0) ⊎ (l % 2 ≡ 1)
 parity l = grind arith
@@ -75,12 +70,12 @@ no_other : (nodes : List Node) (a b : ℕ) → no_repeat same_node nodes ≡ tru
 no_other [] a b once h g e = absurd (omega arith)
 no_other (n ∷ ns) zero zero once h g e = absurd (omega arith)
 no_other (n ∷ ns) zero (suc b) once h g e =
-    let parts = and_both (not (has same_node ns n)) (no_repeat same_node ns) once in
+    let parts = and_parts (not (has same_node ns n)) (no_repeat same_node ns) once in
     let there : has same_node ns n ≡ true = subst (λ (m : Node). has same_node ns m ≡ true) (sym e) (node-at ns b (omega arith)) in
     contrary _ parts.0 (rw there refl)
 no_other (n ∷ ns) (suc a) zero once h g e = absurd (omega arith)
 no_other (n ∷ ns) (suc a) (suc b) once h g e =
-    let parts = and_both (not (has same_node ns n)) (no_repeat same_node ns) once in
+    let parts = and_parts (not (has same_node ns n)) (no_repeat same_node ns) once in
     no_other ns a b parts.1 (omega arith) (omega arith) e
 
 -- a node has one number

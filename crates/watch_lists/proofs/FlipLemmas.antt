@@ -1,7 +1,7 @@
 -- Negation of literals by number.
 use Rattle.std.proofs.Common.{◌≡◌, ℕ, ◌+◌, ◌-◌, ◌%◌, ◌<◌, true, false, ap, arith, nat_eq, ◌⊎◌, inl, inr, ◌≢◌}
 use Rattle.std.proofs.lemmas.Bool.Decides.{nat_tests}
-use Rattle.lits.proofs.ClauseLemmas.{IsLiteral}
+use Rattle.lits.proofs.Facts.{IsLiteral}
 use Rattle.watch_lists.specs.Codes.{flip}
 
 pub flip-even : (l : ℕ) → l % 2 ≡ 0 → l + 1 ≡ flip l

@@ -3,7 +3,7 @@ use Rattle.std.proofs.Common.{◌≡◌, ℕ, zero, suc, ◌+◌, ◌≤◌, ◌
 use Rattle.std.specs.List.{All}
 use Rattle.std.proofs.lemmas.List.{length-append}
 use Rattle.std.proofs.lemmas.Map.Keys.{IsDistinct-from_apart}
-use Rattle.unit_prop.proofs.LiteralLemmas.{contrary}
+use Rattle.unit_prop.proofs.Facts.{contrary}
 use Rattle.watch_lists.specs.State.{list_at, pairs_of, HasWatch, IsWatch, IsEngine}
 use Rattle.watch_lists.specs.Step.{IsEmpty, IsGrown}
 use Rattle.watch_lists.specs.declared.lists.Watch.{Watch}

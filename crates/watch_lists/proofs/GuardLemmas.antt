@@ -1,11 +1,11 @@
 -- What guards give: a guarded clause forces nothing, and guards stay while literals are put and watches move.
 use Rattle.std.proofs.Common.{◌≡◌, Bool, true, false, ◌||◌, List, refl, sym, ap, ◌∙◌, subst, ◌⊎◌, inl, inr}
 use Rattle.std.specs.List.{list_any}
+use Rattle.std.proofs.lemmas.Bool.{or_cases, or_left, or_right}
 use Rattle.lits.specs.Clause.{has}
-use Rattle.lits.proofs.ClauseLemmas.{IsLiteral}
+use Rattle.lits.proofs.Facts.{IsLiteral, list_any-more}
 use Rattle.unit_prop.specs.Closure.{forces, is_negated}
-use Rattle.unit_prop.proofs.ClosureLemmas.{list_any-more}
-use Rattle.unit_prop.proofs.LiteralLemmas.{contrary, witness, all-at, or_cases, or_left, or_right}
+use Rattle.unit_prop.proofs.Facts.{contrary, witness, all-at}
 use Rattle.watch_lists.specs.Guard.{IsGuarded}
 
 -- a test is true or false

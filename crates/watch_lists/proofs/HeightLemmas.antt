@@ -1,7 +1,8 @@
 -- How long literals aren't false.
 use Rattle.std.proofs.Common.{◌≡◌, ◌≢◌, ℕ, zero, suc, ◌<◌, ◌≤◌, Bool, true, false, List, [], ◌∷◌, length, refl, sym, ap, ◌∙◌, subst, arith, get_or, take, nat_eq, inl, inr, Option}
+use Rattle.std.proofs.lemmas.Bool.{or_cases, or_left, or_right}
 use Rattle.lits.specs.Clause.{has}
-use Rattle.unit_prop.proofs.LiteralLemmas.{contrary, or_cases, or_left, or_right, alone}
+use Rattle.unit_prop.proofs.Facts.{contrary, alone}
 use Rattle.watch_lists.specs.Codes.{flip}
 use Rattle.watch_lists.specs.State.{height, IsMarked, IsBest}
 use Rattle.watch_lists.specs.declared.flat.Pair.{Pair}

@@ -4,11 +4,11 @@ use Rattle.std.specs.List.{list_any, AllByRecursion}
 use Rattle.std.specs.Prelude.{IfNone, IfSome}
 use Rattle.std.proofs.lemmas.List.{get_or-take, length-take-le, take_all, get_or_default}
 use Rattle.std.proofs.lemmas.List.Elements.{recursion_from_All, All-from_recursion}
+use Rattle.std.proofs.lemmas.Bool.{or_cases, or_left, or_right}
 use Rattle.lits.specs.Clause.{has}
 use Rattle.unit_prop.specs.Closure.{forces, is_negated, IsClosed, Clashes, IsClosure, ClosureClashes}
 use Rattle.unit_prop.specs.Propagation.{IsSettled}
-use Rattle.unit_prop.proofs.LiteralLemmas.{contrary, or_cases, or_left, or_right}
-use Rattle.unit_prop.proofs.ClosureLemmas.{IsRound, round-clash, round-last, forces-more}
+use Rattle.unit_prop.proofs.Facts.{contrary, IsRound, round-clash, round-last, forces-more}
 use Rattle.watch_lists.specs.Codes.{flip}
 use Rattle.watch_lists.specs.State.{codes_at, AreGuards, IsMarked, IsJustified, IsEngine, IsStuck, IsPropagated, AsksNothing, decisions, pairs_of}
 use Rattle.watch_lists.specs.declared.engine.Engine.{Engine}

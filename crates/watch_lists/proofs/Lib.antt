@@ -1,22 +1,22 @@
-pub mod AddLemmas
-pub mod AttachLemmas
-pub mod BackLemmas
-pub mod CopyLemmas
-pub mod FlatLemmas
-pub mod FlipLemmas
-pub mod GrowLemmas
-pub mod GuardLemmas
-pub mod HeightLemmas
-pub mod LevelLemmas
-pub mod ListsLemmas
-pub mod TrailLemmas
-pub mod TurnLemmas
-pub mod VisitLemmas
-pub mod WatchLemmas
 pub mod Facts
-pub mod TransferLemmas
-pub mod WholeLemmas
-pub mod PutsLemmas
-pub mod ReadLemmas
-pub mod NumberLemmas
-pub mod NumbersLemmas
+mod AddLemmas
+mod AttachLemmas
+mod BackLemmas
+mod CopyLemmas
+mod FlatLemmas
+mod FlipLemmas
+mod GrowLemmas
+mod GuardLemmas
+mod HeightLemmas
+mod LevelLemmas
+mod ListsLemmas
+mod TrailLemmas
+mod TurnLemmas
+mod VisitLemmas
+mod WatchLemmas
+mod TransferLemmas
+mod WholeLemmas
+mod PutsLemmas
+mod ReadLemmas
+mod NumberLemmas
+mod NumbersLemmas

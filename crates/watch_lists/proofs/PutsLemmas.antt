@@ -6,13 +6,14 @@ use Rattle.std.proofs.lemmas.List.{get_or-map, length-map, map-append, get_or-ta
 use Rattle.std.proofs.lemmas.List.Elements.{All-from_recursion}
 use Rattle.std.proofs.lemmas.Map.Steps.{length-le_from_distinct_below}
 use Rattle.std.proofs.lemmas.Bool.Decides.{nat_tests}
+use Rattle.std.proofs.lemmas.Bool.{or_cases, or_left, or_right, and_parts}
 use Rattle.lits.specs.Clause.{has, no_repeat}
 use Rattle.lits.specs.Same.{same_lit, same_node, opposite}
 use Rattle.lits.specs.declared.node.Node.{Node}
 use Rattle.lits.specs.declared.literal.Lit.{Lit}
 use Rattle.unit_prop.specs.Closure.{forces, is_negated, Clashes, IsClosure, ClosureClashes}
 use Rattle.unit_prop.specs.Propagation.{IsSettled}
-use Rattle.unit_prop.proofs.LiteralLemmas.{contrary, or_cases, or_left, or_right, and_both}
+use Rattle.unit_prop.proofs.Facts.{contrary}
 use Rattle.watch_lists.specs.Codes.{flip, lit_at, IsCode}
 use Rattle.watch_lists.specs.State.{AsksNothing, codes_at, level_at, no_level, decisions, IsJustified, IsEngine, IsStuck, Stays}
 use Rattle.watch_lists.specs.Step.{IsSame, IsEmpty, IsGrown, IsAdded, IsDecided, IsCut}
@@ -66,7 +67,7 @@ clauses-more nodes more (c ∷ cs) are = rw (lits-more nodes more c are.0, claus
 once-push : (nodes : List Node) (node : Node) → no_repeat same_node nodes ≡ true → has same_node nodes node ≡ false → no_repeat same_node (nodes ++ node ∷ []) ≡ true
 once-push [] node once fresh = refl
 once-push (n ∷ ns) node once fresh =
-    let parts = and_both (not (has same_node ns n)) (no_repeat same_node ns) once in
+    let parts = and_parts (not (has same_node ns n)) (no_repeat same_node ns) once in
     let both_apart = split (same_node n node) (has same_node ns node) fresh in
     rw (once-push ns node parts.1 both_apart.1, lacks ns n node (flip_not (has same_node ns n) parts.0) both_apart.0) refl
   where

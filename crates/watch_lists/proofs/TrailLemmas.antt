@@ -7,11 +7,11 @@ use Rattle.std.proofs.lemmas.Bool.Decides.{nat_tests}
 use Rattle.std.proofs.lemmas.List.Folds.{list_any_at}
 use Rattle.std.proofs.lemmas.Map.Keys.{IsDistinct-push}
 use Rattle.std.proofs.lemmas.Map.Steps.{length-le_from_distinct_below}
+use Rattle.std.proofs.lemmas.Bool.{or_cases, or_left, or_right}
 use Rattle.lits.specs.Clause.{has}
-use Rattle.lits.proofs.ClauseLemmas.{IsLiteral}
-use Rattle.lits.proofs.ClauseLemmas as clause_lemmas
-use Rattle.unit_prop.proofs.LiteralLemmas.{contrary, or_cases, or_left, or_right, alone}
-use Rattle.unit_prop.proofs.ClosureLemmas.{list_any-more}
+use Rattle.lits.proofs.Facts.{IsLiteral, list_any-more}
+use Rattle.lits.proofs.Facts as clause_lemmas
+use Rattle.unit_prop.proofs.Facts.{contrary, alone}
 use Rattle.watch_lists.specs.Codes.{flip}
 use Rattle.watch_lists.specs.Guard.{IsGuarded}
 use Rattle.watch_lists.specs.State.{codes_at, pair_at, is_met, AreGuards, AreTurned, AreWatched, IsMarked, AreLevels, IsJustified, AreSettled, AsksNothing}

@@ -1,14 +1,14 @@
 -- What holds of closures over codes holds of those over literals.
 use Rattle.std.proofs.Common.{◌≡◌, ℕ, Bool, true, ◌&&◌, ◌||◌, List, [], ◌∷◌, map, refl, sym, ap, ◌∙◌, subst, nat_eq, inl, inr}
 use Rattle.std.specs.List.{list_any, AllByRecursion}
+use Rattle.std.proofs.lemmas.Bool.{or_cases, or_left, or_right, and_parts, and_from}
 use Rattle.lits.specs.Clause.{has, no_repeat}
 use Rattle.lits.specs.Same.{same_lit, same_node, opposite}
 use Rattle.lits.specs.declared.node.Node.{Node}
 use Rattle.lits.specs.declared.literal.Lit.{Lit}
 use Rattle.unit_prop.specs.Closure.{forces, is_negated, IsClosed, Clashes, IsClosure, ClosureClashes}
 use Rattle.unit_prop.specs.Propagation.{IsSettled}
-use Rattle.unit_prop.proofs.LiteralLemmas.{or_cases, or_left, or_right, and_both, both}
-use Rattle.unit_prop.proofs.LitLaws.{lit_laws}
+use Rattle.unit_prop.proofs.Facts.{lit_laws}
 use Rattle.watch_lists.specs.Codes.{flip, lit_at, IsCode}
 use Rattle.watch_lists.proofs.FlipLemmas.{same_exact, is_literal-flip}
 use Rattle.watch_lists.proofs.Facts.{lit_at-flip, lit_at-exact, flip-code, has-lits, code-of, has-codes, has-same}
@@ -40,8 +40,8 @@ module _ (nodes : List Node) where
       → forces same_lit opposite p (lits_at nodes clause) (lit_at nodes l) ≡ true
   forces-down p [] l h = refl
   forces-down p (x ∷ xs) l h =
-      let parts = and_both (nat_eq x l || p (lit_at nodes (flip x))) _ h in
-      both (same_lit (lit_at nodes x) (lit_at nodes l) || p (opposite (lit_at nodes x))) (forces same_lit opposite p (lits_at nodes xs) (lit_at nodes l)) (elim (or_cases _ _ parts.0) [
+      let parts = and_parts (nat_eq x l || p (lit_at nodes (flip x))) _ h in
+      and_from (same_lit (lit_at nodes x) (lit_at nodes l) || p (opposite (lit_at nodes x))) (forces same_lit opposite p (lits_at nodes xs) (lit_at nodes l)) (elim (or_cases _ _ parts.0) [
         | inl e ↦ or_left _ _ (subst (λ (z : ℕ). same_lit (lit_at nodes x) (lit_at nodes z) ≡ true) (same_exact x l e) (lit_laws.equivalence.refl (lit_at nodes x)))
         | inr f ↦ or_right (same_lit (lit_at nodes x) (lit_at nodes l)) _ (ap p (sym (lit_at-flip nodes x)) ∙ f)
       ]) (forces-down p xs l parts.1)
@@ -90,8 +90,8 @@ module _ (nodes : List Node) where
         → forces same_lit opposite (has same_lit (lits_at nodes set)) (lits_at nodes clause) (lit_at nodes l) ≡ true → forces nat_eq flip (has nat_eq set) clause l ≡ true
     forces-up set [] l a b h f = refl
     forces-up set (x ∷ xs) l a b h f =
-        let parts = and_both (same_lit (lit_at nodes x) (lit_at nodes l) || has same_lit (lits_at nodes set) (opposite (lit_at nodes x))) _ f in
-        both (nat_eq x l || has nat_eq set (flip x)) (forces nat_eq flip (has nat_eq set) xs l) (elim (or_cases _ _ parts.0) [
+        let parts = and_parts (same_lit (lit_at nodes x) (lit_at nodes l) || has same_lit (lits_at nodes set) (opposite (lit_at nodes x))) _ f in
+        and_from (nat_eq x l || has nat_eq set (flip x)) (forces nat_eq flip (has nat_eq set) xs l) (elim (or_cases _ _ parts.0) [
           | inl e ↦ or_left _ _ (subst (λ (z : ℕ). nat_eq x z ≡ true) (lit_at-exact nodes x l once (head-code nodes x xs b) h (lit_laws.exact _ _ e)) (is_literal-flip.equivalence.refl x))
           | inr e ↦ or_right (nat_eq x l) _ (has-codes nodes set (flip x) once a (flip-code nodes x (head-code nodes x xs b)) (ap (has same_lit (lits_at nodes set)) (lit_at-flip nodes x) ∙ e))
         ]) (forces-up set xs l a (tail-codes nodes x xs b) h parts.1)
@@ -100,8 +100,8 @@ module _ (nodes : List Node) where
         → forces same_lit opposite (has same_lit (lits_at nodes set)) (lits_at nodes clause) (lit_at nodes l) ≡ true
     forces-same set [] l h = refl
     forces-same set (x ∷ xs) l h =
-        let parts = and_both (nat_eq x l || has nat_eq set (flip x)) _ h in
-        both (same_lit (lit_at nodes x) (lit_at nodes l) || has same_lit (lits_at nodes set) (opposite (lit_at nodes x))) (forces same_lit opposite (has same_lit (lits_at nodes set)) (lits_at nodes xs) (lit_at nodes l)) (elim (or_cases _ _ parts.0) [
+        let parts = and_parts (nat_eq x l || has nat_eq set (flip x)) _ h in
+        and_from (same_lit (lit_at nodes x) (lit_at nodes l) || has same_lit (lits_at nodes set) (opposite (lit_at nodes x))) (forces same_lit opposite (has same_lit (lits_at nodes set)) (lits_at nodes xs) (lit_at nodes l)) (elim (or_cases _ _ parts.0) [
           | inl e ↦ or_left _ _ (subst (λ (z : ℕ). same_lit (lit_at nodes x) (lit_at nodes z) ≡ true) (same_exact x l e) (lit_laws.equivalence.refl (lit_at nodes x)))
           | inr f ↦ or_right (same_lit (lit_at nodes x) (lit_at nodes l)) _ (ap (has same_lit (lits_at nodes set)) (sym (lit_at-flip nodes x)) ∙ has-lits nodes set (flip x) f)
         ]) (forces-same set xs l parts.1)

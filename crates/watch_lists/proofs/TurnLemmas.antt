@@ -3,6 +3,7 @@ use Rattle.std.proofs.Common.{◌≡◌, ◌≢◌, ℕ, ◌+◌, ◌<◌, ◌�
 use Rattle.std.specs.List.{swap_remove, All}
 use Rattle.std.specs.Prelude.{slice_index_or, slice_index, slice_set, is_none}
 use Rattle.std.proofs.lemmas.List.{get_or-set_same, get_or_append_left, get_or_read, get_or_push, get_or-take, length-set, length_push, length-take, take-take, take_all, take_more, take-append-le}
+use Rattle.std.proofs.lemmas.Bool.{or_cases}
 use Rattle.lits.specs.Clause.{has}
 use Rattle.watch_lists.specs.Codes.{flip}
 use Rattle.watch_lists.specs.State.{codes_at, pair_at, list_at, watch_at, is_met, IsJustified, IsEngine, IsTurn, IsOther, IsLinked, HasWatch, Holds, Stays, Grows, Guards, pushed, pairs_of, moved, arranged}
@@ -14,7 +15,6 @@ use Rattle.watch_lists.proofs.WatchLemmas.{watched-drop, length-swap_remove, wat
 use Rattle.watch_lists.proofs.TrailLemmas.{trail-put, watched-put, turned-put, has-push_cases, trail-below, settled-put, levels-put, starts-most, heads-most, flips}
 use Rattle.watch_lists.proofs.FlipLemmas.{is_literal-flip, same_exact}
 use Rattle.watch_lists.proofs.GuardLemmas.{guarded-turned}
-use Rattle.unit_prop.proofs.LiteralLemmas.{or_cases}
 use Rattle.watch_lists.proofs.VisitLemmas.{turned-drop, turn-false, has-at, moved-watched, moved-list, moved-size, moved-turned, turn-clause}
 use Rattle.watch_lists.proofs.CopyLemmas.{pairs-length, pairs-moved, pairs-push, copies-moved, copies-push}
 

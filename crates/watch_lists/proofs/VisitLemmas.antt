@@ -4,9 +4,10 @@ use Rattle.std.specs.List.{swap_remove}
 use Rattle.std.specs.Prelude.{slice_index_or, slice_index, slice_set}
 use Rattle.std.proofs.lemmas.List.{get_or-set_same, get_or-set_other, get_or_read, get_or_default, length-set}
 use Rattle.std.proofs.lemmas.List.Folds.{list_any_at}
+use Rattle.std.proofs.lemmas.Bool.{or_cases, or_left, or_right}
 use Rattle.lits.specs.Clause.{has}
 use Rattle.unit_prop.specs.Closure.{forces, is_negated}
-use Rattle.unit_prop.proofs.LiteralLemmas.{contrary, or_cases, or_left, or_right, all-true, passes}
+use Rattle.unit_prop.proofs.Facts.{contrary, all-true, passes}
 use Rattle.watch_lists.specs.Codes.{flip}
 use Rattle.watch_lists.specs.Guard.{IsGuarded}
 use Rattle.watch_lists.specs.State.{no_watch, no_pair, codes_at, pair_at, list_at, watch_at, is_met, HasWatch, AreTurned, AreWatched, IsLinked, IsWatch, IsMarked, IsOther, IsTurn, IsEngine, pairs_of, first_two}

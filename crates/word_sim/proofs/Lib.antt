@@ -1,3 +1,5 @@
+pub mod Facts
 mod DrawLemmas
 mod PoolLemmas
 mod BitLemmas
+mod RowLemmas

@@ -1,5 +1,5 @@
 -- How the words of a pool spell its patterns.
-use Rattle.std.proofs.Common.{◌≡◌, ◌∙◌, ◌≢◌, ℕ, ◌+◌, ◌*◌, ◌/◌, ◌%◌, ◌^◌, ◌<◌, ◌≤◌, Bool, true, false, List, [], ◌∷◌, ◌++◌, ◌==◌, ◌&&◌, nat_lt, length, map, refl, sym, ap, subst, suc, inl, inr, ◌-◌, if◌then◌else◌}
+use Rattle.std.proofs.Common.{◌≡◌, ◌∙◌, ◌≢◌, ℕ, ◌+◌, ◌*◌, ◌/◌, ◌%◌, ◌<◌, ◌≤◌, Bool, true, false, List, [], ◌∷◌, ◌++◌, ◌==◌, ◌&&◌, nat_lt, length, map, refl, sym, ap, subst, suc, inl, inr, ◌-◌, if◌then◌else◌}
 use native.Mathlib.Omega.{arith}
 use native.Mathlib.Nat.{mul_comm}
 use Rattle.std.proofs.Math.Nat.{mul-suc, suc-mul, mul-le-mul_left}
@@ -43,7 +43,7 @@ pub with_bit-same : (word place : ℕ) (truth : Bool) → place < 64 → bit_at 
 with_bit-same word place true inside clear = rw (bit_at_set_same w64 word place inside) refl
 with_bit-same word place false inside clear = rw clear refl
 
-times-mono : (a b k : ℕ) → a ≤ b → a * k ≤ b * k
+pub times-mono : (a b k : ℕ) → a ≤ b → a * k ≤ b * k
 times-mono a b k le = omega (arith, mul-le-mul_left k le, mul_comm a k, mul_comm b k)
 
 module _ (inputs count : ℕ) (input : List Bool) (old mid new : List ℕ) (fits : length input ≡ inputs)

@@ -2,7 +2,7 @@
 use Rattle.std.specs.Prelude.{◌≡◌, ◌==◌, ℕ, ◌+◌, ◌*◌, ◌/◌, ◌%◌, ◌^◌, ◌<◌, ◌≤◌, Bool, false, List, length, map, bit_or, if◌then◌else◌}
 use Rattle.std.specs.List.{range_with_len, slice_index_or}
 use Rattle.std.specs.Int.{bit_at}
-use Rattle.word_sim.specs.Patterns.{is_set, words_of}
+use Rattle.word_sim.specs.Patterns.{is_set}
 
 -- input by input, each with all its words
 abbrev pub drawn_patterns : ℕ → ℕ → List ℕ → List (List Bool)

@@ -10,9 +10,13 @@
 #![tactic(auto)]
 
 pub use pool::Pool;
+pub use rows::fill;
+pub use sigs::{Sigs, signatures};
 
 mod draws;
 mod pool;
+mod rows;
+mod sigs;
 #[cfg(test)]
 mod tests;
 mod words;

@@ -66,7 +66,8 @@ pub(crate) fn put_gate(
     requires words { length words.old ≡ words_of count }
     requires left { length left.now ≡ words_of count }
     requires right { length right.now ≡ words_of count }
-    ensures { (f g : ℕ → Bool) → HasBits count f left.now → HasBits count g right.now
+    ensures size { length words.new ≡ words_of count }
+    ensures bits { (f g : ℕ → Bool) → HasBits count f left.now → HasBits count g right.now
         → HasBits count (λ p. turned left_neg (f p) && turned right_neg (g p)) words.new }
 {
     put_both(words, left, mask_of(left_neg), right, mask_of(right_neg));

@@ -1,4 +1,4 @@
-use Rattle.cec_top.proofs.CompleteLemmas.{complete}
+use Rattle.cec_top.proofs.CompleteLemmas.{complete, decided}
 use Rattle.cec_top.proofs.ProvenLemmas.{complete-lrat}
 use Rattle.cec_top.proofs.laws.completeness.Goals as goal
 
@@ -9,3 +9,7 @@ returns-clause-check call = λ words c old new status kept asks answers can none
 pub returns-clause-lrat : goal.returns-clause-lrat
 returns-clause-lrat call = λ words c old new status kept asks answers can none.
     complete-lrat words old new status kept call.words_are_one_of.ensures.asked answers c asks can none
+
+pub returns-clause-decided : goal.returns-clause-decided
+returns-clause-decided call = λ words c old new status kept asks answers ample.
+    decided words old new status kept call.words_are_one_of.ensures.asked answers c asks ample

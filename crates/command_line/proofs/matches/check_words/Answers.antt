@@ -7,5 +7,6 @@ use Rattle.command_line.proofs.matches.check_words.Goals as goal
 pub returns : goal.returns
 returns c =
     let found = found_of c.args.matches.now in
-    check_made (rows_of found) _ _ _ _ c.text.ensures c.text-2.ensures
-    (sym (first_value-rows found (codes "out")) ∙ sym c.get_str.ensures) c.budget.ensures.value
+    check_made (rows_of found) _ _ _ _ _ _ _ c.text.ensures c.text-2.ensures
+    (sym (first_value-rows found (codes "out")) ∙ sym c.get_str.ensures) c.number.ensures.value c.number-2.ensures.value
+    c.number-3.ensures.value c.number-4.ensures.value

@@ -13,6 +13,6 @@ loop-k-preserved c =
     let whole = c.as_slice-axiom-items.ensures.clauses ∙ c.axioms-axioms.ensures in
     let at : slice_get (axioms_of c.args.net.now c.args.node) c.loop-k.k ≡ Some c.axiom-item.result =
     ap (λ (cs : List (List Lit)). slice_get cs c.loop-k.k) (sym whole) ∙ slice_get-get_or c.as_slice-axiom-items.result.now c.loop-k.k c.axiom-item.result (omega arith) ∙ ap Some (sym c.axiom-item.is) in
-    named-next c.args.node (axioms_of c.args.net.now c.args.node) c.loop-k.k c.axiom-item.result c.args.cone.now.items c.loop-k.cone.items c.push.new.self.items
+    named-next (Axiom c.args.node) (axioms_of c.args.net.now c.args.node) c.loop-k.k c.axiom-item.result c.args.cone.now.items c.loop-k.cone.items c.push.new.self.items
     at c.loop-k.invariant
     (c.in_ok-push.ensures.items ∙ ap (λ (l : List Lit). c.loop-k.cone.items ++ record { clause = l; by = Axiom c.args.node c.loop-k.k } ∷ []) (c.in_ok-clause.ensures ∙ c.lits.ensures.lits))

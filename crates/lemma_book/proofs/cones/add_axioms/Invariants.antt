@@ -1,8 +1,9 @@
 -- The clauses so far are put last.
 use Rattle.std.proofs.Common.{◌≡◌, ◌++◌, take}
 use Rattle.netlist.specs.Miter.{axioms_of}
+use Rattle.lits.specs.declared.step.Ref.TheVariants.{Axiom}
 use Rattle.lemma_book.specs.Cone.{named_from}
 use Rattle.lemma_book.proofs.cones.add_axioms.Given as goal
 
 abbrev pub invariant-loop-k : goal.invariant-loop-k
-invariant-loop-k l = l.cone.items ≡ l.fn.cone.items ++ named_from l.fn.node 0 (take l.k (axioms_of l.net l.fn.node))
+invariant-loop-k l = l.cone.items ≡ l.fn.cone.items ++ named_from (Axiom l.fn.node) 0 (take l.k (axioms_of l.net l.fn.node))

@@ -3,4 +3,4 @@ use Rattle.proof_stitch.specs.Steps.{id_of}
 use Rattle.proof_stitch.proofs.addition.ids.Given as goal
 
 abbrev pub invariant-loop-hint : goal.invariant-loop-hint
-invariant-loop-hint l = l.ids.items ≡ map (id_of l.net l.first) (take l.hint-index l.hints)
+invariant-loop-hint l = l.ids.items ≡ map (id_of l.net l.shown l.first) (take l.hint-index l.hints)

@@ -6,5 +6,5 @@ use Rattle.proof_stitch.proofs.logs.push_logs.Given as goal
 
 abbrev pub invariant-loop-output : goal.invariant-loop-output
 invariant-loop-output l =
-    IsAtLog l.net l.initial.proof.text.items l.initial.proof.last l.entries (outputs_of l.net)
+    IsAtLog l.net l.shown l.initial.proof.text.items l.initial.proof.last l.book.entries (outputs_of l.net)
     (range_with_len l.output (l.output-end - l.output)) l.proof.text.items l.proof.last l.spans.items

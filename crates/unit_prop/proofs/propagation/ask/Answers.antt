@@ -1,5 +1,5 @@
 use Rattle.std.proofs.Common.{sym}
-use Rattle.lits.proofs.ClauseLemmas.{IsLiteral, is_literal}
+use Rattle.lits.proofs.Facts.{IsLiteral, is_literal}
 use Rattle.unit_prop.proofs.AskLemmas.{ask-none, ask-unit, ask-satisfied, ask-more}
 use Rattle.unit_prop.proofs.propagation.ask.Goals as goal
 

@@ -1,4 +1,4 @@
-use Rattle.lits.proofs.ClauseLemmas.{IsLiteral, is_literal}
+use Rattle.lits.proofs.Facts.{IsLiteral, is_literal}
 use Rattle.unit_prop.proofs.ClosureLemmas.{round-clash, round-next, round-last, missing_places-falls}
 use Rattle.unit_prop.proofs.propagation.close.Goals as goal
 

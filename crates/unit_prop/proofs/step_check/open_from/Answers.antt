@@ -1,5 +1,5 @@
 use Rattle.std.proofs.Common.{sym}
-use Rattle.lits.proofs.ClauseLemmas.{IsLiteral, is_literal}
+use Rattle.lits.proofs.Facts.{IsLiteral, is_literal}
 use Rattle.unit_prop.proofs.OpenLemmas.{open_in-one, open_in-more}
 use Rattle.unit_prop.proofs.step_check.open_from.Goals as goal
 

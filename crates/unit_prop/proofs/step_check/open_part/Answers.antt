@@ -1,5 +1,5 @@
 use Rattle.std.proofs.Common.{List, sym, subst, arith}
-use Rattle.lits.proofs.ClauseLemmas.{IsLiteral, is_literal}
+use Rattle.lits.proofs.Facts.{IsLiteral, is_literal}
 use Rattle.unit_prop.proofs.OpenLemmas.{open_in-first}
 use Rattle.unit_prop.specs.StepCheck.{IsOpenPart}
 use Rattle.unit_prop.proofs.step_check.open_part.Goals as goal

@@ -1,4 +1,4 @@
-use Rattle.std.proofs.Common.{rules, ◌≡◌, ◌∙◌, map, ℕ, ◌+◌, ◌∷◌, ◌++◌, [], ap, refl, sym}
+use Rattle.std.proofs.Common.{◌≡◌, ◌∙◌, map, ap, sym}
 use native.Mathlib.Omega.{arith}
 use Rattle.std.specs.List.{range_with_len}
 use Rattle.std.proofs.lemmas.List.FromFn.{map-range_with_len_more}

@@ -1,10 +1,8 @@
-use Rattle.std.proofs.Common.{rules, ◌≡◌, ◌<◌, ◌∙◌, ◌+◌, ◌*◌, ◌^◌, ◌%◌, Bool, ℕ, ap, length, refl, sym}
+use Rattle.std.proofs.Common.{◌≡◌, ◌<◌, ◌∙◌, ◌+◌, ◌*◌, ◌^◌, ◌%◌, ℕ, ap, length, refl}
 use native.Mathlib.Omega.{arith}
-use Rattle.std.specs.List.{slice_index_or}
 use Rattle.std.specs.Int.RustNames.{bit_or}
 use Rattle.std.proofs.lemmas.Grind.{get_or_default_zero}
 use Rattle.std.proofs.lemmas.List.{length-set, get_or-set_same, get_or-set_other}
-use Rattle.word_sim.specs.Storage.{with_bit}
 use Rattle.word_sim.proofs.PoolLemmas.{setting-next}
 use Rattle.word_sim.proofs.pool.set_bits.Goals.{then-truth, else-truth}
 use Rattle.word_sim.proofs.pool.set_bits.Goals as goal

@@ -1,4 +1,4 @@
-use Rattle.std.proofs.Common.{◌≡◌, ◌^◌, ◌%◌, ◌*◌, ◌-◌, ℕ, subst, sym}
+use Rattle.std.proofs.Common.{◌≡◌, ◌^◌, ◌%◌, ◌*◌}
 use native.Mathlib.Omega.{arith}
 use Rattle.std.proofs.lemmas.Nat.{one_shl}
 use Rattle.word_sim.proofs.BitLemmas.{tail-cleared}

@@ -1,12 +1,12 @@
-use Rattle.std.proofs.Common.{◌≡◌, ◌∙◌, ℕ, ap, bit_and, bit_xor}
+use Rattle.std.proofs.Common.{◌∙◌, ℕ, ap, bit_and, bit_xor}
 use native.Mathlib.Omega.{arith}
 use Rattle.std.specs.List.{slice_index_or}
 use Rattle.word_sim.specs.Rows.{mask_of}
 use Rattle.word_sim.proofs.BitLemmas.{gate-bits}
 use Rattle.word_sim.proofs.words.put_gate.Goals as goal
 
-pub returns : goal.returns
-returns c = λ f g first second.
+pub returns-clause-bits : goal.returns-clause-bits
+returns-clause-bits c = λ f g first second.
     gate-bits c.args.count f g c.args.left.now c.args.right.now c.put_both.new.words c.clear_tail.new.words c.args.left_neg c.args.right_neg first second
     (c.put_both.ensures.size ∙ c.requires.words) c.clear_tail.ensures.size
     (λ w inside. c.put_both.ensures.words w (omega (arith, c.put_both.ensures.size))

@@ -1,7 +1,6 @@
-use Rattle.std.proofs.Common.{◌≡◌, ◌≤◌, ◌<◌, ◌++◌, ◌∷◌, [], List, ℕ, arith, subst, ap, sym, ◌∙◌, length, length-set, length-append}
+use Rattle.std.proofs.Common.{◌≡◌, ◌<◌, ◌++◌, ◌∷◌, [], List, ℕ, arith, subst, ap, length, length-set, length-append}
 use Rattle.netlist.specs.Circuit.{Aig}
 use Rattle.netlist.specs.VariableTable.{AreVariables}
-use Rattle.circuit_draft.specs.Steps.{AreLevels, IsOpen, Keeps, open_in}
 use Rattle.circuit_draft.proofs.LevelLemmas.{open-set}
 use Rattle.circuit_draft.proofs.PathLemmas.{Walks, Walks-last, Walks-push, Walks-found, AreLevels-found, Keeps-found, Keeps-trans, too_long}
 use Rattle.circuit_draft.proofs.draft.Draft.climb.Goals as goal

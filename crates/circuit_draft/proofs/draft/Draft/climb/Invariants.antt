@@ -1,4 +1,4 @@
-use Rattle.std.proofs.Common.{◌≡◌, ◌≢◌, ◌+◌, ◌-◌, ◌*◌, ◌≤◌, length, vec_len}
+use Rattle.std.proofs.Common.{◌+◌, ◌-◌, ◌*◌, ◌≤◌, length}
 use Rattle.circuit_draft.specs.Steps.{AreLevels, Keeps, open_in}
 use Rattle.circuit_draft.proofs.PathLemmas.{Walks}
 use Rattle.circuit_draft.proofs.draft.Draft.climb.Given as goal

@@ -1,12 +1,12 @@
-use Rattle.std.proofs.Common.{◌≡◌, ◌≢◌, ◌<◌, ◌≤◌, Bool, true, None, arith, subst, sym, ap, ◌∙◌, length}
+use Rattle.std.proofs.Common.{◌≡◌, ◌≢◌, ◌<◌, Bool, None, arith, subst, ap, ◌∙◌, length}
 use Rattle.std.specs.Prelude.{slice_index, MatchBool}
 use Rattle.std.proofs.lemmas.List.{get_or_read}
 use Rattle.netlist.specs.declared.gate.And.{And}
 use Rattle.netlist.specs.Circuit.{Aig}
 use Rattle.circuit_draft.specs.Levels.{level_of}
 use Rattle.circuit_draft.specs.Steps.{gate_at}
-use Rattle.circuit_draft.proofs.VariableFacts.{few_gates, gate_within}
-use Rattle.circuit_draft.proofs.CycleLemmas.{cycle_at, AreAllLevels-from, found_more}
+use Rattle.circuit_draft.proofs.VariableLemmas.{few_gates, gate_within}
+use Rattle.circuit_draft.proofs.CycleLemmas.{cycle_at, found_more}
 use Rattle.circuit_draft.proofs.draft.Draft.climb_all.Goals as goal
 
 pub overflow_cast-count : goal.overflow_cast-count

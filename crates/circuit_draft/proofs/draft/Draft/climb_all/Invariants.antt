@@ -1,4 +1,4 @@
-use Rattle.std.proofs.Common.{◌≡◌, ◌≢◌, ℕ, ◌<◌}
+use Rattle.std.proofs.Common.{◌≢◌, ℕ, ◌<◌}
 use Rattle.std.specs.Prelude.{slice_index}
 use Rattle.circuit_draft.specs.Steps.{AreLevels}
 use Rattle.circuit_draft.proofs.draft.Draft.climb_all.Given as goal

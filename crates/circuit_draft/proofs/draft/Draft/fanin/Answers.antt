@@ -1,10 +1,10 @@
-use Rattle.std.proofs.Common.{◌≡◌, ◌∙◌, ◌<◌, ◌-◌, List, ℕ, length, length-append, arith, subst, sym, ◌==◌, true}
+use Rattle.std.proofs.Common.{◌≡◌, ◌∙◌, ◌-◌, length-append, arith, subst, sym, true}
 use Rattle.std.specs.Prelude.{slice_index}
 use Rattle.netlist.specs.Circuit.{Aig, gate_vars, is_over, variables_in}
-use Rattle.netlist.proofs.VariableLemmas.{few}
+use Rattle.netlist.proofs.Facts.{few}
 use Rattle.circuit_draft.specs.Steps.{AreLevels, IsFanin}
 use Rattle.circuit_draft.specs.declared.climb.Fanin.TheVariants as fanin
-use Rattle.circuit_draft.proofs.FaninFacts.{gate_fanin, known_fanin, open_fanin, source_fanin, defined_fanin}
+use Rattle.circuit_draft.proofs.FaninLemmas.{gate_fanin, known_fanin, open_fanin, source_fanin, defined_fanin}
 use Rattle.circuit_draft.proofs.draft.Draft.fanin.Goals as goal
 
 pub overflow_cast-sources : goal.overflow_cast-sources

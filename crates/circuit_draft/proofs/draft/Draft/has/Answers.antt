@@ -2,7 +2,7 @@ use Rattle.std.proofs.Common.{◌≡◌, ◌∙◌, ap, subst, ◌==◌}
 use Rattle.std.specs.Option.{is_some}
 use Rattle.lits.specs.Clause.{has}
 use Rattle.netlist.specs.Circuit.{Aig, variables_in}
-use Rattle.netlist.proofs.PlaceLemmas.{is_some-place}
+use Rattle.netlist.proofs.Facts.{is_some-place}
 use Rattle.circuit_draft.proofs.draft.Draft.has.Goals as goal
 
 pub returns : goal.returns

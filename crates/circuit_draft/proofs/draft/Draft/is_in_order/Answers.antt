@@ -1,7 +1,6 @@
-use Rattle.std.proofs.Common.{◌≡◌, arith, subst, sym, ap, ◌∙◌, length}
+use Rattle.std.proofs.Common.{arith, ap, ◌∙◌, length}
 use Rattle.netlist.specs.Circuit.{Aig}
-use Rattle.netlist.specs.VariableTable.{AreVariables}
-use Rattle.circuit_draft.proofs.VariableFacts.{few_gates}
+use Rattle.circuit_draft.proofs.VariableLemmas.{few_gates}
 use Rattle.circuit_draft.proofs.OrderLemmas.{stops_left, stops_right, goes_on}
 use Rattle.circuit_draft.proofs.draft.Draft.is_in_order.Goals as goal
 

@@ -1,9 +1,8 @@
 use Rattle.std.proofs.Common.{◌≡◌, arith, subst, sym, ◌==◌, false}
 use Rattle.lits.specs.Clause.{has}
 use Rattle.netlist.specs.Circuit.{Aig, variables_in}
-use Rattle.netlist.specs.VariableTable.{IsTable}
-use Rattle.netlist.proofs.VariableLemmas.{few}
-use Rattle.circuit_draft.proofs.VariableFacts.{AreVariables-gate, vars-gate}
+use Rattle.netlist.proofs.Facts.{few}
+use Rattle.circuit_draft.proofs.VariableLemmas.{AreVariables-gate, vars-gate}
 use Rattle.circuit_draft.proofs.draft.Draft.push_gate.Goals as goal
 
 pub add-requires : goal.add-requires
@@ -21,5 +20,5 @@ invariant_of-self-2 c =
         variables = AreVariables-gate inputs gates c.args.gate c.self.invariant.draft.variables new c.requires.range;
         count = c.self.invariant.draft.count;
       };
-      table = rw (vars-gate inputs gates c.args.gate) (c.in_ok-add.ensures.ok (variables_in (record { inputs = inputs; gates = gates; outputs = c.self.inside.outputs.items })) c.self.invariant.table new);
+      table = rw (vars-gate inputs gates c.args.gate) (c.in_ok-add.ensures.table (variables_in (record { inputs = inputs; gates = gates; outputs = c.self.inside.outputs.items })) c.self.invariant.table new);
     })

@@ -1,4 +1,4 @@
-use Rattle.std.proofs.Common.{◌≡◌, ◌+◌, ◌<◌, arith, subst, sym, ◌∙◌, length, max, ℕ, rules}
+use Rattle.std.proofs.Common.{◌≡◌, ◌+◌, ◌<◌, arith, subst, sym, length, ℕ}
 use Rattle.netlist.specs.declared.gate.And.{And}
 use Rattle.netlist.specs.Circuit.{Aig}
 use Rattle.netlist.specs.VariableTable.{AreVariables}
@@ -6,8 +6,8 @@ use Rattle.std.proofs.lemmas.List.{get_or_read}
 use Rattle.circuit_draft.specs.Steps.{IsStep, IsFanin, gate_at}
 use Rattle.circuit_draft.specs.declared.climb.Fanin.TheVariants as fanin
 use Rattle.circuit_draft.specs.declared.climb.Step.TheVariants as step
-use Rattle.circuit_draft.proofs.VariableFacts.{few_gates}
-use Rattle.circuit_draft.proofs.FaninFacts.{made_step}
+use Rattle.circuit_draft.proofs.VariableLemmas.{few_gates}
+use Rattle.circuit_draft.proofs.FaninLemmas.{made_step}
 use Rattle.circuit_draft.proofs.draft.Draft.step.Goals as goal
 
 pub overflow_add-result : goal.overflow_add-result

@@ -17,8 +17,8 @@ returns-in_err-literal-in-Literals-2-clause-err c =
           (rw c.in-Literals-2.is at r),
     )
 
-pub returns-then-number-ge-TOO_LARGE-clause-err : goal.returns-then-number-ge-TOO_LARGE-clause-err
-returns-then-number-ge-TOO_LARGE-clause-err c =
+pub returns-then-number-ge-NUMBER_LIMIT-clause-err : goal.returns-then-number-ge-NUMBER_LIMIT-clause-err
+returns-then-number-ge-NUMBER_LIMIT-clause-err c =
     let other : is_zero c.args.number ≡ false = ne_eqb _ _ (λ e. omega arith) in
     let wrong : is_hint c.args.number ≡ false = le-ltb _ _ (omega arith) in (
       refl,

@@ -1,6 +1,6 @@
 use Rattle.std.proofs.Common.{◌∙◌, ℕ, Option, refl, sym, subst}
 use Rattle.std.specs.Prelude.{IsSome}
-use Rattle.netlist.proofs.LawNumbers.{variable-some}
+use Rattle.netlist.proofs.NumberedClauses.{variable-some}
 use Rattle.netlist.proofs.pair.CircuitPair.number.Goals as goal
 
 pub unwrap-requires : goal.unwrap-requires

@@ -7,7 +7,7 @@ use Rattle.proof_stitch.proofs.proof_text.ProofText.push_steps.Given as goal
 abbrev pub invariant-loop-step : goal.invariant-loop-step
 invariant-loop-step l = record {
   text :
-      l.self.text.items ++ text_from l.self.last (additions_from l.net l.first (l.self.last + 1) (drop l.step-index l.steps))
-      ≡ l.initial.self.text.items ++ text_from l.initial.self.last (additions_from l.net l.first l.first l.steps);
+      l.self.text.items ++ text_from l.self.last (additions_from l.net l.shown l.first (l.self.last + 1) (drop l.step-index l.steps))
+      ≡ l.initial.self.text.items ++ text_from l.initial.self.last (additions_from l.net l.shown l.first l.first l.steps);
   last : l.self.last ≡ l.initial.self.last + l.step-index;
 }

@@ -1,8 +1,8 @@
 use Rattle.std.proofs.Common.{◌≡◌, ◌<◌, true, List, refl, sym, subst, ◌∙◌, arith, ℕ}
 use Rattle.lits.specs.declared.literal.Lit.{Lit}
-use Rattle.unit_prop.proofs.LitLaws.{lit_laws}
+use Rattle.unit_prop.proofs.Facts.{lit_laws}
 use Rattle.unit_prop.specs.Refuter.{is_over, IsModel}
-use Rattle.solver_plain.proofs.ListLemmas.{each-at}
+use Rattle.solver_plain.proofs.Facts.{each-at}
 use Rattle.watch_lists.specs.Codes.{lit_at}
 use Rattle.solver_watch.specs.Assuming.{IsAssuming}
 use Rattle.solver_watch.proofs.AssumeLemmas.{assuming-assume, assuming-decide}

@@ -1,6 +1,6 @@
 use Rattle.std.proofs.Common.{◌-◌, refl, sym, subst}
 use Rattle.solver_plain.specs.Formula.{Clauses}
-use Rattle.solver_plain.proofs.SettleLemmas.{IsUnderWay, way-start, way-next}
+use Rattle.solver_plain.proofs.Facts.{IsUnderWay, way-start, way-next}
 use Rattle.solver_watch.specs.Known.{clauses_known}
 use Rattle.solver_watch.specs.Search.{Learns}
 use Rattle.solver_watch.proofs.EngineLemmas.{over-same}

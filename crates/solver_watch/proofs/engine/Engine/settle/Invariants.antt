@@ -1,4 +1,4 @@
-use Rattle.solver_plain.proofs.SettleLemmas.{IsUnderWay}
+use Rattle.solver_plain.proofs.Facts.{IsUnderWay}
 use Rattle.solver_watch.specs.Known.{clauses_known}
 use Rattle.solver_watch.specs.Search.{IsState}
 use Rattle.solver_watch.proofs.engine.Engine.settle.Given as goal

@@ -1,5 +1,5 @@
 use Rattle.unit_prop.proofs.LitLaws.{dim_laws}
-use Rattle.unit_prop.proofs.LawLemmas.{clash-false}
+use Rattle.unit_prop.proofs.AssignmentLemmas.{clash-false}
 use Rattle.unit_prop.proofs.laws.dimacs.clash_refutes.Goals as goal
 
 pub returns : goal.returns

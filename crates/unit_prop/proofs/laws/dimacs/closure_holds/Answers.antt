@@ -1,5 +1,5 @@
 use Rattle.unit_prop.proofs.LitLaws.{dim_laws}
-use Rattle.unit_prop.proofs.LawLemmas.{closure-true}
+use Rattle.unit_prop.proofs.AssignmentLemmas.{closure-true}
 use Rattle.unit_prop.proofs.laws.dimacs.closure_holds.Goals as goal
 
 pub returns : goal.returns

@@ -1,5 +1,5 @@
 use Rattle.lits.specs.Same.{same_dim, opposite_dim}
-use Rattle.unit_prop.proofs.LawLemmas.{step-more}
+use Rattle.unit_prop.proofs.AssignmentLemmas.{step-more}
 use Rattle.unit_prop.proofs.laws.dimacs.step_over_more.Goals as goal
 
 pub returns : goal.returns

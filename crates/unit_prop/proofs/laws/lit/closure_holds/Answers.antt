@@ -1,5 +1,5 @@
 use Rattle.unit_prop.proofs.LitLaws.{lit_laws}
-use Rattle.unit_prop.proofs.LawLemmas.{closure-true}
+use Rattle.unit_prop.proofs.AssignmentLemmas.{closure-true}
 use Rattle.unit_prop.proofs.laws.lit.closure_holds.Goals as goal
 
 pub returns : goal.returns

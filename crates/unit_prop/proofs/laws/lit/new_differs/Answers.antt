@@ -1,5 +1,5 @@
 use Rattle.unit_prop.proofs.LitLaws.{lit_laws}
-use Rattle.unit_prop.proofs.LawLemmas.{new-differs}
+use Rattle.unit_prop.proofs.AssignmentLemmas.{new-differs}
 use Rattle.unit_prop.proofs.laws.lit.new_differs.Goals as goal
 
 pub returns : goal.returns

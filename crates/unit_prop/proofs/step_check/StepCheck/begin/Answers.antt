@@ -1,6 +1,6 @@
 use Rattle.std.proofs.Common.{arith}
 use Rattle.std.proofs.lemmas.Result.{err_from_is_err_and}
-use Rattle.lits.proofs.ClauseLemmas.{IsLiteral, is_literal}
+use Rattle.lits.proofs.Facts.{IsLiteral, is_literal}
 use Rattle.unit_prop.proofs.AssumeLemmas.{assumed-next, assumed-pair, assumed-consistent, if_bad-map}
 use Rattle.unit_prop.proofs.step_check.StepCheck.begin.Goals as goal
 

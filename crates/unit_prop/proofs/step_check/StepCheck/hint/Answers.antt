@@ -1,4 +1,4 @@
-use Rattle.lits.proofs.ClauseLemmas.{IsLiteral, is_literal}
+use Rattle.lits.proofs.Facts.{IsLiteral, is_literal}
 use Rattle.unit_prop.proofs.OpenLemmas.{hint-nothing, hint-taken, hint-refused, hint-more, taken-consistent}
 use Rattle.unit_prop.proofs.step_check.StepCheck.hint.Goals as goal
 

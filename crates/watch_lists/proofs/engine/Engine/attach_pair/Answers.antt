@@ -11,7 +11,7 @@ use Rattle.watch_lists.proofs.VisitLemmas.{mark-true, mark-false}
 use Rattle.watch_lists.proofs.HeightLemmas.{height-below}
 use Rattle.watch_lists.proofs.TrailLemmas.{has-take, flips, starts-most}
 use Rattle.watch_lists.proofs.GuardLemmas.{cases}
-use Rattle.unit_prop.proofs.LiteralLemmas.{contrary}
+use Rattle.unit_prop.proofs.Facts.{contrary}
 use Rattle.watch_lists.proofs.AttachLemmas.{best-bounds, guards-met, guards-free, first-negates, second-forces, alone-forces}
 use Rattle.watch_lists.proofs.engine.Engine.attach_pair.Goals as goal
 

@@ -1,8 +1,8 @@
-use Rattle.std.proofs.Common.{◌≡◌, ◌∙◌, ◌+◌, ◌/◌, ◌%◌, ◌++◌, ◌∷◌, List, Bool, [], ap, length, refl, sym, ℕ}
+use Rattle.std.proofs.Common.{◌≡◌, ◌∙◌, ◌++◌, ◌∷◌, List, Bool, [], ap, length, sym}
 use native.Mathlib.Omega.{arith}
 use Rattle.std.proofs.lemmas.List.{append_assoc}
 use Rattle.word_sim.specs.Patterns.{Patterns}
-use Rattle.word_sim.specs.Storage.{drawn_patterns, HasRoom}
+use Rattle.word_sim.specs.Storage.{drawn_patterns}
 use Rattle.word_sim.proofs.PoolLemmas.{last-block, added-next, added-size, added-clear}
 use Rattle.word_sim.proofs.pool.Pool.add.Goals as goal
 

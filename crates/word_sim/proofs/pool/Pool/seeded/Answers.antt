@@ -1,9 +1,8 @@
-use Rattle.std.proofs.Common.{◌≡◌, ◌∙◌, ◌++◌, List, Bool, [], ap, length, refl, sym, ℕ}
+use Rattle.std.proofs.Common.{◌∙◌, List, Bool, ap}
 use native.Mathlib.Omega.{arith}
 use Rattle.std.proofs.lemmas.List.{append-nil, get_or_past}
 use Rattle.std.proofs.lemmas.Nat.Bits.{bit_at-zero}
 use Rattle.std.specs.Int.{bit_at}
-use Rattle.word_sim.specs.Patterns.{Patterns}
 use Rattle.word_sim.proofs.PoolLemmas.{drawn-seeded, drawn-size}
 use Rattle.word_sim.proofs.pool.Pool.seeded.Goals as goal
 

@@ -1,4 +1,4 @@
-use Rattle.std.proofs.Common.{◌≡◌, ◌∙◌, ◌+◌, ◌*◌, ◌<◌, ◌&&◌, nat_lt, ap, subst, List, Bool, ℕ, length, sym}
+use Rattle.std.proofs.Common.{◌∙◌, ◌+◌, ◌*◌, ◌<◌, ◌&&◌, nat_lt, ap, subst, ℕ, length, sym}
 use native.Mathlib.Omega.{arith}
 use Rattle.std.proofs.lemmas.Grind.{get_or_default_zero}
 use Rattle.word_sim.specs.Patterns.{Patterns, is_set, truth_of, words_of}

@@ -1,4 +1,4 @@
-use Rattle.std.proofs.Common.{◌≡◌, ◌∙◌, ◌+◌, ◌*◌, ap, length, sym, ℕ}
+use Rattle.std.proofs.Common.{◌≡◌, ◌∙◌, ◌+◌, ◌*◌, ap, length, sym}
 use native.Mathlib.Omega.{arith}
 use Rattle.word_sim.specs.Patterns.{Patterns, words_of}
 use Rattle.word_sim.proofs.PoolLemmas.{patterns-count}

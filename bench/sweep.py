@@ -1,0 +1,108 @@
+#!/usr/bin/env python3
+"""Measures `check` beside ABC's `&cec` and CaDiCaL on the same pairs, and has each proof checked.
+
+Usage: sweep.py FOLDER [--program PROGRAM] [--options WORDS] [--classes tiny small medium] [--limit SECONDS] [--rounds N] [--only REGEX]
+
+FOLDER is as for `solver.py`, with the binary files `NAME.a.aig` and `NAME.b.aig` too. Each pair is given to `PROGRAM check A B --out
+P` with the words of --options, to `berkeley-abc` (`&cec`), and the miter that the program wrote to `cadical`; a peer that isn't
+installed (Debian's packages `berkeley-abc` and `cadical`) is left out with one line. The checker of proofs in C judges each
+refutation. The seconds are those of the processor, the least of the rounds; a run that takes more than the limit has none.
+
+Prints a line for each pair, then, for each class and peer, how many pairs the program decides and the geometric mean of its time
+over the peer's on the pairs that both decide; times below a hundredth of a second count as that. Status 1 where a verdict is wrong
+or a proof is refused.
+"""
+import argparse
+import csv
+import re
+import shutil
+import subprocess
+import sys
+import tempfile
+from pathlib import Path
+
+sys.path.insert(0, str(Path(__file__).resolve().parents[1] / "tools"))
+from house import compiled, program
+from solver import best, mean, ratio, shown
+
+ABC_WORDS = {"Networks are equivalent": "EQUIVALENT", "Networks are NOT EQUIVALENT": "DIFFERENT"}
+
+
+def of_abc(run):
+    """The verdict of ABC's output, or none."""
+    found = [verdict for words, verdict in ABC_WORDS.items() if run and words in run[2]]
+    return found[0] if found else None
+
+
+def of_cadical(run):
+    return {10: "DIFFERENT", 20: "EQUIVALENT"}.get(run[1]) if run else None
+
+
+def peers(folder, name, cnf, limit, rounds, have):
+    """What each peer that is there says of a pair: its run and its verdict."""
+    a, b = (folder / f"{name}.{side}.aig" for side in "ab")
+    said = {}
+    if have["berkeley-abc"]:
+        run = best(["berkeley-abc", "-q", f"&cec {a} {b}"], limit, rounds)
+        said["berkeley-abc"] = (run, of_abc(run))
+    if have["cadical"] and cnf.exists():
+        run = best(["cadical", "-q", "-n", str(cnf)], limit, rounds)
+        said["cadical"] = (run, of_cadical(run))
+    return said
+
+
+def judged(reference, verdict, prefix):
+    """What the checker says of the proof of EQUIVALENT."""
+    if verdict != "EQUIVALENT":
+        return "-"
+    command = [reference, prefix + ".0.cnf", prefix + ".0.lrat"]
+    return "VERIFIED" if subprocess.run(command, capture_output=True, check=False).returncode == 0 else "REFUSED"
+
+
+def main():
+    parser = argparse.ArgumentParser(description=__doc__.splitlines()[0])
+    parser.add_argument("folder", type=Path)
+    parser.add_argument("--program", help="the built program, else the repository's own")
+    parser.add_argument("--options", default="", help="further words for the program")
+    parser.add_argument("--classes", nargs="+", default=["tiny", "small", "medium"])
+    parser.add_argument("--limit", type=float, default=60)
+    parser.add_argument("--rounds", type=int, default=1)
+    parser.add_argument("--only", type=re.compile, default=re.compile(""))
+    words = parser.parse_args()
+    mine = program(words.program)
+    have = {name: shutil.which(name) is not None for name in ("berkeley-abc", "cadical")}
+    for name in (name for name, there in have.items() if not there):
+        print(f"{name} isn't installed: apt-get install {name}")
+    with open(words.folder / "manifest.tsv", newline="") as table:
+        rows = [row for row in csv.DictReader(table, delimiter="\t") if row["class"] in words.classes]
+    rows = [row for row in rows if words.only.search(row["name"])]
+    ratios, decided, wrong = {}, {}, 0
+    print(f"{'pair':32} {'verdict':10} {'cec':>7} {'&cec':>8} {'cadical':>8} {'proof kB':>8} proof")
+    with tempfile.TemporaryDirectory() as place:
+        reference = compiled(place)
+        for row in rows:
+            prefix = str(Path(place) / row["name"])
+            pair = [str(words.folder / f"{row['name']}.{side}.aig") for side in "ab"]
+            run = best([mine, "check", *pair, "--out", prefix, *words.options.split()], words.limit, words.rounds)
+            verdict = run[2].split()[0] if run and run[2] else "-"
+            said = peers(words.folder, row["name"], Path(prefix + ".0.cnf"), words.limit, words.rounds, have)
+            proof = judged(reference, verdict, prefix)
+            size = Path(prefix + ".0.lrat").stat().st_size // 1000 if verdict == "EQUIVALENT" else 0
+            if verdict in ("EQUIVALENT", "DIFFERENT"):
+                decided[row["class"]] = decided.get(row["class"], 0) + 1
+                wrong += verdict != row["expected"] or proof == "REFUSED"
+                for name, (other, answer) in said.items():
+                    if answer:
+                        ratios.setdefault((row["class"], name), []).append(ratio(run, other))
+            times = " ".join(f"{shown(said[name][0]) if name in said else '-':>8}" for name in have)
+            print(f"{row['name']:32} {verdict:10} {shown(run):>7} {times} {size:>8} {proof}", flush=True)
+    for kind in words.classes:
+        print(f"{kind}: decided {decided.get(kind, 0)} of {sum(row['class'] == kind for row in rows)}")
+    for (kind, name), list_of in sorted(ratios.items()):
+        print(f"{kind}: time over {name}'s: geometric mean {mean(list_of):.2f} over {len(list_of)} pairs")
+    print(f"wrong {wrong}")
+    return 1 if wrong else 0
+
+
+if __name__ == "__main__":
+    sys.exit(main())

@@ -1,0 +1,272 @@
+-- What one more entry changes of what a book says of its outputs.
+use Rattle.std.proofs.Common.{◌≡◌, ◌≢◌, ℕ, zero, suc, ◌+◌, ◌<◌, ◌≤◌, Bool, true, false, ◌||◌, ◌&&◌, List, [], ◌∷◌, ◌++◌, length, take, drop, filter, append_assoc, add-one, inl, inr, Option, Some, None, refl, sym, ap, ◌∙◌, subst, arith, rules, Result, Ok, Err, OnOk}
+use Rattle.std.specs.List.{find, list_any, list_all, range_with_len, AllByRecursion}
+use Rattle.std.specs.Option.{option_or}
+use Rattle.std.proofs.Math.Nat.{eq-or-lt_of_le}
+use Rattle.std.proofs.lemmas.List.Folds.{find-append}
+use Rattle.std.proofs.lemmas.List.Elements.{filter-append}
+use Rattle.netlist.specs.Net.{AigPair}
+use Rattle.lemma_book.specs.declared.entry.Entry.{Entry}
+use Rattle.lemma_book.specs.declared.entry.Entry.TheVariants.{Merge, Apart, Spent, Out, OutApart, OutSpent}
+use Rattle.lemma_book.specs.declared.entry.Subject.{Subject}
+use Rattle.lemma_book.specs.declared.entry.Subject.TheVariants.{Merged, Output}
+use Rattle.lemma_book.specs.Entry.{Entries, subject_of, same_subject, is_on, about, settled_at, first_entries, with_last}
+use Rattle.lemma_book.specs.Good.{IsGood, Already}
+use Rattle.lemma_book.specs.Book.{book_after}
+use Rattle.cone_query.specs.Query.{SeesAll}
+use Rattle.proof_stitch.specs.Stitch.{has_out}
+use Rattle.proof_stitch.specs.Derivation.{has_spent}
+use Rattle.check_session.specs.Finding.{Finds, has_apart, is_merge, SeesMerges}
+use Rattle.check_session.specs.Growth.{Grows}
+use Rattle.check_session.specs.Outputs.{AreSettled, AreSettledBelow, SeeMerges, finding_of, verdict_of}
+
+-- ---- the whole book as its own first part
+
+take-all : (es : List Entry) → take (length es) es ≡ es
+take-all [] = refl
+take-all (e ∷ es) = ap (λ (rest : List Entry). e ∷ rest) (take-all es)
+
+pub good-all : (net : AigPair) (book : Entries) (e : Entry) → IsGood net book e → IsGood net (first_entries (length book.entries) book) e
+good-all net book e good =
+    subst (λ (es : List Entry). IsGood net (record { sweep_budget = book.sweep_budget; out_budget = book.out_budget; entries = es }) e)
+    (sym (take-all book.entries)) good
+
+pub after-good : (net : AigPair) (book : Entries) (e : Entry) → IsGood net book e → book_after book e ≡ with_last book e
+after-good net book e good = let free : settled_at book.entries e ≡ None = good Already in rw free refl
+
+-- ---- subjects
+
+exact-subject : (x y : Subject) → same_subject x y ≡ true → x ≡ y
+exact-subject = search rules
+
+same-subject_self : (x : Subject) → same_subject x x ≡ true
+same-subject_self = search rules
+
+pub on-subject : (s : Subject) (e : Entry) → is_on s e ≡ true → subject_of e ≡ Some s
+on-subject s (Merge node lit steps) on = ap (λ (t : Subject). Some t) (exact-subject (Merged node) s on)
+on-subject s (Apart node lit input) on = cc
+on-subject s (Spent node lit seen log) on = cc
+on-subject s (Out j steps) on = ap (λ (t : Subject). Some t) (exact-subject (Output j) s on)
+on-subject s (OutApart j input) on = ap (λ (t : Subject). Some t) (exact-subject (Output j) s on)
+on-subject s (OutSpent j seen log) on = ap (λ (t : Subject). Some t) (exact-subject (Output j) s on)
+
+is_on-subject : (s : Subject) (e : Entry) → subject_of e ≡ Some s → is_on s e ≡ true
+is_on-subject s e subject = rw subject (same-subject_self s)
+
+find-true : {X : Type 0} (p : X → Bool) (xs : List X) (x : X) → find p xs ≡ Some x → p x ≡ true
+find-true {X} p [] x found = cc
+find-true {X} p (y ∷ ys) x found = go (p y) refl found (find-true p ys x)
+  where
+    go : (b : Bool) → p y ≡ b → find p (y ∷ ys) ≡ Some x → (find p ys ≡ Some x → p x ≡ true) → p x ≡ true
+    go true is f rest = let same : Some y ≡ Some x = rw is at f in let e : y ≡ x = cc in subst (λ (z : X). p z ≡ true) e is
+    go false is f rest = rest (rw is at f)
+
+-- ---- the entry on an output
+
+-- it is about that output
+pub about-subject : (es : List Entry) (j : ℕ) (e : Entry) → about es j ≡ Some e → subject_of e ≡ Some (Output j)
+about-subject es j e found = on-subject (Output j) e (find-true (is_on (Output j)) es e found)
+
+or-some : {X : Type 0} (o : Option X) (x : X) → option_or o (Some x) ≢ None
+or-some None x = λ e. cc
+or-some (Some y) x = λ e. cc
+
+or-first : {X : Type 0} (o p : Option X) → o ≢ None → option_or o p ≢ None
+or-first None p some = λ e. some refl
+or-first (Some y) p some = λ e. cc
+
+-- the last one may be it
+pub about-last : (es : List Entry) (e : Entry) (j : ℕ) → subject_of e ≡ Some (Output j) → about (es ++ e ∷ []) j ≢ None
+about-last es e j subject =
+    let on = is_on-subject (Output j) e subject in
+    let last : find (is_on (Output j)) (e ∷ []) ≡ Some e = rw on refl in
+    rw (find-append (is_on (Output j)) es (e ∷ []), last) (or-some (about es j) e)
+
+-- and one that was there is there
+pub about-keeps : (es : List Entry) (e : Entry) (j : ℕ) → about es j ≢ None → about (es ++ e ∷ []) j ≢ None
+about-keeps es e j some = rw (find-append (is_on (Output j)) es (e ∷ [])) (or-first (about es j) (find (is_on (Output j)) (e ∷ [])) some)
+
+-- ---- what open outputs saw
+
+any-drop : (n : ℕ) (es : List Entry) (e : Entry) → list_any is_merge (drop n es) ≡ false → is_merge e ≡ false
+    → list_any is_merge (drop n (es ++ e ∷ [])) ≡ false
+any-drop zero [] e none other = rw other refl
+any-drop zero (x ∷ xs) e none other = go (is_merge x) refl none (λ n. any-drop zero xs e n other)
+  where
+    go : (b : Bool) → is_merge x ≡ b → (is_merge x || list_any is_merge xs) ≡ false
+        → (list_any is_merge xs ≡ false → list_any is_merge (xs ++ e ∷ []) ≡ false)
+        → (is_merge x || list_any is_merge (xs ++ e ∷ [])) ≡ false
+    go true is n rest = let t : true ≡ false = rw is at n in cc
+    go false is n rest = rw is (rest (rw is at n))
+any-drop (suc zero) [] e none other = refl
+any-drop (suc (suc n)) [] e none other = refl
+any-drop (suc n) (x ∷ xs) e none other = any-drop n xs e none other
+
+sees-more : (es : List Entry) (e x : Entry) → is_merge e ≡ false → SeesMerges es x → SeesMerges (es ++ e ∷ []) x
+sees-more es e (Merge node lit steps) other sees = tt
+sees-more es e (Apart node lit input) other sees = tt
+sees-more es e (Spent node lit seen log) other sees = tt
+sees-more es e (Out j steps) other sees = tt
+sees-more es e (OutApart j input) other sees = tt
+sees-more es e (OutSpent j seen log) other sees = any-drop seen es e sees other
+
+drop-length : (es : List Entry) (e : Entry) → drop (length es) (es ++ e ∷ []) ≡ e ∷ []
+drop-length [] e = refl
+drop-length (x ∷ xs) e = drop-length xs e
+
+sees-last : (book : Entries) (e : Entry) → is_merge e ≡ false → SeesAll book e → SeesMerges (book.entries ++ e ∷ []) e
+sees-last book (Merge node lit steps) other sees = tt
+sees-last book (Apart node lit input) other sees = tt
+sees-last book (Spent node lit seen log) other sees = tt
+sees-last book (Out j steps) other sees = tt
+sees-last book (OutApart j input) other sees = tt
+sees-last book (OutSpent j seen log) other sees =
+    let e : Entry = OutSpent j seen log in
+    subst (λ (es : List Entry). list_any is_merge es ≡ false)
+    (sym (ap (λ (n : ℕ). drop n (book.entries ++ e ∷ [])) sees ∙ drop-length book.entries e)) refl
+
+all-more : (book : Entries) (e : Entry) (es : List Entry) → is_merge e ≡ false → SeesAll book e → AllByRecursion (SeesMerges book.entries) es
+    → AllByRecursion (SeesMerges (book.entries ++ e ∷ [])) (es ++ e ∷ [])
+all-more book e [] other sees all = (sees-last book e other sees, tt)
+all-more book e (x ∷ xs) other sees all = (sees-more book.entries e x other all.0, all-more book e xs other sees all.1)
+
+no-merge : (e : Entry) (j : ℕ) → subject_of e ≡ Some (Output j) → is_merge e ≡ false
+no-merge (Merge node lit steps) j subject = cc
+no-merge (Apart node lit input) j subject = refl
+no-merge (Spent node lit seen log) j subject = refl
+no-merge (Out k steps) j subject = refl
+no-merge (OutApart k input) j subject = refl
+no-merge (OutSpent k seen log) j subject = refl
+
+-- an entry about an output that saw the whole book leaves all of them seen
+pub see-more : (book : Entries) (e : Entry) (j : ℕ) → subject_of e ≡ Some (Output j) → SeesAll book e → SeeMerges book.entries
+    → SeeMerges (book.entries ++ e ∷ [])
+see-more book e j subject sees all = all-more book e book.entries (no-merge e j subject) sees all
+
+-- a fact of what was done where it was done
+pub on-ok : {T E : Type 0} (r : Result T E) (P Q : Type 0) → OnOk r P → (P → Q) → OnOk r Q
+on-ok (Ok x) P Q p f = f p
+on-ok (Err e) P Q p f = tt
+
+-- ---- books that grow
+
+le_of_below : (k n : ℕ) → k < n + 1 → k ≤ n
+le_of_below k n below = omega arith
+
+about-more : (es fs : List Entry) (j : ℕ) → about es j ≢ None → about (es ++ fs) j ≢ None
+about-more es fs j some = rw (find-append (is_on (Output j)) es fs) (or-first (about es j) (find (is_on (Output j)) fs) some)
+
+-- what an entry settles stays settled
+pub settled-more : (net : AigPair) (test : Entry → Bool) (old new : Entries) (j : ℕ) → Grows net test old new → about old.entries j ≢ None
+    → about new.entries j ≢ None
+settled-more net test old new j grows some =
+    subst (λ (es : List Entry). about es j ≢ None) (sym grows.begins) (about-more old.entries grows.added j some)
+
+all-both : (test : Entry → Bool) (es fs : List Entry) → list_all test es ≡ true → list_all test fs ≡ true → list_all test (es ++ fs) ≡ true
+all-both test [] fs es_all fs_all = fs_all
+all-both test (e ∷ es) fs es_all fs_all = go (test e) refl es_all (λ rest. all-both test es fs rest fs_all)
+  where
+    go : (b : Bool) → test e ≡ b → (test e && list_all test es) ≡ true → (list_all test es ≡ true → list_all test (es ++ fs) ≡ true)
+        → (test e && list_all test (es ++ fs)) ≡ true
+    go true is all rest = rw is (rest (rw is at all))
+    go false is all rest = let t : false ≡ true = rw is at all in cc
+
+-- what grows twice grows
+pub grows-twice : (net : AigPair) (test : Entry → Bool) (old mid new : Entries) → Grows net test old mid → Grows net test mid new
+    → Grows net test old new
+grows-twice net test old mid new first second = record {
+  sweep_budget = second.sweep_budget ∙ first.sweep_budget;
+  out_budget = second.out_budget ∙ first.out_budget;
+  added = first.added ++ second.added;
+  begins = second.begins ∙ (ap (λ (es : List Entry). es ++ second.added) first.begins ∙ append_assoc old.entries first.added second.added);
+  kinds = all-both test first.added second.added first.kinds second.kinds;
+  legal = second.legal;
+}
+
+-- ---- what the entries of all outputs tell
+
+-- an output that has an entry, no input on which it differs and no spent budget is shown equal
+pub out-else : (es : List Entry) (j : ℕ) → about es j ≢ None → has_apart es j ≡ false → has_spent es j ≡ false → has_out es j ≡ true
+out-else es j some apart spent = go (about es j) refl
+  where
+    go : (o : Option Entry) → about es j ≡ o → has_out es j ≡ true
+    go None is = absurd (some is)
+    go (Some (Merge node lit steps)) is = let s = about-subject es j (Merge node lit steps) is in cc
+    go (Some (Apart node lit input)) is = let s = about-subject es j (Apart node lit input) is in cc
+    go (Some (Spent node lit seen log)) is = let s = about-subject es j (Spent node lit seen log) is in cc
+    go (Some (Out k steps)) is = rw is refl
+    go (Some (OutApart k input)) is = let t : true ≡ false = rw is at apart in cc
+    go (Some (OutSpent k seen log)) is = let t : true ≡ false = rw is at spent in cc
+
+range-last : (a n : ℕ) → range_with_len a (suc n) ≡ range_with_len a n ++ (a + n) ∷ []
+range-last a zero = ap (λ (k : ℕ). k ∷ []) (omega arith)
+range-last a (suc n) =
+    let rest = range-last (a + 1) n in
+    let e : (a + 1) + n ≡ a + suc n = omega arith in
+    ap (λ (ks : List ℕ). a ∷ ks) (rest ∙ ap (λ (k : ℕ). range_with_len (a + 1) n ++ k ∷ []) e)
+
+-- the outputs that a test keeps, with one more looked at
+pub kept-next : (p : ℕ → Bool) (old new : List ℕ) (n : ℕ) → old ≡ filter p (range_with_len 0 n) → new ≡ old ++ filter p (n ∷ [])
+    → new ≡ filter p (range_with_len 0 (n + 1))
+kept-next p old new n old_is new_is =
+    let zero_first : 0 + n ≡ n = omega arith in
+    let range : range_with_len 0 (n + 1) ≡ range_with_len 0 n ++ n ∷ [] =
+    rw add-one (range-last 0 n ∙ ap (λ (k : ℕ). range_with_len 0 n ++ k ∷ []) zero_first) in
+    new_is ∙ (ap (λ (ks : List ℕ). ks ++ filter p (n ∷ [])) old_is
+    ∙ (sym (filter-append p (range_with_len 0 n) (n ∷ [])) ∙ ap (filter p) (sym range)))
+
+pub none-next : (es : List Entry) (n : ℕ) → ((k : ℕ) → k < n → has_apart es k ≡ false) → has_apart es n ≡ false
+    → (k : ℕ) → k < n + 1 → has_apart es k ≡ false
+none-next es n before here k below =
+    elim (eq-or-lt_of_le (le_of_below k n below)) [
+      | inl same ↦ subst (λ (j : ℕ). has_apart es j ≡ false) (sym same) here
+      | inr less ↦ before k less
+    ]
+
+-- what no filter keeps fails its test
+pub filter-none : (p : ℕ → Bool) (a n j : ℕ) → filter p (range_with_len a n) ≡ [] → a ≤ j → j < a + n → p j ≡ false
+filter-none p a zero j none from below = absurd (omega arith)
+filter-none p a (suc n) j none from below = go (p a) refl none (λ rest past. filter-none p (a + 1) n j rest past (omega arith))
+  where
+    go : (b : Bool) → p a ≡ b → filter p (a ∷ range_with_len (a + 1) n) ≡ [] → (filter p (range_with_len (a + 1) n) ≡ [] → a + 1 ≤ j → p j ≡ false)
+        → p j ≡ false
+    go true is none rest = let t : (a ∷ filter p (range_with_len (a + 1) n)) ≡ [] = rw is at none in cc
+    go false is none rest =
+        elim (eq-or-lt_of_le from) [
+          | inl here ↦ subst (λ (k : ℕ). p k ≡ false) here is
+          | inr past ↦ rest (rw is at none) (omega arith)
+        ]
+
+module _ (net : AigPair) (es : List Entry) (settled : AreSettled net es) (seen : SeeMerges es) (open_list : List ℕ)
+    (open_is : open_list ≡ filter (has_spent es) (range_with_len 0 (length net.a.outputs)))
+    (none : (k : ℕ) → k < length net.a.outputs → has_apart es k ≡ false) where
+  -- where no output differs the book shows that all are equal, or which are open
+  pub finds-rest : Finds net es (finding_of (verdict_of open_list))
+  finds-rest = go open_list refl
+    where
+      go : (js : List ℕ) → open_list ≡ js → Finds net es (finding_of (verdict_of js))
+      go [] is = λ j below.
+          out-else es j (settled j below) (none j below) (filter-none (has_spent es) 0 (length net.a.outputs) j (sym open_is ∙ is) (omega arith) (omega arith))
+      go (j ∷ js) is = record {
+        some_open = λ e. let t : (j ∷ js) ≡ [] = sym is ∙ (open_is ∙ e) in cc;
+        others = λ k below spent. out-else es k (settled k below) (none k below) spent;
+        seen = seen;
+      }
+
+-- and one output more
+pub settled-next : (net : AigPair) (test : Entry → Bool) (old new : Entries) (n : ℕ) → Grows net test old new → AreSettledBelow n old.entries
+    → about new.entries n ≢ None → AreSettledBelow (n + 1) new.entries
+settled-next net test old new n grows before here k below =
+    elim (eq-or-lt_of_le (le_of_below k n below)) [
+      | inl same ↦ subst (λ (j : ℕ). about new.entries j ≢ None) (sym same) here
+      | inr less ↦ settled-more net test old new k grows (before k less)
+    ]
+
+-- the input of the entry on an output
+pub different-here : (es : List Entry) (j k : ℕ) (given input : List Bool) (e : Entry) → Some e ≡ about es j → e ≡ OutApart k given → input ≡ given
+    → (j ≡ j) × (about es j ≡ Some (OutApart j input))
+different-here es j k given input e there is same =
+    let found : about es j ≡ Some (OutApart k given) = sym there ∙ ap (λ (x : Entry). Some x) is in
+    let subject : Some (Output k) ≡ Some (Output j) = about-subject es j (OutApart k given) found in
+    let number : k ≡ j = cc in
+    (refl, found ∙ cc)

@@ -1,0 +1,21 @@
+use Rattle.std.proofs.Common.{◌≡◌, List, [], true, length, sym, subst, ◌∙◌}
+use Rattle.std.specs.Prelude.{◌==◌}
+use Rattle.lemma_book.specs.declared.entry.Task.{Task}
+use Rattle.sig_classes.specs.Leader.{AreTasks}
+use Rattle.check_session.specs.Rounds.{AreAsked}
+use Rattle.check_session.proofs.SweptLemmas.{asked-due, none-items}
+use Rattle.check_session.proofs.rounds.settle_rounds.Goals as goal
+
+pub returns-then-is_empty-clause-swept : goal.returns-then-is_empty-clause-swept
+returns-then-is_empty-clause-swept g c =
+    let none : c.in_ok-due.due.items ≡ [] =
+    none-items c.in_ok-due.due.items
+    (subst (λ (ts : List Task). (length ts == 0) ≡ true) c.as_slice-pairs.ensures.value (sym c.is_empty.ensures ∙ c.if-is_empty.true)) in
+    c.reduced_is_swept.ensures c.args.net.now c.loop.book.entries c.loop.pool.patterns c.is_net.ensures c.loop.invariant.fits.whole
+    (c.reduced_without_tasks.ensures c.args.net.now c.loop.book.entries c.loop.pool.patterns
+    (subst (λ (ts : List Task). AreTasks c.args.net.now c.loop.book.entries c.loop.pool.patterns ts) none c.in_ok-due.ensures))
+
+pub settle_all-requires-clause-tasks : goal.settle_all-requires-clause-tasks
+settle_all-requires-clause-tasks g c κs within =
+    subst (λ (ts : List Task). AreAsked c.args.net.now c.loop.book.entries ts) (sym c.as_slice-pairs.ensures.value)
+    (asked-due c.args.net.now c.loop.book.entries c.loop.pool.patterns c.in_ok-due.due.items c.in_ok-due.ensures)

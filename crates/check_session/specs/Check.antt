@@ -1,0 +1,60 @@
+-- A check that has its verdict: its book is legal, under the budgets that were asked for, and shows the verdict; and the
+-- book is swept.
+use Rattle.std.specs.Prelude.{◌≡◌, ℕ, ◌≤◌, ◌^◌, ⊤, List, [], length}
+use Rattle.netlist.specs.Net.{AigPair}
+use Rattle.netlist.specs.Miter.{variables_of}
+use Rattle.lemma_book.specs.declared.entry.Entry.{Entry}
+use Rattle.lemma_book.specs.Entry.{Entries}
+use Rattle.lemma_book.specs.Book.{IsLegal}
+use Rattle.sig_classes.specs.Leader.{IsSwept}
+use Rattle.check_session.specs.declared.options.Options.{Options}
+use Rattle.check_session.specs.declared.verdict.Verdict.{Verdict}
+use Rattle.check_session.specs.Finding.{Finding, Equivalent, Different, Undecided, Finds, Means}
+use Rattle.check_session.specs.Outputs.{ListsOpen, finding_of}
+
+-- the numbers are in their ranges
+pub record AreInRange (o : Options) : Type 0 where
+  pub words_least : 1 ≤ o.words
+  pub words_most : o.words ≤ 64
+  pub sweep_least : 1 ≤ o.sweep_budget
+  pub sweep_most : o.sweep_budget ≤ 1000000000
+  pub out_least : 1 ≤ o.out_budget
+  pub out_most : o.out_budget ≤ 1000000000
+
+-- a session: the pair, the numbers that its checks go by, and the book of the last one
+pub record State : Type 0 where
+  pub net : AigPair
+  pub options : Options
+  pub book : Entries
+
+-- the book of a session without a check
+abbrev pub empty_book : Options → Entries
+empty_book o = record { sweep_budget = o.sweep_budget; out_budget = o.out_budget; entries = [] }
+
+-- where no output is known to differ, each gate that has an earlier equal is merged with one, or its query spent its budget
+abbrev pub IsSweptFor : AigPair → List Entry → Finding → Type 0
+IsSweptFor net entries Equivalent = IsSwept net entries
+IsSweptFor net entries (Different j input) = ⊤
+IsSweptFor net entries Undecided = IsSwept net entries
+
+-- where outputs are left open, the budget of their queries is at most 3^V, V being the number of the CNF's variables: so
+-- many clauses can be learned, and no more
+abbrev pub IsWithinFor : AigPair → ℕ → Finding → Type 0
+IsWithinFor net budget Equivalent = ⊤
+IsWithinFor net budget (Different j input) = ⊤
+IsWithinFor net budget Undecided = budget ≤ 3 ^ length (variables_of net)
+
+-- a settled check: a book about the circuits, under these budgets, what it shows, and what that means
+pub record IsSettled (net : AigPair) (sweep_budget out_budget : ℕ) (book : Entries) (finding : Finding) : Type 0 where
+  pub sweep_is : book.sweep_budget ≡ sweep_budget
+  pub budget_is : book.out_budget ≡ out_budget
+  pub legal : IsLegal net book
+  pub finds : Finds net book.entries finding
+  pub means : Means net book.entries finding
+  pub swept : IsSweptFor net book.entries finding
+  pub within : IsWithinFor net book.out_budget finding
+
+-- what a check found: its book shows the verdict, which names the outputs that it leaves open
+pub record IsFound (net : AigPair) (o : Options) (book : Entries) (v : Verdict) : Type 0 where
+  pub settled : IsSettled net o.sweep_budget o.out_budget book (finding_of v)
+  pub open_are : ListsOpen net book.entries v

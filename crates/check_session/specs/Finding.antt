@@ -1,0 +1,88 @@
+-- What a check finds, as the entries of its book show it, and what that means for the circuits.
+use Rattle.std.specs.Prelude.{◌≡◌, ◌≢◌, ◌↔◌, ℕ, ◌<◌, Bool, true, false, ⊤, List, [], drop, filter, length, Some}
+use Rattle.std.specs.Option.{option_map_or}
+use Rattle.std.specs.List.{list_any, AllByRecursion}
+use Rattle.lits.specs.Assignment.{IsSatisfiable}
+use Rattle.lits.specs.Same.{opposite_dim}
+use Rattle.lemma_book.specs.Agreement.{IsSame}
+use Rattle.netlist.specs.Net.{AigPair, Agree, Differ}
+use Rattle.netlist.specs.Miter.{miter_of}
+use Rattle.lemma_book.specs.declared.entry.Entry.{Entry}
+use Rattle.lemma_book.specs.declared.entry.Entry.TheVariants.{Merge, Apart, Spent, Out, OutApart, OutSpent}
+use Rattle.lemma_book.specs.Good.{IsOutApart}
+use Rattle.lemma_book.specs.Entry.{about}
+use Rattle.proof_stitch.specs.Stitch.{has_out}
+use Rattle.proof_stitch.specs.Derivation.{has_spent, outputs_of}
+
+pub data Finding : Type 0 where
+  -- the circuits agree on every input
+  Equivalent : Finding
+  -- this output differs on this input
+  Different : ℕ → List Bool → Finding
+  -- no output differs as far as is known, and the queries of some spent their budgets
+  Undecided : Finding
+
+-- the entry has an input on which its output differs
+abbrev pub is_apart : Entry → Bool
+is_apart (Merge node lit steps) = false
+is_apart (Apart node lit input) = false
+is_apart (Spent node lit seen log) = false
+is_apart (Out j steps) = false
+is_apart (OutApart j input) = true
+is_apart (OutSpent j seen log) = false
+
+-- the output's entry does
+abbrev pub has_apart : List Entry → ℕ → Bool
+has_apart entries j = option_map_or is_apart (about entries j) false
+
+-- the entry says that two nodes have one value
+abbrev pub is_merge : Entry → Bool
+is_merge (Merge node lit steps) = true
+is_merge (Apart node lit input) = false
+is_merge (Spent node lit seen log) = false
+is_merge (Out j steps) = false
+is_merge (OutApart j input) = false
+is_merge (OutSpent j seen log) = false
+
+-- an open output's query saw all the entries that say that two nodes have one value
+abbrev pub SeesMerges : List Entry → Entry → Type 0
+SeesMerges entries (Merge node lit steps) = ⊤
+SeesMerges entries (Apart node lit input) = ⊤
+SeesMerges entries (Spent node lit seen log) = ⊤
+SeesMerges entries (Out j steps) = ⊤
+SeesMerges entries (OutApart j input) = ⊤
+SeesMerges entries (OutSpent j seen log) = list_any is_merge (drop seen entries) ≡ false
+
+-- the outputs whose queries spent their budgets, in order of outputs
+abbrev pub open_outputs : AigPair → List Entry → List ℕ
+open_outputs net entries = filter (has_spent entries) (outputs_of net)
+
+-- some output is open, and each other output is shown equal
+pub record FindsOpen (net : AigPair) (entries : List Entry) : Type 0 where
+  pub some_open : open_outputs net entries ≢ []
+  pub others : (j : ℕ) → j < length net.a.outputs → has_spent entries j ≡ false → has_out entries j ≡ true
+  pub seen : AllByRecursion (SeesMerges entries) entries
+
+-- The entries show the finding, in whatever order they stand: all outputs are shown equal; or an output has an input on
+-- which it differs, and no smaller output has one; or some are open, and each other output is shown equal.
+abbrev pub Finds : AigPair → List Entry → Finding → Type 0
+Finds net entries Equivalent = (j : ℕ) → j < length net.a.outputs → has_out entries j ≡ true
+Finds net entries (Different j input) =
+    (about entries j ≡ Some (OutApart j input)) × ((k : ℕ) → k < j → has_apart entries k ≡ false)
+Finds net entries Undecided = FindsOpen net entries
+
+-- the circuits agree on every input, and the CNF of their miter has a model exactly if they differ on some
+pub record IsAgreed (net : AigPair) : Type 0 where
+  pub agree : Agree net
+  pub exact : IsSatisfiable opposite_dim (miter_of net) ↔ Differ net
+
+-- output j is there, and differs on the input, one truth value for each of the circuits' inputs
+pub record DiffersAt (net : AigPair) (j : ℕ) (input : List Bool) : Type 0 where
+  pub within : j < length net.a.outputs
+  pub apart : IsOutApart net j input
+
+-- what a finding means for the circuits; where outputs are open, for those that aren't
+abbrev pub Means : AigPair → List Entry → Finding → Type 0
+Means net entries Equivalent = IsAgreed net
+Means net entries (Different j input) = DiffersAt net j input
+Means net entries Undecided = (j : ℕ) → j < length net.a.outputs → has_spent entries j ≡ false → IsSame net j

@@ -1,0 +1,52 @@
+-- A round of the sweep: its tasks are settled one after the other, and counterexamples join the patterns.
+use Rattle.std.specs.Prelude.{◌≡◌, ◌≢◌, ℕ, Bool, ⊤, List, [], ◌∷◌, ◌++◌, length}
+use Rattle.std.specs.List.{AllByRecursion}
+use Rattle.lits.specs.declared.node.Node.{Node}
+use Rattle.netlist.specs.Net.{AigPair}
+use Rattle.word_sim.specs.Patterns.{Patterns}
+use Rattle.lemma_book.specs.declared.entry.Entry.{Entry}
+use Rattle.lemma_book.specs.declared.entry.Entry.TheVariants.{Merge, Apart, Spent, Out, OutApart, OutSpent}
+use Rattle.lemma_book.specs.declared.entry.Task.{Task}
+use Rattle.lemma_book.specs.Entry.{Entries}
+use Rattle.lemma_book.specs.Root.{IsRoot}
+use Rattle.lemma_book.specs.Good.{IsEarlier}
+use Rattle.sig_classes.specs.Leader.{IsOpenGate, AreRising}
+use Rattle.check_session.specs.Growth.{Grows, is_of_pair}
+
+-- each pattern has one truth value for each input of the pair
+pub record Fits (net : AigPair) (pool : Patterns) : Type 0 where
+  pub inputs : pool.inputs ≡ length net.a.inputs
+  pub whole : AllByRecursion (λ bits. length bits ≡ length net.a.inputs) pool.patterns
+
+-- the pair may be asked for: a gate that isn't merged, and an earlier literal
+pub record MayAsk (net : AigPair) (entries : List Entry) (task : Task) : Type 0 where
+  pub gate : IsOpenGate net entries task.node
+  pub earlier : IsEarlier net task.node task.lit
+
+-- the pairs may be asked for, one after the other
+pub record AreAsked (net : AigPair) (entries : List Entry) (tasks : List Task) : Type 0 where
+  pub each : AllByRecursion (MayAsk net entries) tasks
+  pub rising : AreRising net tasks
+
+-- the pair is settled: the book has one more entry about it, and no other node is merged
+pub record Settles (net : AigPair) (task : Task) (old new : Entries) : Type 0 where
+  pub grows : Grows net is_of_pair old new
+  pub others : (n : Node) → n ≢ task.node → IsRoot old.entries n → IsRoot new.entries n
+
+-- a counterexample has so many truth values
+abbrev pub HasWholeInput : ℕ → Entry → Type 0
+HasWholeInput inputs (Merge node lit steps) = ⊤
+HasWholeInput inputs (Apart node lit input) = length input ≡ inputs
+HasWholeInput inputs (Spent node lit seen log) = ⊤
+HasWholeInput inputs (Out j steps) = ⊤
+HasWholeInput inputs (OutApart j input) = ⊤
+HasWholeInput inputs (OutSpent j seen log) = ⊤
+
+-- the pool is as before, or has one pattern more, the input of the entry
+abbrev pub Joins : Entry → Patterns → Patterns → Type 0
+Joins (Merge node lit steps) old new = new ≡ old
+Joins (Apart node lit input) old new = new ≡ record { inputs = old.inputs; patterns = old.patterns ++ input ∷ [] }
+Joins (Spent node lit seen log) old new = new ≡ old
+Joins (Out j steps) old new = new ≡ old
+Joins (OutApart j input) old new = new ≡ old
+Joins (OutSpent j seen log) old new = new ≡ old

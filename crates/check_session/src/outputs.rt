@@ -1,0 +1,67 @@
+ghost use Rattle.std.specs.Prelude.{◌≡◌, ◌≢◌, ◌<◌, None, length, OnOk, OnErr};
+ghost use Rattle.lemma_book.specs.Book.{IsLegal};
+ghost use Rattle.lemma_book.specs.Entry.{about, with_last};
+ghost use Rattle.lemma_book.specs.Good.{IsGood};
+ghost use Rattle.check_session.specs.Growth.{Grows};
+ghost use Rattle.check_session.specs.Outputs.{AreSettled, SeeMerges, is_of_output};
+
+use lemma_book::{Book, Entry};
+use netlist::Net;
+use std::alloc::{AllocError, Global};
+use unit_prop::Refuter;
+
+/// Puts a good entry last.
+pub(crate) fn put(alloc: Global, net: &Net, book: &mut Book, entry: Entry) -> Result<(), AllocError>
+    requires legal { IsLegal net.now book.old }
+    requires good { IsGood net.now book.old entry }
+    ensures ok { OnOk result (book.new ≡ with_last book.old entry) }
+    ensures legal { OnOk result (IsLegal net.now book.new) }
+    ensures err { OnErr result (book.new ≡ book.old) }
+{
+    let known = book.len();
+    match book.append(alloc, net, known, entry) {
+        Ok(_) => Ok(()),
+        Err((_entry, error)) => Err(error),
+    }
+}
+
+/// Asks for each output that has no entry yet, in order.
+pub(crate) fn settle_outputs<R: Refuter + Send>(
+    alloc: Global,
+    net: &Net,
+    book: &mut Book,
+    refuter: &mut R,
+) -> Result<(), AllocError>
+    requires legal { IsLegal net.now book.old }
+    requires seen { SeeMerges book.old.entries }
+    ensures grows { OnOk result (Grows net.now is_of_output book.old book.new) }
+    ensures settled { OnOk result (AreSettled net.now book.new.entries) }
+    ensures seen { OnOk result (SeeMerges book.new.entries) }
+{
+    for output in 0..net.outputs() {
+        settle_output(alloc, net, output, book, refuter)?;
+    }
+    Ok(())
+}
+
+/// Asks for one output, unless it has an entry.
+fn settle_output<R: Refuter + Send>(
+    alloc: Global,
+    net: &Net,
+    output: u32,
+    book: &mut Book,
+    refuter: &mut R,
+) -> Result<(), AllocError>
+    requires legal { IsLegal net.now book.old }
+    requires seen { SeeMerges book.old.entries }
+    requires output { output < length net.now.a.outputs }
+    ensures grows { OnOk result (Grows net.now is_of_output book.old book.new) }
+    ensures settled { OnOk result (about book.new.entries output ≢ None) }
+    ensures seen { OnOk result (SeeMerges book.new.entries) }
+{
+    if book.about(output).is_some() {
+        return Ok(());
+    }
+    let entry = cone_query::output(alloc, net, book, output, refuter)?;
+    put(alloc, net, book, entry)
+}

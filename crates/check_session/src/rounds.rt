@@ -1,0 +1,123 @@
+ghost use Rattle.std.specs.Prelude.{◌≡◌, ◌<◌, ◌≤◌, length, IfOk, OnOk};
+ghost use Rattle.lemma_book.specs.Book.{IsLegal};
+ghost use Rattle.sig_classes.specs.Leader.{AreTasks, IsSwept};
+ghost use Rattle.check_session.specs.Growth.{Grows, is_of_pair};
+ghost use Rattle.check_session.specs.Rounds.{Fits, MayAsk, AreAsked, HasWholeInput, Joins, Settles};
+
+use crate::outputs::put;
+use cone_query::pair;
+use lemma_book::{Book, Entry, Task};
+use netlist::Net;
+use sig_classes::{laws, tasks};
+use std::alloc::{AllocError, Global};
+use unit_prop::Refuter;
+use word_sim::{Pool, signatures};
+
+/// Merges nodes that are equal: first those that the structure alone shows to be, then those of which queries show it.
+pub(crate) fn sweep<R: Refuter + Send>(
+    alloc: Global,
+    net: &Net,
+    book: &mut Book,
+    pool: &mut Pool,
+    refuter: &mut R,
+) -> Result<(), AllocError>
+    requires legal { IsLegal net.now book.old }
+    requires fits { Fits net.now pool.old }
+    ensures grows { OnOk result (Grows net.now is_of_pair book.old book.new) }
+    ensures swept { OnOk result (IsSwept net.now book.new.entries) }
+{
+    strash_pass::run(alloc, net, book)?;
+    settle_rounds(alloc, net, book, pool, refuter)
+}
+
+/// Settles pairs of nodes that no pattern tells apart, round after round, until simulation has no candidates left.
+///
+/// A counterexample joins the pool, so the next round has other candidates; a pair whose budget was spent is no candidate
+/// again. Each round puts an entry into the book at least.
+fn settle_rounds<R: Refuter + Send>(
+    alloc: Global,
+    net: &Net,
+    book: &mut Book,
+    pool: &mut Pool,
+    refuter: &mut R,
+) -> Result<(), AllocError>
+    requires legal { IsLegal net.now book.old }
+    requires fits { Fits net.now pool.old }
+    ensures grows { OnOk result (Grows net.now is_of_pair book.old book.new) }
+    ensures swept { OnOk result (IsSwept net.now book.new.entries) }
+{
+    netlist::laws::is_net(net);
+    for _ in 0..u64::MAX {
+        let due = due(alloc, net, pool, book)?;
+        let pairs = due.as_slice();
+        if pairs.is_empty() {
+            laws::reduced_without_tasks();
+            laws::reduced_is_swept();
+            return Ok(());
+        }
+        settle_all(alloc, net, pairs, book, pool, refuter)?;
+    }
+    Err(AllocError)
+}
+
+/// The pairs that no pattern of the pool tells apart.
+fn due(alloc: Global, net: &Net, pool: &Pool, book: &Book) -> Result<Vec<Task>, AllocError>
+    requires legal { IsLegal net.now book.now }
+    requires fits { Fits net.now pool.now }
+    ensures { IfOk result (λ v. AreTasks net.now book.now.entries pool.now.patterns v.items) }
+{
+    let sigs = signatures(alloc, net, pool)?;
+    tasks(alloc, net, &sigs, book)
+}
+
+/// Settles the pairs of a round, in order.
+fn settle_all<R: Refuter + Send>(
+    alloc: Global,
+    net: &Net,
+    tasks: &[Task],
+    book: &mut Book,
+    pool: &mut Pool,
+    refuter: &mut R,
+) -> Result<(), AllocError>
+    requires legal { IsLegal net.now book.old }
+    requires fits { Fits net.now pool.old }
+    requires tasks { AreAsked net.now book.old.entries tasks.now }
+    ensures grows { OnOk result (Grows net.now is_of_pair book.old book.new) }
+    ensures fits { OnOk result (Fits net.now pool.new) }
+{
+    for task in tasks {
+        settle(alloc, net, *task, book, pool, refuter)?;
+    }
+    Ok(())
+}
+
+/// Settles one pair, and keeps a counterexample as a pattern.
+fn settle<R: Refuter + Send>(
+    alloc: Global,
+    net: &Net,
+    task: Task,
+    book: &mut Book,
+    pool: &mut Pool,
+    refuter: &mut R,
+) -> Result<(), AllocError>
+    requires legal { IsLegal net.now book.old }
+    requires fits { Fits net.now pool.old }
+    requires task { MayAsk net.now book.old.entries task }
+    ensures settles { OnOk result (Settles net.now task book.old book.new) }
+    ensures fits { OnOk result (Fits net.now pool.new) }
+{
+    let entry = pair(alloc, net, book, &task, refuter)?;
+    keep_input(&entry, pool)?;
+    put(alloc, net, book, entry)
+}
+
+/// Lets the input of a counterexample join the patterns.
+fn keep_input(entry: &Entry, pool: &mut Pool) -> Result<(), AllocError>
+    requires { HasWholeInput pool.old.inputs entry.now }
+    ensures { OnOk result (Joins entry.now pool.old pool.new) }
+{
+    match entry {
+        Entry::Apart { input, .. } => pool.add(input.as_slice()),
+        _ => Ok(()),
+    }
+}

@@ -1,0 +1,80 @@
+ghost use Rattle.std.specs.Prelude.{◌≡◌, IfOk, IfSome, IfNone, OnErr, MatchResult, Err};
+ghost use Rattle.netlist.specs.declared.unlike.Unlike.{Unlike};
+ghost use Rattle.netlist.specs.Unlike.{unlike_of};
+ghost use Rattle.check_session.specs.Check.{AreInRange, IsFound, empty_book};
+
+use crate::options::Options;
+use crate::settling::settle;
+use crate::verdict::Verdict;
+use lemma_book::Book;
+use netlist::{Circuit, Net, Unlike};
+use std::alloc::{AllocError, Global};
+use std::marker::Model;
+
+/// A pair of circuits that is checked.
+#[derive(Drop)]
+pub struct Session {
+    net: Net,
+    options: Options,
+    book: Book,
+}
+
+impl Model for Session {
+    ghost use Rattle.check_session.specs.Check.{AreInRange, State};
+
+    ghost Value = { State };
+
+    ghost view = { λ s. record { net = s.net; options = s.options; book = s.book } };
+
+    ghost invariant = { λ s. AreInRange s.options };
+}
+
+impl Session {
+    /// A session for two circuits, which are given up where they can't be compared.
+    pub fn open(alloc: Global, a: Circuit, b: Circuit, options: Options) -> Result<Session, Unlike>
+        requires { AreInRange options }
+        ensures unlike { IfSome (unlike_of a b) (λ u. result ≡ Err u) }
+        ensures like { IfNone (unlike_of a b) (MatchResult result
+            (λ s. s ≡ record { net = record { a = a; b = b }; options = options; book = empty_book options })
+            (λ e. e ≡ Unlike.NoMemory)) }
+    {
+        let net = Net::of(alloc, a, b)?;
+        let book = Book::new(alloc, options.sweep_budget, options.out_budget);
+        Ok(Session { net, options, book })
+    }
+
+    /// Settles the pair. Where memory is refused the session's book is empty, and it may be checked anew.
+    pub fn check(&mut self, alloc: Global) -> Result<Verdict, AllocError>
+        ensures net { self.new.net ≡ self.old.net }
+        ensures options { self.new.options ≡ self.old.options }
+        ensures found { IfOk result (IsFound self.new.net self.new.options self.new.book) }
+        ensures refused { OnErr result (self.new.book ≡ empty_book self.old.options) }
+    {
+        self.book = Book::new(alloc, self.options.sweep_budget, self.options.out_budget);
+        let settled = settle(alloc, &self.net, self.options)?;
+        self.book = settled.book;
+        Ok(settled.verdict)
+    }
+
+    /// The pair.
+    pub fn net(&self) -> &Net
+        ensures { result.now ≡ self.now.net }
+    {
+        &self.net
+    }
+
+    /// The book of the last check.
+    pub fn book(&self) -> &Book
+        ensures { result.now ≡ self.now.book }
+    {
+        &self.book
+    }
+
+    /// The book of the last check, and the session is given up.
+    pub fn into_book(self) -> Book
+        ensures { result ≡ self.book }
+    {
+        let Session { book, .. } = self;
+        book
+    }
+}

@@ -1,0 +1,93 @@
+ghost use Rattle.std.specs.Prelude.{◌≡◌, IfOk};
+ghost use Rattle.check_session.specs.Check.{AreInRange, IsFound, empty_book};
+ghost use Rattle.check_session.specs.Finding.{DiffersAt};
+ghost use Rattle.check_session.specs.Rounds.{Fits};
+
+use crate::laws::{is_within, means};
+use crate::options::Options;
+use crate::outputs::{put, settle_outputs};
+use crate::patterns::{Difference, difference_in};
+use crate::rounds::sweep;
+use crate::verdict::Verdict;
+use lemma_book::{Book, Entry};
+use lits::{Listed, Side};
+use netlist::Net;
+use solver_watch::WatchSolver;
+use std::alloc::{AllocError, Global};
+use word_sim::Pool;
+
+/// A book, and the verdict that it shows.
+#[derive(Drop)]
+pub(crate) struct Settled {
+    pub(crate) book: Book,
+    pub(crate) verdict: Verdict,
+}
+
+/// Settles the pair: at once where a pattern of the first pool tells an output apart, and else by the sweep.
+pub(crate) fn settle(alloc: Global, net: &Net, options: Options) -> Result<Settled, AllocError>
+    requires { AreInRange options }
+    ensures { IfOk result (λ s. IsFound net.now options s.book s.verdict) }
+{
+    let book = Book::new(alloc, options.sweep_budget, options.out_budget);
+    let pool = first_pool(alloc, net, options)?;
+    match difference_in(alloc, net, &pool)? {
+        Some(difference) => settle_at_once(alloc, net, options, book, difference),
+        None => settle_by_sweep(alloc, net, options, book, pool),
+    }
+}
+
+/// The patterns that the seed draws for the pair's inputs.
+fn first_pool(alloc: Global, net: &Net, options: Options) -> Result<Pool, AllocError>
+    requires { AreInRange options }
+    ensures { IfOk result (Fits net.now) }
+{
+    // A circuit has fewer inputs than that.
+    let Ok(inputs) = u32::try_from(net.circuit(Side::A).inputs().len()) else {
+        return Err(AllocError);
+    };
+    Pool::seeded(alloc, options.seed, options.words, inputs)
+}
+
+/// The verdict that a pattern shows.
+fn settle_at_once(
+    alloc: Global,
+    net: &Net,
+    options: Options,
+    mut book: Book,
+    difference: Difference,
+) -> Result<Settled, AllocError>
+    requires book { book ≡ empty_book options }
+    requires differs { DiffersAt net.now difference.output difference.input }
+    ensures { IfOk result (λ s. IsFound net.now options s.book s.verdict) }
+{
+    let Difference { output, input } = difference;
+    let told = Listed::of(Vec::from_slice(alloc, input.as_slice())?);
+    put(alloc, net, &mut book, Entry::OutApart { output, input })?;
+    means(net, &book);
+    let verdict = Verdict::Different {
+        output,
+        input: told,
+    };
+    Ok(Settled { book, verdict })
+}
+
+/// The verdict of a sweep and of queries about the outputs.
+fn settle_by_sweep(
+    alloc: Global,
+    net: &Net,
+    options: Options,
+    mut book: Book,
+    mut pool: Pool,
+) -> Result<Settled, AllocError>
+    requires book { book ≡ empty_book options }
+    requires fits { Fits net.now pool }
+    ensures { IfOk result (λ s. IsFound net.now options s.book s.verdict) }
+{
+    let mut refuter = WatchSolver::new(alloc)?;
+    sweep(alloc, net, &mut book, &mut pool, &mut refuter)?;
+    settle_outputs(alloc, net, &mut book, &mut refuter)?;
+    let verdict = Verdict::of(alloc, net, &book)?;
+    means(net, &book);
+    is_within(net, &book);
+    Ok(Settled { book, verdict })
+}

@@ -1,0 +1,332 @@
+-- What each answer over the cone of an output's XOR shows of the output.
+use Rattle.std.proofs.Common.{◌≡◌, ◌≢◌, ℕ, ◌+◌, ◌<◌, ◌≤◌, ◌^◌, Bool, true, false, not, ◌||◌, ◌&&◌, Option, Some, None, List, [], ◌∷◌, ◌++◌, map, length, take, refl, sym, ap, ap₂, ◌∙◌, subst, inl, inr, if◌then◌else◌, append_assoc, length-append, arith}
+use Rattle.std.specs.Prelude.{slice_get, slice_index, ◌==◌}
+use Rattle.std.specs.Option.{IsSome, is_some, option_map, option_map_or, option_and_then, option_to_list}
+use Rattle.std.specs.List.{list_any, list_all, find, AllByRecursion}
+use Rattle.std.proofs.lemmas.Bool.{and_parts}
+use Rattle.std.proofs.lemmas.Option.{none-some, same_Some}
+use Rattle.lits.specs.Assignment.{Holds, Meets}
+use Rattle.lits.specs.Clause.{has, has_pair, firsts}
+use Rattle.lits.specs.declared.node.Side.{Side}
+use Rattle.lits.specs.declared.node.Side.TheVariants.{A, B}
+use Rattle.lits.specs.declared.node.Node.{Node}
+use Rattle.lits.specs.declared.node.Node.TheVariants.{Const, Input, Gate, Xor}
+use Rattle.lits.specs.declared.literal.Lit.{Lit}
+use Rattle.lits.specs.declared.step.Named.{Named}
+use Rattle.lits.specs.declared.step.Step.{Step}
+use Rattle.lits.specs.declared.step.Ref.{Ref}
+use Rattle.lits.specs.declared.step.Ref.TheVariants.{Axiom}
+use Rattle.lits.specs.Same.{same_node, same_lit, opposite}
+use Rattle.lits.specs.contracts.literal.LitLiteral.TheImpl.Laws as lit
+use Rattle.lits.proofs.Facts.{exact-lit, exact-node, same-node_self, all-append}
+use Rattle.netlist.specs.Circuit.{Aig, var_of, output_value}
+use Rattle.netlist.specs.Net.{AigPair, IsNet, circuit_of, node_of, output_of, nodes_of, position_of, differs, value_of, lit_holds}
+use Rattle.netlist.specs.Miter.{positive, negative, kept, xor_clauses, xor_axioms, axioms_of, variables_of, variable_of}
+use Rattle.netlist.specs.Place.{place_of}
+use Rattle.netlist.proofs.Facts.{at_place, find-place, has-xor, range-has, has-position, is_some-place, values-meet, output_lit, output_of-below, lit_holds-opposite}
+use Rattle.unit_prop.specs.declared.refuter.Refuted.{Refuted}
+use Rattle.unit_prop.specs.declared.refuter.Refuted.TheVariants.{Yes, No, Spent as Gone}
+use Rattle.unit_prop.specs.New.{occurs}
+use Rattle.unit_prop.specs.Log.{base_clause, base_clauses, with_own, IsStepAfter, IsChain, IsLog, IsBudgetLog}
+use Rattle.unit_prop.specs.Refuter.{is_over, IsOver, IsModel, Answers, StaysUndecided}
+use Rattle.unit_prop.specs.Step.{IsStep}
+use Rattle.unit_prop.specs.Variables.{variables}
+use Rattle.unit_prop.proofs.Facts.{contrary, in_turn-append, log-grows, lit_laws}
+use Rattle.lemma_book.specs.declared.entry.Entry.{Entry}
+use Rattle.lemma_book.specs.declared.entry.Entry.TheVariants.{Merge, Apart, Spent, Out, OutApart, OutSpent}
+use Rattle.lemma_book.specs.declared.entry.Subject.TheVariants.{Output}
+use Rattle.lemma_book.specs.Agreement.{IsTrue}
+use Rattle.lemma_book.specs.Book.{IsLegal}
+use Rattle.lemma_book.specs.Cone.{AreThere, AreIn, named_from, named_clauses, nodes_in, next_of, IsReach, IsCone}
+use Rattle.lemma_book.specs.Entry.{Entries, is_on, place_on, about, equal_clause}
+use Rattle.lemma_book.specs.Good.{IsOutApart, AreOver, EndsIn, out_clause}
+use Rattle.lemma_book.specs.Root.{MergeAt, merge_of}
+use Rattle.lemma_book.proofs.Facts.{good-out, good-out_apart, good-out_spent, is_some-variable, step_after-more, merge-placed, reach-there}
+use Rattle.cone_query.specs.Input.{input_from}
+use Rattle.cone_query.specs.Answered.{IsOutput, SettlesOutput}
+use Rattle.cone_query.proofs.ConeModel.{agree-lit, meets-base, cone-at, named-meets}
+use Rattle.cone_query.proofs.GateClauses.{xor_from_axioms}
+use Rattle.cone_query.proofs.GateOrder.{xor-nowhere, node_of-no_xor}
+use Rattle.cone_query.proofs.InputLemmas.{length-input_from, input_from-at}
+use Rattle.cone_query.proofs.LogLemmas.{take-whole, log-over, over-there, out-found, log-chain}
+use Rattle.cone_query.proofs.ModelLiterals.{true_in, true-clauses, false-literal}
+use Rattle.cone_query.proofs.OccursLemmas.{speaks_of, occurs-at}
+use Rattle.cone_query.proofs.ReachedLemmas.{false-outside}
+
+-- an output without an entry has none at any place
+pub output-unsettled : (entries : List Entry) (j : ℕ) → about entries j ≡ None → place_on entries (Output j) ≡ None
+output-unsettled entries j none = go (place_on entries (Output j)) refl
+  where
+    go : (o : Option ℕ) → place_on entries (Output j) ≡ o → place_on entries (Output j) ≡ None
+    go None e = e
+    go (Some k) e =
+        let at = at_place (is_on (Output j)) entries k e in
+        let found : find (is_on (Output j)) entries ≡ Some at.0 = find-place (is_on (Output j)) entries ∙ (ap (option_and_then (slice_get entries)) e ∙ at.1) in
+        absurd (none-some at.0 (sym none ∙ found))
+
+self : (l : Lit) → same_lit l l ≡ true
+self = lit_laws.equivalence.refl
+
+-- literals of two nodes differ
+apart-lits : (x y : Lit) → same_node x.node y.node ≡ false → same_lit x y ≡ false
+apart-lits x y e = go (same_lit x y) refl
+  where
+    go : (b : Bool) → same_lit x y ≡ b → b ≡ false
+    go false f = refl
+    go true f =
+        let same = ap (λ (l : Lit). l.node) (exact-lit x y f) in
+        contrary (same_node x.node y.node) (subst (λ (n : Node). same_node x.node n ≡ true) same (and_parts (same_node x.node x.node) _ (self x)).0) e
+
+or_right : (a b : Bool) → b ≡ true → (a || b) ≡ true
+or_right true b e = refl
+or_right false b e = e
+
+-- a test passes for the clauses that stay
+module _ (test : List Lit → Bool) where
+  kept-here : (c : List Lit) (cs : List (List Lit)) → has_pair same_lit opposite c ≡ false → test (firsts same_lit c) ≡ true → list_any test (kept (c ∷ cs)) ≡ true
+  kept-here c cs stays passes = rw (stays, passes) refl
+
+  kept-later : (c : List Lit) (cs : List (List Lit)) → list_any test (kept cs) ≡ true → list_any test (kept (c ∷ cs)) ≡ true
+  kept-later c cs passes = go (has_pair same_lit opposite c) refl
+    where
+      go : (b : Bool) → has_pair same_lit opposite c ≡ b → list_any test (kept (c ∷ cs)) ≡ true
+      go true e = rw e passes
+      go false e = rw e (or_right (test (firsts same_lit c)) (list_any test (kept cs)) passes)
+
+-- an XOR's variable occurs in its clauses
+xor-kept : (x : Node) (a b : Lit) → same_node a.node x ≡ false → same_node b.node x ≡ false
+    → occurs same_lit opposite (kept (xor_clauses x a b)) (negative x) ≡ true
+xor-kept x a b p q = go (same_lit b (opposite a)) refl
+  where
+    test : List Lit → Bool
+    test c = has same_lit c (negative x) || has same_lit c (opposite (negative x))
+
+    go : (c : Bool) → same_lit b (opposite a) ≡ c → occurs same_lit opposite (kept (xor_clauses x a b)) (negative x) ≡ true
+    go false e =
+        kept-here test (negative x ∷ a ∷ b ∷ [])
+        ((negative x ∷ opposite a ∷ opposite b ∷ []) ∷ (positive x ∷ opposite a ∷ b ∷ []) ∷ (positive x ∷ a ∷ opposite b ∷ []) ∷ [])
+        (rw (apart-lits a (positive x) p, apart-lits b (positive x) q, e) refl) (rw (self (negative x)) refl)
+    go true e =
+        let flipped : same_lit b (opposite (opposite a)) ≡ false =
+        subst (λ (l : Lit). same_lit l (opposite (opposite a)) ≡ false) (sym (exact-lit b (opposite a) e)) (lit.differs-law (opposite a)) in
+        kept-later test (negative x ∷ a ∷ b ∷ [])
+        ((negative x ∷ opposite a ∷ opposite b ∷ []) ∷ (positive x ∷ opposite a ∷ b ∷ []) ∷ (positive x ∷ a ∷ opposite b ∷ []) ∷ [])
+        (kept-later test (negative x ∷ opposite a ∷ opposite b ∷ []) ((positive x ∷ opposite a ∷ b ∷ []) ∷ (positive x ∷ a ∷ opposite b ∷ []) ∷ [])
+        (kept-here test (positive x ∷ opposite a ∷ b ∷ []) ((positive x ∷ a ∷ opposite b ∷ []) ∷ [])
+        (rw (apart-lits (opposite a) (negative x) p, apart-lits b (negative x) q, flipped) refl)
+        (or_right (has same_lit (firsts same_lit (positive x ∷ opposite a ∷ b ∷ [])) (negative x)) (has same_lit (firsts same_lit (positive x ∷ opposite a ∷ b ∷ [])) (positive x))
+        (rw (self (positive x)) refl))))
+
+-- clauses that don't speak of a variable that occurs in them
+spoken : (cs : List (List Lit)) (l : Lit) (name : ℕ → Ref) (k : ℕ) → occurs same_lit opposite cs l ≡ true
+    → ¬ AllByRecursion (λ m. speaks_of l m.clause ≡ false) (named_from name k cs)
+spoken [] l name k e all = cc
+spoken (c ∷ cs) l name k e all = spoken cs l name (k + 1) (rw all.0 at e) all.1
+
+module _ (net : AigPair) (book : Entries) (j : ℕ) (asks : IsOutput net book j) where
+  abbrev es : List Entry
+  es = take (length book.entries) book.entries
+
+  -- the miter has a variable for the XOR
+  xor-there : has same_node (variables_of net) (Xor j) ≡ true
+  xor-there = has-xor net j ∙ range-has 0 (length net.a.outputs) j (omega arith) (omega (arith, asks.below))
+
+  pub xor-variable : IsSome (variable_of net (Xor j))
+  xor-variable = is_some-variable net (Xor j) ∙ xor-there
+
+  -- an XOR isn't merged
+  not-merged : merge_of es (Xor j) ≡ None
+  not-merged = go (merge_of es (Xor j)) refl
+    where
+      go : (o : Option MergeAt) → merge_of es (Xor j) ≡ o → merge_of es (Xor j) ≡ None
+      go None e = e
+      go (Some m) e =
+          contrary (is_some (position_of net (Xor j))) (merge-placed net book asks.legal (length book.entries) (Xor j) m e).0 (ap is_some (xor-nowhere net j))
+
+  axioms-are : axioms_of net (Xor j) ≡ kept (xor_clauses (Xor j) (output_lit net A j) (output_lit net B j))
+  axioms-are =
+      ap (λ (o : Option Lit). xor_axioms j o (output_of net B j)) (output_of-below net asks.net_is A j asks.below)
+      ∙ ap (λ (o : Option Lit). xor_axioms j (Some (output_lit net A j)) o) (output_of-below net asks.net_is B j asks.below)
+
+  module _ (cone : List Named) (is_cone : IsCone net es (Xor j ∷ []) cone) where
+    reached : is_cone.reached (Xor j) ≡ true
+    reached = is_cone.reach.closed.starts.0
+
+    -- its variable occurs in the cone
+    pub target-over : IsOver cone (equal_clause j)
+    target-over = (occurs-at net es (Xor j ∷ []) cone is_cone (negative (Xor j)) (Xor j) reached xor-there none, tt)
+      where
+        no_xor : (s : Side) → same_node (output_lit net s j).node (Xor j) ≡ false
+        no_xor s = symmetric (output_lit net s j).node (node_of-no_xor s (circuit_of net s) (var_of (slice_index (circuit_of net s).outputs j)) j)
+          where
+            symmetric : (n : Node) → same_node (Xor j) n ≡ false → same_node n (Xor j) ≡ false
+            symmetric n e = go (same_node n (Xor j)) refl
+              where
+                go : (b : Bool) → same_node n (Xor j) ≡ b → same_node n (Xor j) ≡ false
+                go false f = f
+                go true f = contrary (same_node (Xor j) n) (subst (λ (m : Node). same_node (Xor j) m ≡ true) (sym (exact-node n (Xor j) f)) (same-node_self (Xor j))) e
+
+        none : ¬ AllByRecursion (λ m. speaks_of (negative (Xor j)) m.clause ≡ false) (named_clauses net es (Xor j))
+        none all =
+            spoken (kept (xor_clauses (Xor j) (output_lit net A j) (output_lit net B j))) (negative (Xor j)) (Axiom (Xor j)) 0
+            (xor-kept (Xor j) (output_lit net A j) (output_lit net B j) (no_xor A) (no_xor B))
+            (subst (λ (cs : List (List Lit)). AllByRecursion (λ m. speaks_of (negative (Xor j)) m.clause ≡ false) (named_from (Axiom (Xor j)) 0 cs)) axioms-are
+            (rw not-merged at all))
+
+    module _ (log : List Step) (left : ℕ) (result : Refuted) (a : Answers cone (equal_clause j) [] book.out_budget log left result) where
+      learned : IsLog cone log
+      learned = log-grows cone (equal_clause j) [] book.out_budget log left result tt a
+
+      over : AreOver net log
+      over = log-over net asks.net_is book asks.legal (length book.entries) (Xor j ∷ []) cone is_cone log learned
+
+      count : left + length log ≡ book.out_budget
+      count = omega (arith, a.spends, ap length a.grows)
+
+      -- a proof shows that the output is the same in both circuits
+      pub proof-settles : (hints : List Ref) (e : Entry) → result ≡ Yes hints → e ≡ Out j (log ++ record { clause = equal_clause j; hints = hints } ∷ [])
+          → SettlesOutput net book j e
+      proof-settles hints e is made = subst (SettlesOutput net book j) (sym made) (record {
+        about = refl;
+        good = good-out net book j (log ++ last ∷ []) asks.below
+            (all-append (λ s. AreThere net s.clause) log (last ∷ []) over ((xor-variable, tt), tt))
+            (output-unsettled book.entries j asks.unsettled)
+            (record { before = log; last = last ∷ []; parts = refl; clauses_are = refl })
+            (omega (arith, count, length-append log (last ∷ [])))
+            (in_turn-append (IsStepAfter (out_clause net book.entries)) [] log (last ∷ [])
+            (log-chain (out_clause net book.entries) cone log found learned)
+            (step_after-more (base_clause cone) (out_clause net book.entries) found log (equal_clause j) hints shown, tt));
+        seen = tt;
+        outside = tt;
+        within = tt;
+      })
+        where
+          last : Step
+          last = record { clause = equal_clause j; hints = hints }
+
+          found : (name : Ref) (c : List Lit) → base_clause cone name ≡ Some c → out_clause net book.entries name ≡ Some c
+          found =
+              subst (λ (l : List Entry). (name : Ref) (c : List Lit) → base_clause cone name ≡ Some c → out_clause net l name ≡ Some c) (take-whole book.entries)
+              (out-found net asks.net_is book asks.legal (length book.entries) (Xor j ∷ []) cone is_cone)
+
+          shown : IsStep same_lit opposite (with_own (base_clause cone) log) (equal_clause j) hints
+          shown = (subst (λ (r : Refuted). Answers cone (equal_clause j) [] book.out_budget log left r) is a).answer.1
+
+      -- a model is over nodes that the miter has variables for
+      pub output_model-there : (model : List Lit) → result ≡ No model → AreThere net model
+      output_model-there model is =
+          over-there net asks.net_is book asks.legal (length book.entries) (Xor j ∷ []) cone is_cone model
+          (subst (λ (r : Refuted). Answers cone (equal_clause j) [] book.out_budget log left r) is a).answer.1.within
+
+      -- and it gives an input on which the output differs
+      pub model-settles_output : (model : List Lit) (e : Entry) → result ≡ No model → e ≡ OutApart j (input_from net model) → SettlesOutput net book j e
+      model-settles_output model e is made = subst (SettlesOutput net book j) (sym made) (record {
+        about = refl;
+        good = good-out_apart net book j bits asks.below (output-unsettled book.entries j asks.unsettled)
+            (record { whole = length-input_from net model; apart = λ same. unequal (output_value net.a bits j) (output_value net.b bits j) same differ });
+        seen = tt;
+        outside = record {
+          reached = is_cone.reached;
+          reach = subst (λ (l : List Entry). IsReach (next_of net l) (Xor j ∷ []) is_cone.reached) (take-whole book.entries) is_cone.reach;
+          outside = false-outside net es (Xor j ∷ []) cone is_cone model m.within;
+        };
+        within = tt;
+      })
+        where
+          bits : List Bool
+          bits = input_from net model
+
+          m : IsModel cone (equal_clause j) model
+          m = (subst (λ (r : Refuted). Answers cone (equal_clause j) [] book.out_budget log left r) is a).answer.1
+
+          meets : AllByRecursion (λ n. Holds (lit_holds (true_in model)) n.clause) cone
+          meets = meets-base (lit_holds (true_in model)) cone (true-clauses model m.once.apart (base_clauses cone) m.meets)
+
+          nexts : AreIn is_cone.reached (nodes_in (option_to_list (output_of net A j) ++ option_to_list (output_of net B j)))
+          nexts = rw not-merged at (is_cone.reach.closed.nexts (Xor j) reached)
+
+          both : (is_cone.reached (output_lit net A j).node ≡ true) × (is_cone.reached (output_lit net B j).node ≡ true)
+          both =
+              let known : AreIn is_cone.reached ((output_lit net A j).node ∷ (output_lit net B j).node ∷ []) =
+              rw (output_of-below net asks.net_is A j asks.below, output_of-below net asks.net_is B j asks.below) at nexts in
+              (known.0, known.1.0)
+
+          placed : (s : Side) → is_cone.reached (output_lit net s j).node ≡ true → IsSome (position_of net (output_lit net s j).node)
+          placed s r =
+              let there = reach-there net asks.net_is book asks.legal (length book.entries) (Xor j ∷ []) (xor-there, tt) is_cone.reached is_cone.reach (output_lit net s j).node r in
+              is_some-place (λ n. same_node n (output_lit net s j).node) (nodes_of net)
+              ∙ has-position net (output_lit net s j).node (node_of-no_xor s (circuit_of net s) (var_of (slice_index (circuit_of net s).outputs j))) there
+
+          value : (s : Side) → is_cone.reached (output_lit net s j).node ≡ true
+              → lit_holds (true_in model) (output_lit net s j) ≡ lit_holds (value_of net bits) (output_lit net s j)
+          value s r =
+              agree-lit net asks.net_is book asks.legal (length book.entries) asks.all_true (Xor j ∷ []) cone is_cone (xor-there, tt) (true_in model) meets bits
+              (length-input_from net model) (λ k inside q. sym (input_from-at net model k false inside)) (output_lit net s j) (placed s r) r
+
+          xor_axioms-hold : Meets (lit_holds (true_in model)) (axioms_of net (Xor j))
+          xor_axioms-hold =
+              named-meets (lit_holds (true_in model)) (Axiom (Xor j)) 0 (axioms_of net (Xor j))
+              (rw not-merged at (cone-at net es (Xor j ∷ []) cone is_cone (λ n. Holds (lit_holds (true_in model)) n.clause) (Xor j) reached xor-there meets))
+
+          is_true : true_in model (Xor j) ≡ true
+          is_true = back (true_in model (Xor j)) (false-literal model (negative (Xor j)) m.once.apart (and_parts (has same_lit model (positive (Xor j))) true m.refutes).0)
+            where
+              back : (b : Bool) → not b ≡ false → b ≡ true
+              back true e = refl
+              back false e = cc
+
+          differ : differs (output_value net.a bits j) (output_value net.b bits j) ≡ true
+          differ =
+              xor_from_axioms net (value_of net bits) asks.net_is j asks.below (values-meet net asks.net_is bits (Xor j))
+              ∙ (sym (xor_from_axioms net (true_in model) asks.net_is j asks.below xor_axioms-hold ∙ ap₂ differs (value A both.0) (value B both.1)) ∙ is_true)
+
+          unequal : (x y : Bool) → x ≡ y → differs x y ≡ true → ⊥
+          unequal true true e f = cc
+          unequal true false e f = cc
+          unequal false true e f = cc
+          unequal false false e f = cc
+
+      -- a budget that is spent has its log
+      pub log-settles_output : (e : Entry) → ((b : List Named) (budget : ℕ) (l : List Step) → IsBudgetLog b budget l → budget ≤ 3 ^ variables b)
+          → result ≡ Gone → e ≡ OutSpent j (length book.entries) log → SettlesOutput net book j e
+      log-settles_output e law is made = subst (SettlesOutput net book j) (sym made) (record {
+        about = refl;
+        good = good-out_spent net book j (length book.entries) log cone asks.below over (output-unsettled book.entries j asks.unsettled) (omega arith) is_cone spent
+            (subst (StaysUndecided cone (equal_clause j) []) (sym a.grows) a.undecided);
+        seen = refl;
+        outside = tt;
+        within = record {
+          cone = cone;
+          is_cone = subst (λ (l : List Entry). IsCone net l (Xor j ∷ []) cone) (take-whole book.entries) is_cone;
+          holds = law cone book.out_budget log spent;
+        };
+      })
+        where
+          none : left ≡ 0
+          none = (subst (λ (r : Refuted). Answers cone (equal_clause j) [] book.out_budget log left r) is a).answer
+
+          spent : IsBudgetLog cone book.out_budget log
+          spent = record { whole = omega (arith, none, count); learned = learned }
+
+-- the query as it was made: its base is the cone, its log was empty
+pub record IsMade (net : AigPair) (book : Entries) (j : ℕ) (cone base : List Named) (target : List Lit) (log : List Step) (budget : ℕ) : Type 0 where
+  pub is_cone : IsCone net (take (length book.entries) book.entries) (Xor j ∷ []) cone
+  pub base_is : base ≡ cone
+  pub target_is : target ≡ equal_clause j
+  pub log_is : log ≡ []
+  pub budget_is : budget ≡ book.out_budget
+
+module _ (net : AigPair) (book : Entries) (j : ℕ) (asks : IsOutput net book j) (cone base : List Named) (target : List Lit) (log : List Step) (budget : ℕ)
+    (made : IsMade net book j cone base target log budget) where
+  pub made-target : IsOver base target
+  made-target =
+      subst (λ (b : List Named). IsOver b target) (sym made.base_is)
+      (subst (IsOver cone) (sym made.target_is) (target-over net book j asks cone made.is_cone))
+
+  pub made-answer : (grown : List Step) (left : ℕ) (result : Refuted) → Answers base target log budget grown left result
+      → Answers cone (equal_clause j) [] book.out_budget grown left result
+  made-answer grown left result answers =
+      subst (λ (n : ℕ). Answers cone (equal_clause j) [] n grown left result) made.budget_is
+      (subst (λ (l : List Step). Answers cone (equal_clause j) l budget grown left result) made.log_is
+      (subst (λ (t : List Lit). Answers cone t log budget grown left result) made.target_is
+      (subst (λ (b : List Named). Answers b target log budget grown left result) made.base_is answers)))

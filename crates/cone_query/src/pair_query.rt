@@ -1,0 +1,243 @@
+ghost use Rattle.std.specs.Prelude.{◌≡◌, ◌≤◌, ◌||◌, Some, true, [], ◌∷◌, ◌++◌, length, take, IfOk, OnOk};
+ghost use Rattle.std.specs.Bool.{OnTrue, OnFalse};
+ghost use Rattle.std.specs.List.{list_any};
+ghost use Rattle.std.specs.Option.{IsSome};
+ghost use Rattle.lits.specs.Clause.{has};
+ghost use Rattle.lits.specs.Same.{same_lit, opposite};
+ghost use Rattle.netlist.specs.Net.{position_of, value_of};
+ghost use Rattle.lemma_book.specs.Book.{IsLegal};
+ghost use Rattle.lemma_book.specs.Cone.{AreThere, IsCone};
+ghost use Rattle.lemma_book.specs.Good.{IsGood, IsEarlier};
+ghost use Rattle.lemma_book.specs.Root.{IsRoot};
+ghost use Rattle.cone_query.specs.Input.{input_from};
+ghost use Rattle.cone_query.specs.Query.{task_of, SeesAll, IsFalseOutside, IsWithin, IsUnnamed, IsSetAlone, IsGate};
+ghost use Rattle.cone_query.specs.Asked.{IsPair, IsQuery, IsImplication, IsAsked, IsNamedInput, Settles, seeds_of};
+
+use crate::copies::copied;
+use crate::input::{input_of, other_value, set};
+use lemma_book::laws::entries_are_true;
+use lemma_book::{Book, Entry, Task};
+use lits::{Clause, Listed, Lit, Literal, Named, Node, Ref, Side, Step};
+use netlist::{Net, laws};
+use std::alloc::{AllocError, Global};
+use unit_prop::laws::budget;
+use unit_prop::{Refuted, Refuter};
+
+/// Asks whether a gate, which isn't merged yet, has the value of a literal of an earlier node, for at most the book's
+/// budget of learned clauses.
+///
+/// Each of the two implications is a query over the cone of both nodes, and one budget pays for both. A literal of an
+/// input that no clause of the gate's cone names needs no query: the input is set so that they differ.
+pub fn pair<R: Refuter + Send>(
+    alloc: Global,
+    net: &Net,
+    seen: &Book,
+    task: &Task,
+    refuter: &mut R,
+) -> Result<Entry, AllocError>
+    requires legal { IsLegal net.now seen.now }
+    requires gate { IsGate task.now.node }
+    requires root { IsRoot seen.now.entries task.now.node }
+    requires earlier { IsEarlier net.now task.now.node task.now.lit }
+    ensures about { IfOk result (λ e. task_of e ≡ Some task.now) }
+    ensures good { IfOk result (λ e. IsGood net.now seen.now e) }
+    ensures seen { IfOk result (SeesAll seen.now) }
+    ensures outside { IfOk result (IsFalseOutside net.now seen.now.entries) }
+    ensures within { IfOk result (IsWithin net.now seen.now) }
+    ensures alone { IfOk result (λ e. IsUnnamed net.now seen.now.entries task.now → IsSetAlone e) }
+    ensures unasked { OnOk result (IsUnnamed net.now seen.now.entries task.now → refuter.new ≡ refuter.old) }
+{
+    laws::is_net(net);
+    entries_are_true(net, seen);
+    let node = Lit {
+        node: task.node,
+        neg: false,
+    };
+    let base = seen.cone(alloc, net, seen.len(), &[node, task.lit])?;
+    if is_unnamed(alloc, net, seen, task)? {
+        return set_apart(alloc, net, seen, task, base.as_slice());
+    }
+    refuter.start(alloc, base.as_slice())?;
+    let mut left = seen.sweep_budget();
+    let there = Clause::from_slice(alloc, &[node.not(), task.lit])?;
+    let first = match ask(alloc, net, seen, task, &there, refuter, &mut left)? {
+        Asked::Shown(hints) => hints,
+        Asked::Settled(entry) => return Ok(entry),
+    };
+    let again = Clause::from_slice(alloc, &[node, task.lit.not()])?;
+    match ask(alloc, net, seen, task, &again, refuter, &mut left)? {
+        Asked::Shown(second) => {
+            let there = Step {
+                clause: there,
+                hints: first,
+            };
+            let back = Step {
+                clause: again,
+                hints: second,
+            };
+            merged(alloc, task, refuter.log(), there, back)
+        }
+        Asked::Settled(entry) => Ok(entry),
+    }
+}
+
+/// Whether the literal is that of an input that no clause of the node's cone names.
+fn is_unnamed(alloc: Global, net: &Net, seen: &Book, task: &Task) -> Result<bool, AllocError>
+    requires { IsPair net.now seen.now task.now }
+    ensures yes { IfOk result (λ b. OnTrue b (IsUnnamed net.now seen.now.entries task.now)) }
+    ensures no_ { IfOk result (λ b. OnFalse b (IsNamedInput net.now seen.now.entries task.now)) }
+{
+    let Node::Input(_) = task.lit.node else {
+        return Ok(false);
+    };
+    let node = Lit {
+        node: task.node,
+        neg: false,
+    };
+    let own = seen.cone(alloc, net, seen.len(), &[node])?;
+    Ok(!mentions(own.as_slice(), task.lit))
+}
+
+/// Whether a clause has the literal or its negation.
+fn mentions(base: &[Named], lit: Lit) -> bool
+    ensures { result ≡ list_any
+        (λ n. has same_lit n.clause lit || has same_lit n.clause (opposite lit)) base.now }
+{
+    base.iter().any(|named| named.clause.has(lit) || named.clause.has(lit.not()))
+}
+
+/// The entry of a pair whose literal is that of an input that no clause of the gate's cone names. All other inputs are
+/// false, and this one is set so that the literal hasn't the gate's value.
+fn set_apart(
+    alloc: Global,
+    net: &Net,
+    seen: &Book,
+    task: &Task,
+    base: &[Named],
+) -> Result<Entry, AllocError>
+    requires pair { IsPair net.now seen.now task.now }
+    requires gate { IsGate task.now.node }
+    requires cone { IsCone net.now (take (length seen.now.entries) seen.now.entries) (seeds_of task.now) base.now }
+    requires unnamed { IsUnnamed net.now seen.now.entries task.now }
+    ensures settles { IfOk result (Settles net.now seen.now task.now) }
+    ensures alone { IfOk result IsSetAlone }
+{
+    let mut input = vec![in alloc; false; net.circuit(Side::A).inputs().len()]?;
+    let value = gate_value(alloc, net, task.node, input.as_slice())?;
+    let other = other_value(value, task.lit.neg);
+    set(&mut input, task.lit.node, other);
+    Ok(Entry::Apart {
+        node: task.node,
+        lit: task.lit,
+        input: Listed::of(input),
+    })
+}
+
+/// The value of a gate for truth values of the inputs.
+fn gate_value(alloc: Global, net: &Net, gate: Node, input: &[bool]) -> Result<bool, AllocError>
+    requires gate { IsGate gate }
+    requires placed { IsSome (position_of net.now gate) }
+    requires whole { length input.now ≡ length net.now.a.inputs }
+    ensures { IfOk result (λ b. b ≡ value_of net.now input.now gate) }
+{
+    laws::is_net(net);
+    let Node::Gate(side, var) = gate else {
+        return Ok(false);
+    };
+    let circuit = net.circuit(side);
+    let mut room = vec![in alloc; false; circuit.gates().len()]?;
+    Ok(circuit.value(input, 2 * var, room.as_mut_slice()))
+}
+
+/// What an answer shows of a pair.
+enum Asked {
+    /// The implication, by these hints.
+    Shown(Listed<Ref>),
+    /// All that the query is to answer.
+    Settled(Entry),
+}
+
+/// Asks for one implication between the pair, which is over the cone that the refuter was started with.
+fn ask<R: Refuter + Send>(
+    alloc: Global,
+    net: &Net,
+    seen: &Book,
+    task: &Task,
+    implication: &Clause<Lit>,
+    refuter: &mut R,
+    left: &mut u64,
+) -> Result<Asked, AllocError>
+    requires pair { IsPair net.now seen.now task.now }
+    requires implication { IsImplication task.now implication.now }
+    requires query { IsQuery net.now seen.now task.now
+        (R.Refuter.base_of refuter.old) (R.Refuter.log_of refuter.old) left.old }
+    requires ready { R.Refuter.is_ready refuter.old ≡ true }
+    requires budget { 1 ≤ left.old }
+    ensures asked { IfOk result (IsAsked net.now seen.now task.now (R.Refuter.base_of refuter.old)
+        (R.Refuter.log_of refuter.old) implication.now (R.Refuter.log_of refuter.new) left.new) }
+    ensures query { OnOk result (IsQuery net.now seen.now task.now
+        (R.Refuter.base_of refuter.new) (R.Refuter.log_of refuter.new) left.new) }
+    ensures base { OnOk result (R.Refuter.base_of refuter.new ≡ R.Refuter.base_of refuter.old) }
+    ensures ready { OnOk result (R.Refuter.is_ready refuter.new ≡ true) }
+{
+    budget::budget_log_length();
+    match refuter.refute(alloc, implication, left)? {
+        Refuted::Yes(hints) => Ok(Asked::Shown(hints)),
+        Refuted::No(model) => {
+            let entry = apart(alloc, net, task, model.as_slice())?;
+            Ok(Asked::Settled(entry))
+        }
+        Refuted::Spent => {
+            let entry = spent(alloc, seen, task, refuter.log())?;
+            Ok(Asked::Settled(entry))
+        }
+    }
+}
+
+/// The entry of a pair that differs in a model.
+fn apart(alloc: Global, net: &Net, task: &Task, model: &[Lit]) -> Result<Entry, AllocError>
+    requires { AreThere net.now model.now }
+    ensures { IfOk result (λ e. e ≡ Entry.Apart task.now.node task.now.lit (input_from net.now model.now)) }
+{
+    let input = input_of(alloc, net, model)?;
+    Ok(Entry::Apart {
+        node: task.node,
+        lit: task.lit,
+        input,
+    })
+}
+
+/// The entry of a query that spent its budget for these steps, over the whole book.
+fn spent(alloc: Global, seen: &Book, task: &Task, log: &[Step]) -> Result<Entry, AllocError>
+    ensures { IfOk result
+        (λ e. e ≡ Entry.Spent task.now.node task.now.lit (length seen.now.entries) log.now) }
+{
+    let log = copied(alloc, log)?;
+    Ok(Entry::Spent {
+        node: task.node,
+        lit: task.lit,
+        seen: seen.len(),
+        log: Listed::of(log),
+    })
+}
+
+/// The entry of a pair of which both implications are shown, after these steps.
+fn merged(
+    alloc: Global,
+    task: &Task,
+    log: &[Step],
+    there: Step,
+    back: Step,
+) -> Result<Entry, AllocError>
+    ensures { IfOk result
+        (λ e. e ≡ Entry.Merge task.now.node task.now.lit ((log.now ++ there ∷ []) ++ back ∷ [])) }
+{
+    let mut steps = copied(alloc, log)?;
+    steps.push(there)?;
+    steps.push(back)?;
+    Ok(Entry::Merge {
+        node: task.node,
+        lit: task.lit,
+        steps: Listed::of(steps),
+    })
+}

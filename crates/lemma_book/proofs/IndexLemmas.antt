@@ -1,0 +1,100 @@
+-- How the index of a list of entries grows, and what it finds.
+use Rattle.std.proofs.Common.{◌≡◌, ℕ, ◌+◌, Bool, true, false, cond, Option, None, Some, List, [], ◌∷◌, ◌++◌, length, refl, sym, ap, ◌∙◌, subst, add-zero, rules}
+use Rattle.std.specs.Option.{option_map, option_or, is_some}
+use Rattle.std.specs.HashMap.{HashMap, get}
+use Rattle.netlist.specs.Place.{place_of}
+use Rattle.netlist.proofs.Facts.{place_of-append, or_place, find-place, is_some-place}
+use Rattle.std.specs.Prelude.{slice_get, option_and_then, ◌||◌}
+use Rattle.std.specs.List.{list_any}
+use Rattle.lits.specs.declared.node.Node.{Node}
+use Rattle.lits.specs.declared.literal.Lit.{Lit}
+use Rattle.lemma_book.specs.declared.entry.Entry.TheVariants.{Merge, Apart, Spent, Out, OutApart, OutSpent}
+use Rattle.lemma_book.specs.declared.entry.Subject.TheVariants.{Output}
+use Rattle.lemma_book.specs.declared.shelf.Key.TheVariants.{SpentOn}
+use Rattle.lemma_book.specs.Entry.{place_on, is_on, about, is_spent_on, has_spent}
+use Rattle.lemma_book.specs.declared.entry.Entry.{Entry}
+use Rattle.lemma_book.specs.declared.shelf.Key.{Key}
+use Rattle.lemma_book.specs.Shelf.{same_key, key_of, has_key, number_of, IsIndex, Notes}
+
+last_place : {X : Type 0} (test : X → Bool) (xs : List X) (x : X)
+    → place_of test (xs ++ x ∷ []) ≡ option_or (place_of test xs) (cond (test x) (Some (length xs)) None)
+last_place test xs x = place_of-append test xs (x ∷ []) ∙ go (place_of test xs) (test x)
+  where
+    go : (o : Option ℕ) (b : Bool)
+        → or_place o (option_map (λ k. length xs + k) (cond b (Some 0) (option_map (λ k. k + 1) None))) ≡ option_or o (cond b (Some (length xs)) None)
+    go (Some k) b = refl
+    go None true = ap Some (add-zero (length xs))
+    go None false = refl
+
+index-more : {S : Type 0} (es : List Entry) (e : Entry) (old new : HashMap Key ℕ S) → IsIndex es old → Notes old (key_of e) (length es) new → IsIndex (es ++ e ∷ []) new
+index-more es e old new is notes = record {
+  finds = λ k. notes.finds k
+      ∙ ap (λ (o : Option ℕ). option_or o (cond (has_key k e) (Some (length es)) None)) (is.finds k)
+      ∙ sym (last_place (has_key k) es e);
+}
+
+-- the index of one more entry
+pub index-put : {S : Type 0} (es fs : List Entry) (e : Entry) (number : ℕ) (key : Option Key) (old new : HashMap Key ℕ S) → IsIndex es old
+    → Notes old key number new → key ≡ key_of e → number ≡ length es → fs ≡ es ++ e ∷ [] → IsIndex fs new
+index-put es fs e number key old new is notes of_entry counts more =
+    let noted : Notes old (key_of e) (length es) new =
+    subst (λ (o : Option Key). Notes old o (length es) new) of_entry (subst (λ (n : ℕ). Notes old key n new) counts notes) in
+    subst (λ (l : List Entry). IsIndex l new) (sym more) (index-more es e old new is noted)
+
+is_spent-key : (n : Node) (l : Lit) (e : Entry) → has_key (SpentOn (record { node = n; lit = l })) e ≡ is_spent_on n l e
+is_spent-key n l (Merge node lit steps) = refl
+is_spent-key n l (Apart node lit input) = refl
+is_spent-key n l (Spent node lit seen log) = refl
+is_spent-key n l (Out j steps) = refl
+is_spent-key n l (OutApart j input) = refl
+is_spent-key n l (OutSpent j seen log) = refl
+
+any-same : {X : Type 0} (p q : X → Bool) → ((x : X) → p x ≡ q x) → (xs : List X) → list_any p xs ≡ list_any q xs
+any-same p q same [] = refl
+any-same p q same (x ∷ xs) = ap (λ (b : Bool). b || list_any p xs) (same x) ∙ ap (λ (b : Bool). q x || b) (any-same p q same xs)
+
+-- an entry is found by node and literal exactly where there is one
+pub spent-found : (es : List Entry) (n : Node) (l : Lit) → is_some (number_of es (SpentOn (record { node = n; lit = l }))) ≡ has_spent es n l
+spent-found es n l =
+    is_some-place (has_key (SpentOn (record { node = n; lit = l }))) es
+    ∙ any-same (has_key (SpentOn (record { node = n; lit = l }))) (is_spent_on n l) (is_spent-key n l) es
+
+-- the entry on an output stands at its place
+pub about-at : (es : List Entry) (j : ℕ) (o : Option ℕ) → o ≡ place_on es (Output j) → option_and_then (slice_get es) o ≡ about es j
+about-at es j o e = ap (option_and_then (slice_get es)) e ∙ sym (find-place (is_on (Output j)) es)
+
+exact-key : (x y : Key) → same_key x y ≡ true → x ≡ y
+exact-key = search rules
+
+or_none : (o : Option ℕ) → o ≡ option_or o None
+or_none None = refl
+or_none (Some k) = refl
+
+some_or : (o p : Option ℕ) → is_some o ≡ true → o ≡ option_or o p
+some_or None p e = cc
+some_or (Some k) p e = refl
+
+none-is : (o : Option ℕ) → is_some o ≡ false → o ≡ None
+none-is None e = refl
+none-is (Some k) e = cc
+
+module _ {S : Type 0} (old new : HashMap Key ℕ S) (key : Key) (number : ℕ) where
+  -- a key that was there stays at its first entry
+  pub notes-known : is_some (get same_key old key) ≡ true → Notes old (Some key) number old
+  notes-known known = record { finds = λ k. go k (same_key key k) refl }
+    where
+      go : (k : Key) (b : Bool) → same_key key k ≡ b → get same_key old k ≡ option_or (get same_key old k) (cond b (Some number) None)
+      go k false e = or_none (get same_key old k)
+      go k true e = some_or (get same_key old k) (Some number) (ap (λ (q : Key). is_some (get same_key old q)) (sym (exact-key key k e)) ∙ known)
+
+  -- a key that is new is put
+  pub notes-new : is_some (get same_key old key) ≡ false → ((k : Key) → get same_key new k ≡ cond (same_key key k) (Some number) (get same_key old k))
+      → Notes old (Some key) number new
+  notes-new unknown puts = record { finds = λ k. puts k ∙ go k (same_key key k) refl }
+    where
+      none_at : (k : Key) → same_key key k ≡ true → get same_key old k ≡ None
+      none_at k e = ap (get same_key old) (sym (exact-key key k e)) ∙ none-is (get same_key old key) unknown
+
+      go : (k : Key) (b : Bool) → same_key key k ≡ b → cond b (Some number) (get same_key old k) ≡ option_or (get same_key old k) (cond b (Some number) None)
+      go k true e = sym (ap (λ (o : Option ℕ). option_or o (Some number)) (none_at k e))
+      go k false e = or_none (get same_key old k)

@@ -1,0 +1,136 @@
+-- What the first bad step and the first clause that isn't new make of an entry.
+use Rattle.std.proofs.Common.{◌≡◌, ℕ, Bool, List, [], ◌∷◌, take, length, Option, None, Some, Result, Ok, Err, IfOk, OnErr, inl, sym, ◌∙◌, subst, arith}
+use Rattle.std.specs.Option.{IsSome}
+use Rattle.std.proofs.lemmas.Option.{none-some}
+use Rattle.lits.specs.declared.node.Node.{Node}
+use Rattle.lits.specs.declared.node.Node.TheVariants.{Xor}
+use Rattle.lits.specs.declared.literal.Lit.{Lit}
+use Rattle.lits.specs.declared.step.Ref.{Ref}
+use Rattle.lits.specs.declared.step.Step.{Step}
+use Rattle.lits.specs.declared.step.Named.{Named}
+use Rattle.netlist.specs.Net.{AigPair}
+use Rattle.netlist.specs.Miter.{variable_of}
+use Rattle.netlist.proofs.Facts.{has-xor, range-has}
+use Rattle.unit_prop.specs.declared.why.BadStep.{BadStep}
+use Rattle.unit_prop.specs.Log.{base_clause}
+use Rattle.lemma_book.specs.declared.entry.Entry.{Entry}
+use Rattle.lemma_book.specs.declared.entry.Entry.TheVariants.{Merge, Apart, Spent, Out, OutApart, OutSpent}
+use Rattle.lemma_book.specs.declared.refused.Fault.TheVariants as fault
+use Rattle.lemma_book.specs.declared.refused.Refused.{Refused}
+use Rattle.lemma_book.specs.declared.refused.Offered.{Offered}
+use Rattle.lemma_book.specs.declared.refused.Offered.TheVariants.{At}
+use Rattle.lemma_book.specs.Entry.{Entries, with_last}
+use Rattle.lemma_book.specs.Book.{IsLegal}
+use Rattle.lemma_book.specs.Cone.{IsCone}
+use Rattle.lemma_book.specs.Good.{NoNode, NoStep, node_clause, out_clause, IsStepAt, IsNewAt, IsUndecidedAt, OfCone, IsGood}
+use Rattle.lemma_book.specs.Fault.{IsFreeBefore, FailsAt, IsFault}
+use Rattle.lemma_book.specs.Judging.{IsFirstBad, IsFirstPlace}
+use Rattle.lemma_book.proofs.ConeLemmas.{cone-one}
+use Rattle.lemma_book.proofs.MergedNodes.{placed-there}
+use Rattle.lemma_book.proofs.ThereLemmas.{is_some-variable}
+use Rattle.lemma_book.proofs.LongerBooks.{legal-last}
+use Rattle.lemma_book.proofs.CauseOrder.{first-step, first-new, good-all}
+
+fails-stands : (find : Ref → Option (List Lit)) (steps : List Step) (k : ℕ) (bad : BadStep) → FailsAt find steps k bad → ¬ IsStepAt find steps k
+fails-stands find steps k bad fails is = none-some bad (sym (is fails.step fails.place) ∙ fails.fails)
+
+module _ (net : AigPair) (book : Entries) where
+  pub merge-bad : (node : Node) (lit : Lit) (steps : List Step) (k : ℕ) (bad : BadStep) → IsFreeBefore net book (Merge node lit steps) (NoStep 0)
+      → IsFirstBad (node_clause net book.entries) steps (Some (k, bad)) → IsFault net book (Merge node lit steps) (fault.Step k bad)
+  merge-bad node lit steps k bad free first =
+      (first-step net book (Merge node lit steps) free k first.0 (fails-stands (node_clause net book.entries) steps k bad first.1), first.1)
+
+  pub merge-good : (node : Node) (lit : Lit) (steps : List Step) → IsFreeBefore net book (Merge node lit steps) (NoStep 0)
+      → IsFirstBad (node_clause net book.entries) steps None → IsGood net book (Merge node lit steps)
+  merge-good node lit steps free first = good-all net book (Merge node lit steps) free first (λ j. tt)
+
+  pub out-bad : (j : ℕ) (steps : List Step) (k : ℕ) (bad : BadStep) → IsFreeBefore net book (Out j steps) (NoStep 0)
+      → IsFirstBad (out_clause net book.entries) steps (Some (k, bad)) → IsFault net book (Out j steps) (fault.Step k bad)
+  out-bad j steps k bad free first =
+      (first-step net book (Out j steps) free k first.0 (fails-stands (out_clause net book.entries) steps k bad first.1), first.1)
+
+  pub out-good : (j : ℕ) (steps : List Step) → IsFreeBefore net book (Out j steps) (NoStep 0)
+      → IsFirstBad (out_clause net book.entries) steps None → IsGood net book (Out j steps)
+  out-good j steps free first = good-all net book (Out j steps) free first (λ k. tt)
+
+  pub apart-good : (node : Node) (lit : Lit) (input : List Bool) → IsFreeBefore net book (Apart node lit input) (NoStep 0) → IsGood net book (Apart node lit input)
+  apart-good node lit input free = good-all net book (Apart node lit input) free (λ k. tt) (λ k. tt)
+
+  pub out_apart-good : (j : ℕ) (input : List Bool) → IsFreeBefore net book (OutApart j input) (NoStep 0) → IsGood net book (OutApart j input)
+  out_apart-good j input free = good-all net book (OutApart j input) free (λ k. tt) (λ k. tt)
+
+  module _ (seen : ℕ) (seeds : List Node) (cone : List Named) (is_cone : IsCone net (take seen book.entries) seeds cone) where
+    of : (P : List Named → Type 0) → P cone → OfCone net (take seen book.entries) seeds P
+    of P holds = record { cone = cone; is_cone = is_cone; holds = holds }
+
+    not-of : (P : List Named → Type 0) → ¬ P cone → ¬ OfCone net (take seen book.entries) seeds P
+    not-of P never o = never (subst P (cone-one net (take seen book.entries) seeds o.cone cone o.is_cone is_cone) o.holds)
+
+  module _ (node : Node) (lit : Lit) (seen : ℕ) (log : List Step) (free : IsFreeBefore net book (Spent node lit seen log) (NoStep 0))
+      (cone : List Named) (is_cone : IsCone net (take seen book.entries) (node ∷ lit.node ∷ []) cone) where
+    pub spent-bad : (k : ℕ) (bad : BadStep) → IsFirstBad (base_clause cone) log (Some (k, bad)) → IsFault net book (Spent node lit seen log) (fault.Step k bad)
+    spent-bad k bad first = (
+      first-step net book (Spent node lit seen log) free k
+          (λ j less. of seen (node ∷ lit.node ∷ []) cone is_cone (λ c. IsStepAt (base_clause c) log j) (first.0 j less))
+          (not-of seen (node ∷ lit.node ∷ []) cone is_cone (λ c. IsStepAt (base_clause c) log k) (fails-stands (base_clause cone) log k bad first.1)),
+      of seen (node ∷ lit.node ∷ []) cone is_cone (λ c. FailsAt (base_clause c) log k bad) first.1,
+    )
+
+    pub spent-stale : (k : ℕ) → IsFirstBad (base_clause cone) log None → IsFirstPlace (IsNewAt cone log) (Some k)
+        → IsFault net book (Spent node lit seen log) (fault.NotNew k)
+    spent-stale k steps first =
+        first-new net book (Spent node lit seen log) free k
+        (λ j. of seen (node ∷ lit.node ∷ []) cone is_cone (λ c. IsStepAt (base_clause c) log j) (steps j))
+        (λ j less. of seen (node ∷ lit.node ∷ []) cone is_cone (λ c. IsNewAt c log j) (first.0 j less))
+        (not-of seen (node ∷ lit.node ∷ []) cone is_cone (λ c. IsNewAt c log k) first.1)
+
+    pub spent-good : IsFirstBad (base_clause cone) log None → IsFirstPlace (IsNewAt cone log) None → IsGood net book (Spent node lit seen log)
+    spent-good steps news =
+        good-all net book (Spent node lit seen log) free
+        (λ j. of seen (node ∷ lit.node ∷ []) cone is_cone (λ c. IsStepAt (base_clause c) log j) (steps j))
+        (λ j. of seen (node ∷ lit.node ∷ []) cone is_cone (λ c. IsNewAt c log j) (news j))
+
+  module _ (j seen : ℕ) (log : List Step) (free : IsFreeBefore net book (OutSpent j seen log) (NoStep 0))
+      (cone : List Named) (is_cone : IsCone net (take seen book.entries) (Xor j ∷ []) cone) where
+    pub out_spent-bad : (k : ℕ) (bad : BadStep) → IsFirstBad (base_clause cone) log (Some (k, bad)) → IsFault net book (OutSpent j seen log) (fault.Step k bad)
+    out_spent-bad k bad first = (
+      first-step net book (OutSpent j seen log) free k
+          (λ i less. of seen (Xor j ∷ []) cone is_cone (λ c. IsStepAt (base_clause c) log i) (first.0 i less))
+          (not-of seen (Xor j ∷ []) cone is_cone (λ c. IsStepAt (base_clause c) log k) (fails-stands (base_clause cone) log k bad first.1)),
+      of seen (Xor j ∷ []) cone is_cone (λ c. FailsAt (base_clause c) log k bad) first.1,
+    )
+
+    pub out_spent-stale : (k : ℕ) → IsFirstBad (base_clause cone) log None → IsFirstPlace (λ i. IsNewAt cone log i × IsUndecidedAt cone j log i) (Some k)
+        → IsFault net book (OutSpent j seen log) (fault.NotNew k)
+    out_spent-stale k steps first =
+        first-new net book (OutSpent j seen log) free k
+        (λ i. of seen (Xor j ∷ []) cone is_cone (λ c. IsStepAt (base_clause c) log i) (steps i))
+        (λ i less. of seen (Xor j ∷ []) cone is_cone (λ c. IsNewAt c log i × IsUndecidedAt c j log i) (first.0 i less))
+        (not-of seen (Xor j ∷ []) cone is_cone (λ c. IsNewAt c log k × IsUndecidedAt c j log k) first.1)
+
+    pub out_spent-good : IsFirstBad (base_clause cone) log None → IsFirstPlace (λ i. IsNewAt cone log i × IsUndecidedAt cone j log i) None
+        → IsGood net book (OutSpent j seen log)
+    out_spent-good steps news =
+        good-all net book (OutSpent j seen log) free
+        (λ i. of seen (Xor j ∷ []) cone is_cone (λ c. IsStepAt (base_clause c) log i) (steps i))
+        (λ i. of seen (Xor j ∷ []) cone is_cone (λ c. IsNewAt c log i × IsUndecidedAt c j log i) (news i))
+
+-- the nodes of what is judged have CNF variables
+pub pair-there : (net : AigPair) (book : Entries) (node : Node) (lit : Lit) (seen : ℕ) (log : List Step)
+    → IsFreeBefore net book (Spent node lit seen log) (NoStep 0) → IsSome (variable_of net node) × IsSome (variable_of net lit.node)
+pair-there net book node lit seen log free =
+    let there = free NoNode (inl (omega arith)) in
+    (placed-there net node there.0.0, placed-there net lit.node there.0.1)
+
+pub output-there : (net : AigPair) (book : Entries) (j seen : ℕ) (log : List Step) → IsFreeBefore net book (OutSpent j seen log) (NoStep 0)
+    → IsSome (variable_of net (Xor j))
+output-there net book j seen log free =
+    let there = free NoNode (inl (omega arith)) in
+    let below = there.0 in
+    is_some-variable net (Xor j) ∙ has-xor net j ∙ range-has 0 (length net.a.outputs) j (omega arith) (omega (arith, below))
+
+-- a book that took a good entry, or stayed as it was
+pub legal-taken : (net : AigPair) (old new : Entries) (e : Entry) (r : Result Offered (Entry × Refused)) → IsLegal net old → IsGood net old e
+    → IfOk r (λ o. (o ≡ At (length old.entries)) × (new ≡ with_last old e)) → OnErr r (new ≡ old) → IsLegal net new
+legal-taken net old new e (Ok o) legal good taken same = subst (IsLegal net) (sym taken.1) (legal-last net old e legal good)
+legal-taken net old new e (Err x) legal good taken same = subst (IsLegal net) (sym same) legal

@@ -1,0 +1,187 @@
+-- When an entry is good over the entries before it: none of the causes stands for which one is refused.
+use Rattle.std.specs.Prelude.{◌≡◌, ◌≢◌, ℕ, ◌+◌, ◌<◌, ◌≤◌, Bool, ⊤, Option, None, Some, List, [], ◌∷◌, ◌++◌, length, map, take, slice_get}
+use Rattle.std.specs.Option.{option_and_then, IsSome}
+use Rattle.std.specs.List.{AllByRecursion}
+use Rattle.lits.specs.declared.node.Node.{Node}
+use Rattle.lits.specs.declared.node.Node.TheVariants.{Xor}
+use Rattle.lits.specs.declared.literal.Lit.{Lit}
+use Rattle.lits.specs.declared.step.Ref.{Ref}
+use Rattle.lits.specs.declared.step.Ref.TheVariants.{Axiom, Entry as Shown, Own}
+use Rattle.lits.specs.declared.step.Step.{Step}
+use Rattle.lits.specs.declared.step.Named.{Named}
+use Rattle.lits.specs.Same.{same_lit, opposite}
+use Rattle.netlist.specs.Circuit.{output_value}
+use Rattle.netlist.specs.Net.{AigPair, position_of, value_of, lit_holds}
+use Rattle.netlist.specs.Miter.{axiom_of}
+use Rattle.unit_prop.specs.New.{IsNew}
+use Rattle.unit_prop.specs.Refuter.{IsUndecided}
+use Rattle.unit_prop.specs.Log.{base_clause, clauses_of, IsStepAfter}
+use Rattle.lemma_book.specs.declared.entry.Entry.{Entry}
+use Rattle.lemma_book.specs.declared.entry.Entry.TheVariants.{Merge, Apart, Spent, Out, OutApart, OutSpent}
+use Rattle.lemma_book.specs.Entry.{Entries, settled_at, merge_clauses, equal_clause, lemmas_of}
+use Rattle.lemma_book.specs.Cone.{AreThere, IsCone}
+
+-- why an entry is refused
+pub data Cause : Type 0 where
+  -- the net hasn't a node, an output, or the node of a literal of some step
+  NoNode : Cause
+  -- some entry is on its subject
+  Already : Cause
+  -- the target isn't earlier in position than the node
+  NotEarlier : Cause
+  -- the input has another length, or the values are equal on it
+  NotApart : Cause
+  -- the last clauses aren't those that the entry shows
+  Shape : Cause
+  -- there are too many steps, or the log isn't that of the whole budget
+  Count : Cause
+  -- more entries were seen than there are
+  Seen : Cause
+  -- the step at this place, from 0, is no step
+  NoStep : ℕ → Cause
+  -- the log's clause at this place, from 0, isn't new, or the output was decided before it
+  NotNew : ℕ → Cause
+
+-- each literal of the steps' clauses is over a node that the miter has a variable for
+abbrev pub AreOver : AigPair → List Step → Type 0
+AreOver net steps = AllByRecursion (λ s. AreThere net s.clause) steps
+
+-- node and target have positions
+abbrev pub ArePlaced : AigPair → Node → Lit → Type 0
+ArePlaced net node lit = IsSome (position_of net node) × IsSome (position_of net lit.node)
+
+-- the entry speaks of nodes, outputs and literals that the net has
+abbrev pub IsThere : AigPair → Entry → Type 0
+IsThere net (Merge node lit steps) = ArePlaced net node lit × AreOver net steps
+IsThere net (Apart node lit input) = ArePlaced net node lit
+IsThere net (Spent node lit seen log) = ArePlaced net node lit × AreOver net log
+IsThere net (Out j steps) = (j < length net.a.outputs) × AreOver net steps
+IsThere net (OutApart j input) = j < length net.a.outputs
+IsThere net (OutSpent j seen log) = (j < length net.a.outputs) × AreOver net log
+
+abbrev pub IsBefore : Option ℕ → Option ℕ → Type 0
+IsBefore (Some p) (Some q) = p < q
+IsBefore _ _ = ⊥
+
+-- the literal's node is earlier in position
+abbrev pub IsEarlier : AigPair → Node → Lit → Type 0
+IsEarlier net node lit = IsBefore (position_of net lit.node) (position_of net node)
+
+-- the target is earlier than the node
+abbrev pub HasEarlier : AigPair → Entry → Type 0
+HasEarlier net (Merge node lit steps) = IsEarlier net node lit
+HasEarlier net (Apart node lit input) = IsEarlier net node lit
+HasEarlier net (Spent node lit seen log) = IsEarlier net node lit
+HasEarlier net _ = ⊤
+
+-- node and literal differ on the input
+pub record IsApart (net : AigPair) (node : Node) (lit : Lit) (input : List Bool) : Type 0 where
+  pub whole : length input ≡ length net.a.inputs
+  pub apart : value_of net input node ≢ lit_holds (value_of net input) lit
+
+-- the output differs on the input
+pub record IsOutApart (net : AigPair) (j : ℕ) (input : List Bool) : Type 0 where
+  pub whole : length input ≡ length net.a.inputs
+  pub apart : output_value net.a input j ≢ output_value net.b input j
+
+-- where the entry says that values differ, they do
+abbrev pub HasApart : AigPair → Entry → Type 0
+HasApart net (Apart node lit input) = IsApart net node lit input
+HasApart net (OutApart j input) = IsOutApart net j input
+HasApart net _ = ⊤
+
+-- the last clauses are these
+pub record EndsIn (clauses : List (List Lit)) (steps : List Step) : Type 0 where
+  pub before : List Step
+  pub last : List Step
+  pub parts : steps ≡ before ++ last
+  pub clauses_are : map (λ s. s.clause) last ≡ clauses
+
+-- steps end in the clauses that their entry shows
+abbrev pub HasShape : Entry → Type 0
+HasShape (Merge node lit steps) = EndsIn (merge_clauses node lit) steps
+HasShape (Out j steps) = EndsIn (equal_clause j ∷ []) steps
+HasShape _ = ⊤
+
+-- steps are a log within the budget and two more at most, a log that was spent is that of the whole budget
+abbrev pub HasCount : Entries → Entry → Type 0
+HasCount book (Merge node lit steps) = length steps ≤ book.sweep_budget + 2
+HasCount book (Apart node lit input) = ⊤
+HasCount book (Spent node lit seen log) = length log ≡ book.sweep_budget
+HasCount book (Out j steps) = length steps ≤ book.out_budget + 2
+HasCount book (OutApart j input) = ⊤
+HasCount book (OutSpent j seen log) = length log ≡ book.out_budget
+
+-- a log is over entries that are there
+abbrev pub HasSeen : Entries → Entry → Type 0
+HasSeen book (Spent node lit seen log) = seen ≤ length book.entries
+HasSeen book (OutSpent j seen log) = seen ≤ length book.entries
+HasSeen book _ = ⊤
+
+-- clause k that entry i shows of two nodes: a merge shows two
+abbrev pub merge_clause : List Entry → ℕ → ℕ → Option (List Lit)
+merge_clause entries i k = option_and_then (λ e. slice_get (lemmas_of e) k) (slice_get entries i)
+
+-- the clauses that the steps of an Out may cite: the miter's axioms, and those of earlier merges
+abbrev pub out_clause : AigPair → List Entry → Ref → Option (List Lit)
+out_clause net entries (Axiom node k) = axiom_of net node k
+out_clause net entries (Shown i k) = merge_clause entries i k
+out_clause net entries (Own k) = None
+
+-- the clauses that the steps of a Merge may cite: the same but for the axioms of XORs
+abbrev pub node_clause : AigPair → List Entry → Ref → Option (List Lit)
+node_clause net entries (Axiom (Xor j) k) = None
+node_clause net entries name = out_clause net entries name
+
+-- the step at place k, if it is there, is one over the clauses that `find` gives and the steps before it
+abbrev pub IsStepAt : (Ref → Option (List Lit)) → List Step → ℕ → Type 0
+IsStepAt find steps k = (s : Step) → slice_get steps k ≡ Some s → IsStepAfter find (take k steps) s
+
+-- P holds of the cone of the seeds over the entries
+pub record OfCone (net : AigPair) (entries : List Entry) (seeds : List Node) (P : List Named → Type 0) : Type 0 where
+  pub cone : List Named
+  pub is_cone : IsCone net entries seeds cone
+  pub holds : P cone
+
+-- the step at place k is one: that of a log stands on the cone over the entries that were seen
+abbrev pub HasStep : AigPair → List Entry → ℕ → Entry → Type 0
+HasStep net entries k (Merge node lit steps) = IsStepAt (node_clause net entries) steps k
+HasStep net entries k (Apart node lit input) = ⊤
+HasStep net entries k (Spent node lit seen log) =
+    OfCone net (take seen entries) (node ∷ lit.node ∷ []) (λ cone. IsStepAt (base_clause cone) log k)
+HasStep net entries k (Out j steps) = IsStepAt (out_clause net entries) steps k
+HasStep net entries k (OutApart j input) = ⊤
+HasStep net entries k (OutSpent j seen log) =
+    OfCone net (take seen entries) (Xor j ∷ []) (λ cone. IsStepAt (base_clause cone) log k)
+
+-- the log's clause at place k, if it is there, is new over the cone and the clauses before it
+abbrev pub IsNewAt : List Named → List Step → ℕ → Type 0
+IsNewAt cone log k = (s : Step) → slice_get log k ≡ Some s → IsNew same_lit opposite (clauses_of cone (take k log)) s.clause
+
+-- before the log's clause at place k, if it is there, unit propagation doesn't decide the output
+abbrev pub IsUndecidedAt : List Named → ℕ → List Step → ℕ → Type 0
+IsUndecidedAt cone j log k = (s : Step) → slice_get log k ≡ Some s → IsUndecided cone (equal_clause j) (take k log)
+
+-- the log's clause at place k is new, and of an output's log learned while the output was undecided
+abbrev pub HasNew : AigPair → List Entry → ℕ → Entry → Type 0
+HasNew net entries k (Spent node lit seen log) =
+    OfCone net (take seen entries) (node ∷ lit.node ∷ []) (λ cone. IsNewAt cone log k)
+HasNew net entries k (OutSpent j seen log) =
+    OfCone net (take seen entries) (Xor j ∷ []) (λ cone. IsNewAt cone log k × IsUndecidedAt cone j log k)
+HasNew net entries k _ = ⊤
+
+-- the entry gives no cause of that kind over the book
+abbrev pub IsFreeOf : AigPair → Entries → Entry → Cause → Type 0
+IsFreeOf net book e NoNode = IsThere net e
+IsFreeOf net book e Already = settled_at book.entries e ≡ None
+IsFreeOf net book e NotEarlier = HasEarlier net e
+IsFreeOf net book e NotApart = HasApart net e
+IsFreeOf net book e Shape = HasShape e
+IsFreeOf net book e Count = HasCount book e
+IsFreeOf net book e Seen = HasSeen book e
+IsFreeOf net book e (NoStep k) = HasStep net book.entries k e
+IsFreeOf net book e (NotNew k) = HasNew net book.entries k e
+
+-- the entry is good over the book: no cause stands
+abbrev pub IsGood : AigPair → Entries → Entry → Type 0
+IsGood net book e = (cause : Cause) → IsFreeOf net book e cause

@@ -1,0 +1,116 @@
+ghost use Rattle.std.specs.Prelude.{◌≡◌, ◌<◌, length, IfOk};
+ghost use Rattle.std.specs.Option.{IsSome};
+ghost use Rattle.netlist.specs.Circuit.{output_value};
+ghost use Rattle.netlist.specs.Net.{circuit_of, position_of, value_of};
+ghost use Rattle.lemma_book.specs.Good.{IsThere, ArePlaced, IsApart, IsOutApart, HasApart};
+ghost use Rattle.lemma_book.specs.Judging.{Tells};
+
+use crate::entry::Entry;
+use lits::{Lit, Node, Side};
+use netlist::{Net, laws};
+use std::alloc::{AllocError, Global};
+
+/// Whether values differ where the entry says so. Both circuits are evaluated whole.
+pub(crate) fn has_apart(alloc: Global, net: &Net, entry: &Entry) -> Result<bool, AllocError>
+    requires there { IsThere net.now entry.now }
+    ensures { IfOk result (Tells (HasApart net.now entry.now)) }
+{
+    match entry {
+        Entry::Apart { node, lit, input } => {
+            are_apart(alloc, net, *node, *lit, input.as_slice())
+        }
+        Entry::OutApart { output, input } => {
+            outputs_are_apart(alloc, net, *output, input.as_slice())
+        }
+        Entry::Merge { .. } | Entry::Spent { .. } | Entry::Out { .. } | Entry::OutSpent { .. } => {
+            Ok(true)
+        }
+    }
+}
+
+/// Whether node and literal differ on the input.
+fn are_apart(
+    alloc: Global,
+    net: &Net,
+    node: Node,
+    lit: Lit,
+    input: &[bool],
+) -> Result<bool, AllocError>
+    requires placed { ArePlaced net.now node lit }
+    ensures { IfOk result (Tells (IsApart net.now node lit input.now)) }
+{
+    if input.len() != net.circuit(Side::A).inputs().len() {
+        return Ok(false);
+    }
+    let value = node_value(alloc, net, input, node)?;
+    let target = node_value(alloc, net, input, lit.node)?;
+    Ok(value != (target != lit.neg))
+}
+
+/// The value of a node on the input.
+fn node_value(alloc: Global, net: &Net, input: &[bool], node: Node) -> Result<bool, AllocError>
+    requires placed { IsSome (position_of net.now node) }
+    requires whole { length input.now ≡ length net.now.a.inputs }
+    ensures { IfOk result (λ b. b ≡ value_of net.now input.now node) }
+{
+    match node {
+        Node::Const => Ok(true),
+        Node::Input(k) => Ok(input[k as usize]),
+        Node::Gate(side, var) => gate_value(alloc, net, input, side, var),
+        Node::Xor(_) => Ok(false),
+    }
+}
+
+/// The value of a gate on the input.
+fn gate_value(
+    alloc: Global,
+    net: &Net,
+    input: &[bool],
+    side: Side,
+    var: u32,
+) -> Result<bool, AllocError>
+    requires placed { IsSome (position_of net.now (Node.Gate side var)) }
+    requires whole { length input.now ≡ length net.now.a.inputs }
+    ensures { IfOk result (λ b. b ≡ value_of net.now input.now (Node.Gate side var)) }
+{
+    laws::is_net(net);
+    let circuit = net.circuit(side);
+    let mut values = vec![in alloc; false; circuit.gates().len()]?;
+    Ok(circuit.value(input, 2 * var, &mut values))
+}
+
+/// Whether the output differs on the input.
+fn outputs_are_apart(
+    alloc: Global,
+    net: &Net,
+    output: u32,
+    input: &[bool],
+) -> Result<bool, AllocError>
+    requires there { output < length net.now.a.outputs }
+    ensures { IfOk result (Tells (IsOutApart net.now output input.now)) }
+{
+    if input.len() != net.circuit(Side::A).inputs().len() {
+        return Ok(false);
+    }
+    let first = output_of(alloc, net, input, Side::A, output)?;
+    let second = output_of(alloc, net, input, Side::B, output)?;
+    Ok(first != second)
+}
+
+/// The value of one side's output on the input.
+fn output_of(
+    alloc: Global,
+    net: &Net,
+    input: &[bool],
+    side: Side,
+    output: u32,
+) -> Result<bool, AllocError>
+    requires there { output < length net.now.a.outputs }
+    requires whole { length input.now ≡ length net.now.a.inputs }
+    ensures { IfOk result (λ b. b ≡ output_value (circuit_of net.now side) input.now output) }
+{
+    laws::is_net(net);
+    let circuit = net.circuit(side);
+    let mut values = vec![in alloc; false; circuit.gates().len()]?;
+    Ok(circuit.value(input, circuit.outputs()[output as usize], &mut values))
+}

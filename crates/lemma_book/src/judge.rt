@@ -1,0 +1,151 @@
+ghost use Rattle.std.specs.Prelude.{IfOk, MatchOption};
+ghost use Rattle.lits.specs.declared.literal.Lit.{Lit};
+ghost use Rattle.lemma_book.specs.declared.entry.Entry.{Entry};
+ghost use Rattle.lemma_book.specs.Good.{Shape, NoStep};
+ghost use Rattle.lemma_book.specs.Fault.{IsFreeBefore, IsFault, IsJudgement};
+ghost use Rattle.lemma_book.specs.Book.{IsLegal};
+
+use crate::apart::has_apart;
+use crate::book::Book;
+use crate::entry::Entry;
+use crate::newness::{first_stale, first_stale_of_output};
+use crate::presence::{has_earlier, is_there};
+use crate::refused::{Fault, Judgement};
+use crate::shape::{has_count, has_seen, has_shape};
+use crate::sources::{ConeClauses, NodeClauses, OutClauses, positive};
+use crate::steps::first_bad;
+use lits::{Lit, Node, Step};
+use netlist::Net;
+use std::alloc::{AllocError, Global};
+
+/// The first cause against an entry, of those that come before its shape.
+pub(crate) fn cause_of_names(
+    alloc: Global,
+    net: &Net,
+    book: &Book,
+    entry: &Entry,
+) -> Result<Option<Judgement>, AllocError>
+    ensures { IfOk result (λ o. MatchOption o
+        (IsFreeBefore net.now book.now entry.now Shape)
+        (IsJudgement net.now book.now entry.now)) }
+{
+    if !is_there(net, entry) {
+        return Ok(Some(Judgement::Bad(Fault::NoNode)));
+    }
+    if let Some(place) = book.settled_at(entry) {
+        return Ok(Some(Judgement::Settled(place)));
+    }
+    if !has_earlier(net, entry) {
+        return Ok(Some(Judgement::Bad(Fault::NotEarlier)));
+    }
+    if !has_apart(alloc, net, entry)? {
+        return Ok(Some(Judgement::NotApart));
+    }
+    Ok(None)
+}
+
+/// The first cause against an entry that has none before its shape, of those that come before its steps.
+pub(crate) fn cause_of_sizes(net: &Net, book: &Book, entry: &Entry) -> Option<Fault>
+    requires free { IsFreeBefore net.now book.now entry.now Shape }
+    ensures { MatchOption result
+        (IsFreeBefore net.now book.now entry.now (NoStep 0))
+        (IsFault net.now book.now entry.now) }
+{
+    if !has_shape(entry) {
+        return Some(Fault::Shape);
+    }
+    if !has_count(book, entry) {
+        return Some(Fault::Count);
+    }
+    if !has_seen(book, entry) {
+        return Some(Fault::Seen);
+    }
+    None
+}
+
+/// Judges the steps of an entry that has no cause against it before them.
+pub(crate) fn judge_steps(
+    alloc: Global,
+    net: &Net,
+    book: &Book,
+    entry: &Entry,
+) -> Result<Judgement, AllocError>
+    requires legal { IsLegal net.now book.now }
+    requires free { IsFreeBefore net.now book.now entry.now (NoStep 0) }
+    ensures { IfOk result (IsJudgement net.now book.now entry.now) }
+{
+    match entry {
+        Entry::Merge { steps, .. } => {
+            let all = OutClauses { net, book };
+            match first_bad(alloc, &NodeClauses { all }, steps.as_slice())? {
+                Some((k, bad)) => Ok(Judgement::Bad(Fault::Step(k, bad))),
+                None => Ok(Judgement::Good),
+            }
+        }
+        Entry::Out { steps, .. } => {
+            match first_bad(alloc, &OutClauses { net, book }, steps.as_slice())? {
+                Some((k, bad)) => Ok(Judgement::Bad(Fault::Step(k, bad))),
+                None => Ok(Judgement::Good),
+            }
+        }
+        Entry::Spent {
+            node,
+            lit,
+            seen,
+            log,
+        } => judge_spent(alloc, net, book, *node, *lit, *seen, log.as_slice()),
+        Entry::OutSpent { output, seen, log } => {
+            judge_out_spent(alloc, net, book, *output, *seen, log.as_slice())
+        }
+        Entry::Apart { .. } | Entry::OutApart { .. } => Ok(Judgement::Good),
+    }
+}
+
+/// Judges the log of a pair, clause by clause over the cone of the two.
+fn judge_spent(
+    alloc: Global,
+    net: &Net,
+    book: &Book,
+    node: Node,
+    lit: Lit,
+    seen: u64,
+    log: &[Step],
+) -> Result<Judgement, AllocError>
+    requires legal { IsLegal net.now book.now }
+    requires free { IsFreeBefore net.now book.now (Entry.Spent node lit seen log.now) (NoStep 0) }
+    ensures { IfOk result (IsJudgement net.now book.now (Entry.Spent node lit seen log.now)) }
+{
+    let cone = book.cone(alloc, net, seen, &[positive(node), lit])?;
+    let cone = cone.as_slice();
+    if let Some((k, bad)) = first_bad(alloc, &ConeClauses { cone }, log)? {
+        return Ok(Judgement::Bad(Fault::Step(k, bad)));
+    }
+    match first_stale(alloc, cone, log)? {
+        Some(k) => Ok(Judgement::Bad(Fault::NotNew(k))),
+        None => Ok(Judgement::Good),
+    }
+}
+
+/// Judges the log of an output, clause by clause over the cone of its XOR.
+fn judge_out_spent(
+    alloc: Global,
+    net: &Net,
+    book: &Book,
+    output: u32,
+    seen: u64,
+    log: &[Step],
+) -> Result<Judgement, AllocError>
+    requires legal { IsLegal net.now book.now }
+    requires free { IsFreeBefore net.now book.now (Entry.OutSpent output seen log.now) (NoStep 0) }
+    ensures { IfOk result (IsJudgement net.now book.now (Entry.OutSpent output seen log.now)) }
+{
+    let cone = book.cone(alloc, net, seen, &[positive(Node::Xor(output))])?;
+    let cone = cone.as_slice();
+    if let Some((k, bad)) = first_bad(alloc, &ConeClauses { cone }, log)? {
+        return Ok(Judgement::Bad(Fault::Step(k, bad)));
+    }
+    match first_stale_of_output(alloc, cone, output, log)? {
+        Some(k) => Ok(Judgement::Bad(Fault::NotNew(k))),
+        None => Ok(Judgement::Good),
+    }
+}

@@ -1,0 +1,105 @@
+ghost use Rattle.std.specs.Prelude.{◌≡◌, ◌≤◌, None, length, IfOk, IfErr, OnOk, OnErr};
+ghost use Rattle.lemma_book.specs.Entry.{first_entries, settled_at, with_last};
+ghost use Rattle.lemma_book.specs.Good.{IsGood};
+ghost use Rattle.lemma_book.specs.Fault.{IsJudgement, IsRefusal, Takes};
+ghost use Rattle.lemma_book.specs.Book.{IsLegal, answer_to, book_after, IsFrom};
+
+use crate::book::Book;
+use crate::entry::Entry;
+use crate::judge::{cause_of_names, cause_of_sizes, judge_steps};
+use crate::refused::{Judgement, Offered, Refused};
+use netlist::Net;
+use std::alloc::{AllocError, Global};
+
+impl Book {
+    /// Judges an entry over this book, which stays as it is: it is good, or this is the first cause against it.
+    ///
+    /// Each step takes the time of its hints; for a log that was spent the cone is made, and unit propagation is run
+    /// over it before each of its clauses.
+    pub fn judge(&self, alloc: Global, net: &Net, entry: &Entry) -> Result<Judgement, AllocError>
+        requires legal { IsLegal net.now self.now }
+        ensures { IfOk result (IsJudgement net.now self.now entry.now) }
+    {
+        if let Some(judgement) = cause_of_names(alloc, net, self, entry)? {
+            return Ok(judgement);
+        }
+        match cause_of_sizes(net, self, entry) {
+            Some(fault) => Ok(Judgement::Bad(fault)),
+            None => judge_steps(alloc, net, self, entry),
+        }
+    }
+
+    /// Takes an entry that is good over this book as its last one. Any other comes back with the first cause against it,
+    /// but for one that an entry of the book settles: that is answered by the other entry's place.
+    pub fn offer(
+        &mut self,
+        alloc: Global,
+        net: &Net,
+        entry: Entry,
+    ) -> Result<Offered, (Entry, Refused)>
+        requires legal { IsLegal net.now self.old }
+        ensures taken { IfOk result (Takes net.now self.old entry self.new) }
+        ensures refused { IfErr result (λ e. (e.0 ≡ entry) × IsRefusal net.now self.old entry e.1) }
+        ensures unchanged { OnErr result (self.new ≡ self.old) }
+        ensures stays_legal { IsLegal net.now self.new }
+    {
+        match self.judge(alloc, net, &entry) {
+            Ok(Judgement::Good) => self.take(alloc, entry),
+            Ok(Judgement::Settled(place)) => Ok(Offered::Already(place)),
+            Ok(Judgement::NotApart) => Err((entry, Refused::NotApart)),
+            Ok(Judgement::Bad(fault)) => Err((entry, Refused::Bad(fault))),
+            Err(AllocError) => Err((entry, Refused::NoMemory)),
+        }
+    }
+
+    /// Takes an entry that is good over the first `known` entries as the last one, without judging it again, unless a
+    /// later entry settles it.
+    pub fn append(
+        &mut self,
+        alloc: Global,
+        net: &Net,
+        known: u64,
+        entry: Entry,
+    ) -> Result<Offered, (Entry, AllocError)>
+        requires legal { IsLegal net.now self.old }
+        requires known { known ≤ length self.old.entries }
+        requires good { IsGood net.now (first_entries known self.old) entry }
+        ensures answer { IfOk result (λ o. (o ≡ answer_to self.old entry) × IsFrom known o) }
+        ensures after { OnOk result (self.new ≡ book_after self.old entry) }
+        ensures refused { IfErr result (λ e. (e.0 ≡ entry) × (self.new ≡ self.old)) }
+        ensures stays_legal { IsLegal net.now self.new }
+    {
+        let place = self.len();
+        match self.settled_at(&entry) {
+            Some(place) => Ok(Offered::Already(place)),
+            None => match self.push(alloc, entry) {
+                Ok(()) => Ok(Offered::At(place)),
+                Err(refused) => Err(refused),
+            },
+        }
+    }
+
+    /// Takes an entry that is good over this book as its last one.
+    fn take(&mut self, alloc: Global, entry: Entry) -> Result<Offered, (Entry, Refused)>
+        requires { settled_at self.old.entries entry ≡ None }
+        ensures taken { IfOk result (λ o. (o ≡ Offered.At (length self.old.entries)) × (self.new ≡ with_last self.old entry)) }
+        ensures refused { IfErr result (λ e. (e.0 ≡ entry) × (e.1 ≡ Refused.NoMemory)) }
+        ensures unchanged { OnErr result (self.new ≡ self.old) }
+    {
+        let place = self.len();
+        match self.push(alloc, entry) {
+            Ok(()) => Ok(Offered::At(place)),
+            Err((entry, AllocError)) => Err((entry, Refused::NoMemory)),
+        }
+    }
+
+    /// The place of the entry that settles this one; none where no entry does.
+    pub(crate) fn settled_at(&self, entry: &Entry) -> Option<u64>
+        ensures { result ≡ settled_at self.now.entries entry.now }
+    {
+        match entry.subject() {
+            Some(subject) => self.place_on(subject),
+            None => None,
+        }
+    }
+}

@@ -1,0 +1,172 @@
+ghost use Rattle.std.specs.Prelude.{◌≡◌, ◌<◌, ◌≤◌, ◌+◌, [], ◌∷◌, ◌++◌, length, drop, map, slice_get, vec_len, vec_capacity, IfOk, IfErr, OnOk, OnErr};
+ghost use Rattle.std.specs.Arc.{arc_value};
+ghost use Rattle.std.specs.Option.{option_copied};
+ghost use Rattle.std.specs.HashMap.{spare};
+ghost use Rattle.lemma_book.specs.Shelf.{number_of, key_of, IsIndex, Notes};
+
+use crate::entry::{Entry, Subject, Task};
+use std::alloc::{AllocError, Global};
+use std::collections::{HashMap, VecDeque};
+use std::marker::Model;
+use std::sync::Arc;
+
+/// By what an entry is found: its subject, or the pair for which it spent a budget.
+#[derive(Clone, Copy, Debug, PartialEq, Eq, Hash)]
+pub enum Key {
+    On(Subject),
+    SpentOn(Task),
+}
+
+impl Entry {
+    /// By what the entry is found; an `Apart` is never looked for.
+    fn key(&self) -> Option<Key>
+        ensures { result ≡ key_of self.now }
+    {
+        match self {
+            Entry::Spent { node, lit, .. } => Some(Key::SpentOn(Task {
+                node: *node,
+                lit: *lit,
+            })),
+            _ => self.subject().map(Key::On),
+        }
+    }
+}
+
+/// Entries in order, shared, and an index from what they settle to their numbers.
+#[derive(Drop)]
+pub struct Shelf {
+    entries: Vec<Arc<Entry>>,
+    index: HashMap<Key, u64>,
+}
+
+impl Model for Shelf {
+    ghost use Rattle.std.specs.Prelude.{List, map};
+    ghost use Rattle.std.specs.Arc.{arc_value};
+    ghost use Rattle.lemma_book.specs.declared.entry.Entry.{Entry};
+    ghost use Rattle.lemma_book.specs.Shelf.{IsIndex};
+
+    ghost Value = { List Entry };
+
+    ghost view = { λ s. map arc_value s.entries.items };
+
+    ghost invariant = { λ s. IsIndex (map arc_value s.entries.items) s.index };
+}
+
+impl Shelf {
+    /// No entries.
+    pub fn new(alloc: Global) -> Shelf
+        ensures { result ≡ [] }
+    {
+        Shelf {
+            entries: Vec::new(alloc),
+            index: HashMap::new(alloc),
+        }
+    }
+
+    /// How many entries there are.
+    pub fn len(&self) -> u64
+        ensures { result ≡ length self.now }
+    {
+        self.entries.len() as u64
+    }
+
+    /// Entry `i`, if there are so many.
+    pub fn entry(&self, i: u64) -> Option<&Entry>
+        ensures { option_copied result ≡ slice_get self.now i }
+    {
+        match self.entries.get(i as usize) {
+            Some(entry) => Some(&**entry),
+            None => None,
+        }
+    }
+
+    /// Puts an entry last. Where memory is refused the entry comes back and nothing has changed.
+    pub fn push(&mut self, alloc: Global, entry: Entry) -> Result<(), (Entry, AllocError)>
+        ensures ok { OnOk result (self.new ≡ self.old ++ entry ∷ []) }
+        ensures err { OnErr result (self.new ≡ self.old) }
+        ensures returned { IfErr result (λ e. e.0 ≡ entry) }
+    {
+        if self.entries.reserve(1).is_err() || self.index.reserve(1).is_err() {
+            return Err((entry, AllocError));
+        }
+        match Arc::new(alloc, entry) {
+            Ok(shared) => {
+                put(&mut self.entries, &mut self.index, shared);
+                Ok(())
+            }
+            Err(failed) => Err((failed.value, AllocError)),
+        }
+    }
+
+    /// Appends what a longer list has behind these entries, shared with it. Where memory is refused nothing has changed.
+    pub fn catch_up(&mut self, alloc: Global, longer: &Shelf) -> Result<(), AllocError>
+        requires { length self.old ≤ length longer.now }
+        ensures ok { OnOk result (self.new ≡ self.old ++ drop (length self.old) longer.now) }
+        ensures err { OnErr result (self.new ≡ self.old) }
+    {
+        let more = shared(alloc, &longer.entries[self.entries.len()..])?;
+        self.entries.reserve(more.len())?;
+        self.index.reserve(more.len())?;
+        put_all(&mut self.entries, &mut self.index, more);
+        Ok(())
+    }
+
+    /// The number of the first entry with the key.
+    pub fn number(&self, key: Key) -> Option<u64>
+        ensures { result ≡ number_of self.now key }
+    {
+        self.index.get(&key).copied()
+    }
+}
+
+/// The entries, each shared once more.
+fn shared(alloc: Global, entries: &[Arc<Entry>]) -> Result<VecDeque<Arc<Entry>>, AllocError>
+    ensures { IfOk result (λ q. map arc_value q.items ≡ map arc_value entries.now) }
+{
+    let mut all = VecDeque::new(alloc);
+    for entry in entries {
+        all.push_back(Arc::try_clone(entry)?)?;
+    }
+    Ok(all)
+}
+
+/// Puts the entries last, one by one, for which there is room.
+fn put_all(entries: &mut Vec<Arc<Entry>>, index: &mut HashMap<Key, u64>, more: VecDeque<Arc<Entry>>)
+    requires index { IsIndex (map arc_value entries.old.items) index.old }
+    requires room { vec_len entries.old + length more.items ≤ vec_capacity entries.old }
+    requires spare { length more.items ≤ spare index.old }
+    ensures index { IsIndex (map arc_value entries.new.items) index.new }
+    ensures entries { map arc_value entries.new.items ≡ map arc_value entries.old.items ++ map arc_value more.items }
+{
+    let mut more = more;
+    while let Some(entry) = more.pop_front() {
+        put(entries, index, entry);
+    }
+}
+
+/// Puts an entry last, for which there is room.
+fn put(entries: &mut Vec<Arc<Entry>>, index: &mut HashMap<Key, u64>, entry: Arc<Entry>)
+    requires index { IsIndex (map arc_value entries.old.items) index.old }
+    requires room { vec_len entries.old < vec_capacity entries.old }
+    requires spare { 0 < spare index.old }
+    ensures index { IsIndex (map arc_value entries.new.items) index.new }
+    ensures entries { entries.new.items ≡ entries.old.items ++ entry ∷ [] }
+    ensures capacity { vec_capacity entries.new ≡ vec_capacity entries.old }
+    ensures spare { spare index.old ≤ spare index.new + 1 }
+{
+    note(index, entry.key(), entries.len() as u64);
+    entries.push_reserved(entry);
+}
+
+/// Notes the number of one more entry by its key, unless an earlier one has that.
+fn note(index: &mut HashMap<Key, u64>, key: Option<Key>, number: u64)
+    requires { 0 < spare index.old }
+    ensures notes { Notes index.old key number index.new }
+    ensures spare { spare index.old ≤ spare index.new + 1 }
+{
+    if let Some(key) = key {
+        if !index.contains_key(&key) {
+            let _ = index.insert(key, number);
+        }
+    }
+}

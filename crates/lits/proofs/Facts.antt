@@ -1,0 +1,30 @@
+-- What crates above may cite.
+
+-- ---- lists: what all elements have, and what some element passes
+
+-- the element at a place has what all elements have
+pub use Rattle.lits.proofs.ListLemmas.{all-slice_get}
+-- lists that are joined, filtered or mapped
+pub use Rattle.lits.proofs.ListLemmas.{all-append, all-parts, all-filter, all-map}
+-- a test of some element of a mapped list, and a weaker test
+pub use Rattle.lits.proofs.ListLemmas.{list_any-map, list_any-more}
+-- one element more of the front of a list
+pub use Rattle.lits.proofs.ListLemmas.{take_next}
+-- ---- equal nodes and literals
+
+-- those that are found equal are one
+pub use Rattle.lits.proofs.SameLemmas.{exact-node, exact-lit}
+-- and each equals itself
+pub use Rattle.lits.proofs.SameLemmas.{same-node_self, same-lit_self}
+-- ---- literals and clauses
+
+-- what the lemmas use of a literal's `==` and negation
+pub use Rattle.lits.proofs.ClauseLemmas.{IsLiteral, is_literal}
+-- x equals the negation of y exactly where y equals that of x
+pub use Rattle.lits.proofs.ClauseLemmas.{eq-opposite}
+-- a literal stands in joined lists where it stands in one, and among the first of each where it stands in the list
+pub use Rattle.lits.proofs.ClauseLemmas.{has-append, has-firsts}
+-- how the clause of a list grows with the list
+pub use Rattle.lits.proofs.ClauseLemmas.{firsts-push, no_repeat-push, has_pair-push}
+-- a pair among the literals seen so far and the next one stands among all of them
+pub use Rattle.lits.proofs.ClauseLemmas.{has_pair-append}

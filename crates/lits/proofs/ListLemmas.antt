@@ -1,0 +1,65 @@
+-- Lists whose elements all have a property, and tests that some element passes.
+use Rattle.std.proofs.Common.{◌≡◌, ℕ, zero, suc, ◌+◌, Bool, true, false, ◌||◌, inl, inr, Some, List, [], ◌∷◌, ◌++◌, take, map, refl, ap, ◌∙◌, subst}
+use Rattle.std.specs.Prelude.{filter, slice_get}
+use Rattle.std.specs.List.{list_any, AllByRecursion}
+use Rattle.std.proofs.lemmas.Bool.{or_cases, or_left, or_right}
+use Rattle.std.proofs.lemmas.List.{take_more}
+use Rattle.std.proofs.lemmas.Option.{none-some, same_Some, slice_get_within, get_or_from_slice_get}
+
+-- the element at a place has what all elements have
+pub all-slice_get : {X : Type 0} (P : X → Type 0) (xs : List X) (k : ℕ) (x : X) → AllByRecursion P xs
+    → slice_get xs k ≡ Some x → P x
+all-slice_get P [] k x all e = absurd (none-some x e)
+all-slice_get P (y ∷ ys) zero x all e = subst P (same_Some y x e) all.0
+all-slice_get P (y ∷ ys) (suc k) x all e = all-slice_get P ys k x all.1 e
+
+-- joined lists have what both have
+pub all-append : {X : Type 0} (P : X → Type 0) (xs ys : List X) → AllByRecursion P xs → AllByRecursion P ys
+    → AllByRecursion P (xs ++ ys)
+all-append P [] ys p q = q
+all-append P (x ∷ xs) ys p q = (p.0, all-append P xs ys p.1 q)
+
+-- and each of them has what the joined list has
+pub all-parts : {X : Type 0} (P : X → Type 0) (xs ys : List X) → AllByRecursion P (xs ++ ys)
+    → AllByRecursion P xs × AllByRecursion P ys
+all-parts P [] ys all = (tt, all)
+all-parts P (x ∷ xs) ys all = let r = all-parts P xs ys all.1 in ((all.0, r.0), r.1)
+
+-- what a filter keeps has what all had
+pub all-filter : {X : Type 0} (P : X → Type 0) (test : X → Bool) (xs : List X) → AllByRecursion P xs
+    → AllByRecursion P (filter test xs)
+all-filter P test [] all = tt
+all-filter {X} P test (x ∷ xs) all = go (test x) refl (all-filter P test xs all.1)
+  where
+    go : (b : Bool) → test x ≡ b → AllByRecursion P (filter test xs) → AllByRecursion P (filter test (x ∷ xs))
+    go true e rest = rw e (all.0, rest)
+    go false e rest = rw e rest
+
+-- a mapped list
+pub all-map : {X Y : Type 0} (P : Y → Type 0) (f : X → Y) (xs : List X) → AllByRecursion (λ x. P (f x)) xs
+    → AllByRecursion P (map f xs)
+all-map P f [] all = tt
+all-map P f (x ∷ xs) all = (all.0, all-map P f xs all.1)
+
+-- a test of some element of a mapped list is one of the list
+pub list_any-map : {X Y : Type 0} (test : Y → Bool) (f : X → Y) (xs : List X)
+    → list_any test (map f xs) ≡ list_any (λ x. test (f x)) xs
+list_any-map test f [] = refl
+list_any-map test f (x ∷ xs) = ap (λ (b : Bool). test (f x) || b) (list_any-map test f xs)
+
+-- where one test passes, so does a weaker one
+pub list_any-more : {X : Type 0} (p q : X → Bool) (xs : List X) → ((x : X) → p x ≡ true → q x ≡ true)
+    → list_any p xs ≡ true → list_any q xs ≡ true
+list_any-more p q [] f e = e
+list_any-more p q (x ∷ xs) f e =
+    elim (or_cases (p x) (list_any p xs) e) [
+      | inl h ↦ or_left _ _ (f x h)
+      | inr h ↦ or_right (q x) _ (list_any-more p q xs f h)
+    ]
+
+-- one element more of the front of a list
+pub take_next : {X : Type 0} (xs : List X) (i : ℕ) (x : X) → slice_get xs i ≡ Some x
+    → take (i + 1) xs ≡ take i xs ++ x ∷ []
+take_next xs i x e =
+    take_more xs i x (slice_get_within xs i x e)
+    ∙ ap (λ y. take i xs ++ y ∷ []) (get_or_from_slice_get xs i x x e)

@@ -1,0 +1,4 @@
+pub mod Leader
+pub mod Alike
+pub mod Chains
+pub mod Pass

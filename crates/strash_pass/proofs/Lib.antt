@@ -1,0 +1,6 @@
+mod MergeLemmas
+mod Propagation
+mod GateFacts
+mod ShowsLemmas
+mod WayLemmas
+mod PassLemmas

@@ -1,0 +1,101 @@
+-- A merge by two steps over the clauses of some nodes is good.
+use Rattle.std.proofs.Common.{◌≡◌, ℕ, ◌+◌, ◌≤◌, true, false, Option, Some, None, List, [], ◌∷◌, length, take, refl, sym, ap, ◌∙◌, subst, arith}
+use Rattle.std.specs.Option.{option_map_or}
+use Rattle.std.specs.List.{AllByRecursion}
+use Rattle.std.proofs.lemmas.Option.{none-some}
+use Rattle.lits.specs.declared.node.Node.{Node}
+use Rattle.lits.specs.declared.node.Node.TheVariants.{Const, Input, Gate, Xor}
+use Rattle.lits.specs.declared.literal.Lit.{Lit}
+use Rattle.lits.specs.declared.step.Ref.{Ref}
+use Rattle.lits.specs.declared.step.Ref.TheVariants.{Axiom, Entry as Shown, Own}
+use Rattle.lits.specs.declared.step.Named.{Named}
+use Rattle.lits.specs.declared.step.Step.{Step}
+use Rattle.lits.specs.Same.{same_lit, opposite}
+use Rattle.netlist.specs.Net.{AigPair}
+use Rattle.netlist.specs.Miter.{positive, negative}
+use Rattle.unit_prop.specs.Step.{IsStep}
+use Rattle.unit_prop.specs.HintScan.{IsNamed}
+use Rattle.unit_prop.specs.Log.{base_clause, with_own, IsStepAfter}
+use Rattle.unit_prop.proofs.Facts.{step-more, base_clause-is, named-all}
+use Rattle.lemma_book.specs.declared.entry.Entry.{Entry}
+use Rattle.lemma_book.specs.declared.entry.Entry.TheVariants.{Merge}
+use Rattle.lemma_book.specs.declared.entry.Subject.TheVariants.{Merged}
+use Rattle.lemma_book.specs.Entry.{Entries, first_entries, merge_clauses, place_on, with_last}
+use Rattle.lemma_book.specs.Root.{IsRoot}
+use Rattle.lemma_book.specs.Cone.{AreThere, clauses_on, nodes_in}
+use Rattle.lemma_book.specs.Good.{ArePlaced, AreOver, IsEarlier, EndsIn, IsGood, node_clause}
+use Rattle.lemma_book.specs.Book.{book_after}
+use Rattle.lemma_book.proofs.Facts.{good-merge, root-unsettled, placed-there, on-node-named, IsNoXor, HasNodeName}
+use Rattle.strash_pass.specs.Pass.{AreNotXors, is_xor, Merges}
+
+no-xors : (lits : List Lit) → AreNotXors lits → AllByRecursion IsNoXor (nodes_in lits)
+no-xors [] all = tt
+no-xors (l ∷ ls) all = (go l.node all.0, no-xors ls all.1)
+  where
+    go : (n : Node) → is_xor n ≡ false → IsNoXor n
+    go Const e = tt
+    go (Input k) e = tt
+    go (Gate s v) e = tt
+    go (Xor j) e = let f : true ≡ false = e in cc
+
+module _ (net : AigPair) (es : List Entry) (way : List Lit) (none : AreNotXors way) (base : List Named) (is : base ≡ clauses_on net es (nodes_in way)) where
+  each-named : AllByRecursion (HasNodeName net es) base
+  each-named = subst (AllByRecursion (HasNodeName net es)) (sym is) (on-node-named net es (nodes_in way) (no-xors way none))
+
+  -- the clauses of one name are one
+  pub base-named : IsNamed base
+  base-named = named-all (node_clause net es) base each-named
+
+  -- a step over these clauses is one of a merge, whatever own steps come before it
+  pub step-own : (before : List Step) (s : Step) → IsStep same_lit opposite (base_clause base) s.clause s.hints → IsStepAfter (node_clause net es) before s
+  step-own before s step =
+      step-more same_lit opposite (base_clause base) (with_own (node_clause net es) before) found s.clause s.hints step
+    where
+      found : (name : Ref) (c : List Lit) → base_clause base name ≡ Some c → with_own (node_clause net es) before name ≡ Some c
+      found (Axiom node k) c e = base_clause-is (node_clause net es) base each-named (Axiom node k) c e
+      found (Shown i k) c e = base_clause-is (node_clause net es) base each-named (Shown i k) c e
+      found (Own k) c e =
+          let f : None ≡ Some c = base_clause-is (node_clause net es) base each-named (Own k) c e in
+          absurd (none-some c f)
+
+pub whole : {X : Type 0} (xs : List X) → take (length xs) xs ≡ xs
+whole [] = refl
+whole (x ∷ xs) = ap (λ (l : List _). x ∷ l) (whole xs)
+
+module _ (net : AigPair) (book : Entries) (node : Node) (target : Lit) (steps : List Step) (unmerged : IsRoot book.entries node) where
+  unsettled : place_on book.entries (Merged node) ≡ None
+  unsettled = root-unsettled book.entries node unmerged
+
+  -- the merge is good
+  pub two-steps : ArePlaced net node target → IsEarlier net node target → (below above : Step) → steps ≡ below ∷ above ∷ []
+      → below.clause ≡ negative node ∷ target ∷ [] → above.clause ≡ positive node ∷ opposite target ∷ []
+      → IsStepAfter (node_clause net book.entries) [] below → IsStepAfter (node_clause net book.entries) (below ∷ []) above
+      → (known : ℕ) → known ≡ length book.entries → IsGood net (first_entries known book) (Merge node target steps)
+  two-steps placed earlier below above are first second one two known count =
+      subst (λ (es : List Entry). IsGood net (record { sweep_budget = book.sweep_budget; out_budget = book.out_budget; entries = es }) (Merge node target steps))
+      (sym (ap (λ (n : ℕ). take n book.entries) count ∙ whole book.entries))
+      (subst (λ (ss : List Step). IsGood net book (Merge node target ss)) (sym are) good)
+    where
+      there : AreOver net (below ∷ above ∷ [])
+      there =
+          let n = placed-there net node placed.0 in
+          let t = placed-there net target.node placed.1 in
+          (subst (AreThere net) (sym first) (n, (t, tt)), (subst (AreThere net) (sym second) (n, (t, tt)), tt))
+
+      ends : EndsIn (merge_clauses node target) (below ∷ above ∷ [])
+      ends = record {
+        before = [];
+        last = below ∷ above ∷ [];
+        parts = refl;
+        clauses_are = ap (λ (c : List Lit). c ∷ above.clause ∷ []) first ∙ ap (λ (c : List Lit). (negative node ∷ target ∷ []) ∷ c ∷ []) second;
+      }
+
+      few : length (below ∷ above ∷ []) ≤ book.sweep_budget + 2
+      few = omega arith
+
+      good : IsGood net book (Merge node target (below ∷ above ∷ []))
+      good = good-merge net book node target (below ∷ above ∷ []) placed there unsettled earlier ends few (one, (two, tt))
+
+  -- and it is put last
+  pub put-last : (new : Entries) → new ≡ book_after book (Merge node target steps) → Merges book new node target
+  put-last new e = record { steps = steps; last = e ∙ ap (λ (o : Option ℕ). option_map_or (λ i. book) o (with_last book (Merge node target steps))) unsettled }

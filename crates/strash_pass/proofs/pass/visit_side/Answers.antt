@@ -1,0 +1,29 @@
+-- The next gate of a side is the next one of all.
+use Rattle.std.proofs.Common.{◌≡◌, ◌∙◌, ◌<◌, ℕ, List, Some, ap, sym, get_or, length}
+use Rattle.std.specs.Prelude.{slice_get}
+use Rattle.std.proofs.lemmas.Option.{slice_get-get_or}
+use Rattle.netlist.specs.declared.gate.And.{And}
+use Rattle.netlist.specs.Circuit.{Aig}
+use Rattle.strash_pass.proofs.PassLemmas.{side-gate, side-defined}
+use Rattle.strash_pass.proofs.pass.visit_side.Goals as goal
+
+no_gate : And
+no_gate = record { var = 0; left = 0; right = 0 }
+
+-- gate j of a list that is that of a circuit
+gate-at : (items : List And) (made want : Aig) (j : ℕ) (d : And) → items ≡ made.gates → made ≡ want → j < length items → slice_get want.gates j ≡ Some (get_or items j d)
+gate-at items made want j d e f below =
+    ap (λ (l : List And). slice_get l j) (sym (e ∙ ap (λ (c : Aig). c.gates) f)) ∙ slice_get-get_or items j d below
+
+pub visit-requires-clause-gate : goal.visit-requires-clause-gate
+unfolding no_gate
+visit-requires-clause-gate c =
+    side-gate c.args.net.now c.requires.net c.loop-gate.gate-index (get_or c.gates-gate-items.result.now c.loop-gate.gate-index no_gate) c.args.side
+    (gate-at _ _ _ _ no_gate c.gates-gate-items.ensures.gates c.circuit.ensures.circuit c.loop-gate-test.true) c.in-Some.definition
+    (sym c.definition.ensures ∙ c.in-Some.is) c.loop-gate.pass.visited c.loop-gate.invariant.visited
+
+pub unreachable-requires : goal.unreachable-requires
+unfolding no_gate
+unreachable-requires c =
+    side-defined c.args.net.now c.requires.net c.loop-gate.gate-index (get_or c.gates-gate-items.result.now c.loop-gate.gate-index no_gate) c.args.side
+    (gate-at _ _ _ _ no_gate c.gates-gate-items.ensures.gates c.circuit.ensures.circuit c.loop-gate-test.true) (sym c.definition.ensures ∙ c.in-None.is)

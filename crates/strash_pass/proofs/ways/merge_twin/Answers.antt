@@ -1,0 +1,40 @@
+-- The twin stands earlier, and the clauses on both gates' ways show that they are equal.
+use Rattle.std.proofs.Common.{◌∙◌, ◌++◌, List, ap, sym, subst}
+use Rattle.lits.specs.declared.literal.Lit.{Lit}
+use Rattle.netlist.specs.Miter.{positive}
+use Rattle.lemma_book.specs.Root.{passed_by}
+use Rattle.strash_pass.specs.Pass.{ShowsMerge}
+use Rattle.strash_pass.proofs.WayLemmas.{ArePlacedAll, placed-all, placed-no_xors, twin-placed_all, twin-placed, twin-earlier, twin-way}
+use Rattle.strash_pass.proofs.ways.merge_twin.Goals as goal
+
+pub merge-requires-clause-there : goal.merge-requires-clause-there
+merge-requires-clause-there c =
+    placed-all c.args.net.now c.deref.result.now (subst (ArePlacedAll c.args.net.now) (sym
+    (c.deref.ensures.value ∙ c.in_ok-_right.ensures.passed
+    ∙ ap (λ (l : List Lit). l ++ passed_by c.args.book.now.entries c.args.twin.right)
+    (c.in_ok-_left.ensures.passed ∙ ap (λ (l : List Lit). l ++ passed_by c.args.book.now.entries c.args.twin.left) c.in_ok-push.ensures.items)))
+    (twin-placed_all c.args.net.now c.args.book.now c.requires.legal c.requires.net c.args.way.items c.args.twin c.args.gate c.requires.twin c.requires.way))
+
+pub merge-requires-clause-no_xors : goal.merge-requires-clause-no_xors
+merge-requires-clause-no_xors c =
+    placed-no_xors c.args.net.now c.deref.result.now (subst (ArePlacedAll c.args.net.now) (sym
+    (c.deref.ensures.value ∙ c.in_ok-_right.ensures.passed
+    ∙ ap (λ (l : List Lit). l ++ passed_by c.args.book.now.entries c.args.twin.right)
+    (c.in_ok-_left.ensures.passed ∙ ap (λ (l : List Lit). l ++ passed_by c.args.book.now.entries c.args.twin.left) c.in_ok-push.ensures.items)))
+    (twin-placed_all c.args.net.now c.args.book.now c.requires.legal c.requires.net c.args.way.items c.args.twin c.args.gate c.requires.twin c.requires.way))
+
+pub merge-requires-clause-placed : goal.merge-requires-clause-placed
+merge-requires-clause-placed c =
+    twin-placed c.args.net.now c.args.book.now c.requires.legal c.requires.net c.args.way.items c.args.twin c.args.gate c.requires.twin c.requires.way
+
+pub merge-requires-clause-earlier : goal.merge-requires-clause-earlier
+merge-requires-clause-earlier c =
+    twin-earlier c.args.net.now c.args.book.now c.requires.legal c.requires.net c.args.way.items c.args.twin c.args.gate c.requires.twin c.requires.way
+
+pub merge-requires-clause-shows : goal.merge-requires-clause-shows
+merge-requires-clause-shows c =
+    subst (λ (l : List Lit). ShowsMerge c.args.net.now c.args.book.now.entries l c.args.gate.node (positive c.args.twin.node)) (sym
+    (c.deref.ensures.value ∙ c.in_ok-_right.ensures.passed
+    ∙ ap (λ (l : List Lit). l ++ passed_by c.args.book.now.entries c.args.twin.right)
+    (c.in_ok-_left.ensures.passed ∙ ap (λ (l : List Lit). l ++ passed_by c.args.book.now.entries c.args.twin.left) c.in_ok-push.ensures.items)))
+    (twin-way c.args.net.now c.args.book.now c.requires.legal c.requires.net c.args.way.items c.args.twin c.args.gate c.requires.twin c.requires.way)

@@ -1,0 +1,2 @@
+pub mod Strash
+pub mod Pass

@@ -1,0 +1,116 @@
+-- What the pass keeps from gate to gate, and what it asks of a merge.
+use Rattle.std.specs.Prelude.{◌≡◌, ◌<◌, ◌||◌, ℕ, Bool, true, false, List, [], ◌∷◌, map, length, slice_get, None, Some, if◌then◌else◌}
+use Rattle.std.specs.Option.{is_some, IsSome}
+use Rattle.std.specs.List.{AllByRecursion}
+use Rattle.lits.specs.declared.node.Node.TheVariants.{Const, Xor}
+use Rattle.lits.specs.declared.node.Side.{Side}
+use Rattle.lits.specs.declared.node.Side.TheVariants.{A, B}
+use Rattle.lits.specs.declared.node.Node.{Node}
+use Rattle.lits.specs.declared.literal.Lit.{Lit}
+use Rattle.lits.specs.declared.step.Step.{Step}
+use Rattle.lits.specs.Clause.{has}
+use Rattle.lits.specs.Same.{same_lit, same_node, opposite}
+use Rattle.indexmap.specs.IndexMap.{get}
+use Rattle.netlist.specs.declared.gate.Definition.{Definition}
+use Rattle.netlist.specs.Net.{AigPair, definitions, position_of}
+use Rattle.netlist.specs.Miter.{positive, negative}
+use Rattle.unit_prop.specs.Closure.{IsOpen}
+use Rattle.unit_prop.specs.Log.{base_clauses}
+use Rattle.lemma_book.specs.declared.entry.Entry.{Entry}
+use Rattle.lemma_book.specs.declared.entry.Entry.TheVariants.{Merge}
+use Rattle.lemma_book.specs.Entry.{Entries, with_last}
+use Rattle.lemma_book.specs.Root.{passed_by, root_of, IsRoot}
+use Rattle.lemma_book.specs.Cone.{clauses_on, nodes_in}
+use Rattle.strash_pass.specs.declared.pair.Pair.{Pair}
+use Rattle.strash_pass.specs.declared.visit.Pass.{Pass}
+use Rattle.strash_pass.specs.contracts.pair.PairPartialEq.TheImpl as pair_eq
+use Rattle.strash_pass.specs.Strash.{folded, ArePlainBelow, AreTwins}
+
+-- the `==` of pairs
+abbrev pub same_pair : Pair → Pair → Bool
+same_pair = pair_eq.ghosts.eq
+
+abbrev pub pair_of : Lit → Lit → Pair
+pair_of a b = record { left = a; right = b }
+
+-- c is one of the first n gates, isn't merged, and these are its fanins' roots
+pub record IsSeen (net : AigPair) (entries : List Entry) (n : ℕ) (a b : Lit) (c : Definition) : Type 0 where
+  pub place : ℕ
+  pub below : place < n
+  pub at : slice_get (definitions net) place ≡ Some c
+  pub unmerged : IsRoot entries c.node
+  pub left : root_of entries c.left ≡ a
+  pub right : root_of entries c.right ≡ b
+
+-- the first n gates are plain, and the table finds those of them that aren't merged by their roots
+pub record IsPass (net : AigPair) (entries : List Entry) (p : Pass) (n : ℕ) : Type 0 where
+  pub plain : ArePlainBelow net entries n
+  pub sound : (a b : Lit) (c : Definition) → get same_pair p.gates (pair_of a b) ≡ Some c → IsSeen net entries n a b c
+  pub whole : (k : ℕ) (c : Definition) → k < n → slice_get (definitions net) k ≡ Some c → IsRoot entries c.node
+      → is_some (get same_pair p.gates (pair_of (root_of entries c.left) (root_of entries c.right))) ≡ true
+
+-- the nodes have all of these
+abbrev pub Covers : List Node → List Lit → Type 0
+Covers nodes lits = AllByRecursion (λ l. has same_node nodes l.node ≡ true) lits
+
+-- the nodes have a gate, which isn't merged, and those that are merged on its fanins' ways to their roots
+pub record Reaches (entries : List Entry) (nodes : List Node) (d : Definition) : Type 0 where
+  pub inside : has same_node nodes d.node ≡ true
+  pub unmerged : IsRoot entries d.node
+  pub left : Covers nodes (passed_by entries d.left)
+  pub right : Covers nodes (passed_by entries d.right)
+
+-- so do the literals, and each of them has a position
+pub record IsWay (net : AigPair) (entries : List Entry) (way : List Lit) (d : Definition) : Type 0 where
+  pub placed : AllByRecursion (λ l. IsSome (position_of net l.node)) way
+  pub reaches : Reaches entries (nodes_in way) d
+
+-- it is one of the net's gates
+pub record HasGate (net : AigPair) (d : Definition) : Type 0 where
+  pub place : ℕ
+  pub at : slice_get (definitions net) place ≡ Some d
+
+-- c is an earlier gate that isn't merged, over the same two roots, which don't fold
+pub record IsTwin (net : AigPair) (entries : List Entry) (c d : Definition) : Type 0 where
+  pub first : ℕ
+  pub second : ℕ
+  pub earlier : first < second
+  pub at_first : slice_get (definitions net) first ≡ Some c
+  pub at_second : slice_get (definitions net) second ≡ Some d
+  pub unmerged : IsRoot entries c.node
+  pub twins : AreTwins entries c d
+  pub unfolded : folded (root_of entries d.left) (root_of entries d.right) ≡ None
+
+abbrev pub is_const : Lit → Bool
+is_const l = same_node l.node Const
+
+-- the constant, where one of these is it
+abbrev pub constant_among : Lit → Lit → Lit → List Lit
+constant_among a b t = if is_const a || (is_const b || is_const t) then positive Const ∷ [] else []
+
+-- unit propagation over the clauses of these nodes alone shows the clause of the two literals
+abbrev pub Shows : AigPair → List Entry → List Lit → Lit → Lit → Type 0
+Shows net entries way a b = ¬ IsOpen same_lit opposite (base_clauses (clauses_on net entries (nodes_in way))) (map opposite (a ∷ b ∷ []))
+
+-- and so both clauses of a merge
+pub record ShowsMerge (net : AigPair) (entries : List Entry) (way : List Lit) (node : Node) (target : Lit) : Type 0 where
+  pub below : Shows net entries way (negative node) target
+  pub above : Shows net entries way (positive node) (opposite target)
+
+-- the book has one more entry, which merges the node
+pub record Merges (old new : Entries) (node : Node) (target : Lit) : Type 0 where
+  pub steps : List Step
+  pub last : new ≡ with_last old (Merge node target steps)
+
+-- none of the nodes is an XOR
+abbrev pub is_xor : Node → Bool
+is_xor (Xor j) = true
+is_xor _ = false
+
+abbrev pub AreNotXors : List Lit → Type 0
+AreNotXors lits = AllByRecursion (λ l. is_xor l.node ≡ false) lits
+
+-- how many gates stand before those of a side
+abbrev pub gates_before : AigPair → Side → ℕ
+gates_before net A = 0
+gates_before net B = length net.a.gates

@@ -1,0 +1,79 @@
+ghost use Rattle.std.specs.Prelude.{◌≡◌, [], ◌∷◌, map, IfOk, OnOk, OnErr};
+ghost use Rattle.lits.specs.Clause.{IsClause};
+ghost use Rattle.lits.specs.Same.{same_lit, opposite};
+ghost use Rattle.netlist.specs.Net.{IsNet};
+ghost use Rattle.unit_prop.specs.Closure.{IsOpen};
+ghost use Rattle.unit_prop.specs.HintScan.{IsNamed};
+ghost use Rattle.unit_prop.specs.Log.{base_clause, base_clauses};
+ghost use Rattle.unit_prop.specs.Step.{IsStep};
+ghost use Rattle.lemma_book.specs.Root.{IsRoot};
+ghost use Rattle.lemma_book.specs.Cone.{AreThere, nodes_in};
+ghost use Rattle.lemma_book.specs.Good.{ArePlaced, IsEarlier};
+ghost use Rattle.lemma_book.specs.Book.{IsLegal};
+ghost use Rattle.strash_pass.specs.Pass.{ShowsMerge, Merges, AreNotXors};
+
+use lemma_book::{Book, Entry};
+use lits::{Clause, Listed, Lit, Literal, Named, Node, Step};
+use netlist::Net;
+use std::alloc::{AllocError, Global};
+use unit_prop::scan;
+
+/// Merges a node to a literal of an earlier one, by two steps over the clauses of the nodes on the way alone.
+///
+/// Over the whole cone of the node, hints would run down to the inputs, and the proof of a circuit against itself would
+/// grow with the square of its depth.
+pub fn merge(
+    alloc: Global,
+    net: &Net,
+    book: &mut Book,
+    node: Node,
+    target: Lit,
+    way: &[Lit],
+) -> Result<(), AllocError>
+    requires net { IsNet net.now }
+    requires legal { IsLegal net.now book.old }
+    requires there { AreThere net.now way.now }
+    requires no_xors { AreNotXors way.now }
+    requires placed { ArePlaced net.now node target }
+    requires earlier { IsEarlier net.now node target }
+    requires unmerged { IsRoot book.old.entries node }
+    requires shows { ShowsMerge net.now book.old.entries way.now node target }
+    ensures legal { IsLegal net.now book.new }
+    ensures ok { OnOk result (Merges book.old book.new node target) }
+    ensures err { OnErr result (book.new ≡ book.old) }
+{
+    let base = book.clauses_on(alloc, net, book.len(), way)?;
+    let lit = Lit { node, neg: false };
+    let below = step(alloc, &base, &[lit.not(), target])?;
+    let above = step(alloc, &base, &[lit, target.not()])?;
+    let mut steps = Vec::new(alloc);
+    steps.push(below)?;
+    steps.push(above)?;
+    let entry = Entry::Merge {
+        node,
+        lit: target,
+        steps: Listed::of(steps),
+    };
+    let known = book.len();
+    match book.append(alloc, net, known, entry) {
+        Ok(_) => Ok(()),
+        Err((_entry, error)) => Err(error),
+    }
+}
+
+/// The step that adds the clause, which unit propagation over the base shows.
+fn step(alloc: Global, base: &[Named], lits: &[Lit]) -> Result<Step, AllocError>
+    requires named { IsNamed base.now }
+    requires clause { IsClause same_lit opposite lits.now }
+    requires shown { ¬ IsOpen same_lit opposite (base_clauses base.now) (map opposite lits.now) }
+    ensures { IfOk result (λ s. (s.clause ≡ lits.now) × IsStep same_lit opposite (base_clause base.now) s.clause s.hints) }
+{
+    let clause = Clause::from_slice(alloc, lits)?;
+    match scan(alloc, base, &clause)? {
+        Some(hints) => Ok(Step {
+            clause,
+            hints: Listed::of(hints),
+        }),
+        None => unreachable!(),
+    }
+}

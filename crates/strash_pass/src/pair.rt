@@ -1,0 +1,8 @@
+use lits::Lit;
+
+/// The roots of a gate's fanins.
+#[derive(Clone, Copy, Debug, PartialEq, Eq, Hash)]
+pub struct Pair {
+    pub left: Lit,
+    pub right: Lit,
+}

@@ -1,0 +1,59 @@
+ghost use Rattle.std.specs.Prelude.{◌≡◌, ◌+◌, [], length, OnOk, IfOk};
+ghost use Rattle.netlist.specs.Net.{IsNet, circuit_of};
+ghost use Rattle.lemma_book.specs.Book.{IsLegal};
+ghost use Rattle.strash_pass.specs.Strash.{AddsMerges, ArePlain};
+ghost use Rattle.strash_pass.specs.Pass.{gates_before, IsPass};
+
+use crate::visit::Pass;
+use indexmap::IndexMap;
+use lemma_book::Book;
+use lits::{Node, Side};
+use netlist::{Net, laws};
+use std::alloc::{AllocError, Global};
+
+/// Merges each gate that the structure alone shows to be equal to an earlier node, and tells how many it merged.
+///
+/// Afterwards no unmerged gate folds or has an earlier unmerged twin. Where memory is refused the merges so far stand.
+pub fn run(alloc: Global, net: &Net, book: &mut Book) -> Result<u64, AllocError>
+    requires { IsLegal net.now book.old }
+    ensures legal { IsLegal net.now book.new }
+    ensures grows { AddsMerges book.old book.new }
+    ensures count { IfOk result (λ n. length book.new.entries ≡ length book.old.entries + n) }
+    ensures plain { OnOk result (ArePlain net.now book.new.entries) }
+{
+    laws::is_net(net);
+    let before = book.len();
+    let mut pass = Pass {
+        gates: IndexMap::new(alloc),
+        visited: 0,
+    };
+    visit_side(&mut pass, alloc, net, book, Side::A)?;
+    visit_side(&mut pass, alloc, net, book, Side::B)?;
+    Ok(book.len() - before)
+}
+
+/// Visits the gates of one side.
+fn visit_side(
+    pass: &mut Pass,
+    alloc: Global,
+    net: &Net,
+    book: &mut Book,
+    side: Side,
+) -> Result<(), AllocError>
+    requires net { IsNet net.now }
+    requires legal { IsLegal net.now book.old }
+    requires pass { IsPass net.now book.old.entries pass.old pass.old.visited }
+    requires visited { pass.old.visited ≡ gates_before net.now side }
+    ensures legal { IsLegal net.now book.new }
+    ensures grows { AddsMerges book.old book.new }
+    ensures pass { OnOk result (IsPass net.now book.new.entries pass.new pass.new.visited) }
+    ensures visited { OnOk result (pass.new.visited ≡ gates_before net.now side + length (circuit_of net.now side).gates) }
+{
+    for gate in net.circuit(side).gates() {
+        match net.definition(Node::Gate(side, gate.var)) {
+            Some(definition) => pass.visit(alloc, net, book, definition)?,
+            None => unreachable!(),
+        }
+    }
+    Ok(())
+}

@@ -1,0 +1,81 @@
+ghost use Rattle.std.specs.Prelude.{◌≡◌, ◌++◌, Some, IfOk, OnOk, OnErr};
+ghost use Rattle.netlist.specs.Net.{IsNet};
+ghost use Rattle.netlist.specs.Miter.{positive};
+ghost use Rattle.lemma_book.specs.Book.{IsLegal};
+ghost use Rattle.lemma_book.specs.Root.{root_of};
+ghost use Rattle.strash_pass.specs.Strash.{folded};
+ghost use Rattle.strash_pass.specs.Pass.{constant_among, HasGate, IsTwin, IsWay, Merges};
+
+use crate::merge::merge;
+use crate::pair::Pair;
+use lemma_book::Book;
+use lits::{Lit, Node};
+use netlist::{Definition, Net};
+use std::alloc::{AllocError, Global};
+
+/// Merges a gate to what its fanins' roots come to. The way has the gate and the merged nodes that its fanins passed.
+pub fn merge_folded(
+    alloc: Global,
+    net: &Net,
+    book: &mut Book,
+    gate: Definition,
+    roots: Pair,
+    target: Lit,
+    way: Vec<Lit>,
+) -> Result<(), AllocError>
+    requires net { IsNet net.now }
+    requires legal { IsLegal net.now book.old }
+    requires gate { HasGate net.now gate }
+    requires way { IsWay net.now book.old.entries way.items gate }
+    requires left { roots.left ≡ root_of book.old.entries gate.left }
+    requires right { roots.right ≡ root_of book.old.entries gate.right }
+    requires folds { folded roots.left roots.right ≡ Some target }
+    ensures legal { IsLegal net.now book.new }
+    ensures ok { OnOk result (Merges book.old book.new gate.node target) }
+    ensures err { OnErr result (book.new ≡ book.old) }
+{
+    let way = with_constant(way, roots.left, roots.right, target)?;
+    merge(alloc, net, book, gate.node, target, &way)
+}
+
+/// The way with the constant, where one of the literals is it.
+fn with_constant(way: Vec<Lit>, left: Lit, right: Lit, target: Lit) -> Result<Vec<Lit>, AllocError>
+    ensures { IfOk result (λ v. v.items ≡ way.items ++ constant_among left right target) }
+{
+    let mut way = way;
+    if left.node == Node::Const || right.node == Node::Const || target.node == Node::Const {
+        way.push(Lit {
+            node: Node::Const,
+            neg: false,
+        })?;
+    }
+    Ok(way)
+}
+
+/// Merges a gate to an earlier one over the same roots. The way has the gate and the merged nodes that its fanins passed.
+pub fn merge_twin(
+    alloc: Global,
+    net: &Net,
+    book: &mut Book,
+    gate: Definition,
+    twin: Definition,
+    way: Vec<Lit>,
+) -> Result<(), AllocError>
+    requires net { IsNet net.now }
+    requires legal { IsLegal net.now book.old }
+    requires way { IsWay net.now book.old.entries way.items gate }
+    requires twin { IsTwin net.now book.old.entries twin gate }
+    ensures legal { IsLegal net.now book.new }
+    ensures ok { OnOk result (Merges book.old book.new gate.node (positive twin.node)) }
+    ensures err { OnErr result (book.new ≡ book.old) }
+{
+    let mut way = way;
+    let target = Lit {
+        node: twin.node,
+        neg: false,
+    };
+    way.push(target)?;
+    let _left = book.root_by(twin.left, &mut way)?;
+    let _right = book.root_by(twin.right, &mut way)?;
+    merge(alloc, net, book, gate.node, target, &way)
+}

@@ -1,0 +1,6 @@
+mod SequenceLemmas
+mod TextLemmas
+mod BelowLemmas
+mod ParityLemmas
+mod AdderLemmas
+mod ComparatorLemmas

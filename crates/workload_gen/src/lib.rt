@@ -1,0 +1,25 @@
+//! A workload from a kind and a number: two circuits of one function in two architectures.
+//!
+//! `make` gives them as the bytes of two AIGER files, one in each form, which the readers read back as those
+//! circuits. Adders, comparators and parities in two architectures are the classic hard cases of equivalence
+//! checking.
+//!
+//! Data flows from `builder.rt` (gates, one at a time, and what is made of them) by `parity.rt`, `adder.rt` and
+//! `comparator.rt` (the architectures) to `design.rt` and `text.rt` (the bytes). Definitions:
+//! `specs/Workload.antt` (the bytes of a kind and a number), over `specs/Gates.antt` (what each construction adds
+//! to a list of gates). Begin to read at `workload.rt`.
+#![tactic(auto)]
+
+pub use kind::Kind;
+pub use workload::{MOST_BITS, make};
+
+mod adder;
+mod builder;
+mod comparator;
+mod design;
+mod kind;
+mod parity;
+#[cfg(test)]
+mod tests;
+mod text;
+mod workload;

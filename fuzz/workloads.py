@@ -1,0 +1,119 @@
+#!/usr/bin/env python3
+"""The files of workloads, compared byte by byte with those of another generator, tools/workload.py.
+
+Usage: workloads.py [--most N] [--every N]
+
+Builds a small program over the crate workload_gen, in a folder that is given up, since `cec self` shows only counts and a
+verdict. Each kind is compared for each number up to --most (64), and for each --every (251) up to 4096. Status 1 where any
+byte differs.
+"""
+import argparse
+import shutil
+import subprocess
+import sys
+import tempfile
+from pathlib import Path
+
+TOP = Path(__file__).resolve().parents[1]
+sys.path.insert(0, str(TOP / "tools"))
+import workload
+
+MOST = 4096
+
+MAIN = """//! Writes the two files of a workload to standard output: a line with the length of the first, then both.
+#![tactic(auto)]
+
+use std::env;
+use std::io::{self, Write};
+use workload_gen::{Kind, MOST_BITS, make};
+
+fn asked(words: &[String]) -> Option<(Kind, u32)> {
+    let [_, kind, number] = words else {
+        return None;
+    };
+    let kind = match kind.as_str() {
+        "adder" => Kind::Adder,
+        "parity" => Kind::Parity,
+        "comparator" => Kind::Comparator,
+        _ => return None,
+    };
+    Some((kind, number.as_str().parse::<u32>().ok()?))
+}
+
+fn main(rt: HostRuntime) -> io::Result<()> {
+    let words: Vec<String> = env::args(&rt)?.collect(rt.alloc())?;
+    let Some((kind, n)) = asked(words.as_slice()) else {
+        return Ok(());
+    };
+    if n == 0 || n > MOST_BITS {
+        return Ok(());
+    }
+    let (first, second) = make(rt.alloc(), kind, n)?;
+    let mut out = rt.stdout();
+    let length = format!(in rt.alloc(); "{}\\n", first.len())?;
+    out.write_all(length.as_bytes())?;
+    out.write_all(first.as_slice())?;
+    out.write_all(second.as_slice())
+}
+"""
+
+
+def lines_below(name, lines):
+    """The lines of crates.txt for a crate of the repository and for those that it stands on."""
+    found = {}
+
+    def visit(crate):
+        if crate in lines and crate not in found:
+            for other in lines[crate].split():
+                visit(other)
+            found[crate] = lines[crate]
+
+    visit(name)
+    return found
+
+
+def built(folder):
+    """The path of the program that writes a workload, proved and built in the folder."""
+    text = (TOP / "crates.txt").read_text()
+    lines = dict(line.split(":", 1) for line in text.splitlines() if ":" in line and not line.startswith("#"))
+    below = lines_below("workload_gen", lines)
+    for crate in below:
+        shutil.copytree(TOP / "crates" / crate, folder / "crates" / crate, ignore=shutil.ignore_patterns("out"))
+    shutil.copy(TOP / "HANDLES", folder)
+    source = folder / "crates" / "workload_bytes" / "src"
+    source.mkdir(parents=True)
+    (source / "main.rt").write_text(MAIN)
+    below["workload_bytes"] = " " + " ".join(below)
+    (folder / "crates.txt").write_text("".join(f"{crate}:{uses}\n" for crate, uses in below.items()))
+    subprocess.run(["rt", "run", "--", "parity", "1"], cwd=source.parent, check=True, capture_output=True)
+    return source.parent / "out" / "workload_bytes"
+
+
+def written(program, kind, n):
+    """The bytes of both files."""
+    told = subprocess.run([program, kind, str(n)], check=True, capture_output=True).stdout
+    length, files = told.split(b"\n", 1)
+    return files[:int(length)], files[int(length):]
+
+
+def main():
+    parser = argparse.ArgumentParser(description=__doc__, formatter_class=argparse.RawDescriptionHelpFormatter)
+    parser.add_argument("--most", type=int, default=64)
+    parser.add_argument("--every", type=int, default=251)
+    words = parser.parse_args()
+    numbers = sorted({*range(1, words.most + 1), *range(words.every, MOST, words.every), MOST})
+    wrong = 0
+    with tempfile.TemporaryDirectory() as folder:
+        program = built(Path(folder))
+        for kind, circuits in workload.KINDS.items():
+            for n in numbers:
+                a, b = circuits(n)
+                if written(program, kind, n) != (a.ascii(), b.binary()):
+                    wrong += 1
+                    print(f"{kind} {n}: the bytes differ")
+    print(f"{len(workload.KINDS) * len(numbers)} pairs of files, {wrong} wrong")
+    raise SystemExit(1 if wrong else 0)
+
+
+if __name__ == "__main__":
+    main()
