@@ -8,7 +8,6 @@ use Rattle.byte_scan.specs.declared.counts.Header.{Header}
 use Rattle.byte_scan.specs.Scanning.{Place}
 use Rattle.byte_scan.specs.Reading.{◌>>=◌, start, header_at, number_at, space_at, number_line_at, literal_line_at, used, lines_ahead, tail_of, IsFault}
 use Rattle.lits.specs.Clause.{has}
-use Rattle.netlist.specs.declared.gate.And.{And}
 use Rattle.netlist.specs.Circuit.{Aig, var_of, variables_in}
 use Rattle.circuit_draft.specs.Draft.{finished}
 

@@ -1,12 +1,12 @@
 -- One more output or gate, and the fault of one.
-use Rattle.std.proofs.Common.{◌≡◌, ◌≢◌, ℕ, zero, suc, ◌+◌, ◌-◌, ◌*◌, ◌<◌, ◌≤◌, min, false, List, [], ◌∷◌, ◌++◌, length, drop, Some, None, Result, Ok, Err, refl, sym, ap, ◌∙◌, arith, length-drop}
+use Rattle.std.proofs.Common.{◌≡◌, ◌≢◌, ℕ, zero, suc, ◌+◌, ◌-◌, ◌*◌, ◌<◌, ◌≤◌, min, false, List, [], ◌∷◌, ◌++◌, length, drop, Some, None, Ok, Err, refl, sym, ap, ◌∙◌, arith, length-drop}
 use Rattle.std.specs.Prelude.{nat_lt, slice_get}
 use Rattle.std.proofs.lemmas.Option.{none-some, same_Some}
 use Rattle.std.specs.List.{range_with_len}
 use Rattle.byte_scan.specs.declared.errors.AigerErr.{AigerErr}
 use Rattle.byte_scan.specs.declared.errors.AigerErr.TheVariants.{Truncated}
 use Rattle.byte_scan.specs.Scanning.{Place, ahead, moved}
-use Rattle.byte_scan.specs.Reading.{◌>>=◌, IsFault, literal_line_at}
+use Rattle.byte_scan.specs.Reading.{IsFault, literal_line_at}
 use Rattle.byte_scan.proofs.Facts.{IsFault-bind}
 use Rattle.netlist.specs.declared.gate.And.{And}
 use Rattle.aiger_binary.specs.Binary.{outputs_at, gate_at, gates_at, groups_at, power_of}

@@ -2,11 +2,10 @@
 -- And-Inverter Graph Format, 2007; AIGER 1.9). Inputs have no lines: input k, from 0, is the literal 2(k + 1). Behind the
 -- header stand the outputs' lines, then two deltas for each gate, then a tail. The gates define the variables behind the
 -- inputs, in order, so that each fanin is defined before.
-use Rattle.std.specs.Prelude.{◌≡◌, ◌≤◌, ◌<◌, ℕ, zero, suc, ◌+◌, ◌-◌, ◌*◌, ◌||◌, ⊤, List, [], ◌∷◌, ◌++◌, length, Result, Ok, Err, nat_lt, ◌==◌, if◌then◌else◌}
+use Rattle.std.specs.Prelude.{◌≡◌, ◌<◌, ℕ, zero, suc, ◌+◌, ◌-◌, ◌*◌, ◌||◌, ⊤, List, [], ◌∷◌, ◌++◌, length, Result, Ok, Err, nat_lt, ◌==◌, if◌then◌else◌}
 use Rattle.std.specs.List.{range_with_len}
 use Rattle.byte_scan.specs.declared.errors.AigerErr.{AigerErr}
 use Rattle.byte_scan.specs.declared.errors.AigerErr.TheVariants.{BadDelta, Truncated}
-use Rattle.byte_scan.specs.declared.counts.Header.{Header}
 use Rattle.byte_scan.specs.Scanning.{Place, ahead, moved}
 use Rattle.byte_scan.specs.Reading.{◌>>=◌, start, header_at, literal_line_at, lines_ahead, tail_of, IsFault}
 use Rattle.netlist.specs.declared.gate.And.{And}

@@ -1,6 +1,6 @@
 -- Which bytes spell which circuit in either form of AIGER, and which fault they have first: the first four bytes choose
 -- the form, `aag ` the ASCII one and `aig ` the binary one (A. Biere, The AIGER And-Inverter Graph Format, 2007).
-use Rattle.std.specs.Prelude.{◌≡◌, ℕ, Bool, false, ◌&&◌, ◌==◌, List, [], ◌∷◌, Result, Ok, Err, if◌then◌else◌}
+use Rattle.std.specs.Prelude.{◌≡◌, ℕ, Bool, false, ◌&&◌, ◌==◌, List, ◌∷◌, Result, Ok, Err, if◌then◌else◌}
 use Rattle.byte_scan.specs.declared.errors.AigerErr.{AigerErr}
 use Rattle.byte_scan.specs.declared.errors.AigerErr.TheVariants.{BadHeader}
 use Rattle.netlist.specs.Circuit.{Aig}

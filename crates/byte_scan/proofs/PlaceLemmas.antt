@@ -1,5 +1,5 @@
 -- Behind a line stand the later lines.
-use Rattle.std.proofs.Common.{◌≡◌, ℕ, zero, suc, ◌+◌, ◌<◌, ◌≤◌, min, Bool, true, false, eqb, cond, List, [], ◌∷◌, length, drop, Option, Some, None, Result, Ok, refl, sym, ap, ◌∙◌, inl, inr, arith, subst, add-one}
+use Rattle.std.proofs.Common.{◌≡◌, ℕ, suc, ◌+◌, min, Bool, true, false, eqb, List, [], ◌∷◌, length, drop, Some, None, Ok, refl, sym, ap, ◌∙◌, inl, inr, arith, subst, add-one}
 use Rattle.std.proofs.Math.Dec.{eqb-suc-zero}
 use Rattle.std.proofs.lemmas.Bool.{cases_lt}
 use Rattle.std.proofs.lemmas.List.{drop-drop}
@@ -7,7 +7,6 @@ use Rattle.std.proofs.lemmas.Option.{none-some, same_Some}
 use Rattle.std.proofs.Math.ListN.{drop_of_length-le}
 use Rattle.byte_scan.specs.Scanning.{Place, ahead, moved, line_of, next_line}
 use Rattle.std.specs.Prelude.{Err}
-use Rattle.byte_scan.specs.declared.errors.AigerErr.{AigerErr}
 use Rattle.byte_scan.specs.declared.errors.AigerErr.TheVariants.{BadSymbol}
 use Rattle.byte_scan.specs.Reading.{Line, lines_from, onto_line, lines_ahead, begins_with, is_symbol, tail_of}
 

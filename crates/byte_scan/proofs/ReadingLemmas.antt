@@ -1,5 +1,5 @@
 -- What a function answers, from its cases.
-use Rattle.std.proofs.Common.{◌≡◌, ℕ, ◌+◌, List, [], ◌∷◌, length, Option, Some, None, Result, Ok, Err, refl, sym, ap, ◌∙◌}
+use Rattle.std.proofs.Common.{◌≡◌, ℕ, ◌+◌, List, [], ◌∷◌, length, Some, None, Result, Ok, Err, refl, sym, ◌∙◌}
 use Rattle.std.specs.Prelude.{IfOk, IfErr}
 use Rattle.byte_scan.specs.declared.errors.AigerErr.{AigerErr}
 use Rattle.byte_scan.specs.declared.errors.AigerErr.TheVariants.{BadHeader, NoMemory}

@@ -1,6 +1,6 @@
 -- The parts that both forms of AIGER share (A. Biere, The AIGER And-Inverter Graph Format, 2007; AIGER 1.9). A reader
 -- goes from a place in the bytes to what it read and the place behind it, or to the first fault.
-use Rattle.std.specs.Prelude.{◌≡◌, ℕ, zero, suc, ◌+◌, ◌*◌, Bool, false, ◌&&◌, ◌||◌, List, [], ◌∷◌, length, drop, Option, Some, None, Result, Ok, Err, nat_lt, ◌==◌, if◌then◌else◌}
+use Rattle.std.specs.Prelude.{◌≡◌, ℕ, ◌+◌, ◌*◌, Bool, false, ◌&&◌, ◌||◌, List, [], ◌∷◌, length, drop, Option, Some, None, Result, Ok, Err, nat_lt, ◌==◌, if◌then◌else◌}
 use Rattle.byte_scan.specs.declared.errors.AigerErr.{AigerErr}
 use Rattle.byte_scan.specs.declared.errors.AigerErr.TheVariants.{BadHeader, BadNumber, Truncated, BadLiteral, BadSymbol, NoMemory}
 use Rattle.byte_scan.specs.declared.counts.Header.{Header}

@@ -1,5 +1,5 @@
 -- Where a scan stands in its bytes, and what the next byte, number and line are.
-use Rattle.std.specs.Prelude.{ℕ, ◌+◌, ◌-◌, ◌*◌, ◌^◌, List, [], ◌∷◌, Option, None, Some, length, drop, min, if◌then◌else◌, ◌==◌}
+use Rattle.std.specs.Prelude.{ℕ, ◌+◌, ◌-◌, ◌*◌, List, [], ◌∷◌, Option, None, Some, length, drop, min, if◌then◌else◌, ◌==◌}
 use Rattle.std.specs.Char.{is_ascii_digit}
 use Rattle.byte_scan.specs.declared.scan.TheConstants.{NUMBER_LIMIT}
 

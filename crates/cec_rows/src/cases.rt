@@ -96,8 +96,8 @@ fn and_against_false(rt: HostRuntime) -> Result<(), Fail> {
     Ok(())
 }
 
-/// No gate of one side is an AND of the same literals as one of the other. Where the sweep spends its budget on the pair,
-/// the output's own query settles it.
+/// No gate of one side is an AND of the same literals as one of the other. Where the sweep spends its
+/// budget on the pair, the output's own query settles it.
 #[test]
 fn two_xors(rt: HostRuntime) -> Result<(), Fail> {
     let files = [("A", XOR_X), ("B", XOR_Y)];

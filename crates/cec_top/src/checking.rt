@@ -69,7 +69,8 @@ fn tell<D: Desk>(
     say(desk, text.as_slice())
 }
 
-/// Reads the pair, settles it, leaves the files and says the verdict. The book of a check that has a verdict is kept.
+/// Reads the pair, settles it, leaves the files and says the verdict. The book of a check that has a
+/// verdict is kept.
 pub(crate) fn check<D: Desk>(
     alloc: Global,
     desk: &mut D,
@@ -80,7 +81,8 @@ pub(crate) fn check<D: Desk>(
     requires empty { kept.old.items ≡ [] }
     ensures ok { IfOk result (λ status.
         Ends (check_texts words.entry) (D.state desk.old) (D.state desk.new) status kept.new.items) }
-    ensures err { IfErr result (Stops (check_texts words.entry) (D.state desk.old) kept.new.items (D.state desk.new)) }
+    ensures err { IfErr result
+        (Stops (check_texts words.entry) (D.state desk.old) kept.new.items (D.state desk.new)) }
 {
     let mut session = read_session(alloc, desk, words)?;
     kept.reserve(1)?;

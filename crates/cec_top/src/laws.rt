@@ -37,8 +37,8 @@ pub fn verdicts()
     command_line::words_are_one_of();
 }
 
-/// Arguments that ask for a check or for a proof's check, files that spell what they should and fit, and no fault of the
-/// desk leave only the statuses of verdicts, and want of memory.
+/// Arguments that ask for a check or for a proof's check, files that spell what they should and fit,
+/// and no fault of the desk leave only the statuses of verdicts, and want of memory.
 pub fn completeness()
     ensures check { (words : List (List ℕ)) (c : CheckCommand)
         (old new : DeskState) (status : Status) (kept : List Kept) →
@@ -61,7 +61,8 @@ pub fn completeness()
 /// A law: a legal book that shows a finding has a proof of it.
 pub(crate) fn proves(net: &Net, book: &Book)
     requires { IsLegal net.now book.now }
-    ensures { (finding : Finding) → Finds net.now book.now.entries finding → IsProof net.now book.now.entries finding }
+    ensures { (finding : Finding) → Finds net.now book.now.entries finding
+        → IsProof net.now book.now.entries finding }
 {
     proof_stitch::laws::refutes(net, book);
     proof_stitch::laws::derives(net, book);

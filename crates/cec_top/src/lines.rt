@@ -44,7 +44,8 @@ pub(crate) fn unlike_fault(alloc: Global, fault: Unlike) -> Result<String, Alloc
 }
 
 fn differing(alloc: Global, what: &str, a: u32, b: u32) -> Result<String, AllocError>
-    ensures { IfOk result (λ s. string_bytes s ≡ what.now ++ decimal a ++ codes " and " ++ decimal b ++ codes " differ") }
+    ensures { IfOk result
+        (λ s. string_bytes s ≡ what.now ++ decimal a ++ codes " and " ++ decimal b ++ codes " differ") }
 {
     let mut text = String::from_str(alloc, what)?;
     text.push_str(Buffer::new().format(a))?;

@@ -14,8 +14,8 @@ use std::thread::Threads;
 
 /// Does all that the program does, and answers with the status and the book of the check that was made.
 ///
-/// The first argument is the program's name. A fault is warned of as one line before the status is answered, and
-/// refused arguments with the text of `clap`; where the warning fails the status stays.
+/// The first argument is the program's name. A fault is warned of as one line before the status is
+/// answered, and refused arguments with the text of `clap`; where the warning fails the status stays.
 pub fn run<D: Desk, G: Gate + Sync>(
     _rt: &(impl Threads + Wait),
     alloc: Global,
@@ -24,7 +24,8 @@ pub fn run<D: Desk, G: Gate + Sync>(
     _gate: &G,
 ) -> (Status, Vec<Kept>)
     requires { (D.state desk.old).started ≡ None }
-    ensures { Answers (map string_bytes words.now) (D.state desk.old) (D.state desk.new) result.0 result.1.items }
+    ensures { Answers (map string_bytes words.now) (D.state desk.old)
+        (D.state desk.new) result.0 result.1.items }
 {
     let mut kept = Vec::new(alloc);
     let status = answer(alloc, words, desk, &mut kept);
@@ -35,7 +36,8 @@ pub fn run<D: Desk, G: Gate + Sync>(
 fn answer<D: Desk>(alloc: Global, words: &[String], desk: &mut D, kept: &mut Vec<Kept>) -> Status
     requires started { (D.state desk.old).started ≡ None }
     requires empty { kept.old.items ≡ [] }
-    ensures { Answers (map string_bytes words.now) (D.state desk.old) (D.state desk.new) result kept.new.items }
+    ensures { Answers (map string_bytes words.now) (D.state desk.old)
+        (D.state desk.new) result kept.new.items }
 {
     match command_line::read(alloc, words) {
         Ok(Asked::Check(words)) => run_check(alloc, desk, words, kept),
@@ -53,7 +55,8 @@ fn run_check<D: Desk>(
 ) -> Status
     requires started { (D.state desk.old).started ≡ None }
     requires empty { kept.old.items ≡ [] }
-    ensures { AnswersCheck (check_texts words.entry) (D.state desk.old) (D.state desk.new) result kept.new.items }
+    ensures { AnswersCheck (check_texts words.entry) (D.state desk.old)
+        (D.state desk.new) result kept.new.items }
 {
     match check(alloc, desk, words, kept) {
         Ok(status) => status,

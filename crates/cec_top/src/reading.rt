@@ -23,7 +23,8 @@ fn read_circuit<D: Desk>(
     file: usize,
 ) -> Result<Circuit, Stop>
     ensures { (earlier : List (List ℕ)) →
-        ReadsAs SpellsAiger file (circuit_file name.now) earlier (D.state desk.old) (D.state desk.new) result }
+        ReadsAs SpellsAiger file (circuit_file name.now) earlier
+            (D.state desk.old) (D.state desk.new) result }
 {
     let bytes = read_file(alloc, desk, name, file)?;
     match aiger_file::read(alloc, bytes.as_slice()) {

@@ -11,7 +11,8 @@ use std::alloc::{AllocError, Global};
 
 /// The text of a verdict that leaves no files.
 pub(crate) fn plain_text(alloc: Global, verdict: &Verdict) -> Result<Vec<u8>, AllocError>
-    ensures { IfOk result (λ v. v.items ≡ text_of (finding_of verdict.now) (open_text (opens_in verdict.now))) }
+    ensures { IfOk result
+        (λ v. v.items ≡ text_of (finding_of verdict.now) (open_text (opens_in verdict.now))) }
 {
     match verdict {
         Verdict::Equivalent => Vec::from_slice(alloc, b"EQUIVALENT\n"),

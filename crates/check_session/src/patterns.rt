@@ -18,8 +18,8 @@ pub(crate) struct Difference {
 
 /// The first output that a pattern of the pool tells apart, with the first such pattern.
 ///
-/// The rows of signatures are searched word by word; what is found is evaluated on both circuits before it is told, as
-/// Berkeley's ABC does with each counterexample.
+/// The rows of signatures are searched word by word; what is found is evaluated on both circuits before
+/// it is told, as Berkeley's ABC does with each counterexample.
 pub(crate) fn difference_in(
     alloc: Global,
     net: &Net,

@@ -13,7 +13,8 @@ use std::alloc::{AllocError, Global};
 use unit_prop::Refuter;
 use word_sim::{Pool, signatures};
 
-/// Merges nodes that are equal: first those that the structure alone shows to be, then those of which queries show it.
+/// Merges nodes that are equal: first those that the structure alone shows to be, then those of which
+/// queries show it.
 pub(crate) fn sweep<R: Refuter + Send>(
     alloc: Global,
     net: &Net,
@@ -30,10 +31,11 @@ pub(crate) fn sweep<R: Refuter + Send>(
     settle_rounds(alloc, net, book, pool, refuter)
 }
 
-/// Settles pairs of nodes that no pattern tells apart, round after round, until simulation has no candidates left.
+/// Settles pairs of nodes that no pattern tells apart, round after round, until simulation has no
+/// candidates left.
 ///
-/// A counterexample joins the pool, so the next round has other candidates; a pair whose budget was spent is no candidate
-/// again. Each round puts an entry into the book at least.
+/// A counterexample joins the pool, so the next round has other candidates; a pair whose budget was
+/// spent is no candidate again. Each round puts an entry into the book at least.
 fn settle_rounds<R: Refuter + Send>(
     alloc: Global,
     net: &Net,

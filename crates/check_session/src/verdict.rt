@@ -37,7 +37,8 @@ impl Verdict {
         Ok(Verdict::of_open(open))
     }
 
-    /// What the entry of one output tells by itself; an output that it leaves open is put behind those before.
+    /// What the entry of one output tells by itself; an output that it leaves open is put behind those
+    /// before.
     fn at(
         alloc: Global,
         book: &Book,

@@ -1,5 +1,5 @@
 -- What plain words ask for: words that don't begin with `-` among the names of options.
-use Rattle.std.proofs.Common.{◌≡◌, ℕ, ◌&&◌, Bool, false, true, eqb, ne_eqb, inl, inr, ◌<◌, ◌≤◌, ◌^◌, lit<, nat_lt, length, arith, refl, ap, subst, sym, ◌∙◌, codes, map, fold, List, [], ◌∷◌, Option, Some, None}
+use Rattle.std.proofs.Common.{◌≡◌, ℕ, ◌&&◌, Bool, false, true, eqb, ne_eqb, inl, inr, ◌<◌, ◌≤◌, ◌^◌, lit<, nat_lt, arith, refl, ap, subst, sym, ◌∙◌, codes, map, fold, List, [], ◌∷◌, Option, Some, None}
 use Rattle.std.specs.Prelude.{if◌then◌else◌}
 use Rattle.std.specs.Str.Parse.{digits_value, without_leading_plus}
 use Rattle.std.specs.Str.{bytes_eq}

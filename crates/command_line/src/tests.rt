@@ -39,7 +39,8 @@ Options:
       --out <PREFIX>      Leave the question and its proof in files whose names begin with PREFIX
       --seed <N>          Draw the first patterns from N, from 0 to 18446744073709551615 [default: 1]
       --words <N>         Draw 64 times N first patterns, N from 1 to 64 [default: 4]
-      --sweep-budget <N>  Give up on a pair of nodes after N learned clauses, from 1 to 1000000000 [default: 100]
+      --sweep-budget <N>  Give up on a pair of nodes after N learned clauses, \
+      from 1 to 1000000000 [default: 100]
       --budget <N>        Give up on an output after N learned clauses, from 1 to 1000000000 [default: 100000]
   -h, --help              Print help
 

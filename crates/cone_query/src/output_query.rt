@@ -16,8 +16,8 @@ use std::alloc::{AllocError, Global};
 use unit_prop::laws::budget;
 use unit_prop::{Refuted, Refuter};
 
-/// Asks whether output j, which has no entry yet, is the same in both circuits, for at most the book's budget of
-/// learned clauses.
+/// Asks whether output j, which has no entry yet, is the same in both circuits, for at most the book's
+/// budget of learned clauses.
 pub fn output<R: Refuter + Send>(
     alloc: Global,
     net: &Net,

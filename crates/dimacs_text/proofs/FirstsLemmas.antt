@@ -1,5 +1,5 @@
 -- Clauses are their distinct literals already.
-use Rattle.std.proofs.Common.{◌≡◌, Bool, true, false, not, map, filter, List, [], ◌∷◌, refl, ◌∙◌}
+use Rattle.std.proofs.Common.{◌≡◌, true, false, not, map, filter, List, [], ◌∷◌, refl, ◌∙◌}
 use Rattle.std.specs.List.{AllByRecursion}
 use Rattle.std.proofs.lemmas.Bool.{and_parts, or_parts, not-true}
 use Rattle.lits.specs.Clause.{has, firsts, no_repeat, IsClause}

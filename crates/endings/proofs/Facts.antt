@@ -1,11 +1,11 @@
 -- What follows from how a command reads, leaves files and ends: for the crates above.
-use Rattle.std.proofs.Common.{◌≡◌, ◌⊎◌, ℕ, ◌≤◌, inl, inr, ◌+◌, ◌++◌, List, [], ◌∷◌, Ok, Err, Result, refl, sym, ◌∙◌, subst, arith}
+use Rattle.std.proofs.Common.{◌≡◌, ℕ, ◌≤◌, inl, inr, ◌+◌, ◌++◌, List, [], ◌∷◌, Ok, Err, Result, refl, sym, subst, arith}
 use Rattle.desk_port.specs.Desk.{DeskState, NoCountFalls, ReadFault, WriteFault, WarnFault, Rose, after_read, after_emptying, after_say, after_warn}
 use Rattle.endings.specs.declared.status.Status.{Status}
 use Rattle.endings.specs.declared.status.Status.TheVariants as status
 use Rattle.endings.specs.declared.stop.Stop.{Stop}
 use Rattle.endings.specs.declared.stop.Stop.TheVariants.{CannotRead, TooLong, BadFile, NotAlike, CannotWrite, OutOfMemory}
-use Rattle.endings.specs.Stops.{EndsBy, Warns, IsWarned, status_of}
+use Rattle.endings.specs.Stops.{EndsBy, Warns, status_of}
 use Rattle.endings.specs.Reading.{Input, StopsAt, ReadsUpTo, after_reads}
 use Rattle.endings.specs.Writing.{Output, Leaves, Says, StopsIn, after_file, while_writing}
 

@@ -14,8 +14,8 @@ use netlist::Net;
 use std::alloc::{AllocError, Global};
 use std::marker::Model;
 
-/// Entries in the order in which they came, and the budgets of a query about two nodes and of one about an output, in
-/// learned clauses.
+/// Entries in the order in which they came, and the budgets of a query about two nodes and of one about
+/// an output, in learned clauses.
 #[derive(Drop)]
 pub struct Book {
     sweep_budget: u64,
@@ -29,7 +29,11 @@ impl Model for Book {
 
     ghost Value = { Entries };
 
-    ghost view = { λ b. record { sweep_budget = b.sweep_budget; out_budget = b.out_budget; entries = b.shelf } };
+    ghost view = { λ b. record {
+      sweep_budget = b.sweep_budget;
+      out_budget = b.out_budget;
+      entries = b.shelf;
+    } };
 
     ghost invariant = { λ b. ((1 ≤ b.sweep_budget) × (b.sweep_budget ≤ 1000000000))
         × ((1 ≤ b.out_budget) × (b.out_budget ≤ 1000000000)) };
@@ -114,7 +118,8 @@ impl Book {
 
     /// The entry that merges the node, and the literal that has the node's value.
     fn merge_of(&self, node: Node) -> Option<(u64, Lit)>
-        ensures { option_map (λ m. record { entry = m.0; lit = m.1 }) result ≡ merge_of self.now.entries node }
+        ensures { option_map (λ m. record { entry = m.0; lit = m.1 }) result
+            ≡ merge_of self.now.entries node }
     {
         let place = self.place_on(Subject::Merged(node))?;
         match self.entry(place) {
@@ -140,8 +145,8 @@ impl Book {
         }
     }
 
-    /// The root of a literal: its node's target, the target's target, and so on, with the sign carried along, in constant
-    /// time for each of them.
+    /// The root of a literal: its node's target, the target's target, and so on, with the sign carried
+    /// along, in constant time for each of them.
     pub fn root(&self, lit: Lit) -> Lit
         ensures { result ≡ root_of self.now.entries lit }
     {
@@ -191,8 +196,9 @@ impl Book {
         Ok(lit)
     }
 
-    /// The cone of the literals' nodes over the first `seen` entries: the clauses that define these nodes, those that
-    /// define what the clauses speak of, and so on, in the order of the miter; a merged node has its merge's clauses.
+    /// The cone of the literals' nodes over the first `seen` entries: the clauses that define these
+    /// nodes, those that define what the clauses speak of, and so on, in the order of the miter; a
+    /// merged node has its merge's clauses.
     ///
     /// The work is that of the cone, whatever the length of the book and the size of the net.
     pub fn cone(
@@ -219,7 +225,8 @@ impl Book {
     ) -> Result<Vec<Named>, AllocError>
         requires legal { IsLegal net.now self.now }
         requires there { AreThere net.now lits.now }
-        ensures { IfOk result (λ v. v.items ≡ clauses_on net.now (take seen self.now.entries) (nodes_in lits.now)) }
+        ensures { IfOk result
+            (λ v. v.items ≡ clauses_on net.now (take seen self.now.entries) (nodes_in lits.now)) }
     {
         clauses_on(alloc, net, self, seen, lits)
     }
@@ -237,7 +244,8 @@ impl Book {
         })
     }
 
-    /// Takes over, and shares, what a longer book has behind this one. Where memory is refused nothing is taken.
+    /// Takes over, and shares, what a longer book has behind this one. Where memory is refused nothing
+    /// is taken.
     pub fn catch_up(&mut self, alloc: Global, longer: &Book) -> Result<(), AllocError>
         requires { StartsWith longer.now self.old }
         ensures ok { OnOk result (self.new ≡ longer.now) }

@@ -43,7 +43,8 @@ pub fn clauses_on(
 ) -> Result<Vec<Named>, AllocError>
     requires legal { IsLegal net.now book.now }
     requires there { AreThere net.now lits.now }
-    ensures { IfOk result (λ v. v.items ≡ clauses_on net.now (take seen book.now.entries) (nodes_in lits.now)) }
+    ensures { IfOk result
+        (λ v. v.items ≡ clauses_on net.now (take seen book.now.entries) (nodes_in lits.now)) }
 {
     laws::is_net(net);
     let walk = Walk::at(alloc, net, lits)?;
@@ -63,7 +64,8 @@ fn clauses_found(
     requires legal { IsLegal net.now book.now }
     requires walk { IsWalk net.now walk.now }
     ensures { IfOk result (λ v. v.items
-        ≡ flat_map (named_clauses net.now (take seen book.now.entries)) (filter (is_found walk.now) (variables_of net.now))) }
+        ≡ flat_map (named_clauses net.now (take seen book.now.entries))
+            (filter (is_found walk.now) (variables_of net.now))) }
 {
     let mut clauses = Vec::new(alloc);
     for node in walk.found.values() {
@@ -100,7 +102,8 @@ fn add_merge(
     cone: &mut Vec<Named>,
 ) -> Result<(), AllocError>
     requires { same_node node target.node ≡ false }
-    ensures { OnOk result (cone.new.items ≡ cone.old.items ++ named_from (Shown place) 0 (merge_clauses node target)) }
+    ensures { OnOk result
+        (cone.new.items ≡ cone.old.items ++ named_from (Shown place) 0 (merge_clauses node target)) }
 {
     let lit = Lit { node, neg: false };
     let clause = Clause::from_slice(alloc, &[lit.not(), target])?;

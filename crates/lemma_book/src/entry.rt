@@ -12,12 +12,12 @@ pub struct Task {
 
 /// What the book says of two nodes, or of one output by its index from 0.
 ///
-/// Nodes are merged as in SAT sweeping (Kuehlmann, Paruthi, Krohm and Ganai 2002): the later node stands for a literal of
-/// the earlier one from then on.
+/// Nodes are merged as in SAT sweeping (Kuehlmann, Paruthi, Krohm and Ganai 2002): the later node
+/// stands for a literal of the earlier one from then on.
 #[derive(Drop)]
 pub enum Entry {
-    /// The node has the value of the literal, which is that of an earlier node: the steps end with the two clauses that
-    /// say so.
+    /// The node has the value of the literal, which is that of an earlier node: the steps end with the
+    /// two clauses that say so.
     Merge {
         node: Node,
         lit: Lit,

@@ -38,7 +38,8 @@ pub(crate) fn first_stale_of_output(
     output: u32,
     log: &[Step],
 ) -> Result<Option<u64>, AllocError>
-    ensures { IfOk result (IsFirstPlace (λ k. IsNewAt cone.now log.now k × IsUndecidedAt cone.now output log.now k)) }
+    ensures { IfOk result
+        (IsFirstPlace (λ k. IsNewAt cone.now log.now k × IsUndecidedAt cone.now output log.now k)) }
 {
     let mut clauses = clauses_of(alloc, cone)?;
     let differs = positive(Node::Xor(output));
@@ -70,7 +71,8 @@ fn is_new_and_open(
     lit: Lit,
 ) -> Result<bool, AllocError>
     ensures { IfOk result
-        (Tells (IsNew same_lit opposite clauses.now clause.now × IsOpen same_lit opposite clauses.now (lit ∷ []))) }
+        (Tells (IsNew same_lit opposite clauses.now clause.now
+            × IsOpen same_lit opposite clauses.now (lit ∷ []))) }
 {
     if !is_new(alloc, clauses, clause)? {
         return Ok(false);
@@ -119,7 +121,8 @@ fn occurs_in(clauses: &[Clause<Lit>], lit: Lit) -> bool
         .any(|clause| clause.has(lit) || clause.has(lit.not()))
 }
 
-/// Whether unit propagation from the negations of a clause's other literals doesn't clash and doesn't find this one.
+/// Whether unit propagation from the negations of a clause's other literals doesn't clash and doesn't
+/// find this one.
 fn lacks(
     alloc: Global,
     clauses: &[Clause<Lit>],

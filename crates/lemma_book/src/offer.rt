@@ -12,10 +12,11 @@ use netlist::Net;
 use std::alloc::{AllocError, Global};
 
 impl Book {
-    /// Judges an entry over this book, which stays as it is: it is good, or this is the first cause against it.
+    /// Judges an entry over this book, which stays as it is: it is good, or this is the first cause
+    /// against it.
     ///
-    /// Each step takes the time of its hints; for a log that was spent the cone is made, and unit propagation is run
-    /// over it before each of its clauses.
+    /// Each step takes the time of its hints; for a log that was spent the cone is made, and unit
+    /// propagation is run over it before each of its clauses.
     pub fn judge(&self, alloc: Global, net: &Net, entry: &Entry) -> Result<Judgement, AllocError>
         requires legal { IsLegal net.now self.now }
         ensures { IfOk result (IsJudgement net.now self.now entry.now) }
@@ -29,8 +30,9 @@ impl Book {
         }
     }
 
-    /// Takes an entry that is good over this book as its last one. Any other comes back with the first cause against it,
-    /// but for one that an entry of the book settles: that is answered by the other entry's place.
+    /// Takes an entry that is good over this book as its last one. Any other comes back with the first
+    /// cause against it, but for one that an entry of the book settles: that is answered by the other
+    /// entry's place.
     pub fn offer(
         &mut self,
         alloc: Global,
@@ -52,8 +54,8 @@ impl Book {
         }
     }
 
-    /// Takes an entry that is good over the first `known` entries as the last one, without judging it again, unless a
-    /// later entry settles it.
+    /// Takes an entry that is good over the first `known` entries as the last one, without judging it
+    /// again, unless a later entry settles it.
     pub fn append(
         &mut self,
         alloc: Global,
@@ -82,7 +84,8 @@ impl Book {
     /// Takes an entry that is good over this book as its last one.
     fn take(&mut self, alloc: Global, entry: Entry) -> Result<Offered, (Entry, Refused)>
         requires { settled_at self.old.entries entry ≡ None }
-        ensures taken { IfOk result (λ o. (o ≡ Offered.At (length self.old.entries)) × (self.new ≡ with_last self.old entry)) }
+        ensures taken { IfOk result
+            (λ o. (o ≡ Offered.At (length self.old.entries)) × (self.new ≡ with_last self.old entry)) }
         ensures refused { IfErr result (λ e. (e.0 ≡ entry) × (e.1 ≡ Refused.NoMemory)) }
         ensures unchanged { OnErr result (self.new ≡ self.old) }
     {

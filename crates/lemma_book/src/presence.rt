@@ -39,7 +39,8 @@ fn are_placed(net: &Net, node: Node, lit: Lit) -> bool
 
 /// Whether each literal of the steps' clauses has a CNF variable.
 fn are_over(net: &Net, steps: &[Step]) -> bool
-    ensures { result ≡ list_all (λ s. list_all (λ l. is_some (variable_of net.now l.node)) s.clause) steps.now }
+    ensures { result
+        ≡ list_all (λ s. list_all (λ l. is_some (variable_of net.now l.node)) s.clause) steps.now }
 {
     steps
         .iter()

@@ -1,7 +1,7 @@
 use unit_prop::BadStep;
 
-/// What becomes of an entry that is offered to a book and isn't refused: the entry's place, from 0, or that of the entry
-/// that settles it.
+/// What becomes of an entry that is offered to a book and isn't refused: the entry's place, from 0, or
+/// that of the entry that settles it.
 #[derive(Clone, Copy, Debug, PartialEq, Eq)]
 pub enum Offered {
     At(u64),

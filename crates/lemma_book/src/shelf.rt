@@ -98,7 +98,8 @@ impl Shelf {
         }
     }
 
-    /// Appends what a longer list has behind these entries, shared with it. Where memory is refused nothing has changed.
+    /// Appends what a longer list has behind these entries, shared with it. Where memory is refused
+    /// nothing has changed.
     pub fn catch_up(&mut self, alloc: Global, longer: &Shelf) -> Result<(), AllocError>
         requires { length self.old ≤ length longer.now }
         ensures ok { OnOk result (self.new ≡ self.old ++ drop (length self.old) longer.now) }
@@ -136,7 +137,8 @@ fn put_all(entries: &mut Vec<Arc<Entry>>, index: &mut HashMap<Key, u64>, more: V
     requires room { vec_len entries.old + length more.items ≤ vec_capacity entries.old }
     requires spare { length more.items ≤ spare index.old }
     ensures index { IsIndex (map arc_value entries.new.items) index.new }
-    ensures entries { map arc_value entries.new.items ≡ map arc_value entries.old.items ++ map arc_value more.items }
+    ensures entries { map arc_value entries.new.items
+        ≡ map arc_value entries.old.items ++ map arc_value more.items }
 {
     let mut more = more;
     while let Some(entry) = more.pop_front() {

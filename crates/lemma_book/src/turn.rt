@@ -1,5 +1,5 @@
-/// What one turn at a shared book comes to: an entry's own place, the place of the entry that settles it, or how many
-/// entries the book has.
+/// What one turn at a shared book comes to: an entry's own place, the place of the entry that settles
+/// it, or how many entries the book has.
 #[derive(Clone, Copy, Debug, PartialEq, Eq)]
 pub enum What {
     At(u64),

@@ -12,9 +12,11 @@ use netlist::Net;
 use std::alloc::{AllocError, Global};
 use std::collections::BTreeMap;
 
-/// The nodes of a cone that are found so far, by their CNF variables, and those of them that are still to be visited.
+/// The nodes of a cone that are found so far, by their CNF variables, and those of them that are still
+/// to be visited.
 ///
-/// The map keeps them in the order of the miter, so the work is that of the cone, whatever the size of the net.
+/// The map keeps them in the order of the miter, so the work is that of the cone, whatever the size of
+/// the net.
 #[derive(Drop)]
 pub struct Walk {
     pub found: BTreeMap<u32, Node>,
@@ -102,7 +104,8 @@ impl Walk {
         requires legal { IsLegal net.now book.now }
         requires walk { IsWalk net.now self.old }
         requires there { IsSome (variable_of net.now node) }
-        ensures { OnOk result (Finds net.now self.old (next_of net.now (take seen book.now.entries) node) self.new) }
+        ensures { OnOk result
+            (Finds net.now self.old (next_of net.now (take seen book.now.entries) node) self.new) }
     {
         match book.merge_among(seen, node) {
             Some((_, target)) => self.find(net, target.node),

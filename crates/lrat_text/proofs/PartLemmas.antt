@@ -1,5 +1,5 @@
 -- The parts of a line between its zeros, and the steps that written numbers spell.
-use Rattle.std.proofs.Common.{◌≡◌, append-nil, ℕ, ◌^◌, Bool, true, false, ◌||◌, eqb, ltb, List, [], ◌∷◌, ◌++◌, Option, Some, None, Ok, map, decimal, refl, ap, ◌∙◌, ne_eqb, arith}
+use Rattle.std.proofs.Common.{◌≡◌, append-nil, ℕ, ◌^◌, Bool, true, false, eqb, ltb, List, [], ◌∷◌, ◌++◌, Option, Some, None, Ok, map, decimal, refl, ap, ◌∙◌, ne_eqb, arith}
 use Rattle.std.specs.Prelude.{if◌then◌else◌, option_map}
 use Rattle.std.specs.List.{list_any, list_all, AllByRecursion}
 use Rattle.std.proofs.lemmas.Bool.{lt-ltb}

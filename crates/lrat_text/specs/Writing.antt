@@ -1,5 +1,5 @@
 -- The one text by which each step is written.
-use Rattle.std.specs.Prelude.{◌≡◌, ℕ, ◌+◌, ◌<◌, ◌≤◌, ◌^◌, false, List, [], ◌∷◌, ◌++◌, map, length, decimal, Ok, ◌==◌}
+use Rattle.std.specs.Prelude.{◌≡◌, ℕ, ◌+◌, ◌<◌, ◌≤◌, false, List, [], ◌∷◌, ◌++◌, map, length, decimal, Ok, ◌==◌}
 use Rattle.std.specs.List.{flat_map, list_any, AllByRecursion}
 use Rattle.lrat_text.specs.declared.step.Line.{Line}
 use Rattle.lrat_text.specs.declared.step.LratStep.{LratStep}

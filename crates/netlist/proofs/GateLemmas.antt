@@ -2,12 +2,12 @@
 use Rattle.std.proofs.Common.{◌≡◌, ◌∙◌, ℕ, zero, suc, ◌+◌, ◌-◌, ◌<◌, ◌≤◌, Bool, true, false, ◌&&◌, ◌||◌, Option, None, Some, List, [], ◌∷◌, ◌++◌, length, map, take, get_or, find, refl, sym, ap, ap₂, subst, arith, add-one, inl, inr, if◌then◌else◌, not}
 use Rattle.std.specs.Prelude.{◌==◌, nat_lt, slice_get}
 use Rattle.std.specs.Option.{option_map, option_map_or, unwrap_or}
-use Rattle.std.specs.List.{list_any, range_with_len, AllByRecursion, slice_index_or}
+use Rattle.std.specs.List.{list_any, range_with_len}
 use Rattle.std.proofs.lemmas.Bool.{cases_lt, or_parts}
 use Rattle.std.proofs.lemmas.List.{get_or_append_left}
 use Rattle.std.proofs.lemmas.List.FromFn.{length-map-range_with_len, get_or-map-range_with_len}
 use Rattle.std.proofs.lemmas.Bool.Decides.{nat_tests}
-use Rattle.std.proofs.lemmas.List.{length-map, take_more}
+use Rattle.std.proofs.lemmas.List.{length-map}
 use Rattle.std.proofs.lemmas.List.Folds.{list_any-append}
 use Rattle.std.proofs.lemmas.Option.{none-some, same_Some, slice_get-map, slice_get_within, get_or_from_slice_get}
 use Rattle.lits.specs.Clause.{has}
@@ -17,7 +17,7 @@ use Rattle.lits.specs.declared.node.Side.TheVariants.{A, B}
 use Rattle.lits.specs.declared.node.Node.{Node}
 use Rattle.lits.specs.declared.node.Node.TheVariants.{Const, Input, Gate}
 use Rattle.lits.specs.declared.literal.Lit.{Lit}
-use Rattle.lits.proofs.Facts.{exact-node, take_next, all-slice_get}
+use Rattle.lits.proofs.Facts.{exact-node, all-slice_get}
 use Rattle.netlist.specs.declared.gate.And.{And}
 use Rattle.netlist.specs.declared.gate.Definition.{Definition}
 use Rattle.netlist.specs.declared.gate.Fanins.{Fanins}

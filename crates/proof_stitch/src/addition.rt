@@ -9,8 +9,8 @@ use lrat_text::LratStep;
 use netlist::Net;
 use std::alloc::{AllocError, Global};
 
-/// The addition of a step under that id. `first` is the id of the first step of its list, and `shown` has by entry of the
-/// book the id of the first of the clauses that the entry shows.
+/// The addition of a step under that id. `first` is the id of the first step of its list, and `shown`
+/// has by entry of the book the id of the first of the clauses that the entry shows.
 pub fn addition(
     alloc: Global,
     net: &Net,

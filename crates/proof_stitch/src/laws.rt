@@ -1,5 +1,5 @@
-//! What the proofs of legal books show, whether they are written or not; each law the contract of a function that does
-//! nothing when it runs.
+//! What the proofs of legal books show, whether they are written or not; each law the contract of a
+//! function that does nothing when it runs.
 ghost use Rattle.std.specs.Prelude.{◌≡◌, ◌<◌, ℕ, length, true};
 ghost use Rattle.lemma_book.specs.Book.{IsLegal};
 ghost use Rattle.proof_stitch.specs.Stitch.{has_out, refutation_of, IsRefutation};

@@ -62,8 +62,10 @@ fn push_log(
     requires room { proof.old.last + length (spent_log book.now.entries output) + 1 < 2 ^ 64 }
     ensures text { OnOk result (proof.new.text.items ≡ proof.old.text.items
         ++ text_from proof.old.last
-        (additions_from net.now shown.now (proof.old.last + 1) (proof.old.last + 1) (spent_log book.now.entries output))) }
-    ensures last { OnOk result (proof.new.last ≡ proof.old.last + length (spent_log book.now.entries output)) }
+        (additions_from net.now shown.now (proof.old.last + 1) (proof.old.last + 1)
+            (spent_log book.now.entries output))) }
+    ensures last { OnOk result
+        (proof.new.last ≡ proof.old.last + length (spent_log book.now.entries output)) }
     ensures spans { OnOk result (spans.new.items
         ≡ spans.old.items ++ span_of book.now.entries (proof.old.last + 1) output) }
 {

@@ -34,7 +34,8 @@ impl ProofText {
     /// Adds a clause under the next id.
     pub fn push(&mut self, addition: &LratStep) -> Result<(), AllocError>
         requires { self.old.last + 1 < 2 ^ 64 }
-        ensures text { OnOk result (self.new.text.items ≡ self.old.text.items ++ line_text self.old.last addition.now) }
+        ensures text { OnOk result
+            (self.new.text.items ≡ self.old.text.items ++ line_text self.old.last addition.now) }
         ensures last { OnOk result (self.new.last ≡ self.old.last + 1) }
     {
         push_line(&mut self.text, self.last, addition)?;
@@ -55,8 +56,8 @@ impl ProofText {
         Ok(())
     }
 
-    /// Adds the clauses of a list of steps. `shown` has by entry of the book the id of the first of the clauses that the
-    /// entry shows.
+    /// Adds the clauses of a list of steps. `shown` has by entry of the book the id of the first of the
+    /// clauses that the entry shows.
     pub fn push_steps(
         &mut self,
         alloc: Global,
@@ -67,7 +68,8 @@ impl ProofText {
         requires ids { All (HasIds net.now shown.now (self.old.last + 1)) steps.now }
         requires room { self.old.last + length steps.now + 1 < 2 ^ 64 }
         ensures text { OnOk result (self.new.text.items ≡ self.old.text.items
-            ++ text_from self.old.last (additions_from net.now shown.now (self.old.last + 1) (self.old.last + 1) steps.now)) }
+            ++ text_from self.old.last
+                (additions_from net.now shown.now (self.old.last + 1) (self.old.last + 1) steps.now)) }
         ensures last { OnOk result (self.new.last ≡ self.old.last + length steps.now) }
     {
         let first = self.last + 1;

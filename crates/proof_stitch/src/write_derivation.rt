@@ -14,8 +14,9 @@ use lemma_book::Book;
 use netlist::Net;
 use std::alloc::{AllocError, Global};
 
-/// Writes to the started file what the book derives from the miter: the steps of its Merge and Out entries in order,
-/// and then the logs of its OutSpent entries in order of outputs. It gives the ids of the logs, output by output.
+/// Writes to the started file what the book derives from the miter: the steps of its Merge and Out
+/// entries in order, and then the logs of its OutSpent entries in order of outputs. It gives the ids of
+/// the logs, output by output.
 pub fn derivation<D: Desk>(
     alloc: Global,
     net: &Net,
@@ -24,7 +25,8 @@ pub fn derivation<D: Desk>(
 ) -> Result<Vec<Span>, StitchErr>
     requires started { IsSome (D.state desk.old).started }
     requires legal { IsLegal net.now book.now }
-    ensures writes { Stitches (proof_text net.now (derivation_of net.now book.now.entries)) (D.state desk.old) (D.state desk.new) result }
+    ensures writes { Stitches (proof_text net.now (derivation_of net.now book.now.entries))
+        (D.state desk.old) (D.state desk.new) result }
     ensures derives { IsDerivation net.now (derivation_of net.now book.now.entries) }
     ensures spans { IfOk result (λ spans. AreSpans net.now book.now.entries spans.items) }
     ensures numbers { IfOk result (λ spans. spans.items ≡ spans_of net.now book.now.entries) }
@@ -45,7 +47,8 @@ fn whole_derivation(
     book: &Book,
 ) -> Result<(ProofText, Vec<Span>), AllocError>
     requires { IsLegal net.now book.now }
-    ensures text { IfOk result (λ p. p.0.text.items ≡ proof_text net.now (derivation_of net.now book.now.entries)) }
+    ensures text { IfOk result
+        (λ p. p.0.text.items ≡ proof_text net.now (derivation_of net.now book.now.entries)) }
     ensures spans { IfOk result (λ p. p.1.items ≡ spans_of net.now book.now.entries) }
     ensures whole { IfOk result (λ p. All (λ s. s.last + 1 ≡ s.first + book.now.out_budget) p.1.items) }
 {

@@ -16,8 +16,9 @@ use lrat_text::LratStep;
 use netlist::Net;
 use std::alloc::{AllocError, Global};
 
-/// Writes to the started file that the miter has no solution: the steps of the book's Merge and Out entries in order,
-/// and then the empty clause, shown by the outputs' units. It gives the number of added lines.
+/// Writes to the started file that the miter has no solution: the steps of the book's Merge and Out
+/// entries in order, and then the empty clause, shown by the outputs' units. It gives the number of
+/// added lines.
 pub fn refutation<D: Desk>(
     alloc: Global,
     net: &Net,
@@ -27,7 +28,8 @@ pub fn refutation<D: Desk>(
     requires started { IsSome (D.state desk.old).started }
     requires legal { IsLegal net.now book.now }
     requires outs { (j : ℕ) → j < length net.now.a.outputs → has_out book.now.entries j ≡ true }
-    ensures writes { Stitches (proof_text net.now (refutation_of net.now book.now.entries)) (D.state desk.old) (D.state desk.new) result }
+    ensures writes { Stitches (proof_text net.now (refutation_of net.now book.now.entries))
+        (D.state desk.old) (D.state desk.new) result }
     ensures refutes { IsRefutation net.now (refutation_of net.now book.now.entries) }
     ensures count { IfOk result (λ n. n ≡ length (refutation_of net.now book.now.entries)) }
 {
@@ -41,8 +43,10 @@ pub fn refutation<D: Desk>(
 /// The text of the whole proof.
 fn whole_proof(alloc: Global, net: &Net, book: &Book) -> Result<ProofText, AllocError>
     requires { IsLegal net.now book.now }
-    ensures text { IfOk result (λ p. p.text.items ≡ proof_text net.now (refutation_of net.now book.now.entries)) }
-    ensures last { IfOk result (λ p. p.last ≡ length (miter_of net.now) + length (refutation_of net.now book.now.entries)) }
+    ensures text { IfOk result
+        (λ p. p.text.items ≡ proof_text net.now (refutation_of net.now book.now.entries)) }
+    ensures last { IfOk result
+        (λ p. p.last ≡ length (miter_of net.now) + length (refutation_of net.now book.now.entries)) }
 {
     let clauses = u64::from(net.clauses());
     let mut proof = ProofText::new(alloc, clauses);

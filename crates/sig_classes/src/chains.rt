@@ -6,8 +6,8 @@ use std::alloc::{AllocError, Global};
 use std::marker::Model;
 use word_sim::Sigs;
 
-/// The first members of classes, found by a hash of their rows in chains: as in any hash table, but nothing is stored of
-/// a row, which is at hand by its position.
+/// The first members of classes, found by a hash of their rows in chains: as in any hash table, but
+/// nothing is stored of a row, which is at hand by its position.
 #[derive(Drop)]
 pub struct Firsts {
     heads: Vec<u32>,
@@ -41,7 +41,8 @@ impl Firsts {
     pub fn find(&self, sigs: &Sigs, position: u32) -> Option<u32>
         requires rows { length sigs.now.rows ≡ length self.now.behind }
         requires position { position < length sigs.now.rows }
-        ensures found { (member : ℕ → Bool) → HasMembers sigs.now member self.now → IsFound sigs.now member position result }
+        ensures found { (member : ℕ → Bool) → HasMembers sigs.now member self.now
+            → IsFound sigs.now member position result }
         ensures inside { IfSome result (λ q. q < length sigs.now.rows) }
     {
         let row = sigs.row(position);
@@ -63,7 +64,8 @@ impl Firsts {
         requires order { AreBefore position self.old }
         ensures size { length self.new.behind ≡ length self.old.behind }
         ensures order { AreBefore (position + 1) self.new }
-        ensures members { (member : ℕ → Bool) → ((q : ℕ) → member q ≡ true → q < position) → HasMembers sigs.now member self.old
+        ensures members { (member : ℕ → Bool) → ((q : ℕ) → member q ≡ true → q < position)
+            → HasMembers sigs.now member self.old
             → HasMembers sigs.now (with_member position member) self.new }
     {
         let bucket = bucket(sigs.row(position), sigs.patterns(), self.heads.len() as u32);

@@ -13,11 +13,11 @@ use netlist::Net;
 use std::alloc::{AllocError, Global};
 use word_sim::Sigs;
 
-/// The pairs that are to be asked for, in the order of positions: each gate that isn't merged, with its leader, but not a
-/// gate that leads itself, nor one whose query with its leader spent its budget.
+/// The pairs that are to be asked for, in the order of positions: each gate that isn't merged, with its
+/// leader, but not a gate that leads itself, nor one whose query with its leader spent its budget.
 ///
-/// One pass over the rows: each is compared with the first member of its class, found by a hash of the row up to
-/// complement, and nothing of a row is copied.
+/// One pass over the rows: each is compared with the first member of its class, found by a hash of the
+/// row up to complement, and nothing of a row is copied.
 pub fn tasks(alloc: Global, net: &Net, sigs: &Sigs, book: &Book) -> Result<Vec<Task>, AllocError>
     requires sigs { length sigs.now.rows ≡ length (nodes_of net.now) }
     ensures { IfOk result (λ v. (patterns : List (List Bool)) → AreSignatures net.now patterns sigs.now
@@ -44,8 +44,10 @@ fn enter(net: &Net, sigs: &Sigs, book: &Book, firsts: &mut Firsts, position: u32
     ensures order { AreBefore (position + 1) firsts.new }
     ensures members { HasFirsts net.now book.now.entries sigs.now position firsts.old
         → HasFirsts net.now book.now.entries sigs.now (position + 1) firsts.new }
-    ensures task { HasFirsts net.now book.now.entries sigs.now position firsts.old → (patterns : List (List Bool))
-        → AreSignatures net.now patterns sigs.now → IsNextTask net.now book.now.entries patterns position result }
+    ensures task { HasFirsts net.now book.now.entries sigs.now position firsts.old
+        → (patterns : List (List Bool))
+        → AreSignatures net.now patterns sigs.now
+            → IsNextTask net.now book.now.entries patterns position result }
 {
     netlist::laws::is_net(net);
     if book.is_merged(net.node(position)) {
@@ -60,7 +62,8 @@ fn enter(net: &Net, sigs: &Sigs, book: &Book, firsts: &mut Firsts, position: u32
     }
 }
 
-/// The task of a node and its leader, by their positions; none where the node is no gate or the query spent its budget.
+/// The task of a node and its leader, by their positions; none where the node is no gate or the query
+/// spent its budget.
 fn open_task(net: &Net, sigs: &Sigs, book: &Book, leader: u32, position: u32) -> Option<Task>
     requires sigs { length sigs.now.rows ≡ length (nodes_of net.now) }
     requires leader { leader < length (nodes_of net.now) }

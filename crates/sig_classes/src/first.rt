@@ -15,8 +15,8 @@ use lits::{Lit, Node};
 use netlist::Net;
 use word_sim::Sigs;
 
-/// The leader of a node: of the nodes that aren't merged, the first in the order of positions that equals it, or whose
-/// complement does, on each pattern. It looks through all nodes before that one.
+/// The leader of a node: of the nodes that aren't merged, the first in the order of positions that
+/// equals it, or whose complement does, on each pattern. It looks through all nodes before that one.
 pub fn leader(net: &Net, sigs: &Sigs, book: &Book, node: Node) -> Lit
     requires legal { IsLegal net.now book.now }
     requires node { IsSome (position_of net.now node) }

@@ -12,8 +12,9 @@ pub fn reduced_without_tasks()
         → AreTasks net entries patterns [] → IsReduced net entries patterns }
 {}
 
-/// A book that is reduced over patterns, each with a truth value per input, is swept: each gate that isn't merged had a
-/// query that spent its budget, or equals no earlier root, nor the complement of one, on every input.
+/// A book that is reduced over patterns, each with a truth value per input, is swept: each gate that
+/// isn't merged had a query that spent its budget, or equals no earlier root, nor the complement of
+/// one, on every input.
 pub fn reduced_is_swept()
     ensures { (net : AigPair) (entries : List Entry) (patterns : List (List Bool)) → IsNet net
         → AllByRecursion (λ bits. length bits ≡ length net.a.inputs) patterns

@@ -43,7 +43,8 @@ pub(crate) fn next_assumption(trail: &Trail, target: &Clause<Lit>) -> Assumption
     Assumption::All
 }
 
-/// A literal to decide: that of the variable that conflicts met most of late, false. None where all variables are taken.
+/// A literal to decide: that of the variable that conflicts met most of late, false. None where all
+/// variables are taken.
 pub(crate) fn choose(trail: &Trail, order: &mut Order) -> Option<u32>
     ensures some { IfSome result (IsOpenCode trail.now) }
     ensures none { IfNone result (AreTaken trail.now) }
@@ -82,8 +83,8 @@ fn free_code(trail: &Trail, variable: u32) -> Option<u32>
     }
 }
 
-/// The negation of the first free variable. It is looked for only where the order has none left, so that nothing rests on
-/// the order.
+/// The negation of the first free variable. It is looked for only where the order has none left, so
+/// that nothing rests on the order.
 fn first_free(trail: &Trail) -> Option<u32>
     ensures some { IfSome result (IsOpenCode trail.now) }
     ensures none { IfNone result (AreTaken trail.now) }

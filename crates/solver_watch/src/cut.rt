@@ -13,8 +13,8 @@ use watch_lists::{Put, Trail, flip};
 
 /// What the analysis of a conflict has met: the places of the literals that the conflict comes from.
 ///
-/// It is the implication graph's cut of Marques-Silva and Sakallah (1996), walked backwards along the trail by marks, so
-/// that each place and each reason is looked at once.
+/// It is the implication graph's cut of Marques-Silva and Sakallah (1996), walked backwards along the
+/// trail by marks, so that each place and each reason is looked at once.
 #[derive(Drop)]
 pub(crate) struct Cut {
     pub(crate) marks: Marks,
@@ -101,8 +101,8 @@ impl Cut {
         Ok(())
     }
 
-    /// Goes back from a conflict to the first unique implication point: the last place of the last level through which all
-    /// of the conflict comes (Moskewicz, Madigan, Zhao, Zhang and Malik 2001).
+    /// Goes back from a conflict to the first unique implication point: the last place of the last
+    /// level through which all of the conflict comes (Moskewicz, Madigan, Zhao, Zhang and Malik 2001).
     pub(crate) fn first_point(
         &mut self,
         trail: &Trail,
@@ -113,7 +113,8 @@ impl Cut {
         requires conflict { IsConflict trail.now.puts (clause_at trail.now.clauses conflict) }
         requires level { 1 ≤ trail.now.last }
         ensures cut { IfOk result (λ point. IsCut trail.now point self.new) }
-        ensures met { OnOk result (AreMet trail.now.puts self.new.marks (clause_at trail.now.clauses conflict)) }
+        ensures met { OnOk result
+            (AreMet trail.now.puts self.new.marks (clause_at trail.now.clauses conflict)) }
     {
         let count = trail.lits().len();
         self.clear(count)?;
@@ -184,7 +185,9 @@ impl Cut {
     fn is_behind(&self, trail: &Trail, target: &Clause<Lit>, place: usize) -> bool
         requires place { place < length trail.now.puts }
         requires room { length trail.now.puts ≤ length self.now.marks }
-        ensures { result ≡ (is_marked self.now.marks place && not (has same_lit target.now (opposite (put_at trail.now.puts place).lit))) }
+        ensures { result
+            ≡ (is_marked self.now.marks place
+                && not (has same_lit target.now (opposite (put_at trail.now.puts place).lit))) }
     {
         self.marks.has(place) && !target.has(trail.lits()[place].lit.not())
     }

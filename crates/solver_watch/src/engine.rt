@@ -65,7 +65,8 @@ impl Engine {
     pub(crate) fn start(&mut self, base: &[Named]) -> Result<(), AllocError>
         requires { IsBase base.now }
         ensures known { OnOk result (IsKnown self.new.formula) }
-        ensures clauses { OnOk result (clauses_known self.new.formula ≡ record { base = base.now; log = [] }) }
+        ensures clauses { OnOk result
+            (clauses_known self.new.formula ≡ record { base = base.now; log = [] }) }
     {
         self.formula.start(base)?;
         self.order.clear();
@@ -105,7 +106,8 @@ impl Engine {
         requires { IsKnown self.old.formula }
         ensures known { OnOk result (IsKnown self.new.formula) }
         ensures clauses { OnOk result (clauses_known self.new.formula ≡ clauses_known self.old.formula) }
-        ensures assuming { OnOk result ((target : List Lit) → IsAssuming target self.old.formula.trail self.old.assumed
+        ensures assuming { OnOk result
+            ((target : List Lit) → IsAssuming target self.old.formula.trail self.old.assumed
             → IsAssuming target self.new.formula.trail self.new.assumed) }
     {
         if self.restarts.count() {
@@ -125,12 +127,13 @@ impl Engine {
         Ok(())
     }
 
-    /// Searches until there is an answer or one more step in the log. A restart comes between two searches alone, so that
-    /// each of them ends.
+    /// Searches until there is an answer or one more step in the log. A restart comes between two
+    /// searches alone, so that each of them ends.
     fn search(&mut self, alloc: Global, target: &Clause<Lit>) -> Result<Found, AllocError>
         requires state { IsState self.old target.now }
         ensures state { OnOk result (IsState self.new target.now) }
-        ensures found { IfOk result (IsFound (clauses_known self.old.formula) target.now (clauses_known self.new.formula)) }
+        ensures found { IfOk result
+            (IsFound (clauses_known self.old.formula) target.now (clauses_known self.new.formula)) }
     {
         loop {
             match self.round(alloc, target)? {
@@ -144,7 +147,9 @@ impl Engine {
     fn round(&mut self, alloc: Global, target: &Clause<Lit>) -> Result<Option<Found>, AllocError>
         requires state { IsState self.old target.now }
         ensures state { OnOk result (IsState self.new target.now) }
-        ensures found { IfOk result (λ r. IfSome r (IsFound (clauses_known self.old.formula) target.now (clauses_known self.new.formula))) }
+        ensures found { IfOk result
+            (λ r. IfSome r (IsFound (clauses_known self.old.formula) target.now
+                (clauses_known self.new.formula))) }
         ensures none { IfOk result (λ r. IfNone r (Advances self.old self.new)) }
     {
         match self.formula.trail.propagate()? {
@@ -162,9 +167,11 @@ impl Engine {
     ) -> Result<Found, AllocError>
         requires state { IsState self.old target.now }
         requires number { conflict < length self.old.formula.trail.clauses }
-        requires conflict { IsConflict self.old.formula.trail.puts (clause_at self.old.formula.trail.clauses conflict) }
+        requires conflict { IsConflict self.old.formula.trail.puts
+            (clause_at self.old.formula.trail.clauses conflict) }
         ensures state { OnOk result (IsState self.new target.now) }
-        ensures found { IfOk result (IsFound (clauses_known self.old.formula) target.now (clauses_known self.new.formula)) }
+        ensures found { IfOk result
+            (IsFound (clauses_known self.old.formula) target.now (clauses_known self.new.formula)) }
     {
         if self.formula.trail.level() == self.assumed {
             return Ok(Found::Yes(self.refutation(alloc, target, conflict)?));
@@ -177,7 +184,8 @@ impl Engine {
     fn learn(&mut self, alloc: Global, conflict: u64) -> Result<(), AllocError>
         requires known { IsKnown self.old.formula }
         requires number { conflict < length self.old.formula.trail.clauses }
-        requires conflict { IsConflict self.old.formula.trail.puts (clause_at self.old.formula.trail.clauses conflict) }
+        requires conflict { IsConflict self.old.formula.trail.puts
+            (clause_at self.old.formula.trail.clauses conflict) }
         requires level { self.old.assumed < self.old.formula.trail.last }
         ensures { OnOk result (IsLearnt self.old self.new) }
     {
@@ -204,7 +212,8 @@ impl Engine {
     ) -> Result<Listed<Ref>, AllocError>
         requires known { IsKnown self.old.formula }
         requires refuted { IsRefuted self.old.formula.trail target.now conflict }
-        ensures step { IfOk result (IsStep same_lit opposite (clause_named (clauses_known self.old.formula)) target.now) }
+        ensures step { IfOk result
+            (IsStep same_lit opposite (clause_named (clauses_known self.old.formula)) target.now) }
         ensures same { (self.new.formula ≡ self.old.formula) × (self.new.assumed ≡ self.old.assumed) }
     {
         self.cut
@@ -225,7 +234,9 @@ impl Engine {
         requires state { IsState self.old target.now }
         requires complete { IsComplete self.old.formula.trail.clauses self.old.formula.trail.puts }
         ensures state { OnOk result (IsState self.new target.now) }
-        ensures found { IfOk result (λ r. IfSome r (IsFound (clauses_known self.old.formula) target.now (clauses_known self.new.formula))) }
+        ensures found { IfOk result
+            (λ r. IfSome r (IsFound (clauses_known self.old.formula) target.now
+                (clauses_known self.new.formula))) }
         ensures none { IfOk result (λ r. IfNone r (Advances self.old self.new)) }
     {
         if level(&self.formula.trail) == self.assumed {
@@ -255,9 +266,12 @@ impl Engine {
         requires code { IsOpenCode self.old.formula.trail code }
         requires complete { IsComplete self.old.formula.trail.clauses self.old.formula.trail.puts }
         ensures clauses { OnOk result (clauses_known self.new.formula ≡ clauses_known self.old.formula) }
-        ensures trail { OnOk result (Decides self.old.formula.trail (lit_at self.old.formula.trail.nodes code) self.new.formula.trail) }
+        ensures trail { OnOk result
+            (Decides self.old.formula.trail (lit_at self.old.formula.trail.nodes code)
+                self.new.formula.trail) }
         ensures nodes { OnOk result (self.new.formula.trail.nodes ≡ self.old.formula.trail.nodes) }
-        ensures room { OnOk result (length self.new.formula.trail.puts ≤ 2 * length self.new.formula.trail.nodes) }
+        ensures room { OnOk result
+            (length self.new.formula.trail.puts ≤ 2 * length self.new.formula.trail.nodes) }
         ensures assumed { self.new.assumed ≡ self.old.assumed }
     {
         self.formula.trail.decide_code(code)?;

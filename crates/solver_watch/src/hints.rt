@@ -12,11 +12,11 @@ use crate::marks::Marks;
 use lits::{Listed, Lit, Literal, Ref};
 use std::alloc::{AllocError, Global};
 
-/// The hints by which a goal is a step: the reasons of the marked places, in the order in which they propagated, and then
-/// the conflict.
+/// The hints by which a goal is a step: the reasons of the marked places, in the order in which they
+/// propagated, and then the conflict.
 ///
-/// A place of which the goal has the negation needs no reason, and one of which it has the literal is a conflict itself.
-/// `shown` tells both, so that the goal need not be looked through.
+/// A place of which the goal has the negation needs no reason, and one of which it has the literal is a
+/// conflict itself. `shown` tells both, so that the goal need not be looked through.
 pub(crate) fn hints(
     alloc: Global,
     formula: &Formula,

@@ -3,7 +3,8 @@ ghost use Rattle.std.specs.Prelude.{◌≡◌, ◌<◌, ◌≤◌, ℕ, [], true
 use std::alloc::{AllocError, Global};
 use std::marker::Model;
 
-/// Marks of places, which are taken away without a pass over them: a place is marked where its stamp is the latest one.
+/// Marks of places, which are taken away without a pass over them: a place is marked where its stamp is
+/// the latest one.
 #[derive(Drop)]
 pub(crate) struct Marks {
     stamps: Vec<u32>,

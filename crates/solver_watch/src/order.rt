@@ -9,12 +9,12 @@ const LARGE: f64 = 1e100;
 /// The place of a variable that isn't in the heap.
 const ABSENT: usize = usize::MAX;
 
-/// Hands out variables, those first that conflicts met most of late (Moskewicz, Madigan, Zhao, Zhang and Malik 2001; the
-/// growing step is that of MiniSat, Eén and Sörensson 2003).
+/// Hands out variables, those first that conflicts met most of late (Moskewicz, Madigan, Zhao, Zhang
+/// and Malik 2001; the growing step is that of MiniSat, Eén and Sörensson 2003).
 ///
-/// Nothing rests on it but speed: who asks for a variable looks whether it is free, and where the order has none left
-/// looks for one himself. Variables that were put stay in the heap until they come to its top, so that only those that
-/// came out have to come back.
+/// Nothing rests on it but speed: who asks for a variable looks whether it is free, and where the order
+/// has none left looks for one himself. Variables that were put stay in the heap until they come to its
+/// top, so that only those that came out have to come back.
 #[derive(Drop)]
 pub(crate) struct Order {
     activity: Vec<f64>,

@@ -1,8 +1,8 @@
 /// The clauses that are learned before the first restart, and the unit of the later ones.
 const UNIT: u64 = 16;
 
-/// When to restart: after a multiple of a unit of learned clauses, by Luby's sequence 1 1 2 1 1 2 4 .. (Luby, Sinclair and
-/// Zuckerman 1993), computed by Knuth's reluctant doubling.
+/// When to restart: after a multiple of a unit of learned clauses, by Luby's sequence 1 1 2 1 1 2 4 ..
+/// (Luby, Sinclair and Zuckerman 1993), computed by Knuth's reluctant doubling.
 #[derive(Drop)]
 pub(crate) struct Restarts {
     turn: u64,

@@ -6,8 +6,8 @@ use std::alloc::{AllocError, Global};
 use std::marker::Model;
 use unit_prop::{Refuted, Refuter};
 
-/// The learning solver: it decides by activity, propagates by watched literals, and learns from each conflict the clause of its
-/// first unique implication point.
+/// The learning solver: it decides by activity, propagates by watched literals, and learns from each
+/// conflict the clause of its first unique implication point.
 #[derive(Drop)]
 pub struct WatchSolver {
     engine: Engine,
@@ -21,7 +21,11 @@ impl Model for WatchSolver {
 
     ghost Value = { Solver };
 
-    ghost view = { λ s. record { base = s.engine.formula.base.items; log = s.engine.formula.log.items; ready = s.ready } };
+    ghost view = { λ s. record {
+      base = s.engine.formula.base.items;
+      log = s.engine.formula.log.items;
+      ready = s.ready;
+    } };
 
     ghost invariant = { λ s. s.ready ≡ true → IsKnown s.engine.formula };
 }

@@ -3,8 +3,8 @@ ghost use Rattle.strash_pass.specs.Strash.{folded};
 
 use lits::{Lit, Literal, Node};
 
-/// The literal that the AND of two literals comes to by itself, if it does (constant propagation and the rules of
-/// idempotence and contradiction).
+/// The literal that the AND of two literals comes to by itself, if it does (constant propagation and
+/// the rules of idempotence and contradiction).
 pub fn folded(a: Lit, b: Lit) -> Option<Lit>
     ensures { result ≡ folded a b }
 {

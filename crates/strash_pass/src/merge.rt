@@ -20,8 +20,8 @@ use unit_prop::scan;
 
 /// Merges a node to a literal of an earlier one, by two steps over the clauses of the nodes on the way alone.
 ///
-/// Over the whole cone of the node, hints would run down to the inputs, and the proof of a circuit against itself would
-/// grow with the square of its depth.
+/// Over the whole cone of the node, hints would run down to the inputs, and the proof of a circuit
+/// against itself would grow with the square of its depth.
 pub fn merge(
     alloc: Global,
     net: &Net,
@@ -66,7 +66,8 @@ fn step(alloc: Global, base: &[Named], lits: &[Lit]) -> Result<Step, AllocError>
     requires named { IsNamed base.now }
     requires clause { IsClause same_lit opposite lits.now }
     requires shown { ¬ IsOpen same_lit opposite (base_clauses base.now) (map opposite lits.now) }
-    ensures { IfOk result (λ s. (s.clause ≡ lits.now) × IsStep same_lit opposite (base_clause base.now) s.clause s.hints) }
+    ensures { IfOk result
+        (λ s. (s.clause ≡ lits.now) × IsStep same_lit opposite (base_clause base.now) s.clause s.hints) }
 {
     let clause = Clause::from_slice(alloc, lits)?;
     match scan(alloc, base, &clause)? {

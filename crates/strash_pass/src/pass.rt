@@ -11,9 +11,11 @@ use lits::{Node, Side};
 use netlist::{Net, laws};
 use std::alloc::{AllocError, Global};
 
-/// Merges each gate that the structure alone shows to be equal to an earlier node, and tells how many it merged.
+/// Merges each gate that the structure alone shows to be equal to an earlier node, and tells how many
+/// it merged.
 ///
-/// Afterwards no unmerged gate folds or has an earlier unmerged twin. Where memory is refused the merges so far stand.
+/// Afterwards no unmerged gate folds or has an earlier unmerged twin. Where memory is refused the
+/// merges so far stand.
 pub fn run(alloc: Global, net: &Net, book: &mut Book) -> Result<u64, AllocError>
     requires { IsLegal net.now book.old }
     ensures legal { IsLegal net.now book.new }
@@ -47,7 +49,8 @@ fn visit_side(
     ensures legal { IsLegal net.now book.new }
     ensures grows { AddsMerges book.old book.new }
     ensures pass { OnOk result (IsPass net.now book.new.entries pass.new pass.new.visited) }
-    ensures visited { OnOk result (pass.new.visited ≡ gates_before net.now side + length (circuit_of net.now side).gates) }
+    ensures visited { OnOk result
+        (pass.new.visited ≡ gates_before net.now side + length (circuit_of net.now side).gates) }
 {
     for gate in net.circuit(side).gates() {
         match net.definition(Node::Gate(side, gate.var)) {

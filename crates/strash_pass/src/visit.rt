@@ -24,8 +24,8 @@ impl Pass {
     ghost use Rattle.indexmap.specs.IndexMap.{get};
     ghost use Rattle.strash_pass.specs.Pass.{IsPass, pair_of, same_pair};
 
-    /// Visits the next gate: it is merged where its fanins' roots decide it or an earlier gate has the same, and is
-    /// noted where not.
+    /// Visits the next gate: it is merged where its fanins' roots decide it or an earlier gate has the
+    /// same, and is noted where not.
     pub fn visit(
         &mut self,
         alloc: Global,
@@ -95,7 +95,8 @@ impl Pass {
     /// The gate that was noted with these roots, in either order.
     fn twin(&self, left: Lit, right: Lit) -> Option<Definition>
         ensures { result ≡ option_or
-            (get same_pair self.now.gates (pair_of left right)) (get same_pair self.now.gates (pair_of right left)) }
+            (get same_pair self.now.gates (pair_of left right))
+            (get same_pair self.now.gates (pair_of right left)) }
     {
         match self.gates.get(&Pair { left, right }) {
             Some(gate) => Some(*gate),

@@ -13,7 +13,8 @@ use lits::{Lit, Node};
 use netlist::{Definition, Net};
 use std::alloc::{AllocError, Global};
 
-/// Merges a gate to what its fanins' roots come to. The way has the gate and the merged nodes that its fanins passed.
+/// Merges a gate to what its fanins' roots come to. The way has the gate and the merged nodes that its
+/// fanins passed.
 pub fn merge_folded(
     alloc: Global,
     net: &Net,
@@ -52,7 +53,8 @@ fn with_constant(way: Vec<Lit>, left: Lit, right: Lit, target: Lit) -> Result<Ve
     Ok(way)
 }
 
-/// Merges a gate to an earlier one over the same roots. The way has the gate and the merged nodes that its fanins passed.
+/// Merges a gate to an earlier one over the same roots. The way has the gate and the merged nodes that
+/// its fanins passed.
 pub fn merge_twin(
     alloc: Global,
     net: &Net,

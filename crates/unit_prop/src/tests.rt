@@ -75,52 +75,60 @@ impl Clauses<usize, Dim> for Hints<'_> {
     }
 }
 
-#[test]
-fn step_check(rt: HostRuntime) -> Result<(), Fail> {
-    let alloc = rt.alloc();
+/// A step's clause, the clauses that its hints name, the hints, and the fault that is to be told.
+type Judged<'a> = (
+    &'a [i32],
+    &'a [&'a [i32]],
+    &'a [usize],
+    Option<(u64, Why)>,
+);
+
+fn judge(rt: &impl Abort, alloc: Global, cases: &[Judged]) -> Result<(), Fail> {
     let mut check = StepCheck::new(alloc);
-    let cases: [(&[i32], &[&[i32]], &[usize], Option<(u64, Why)>); 11] = [
-        (&[], &[&[]], &[0], None),
-        (&[1], &[], &[], Some((0, Why::NotFalse))),
-        // Two gates that compute the same: the first step of their proof, and the same without its last hint.
-        (
-            &[-5, 4],
-            &[&[-5, 3], &[4, -2, -3], &[-5, 2]],
-            &[0, 1, 2],
-            None,
-        ),
-        (
-            &[-5, 4],
-            &[&[-5, 3], &[4, -2, -3]],
-            &[0, 1],
-            Some((0, Why::NotFalse)),
-        ),
-        (
-            &[-5, 4, 4],
-            &[&[-5, 3], &[4, -2, -3], &[-5, 2]],
-            &[0, 1, 2],
-            None,
-        ),
-        (&[1, -1], &[&[]], &[0], Some((0, Why::Tautology))),
-        (&[1], &[&[2], &[2, 3]], &[0, 1], Some((2, Why::Satisfied))),
-        (&[1], &[&[2, 3]], &[0], Some((1, Why::TwoFree))),
-        (&[1], &[&[1], &[2]], &[0, 1], Some((2, Why::AfterFalse))),
-        (
-            &[1],
-            &[&[2, 1], &[-2, 3]],
-            &[0, 1],
-            Some((0, Why::NotFalse)),
-        ),
-        (&[1], &[&[2, 1]], &[0, 1], Some((2, Why::NoClause))),
-    ];
     for (clause, clauses_named, names, want) in cases {
-        let clause = dims(&rt, alloc, clause)?;
-        let hints = clauses(&rt, alloc, clauses_named)?;
+        let clause = dims(rt, alloc, clause)?;
+        let hints = clauses(rt, alloc, clauses_named)?;
         let fault = check.fault_of(&Hints(hints.as_slice()), clause.as_slice(), names)?;
         let want = want.map(|(hint, why)| BadStep { hint, why });
         assert_eq!(rt; fault, want);
     }
     Ok(())
+}
+
+/// Two gates that compute the same: the first step of their proof, the same without its last hint, and with a literal
+/// twice.
+#[test]
+fn step_check(rt: HostRuntime) -> Result<(), Fail> {
+    let twin: &[&[i32]] = &[&[-5, 3], &[4, -2, -3], &[-5, 2]];
+    let cut: &[&[i32]] = &[&[-5, 3], &[4, -2, -3]];
+    judge(
+        &rt,
+        rt.alloc(),
+        &[
+            (&[], &[&[]], &[0], None),
+            (&[-5, 4], twin, &[0, 1, 2], None),
+            (&[-5, 4], cut, &[0, 1], Some((0, Why::NotFalse))),
+            (&[-5, 4, 4], twin, &[0, 1, 2], None),
+        ],
+    )
+}
+
+#[test]
+fn faults_of_steps(rt: HostRuntime) -> Result<(), Fail> {
+    let not_false = Some((0, Why::NotFalse));
+    judge(
+        &rt,
+        rt.alloc(),
+        &[
+            (&[1], &[], &[], not_false),
+            (&[1, -1], &[&[]], &[0], Some((0, Why::Tautology))),
+            (&[1], &[&[2], &[2, 3]], &[0, 1], Some((2, Why::Satisfied))),
+            (&[1], &[&[2, 3]], &[0], Some((1, Why::TwoFree))),
+            (&[1], &[&[1], &[2]], &[0, 1], Some((2, Why::AfterFalse))),
+            (&[1], &[&[2, 1], &[-2, 3]], &[0, 1], not_false),
+            (&[1], &[&[2, 1]], &[0, 1], Some((2, Why::NoClause))),
+        ],
+    )
 }
 
 #[test]

@@ -9,7 +9,7 @@ use Rattle.std.proofs.lemmas.Map.Keys.{IsDistinct-push}
 use Rattle.std.proofs.lemmas.Map.Steps.{length-le_from_distinct_below}
 use Rattle.std.proofs.lemmas.Bool.{or_cases, or_left, or_right}
 use Rattle.lits.specs.Clause.{has}
-use Rattle.lits.proofs.Facts.{IsLiteral, list_any-more}
+use Rattle.lits.proofs.Facts.{list_any-more}
 use Rattle.lits.proofs.Facts as clause_lemmas
 use Rattle.unit_prop.proofs.Facts.{contrary, alone}
 use Rattle.watch_lists.specs.Codes.{flip}

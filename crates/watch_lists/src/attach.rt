@@ -29,8 +29,10 @@ impl Engine {
     /// The pair for one more literal of the clause.
     fn better(&self, pair: Pair, lit: u32) -> Pair
         requires engine { IsEngine self.now }
-        requires within { (lit < length self.now.truth.items) × (pair.first < length self.now.truth.items) × (pair.second < length self.now.truth.items) }
-        ensures { (seen : List ℕ) → IsBest self.now.trail.items seen pair → IsBest self.now.trail.items (seen ++ lit ∷ []) result }
+        requires within { (lit < length self.now.truth.items) ×
+            (pair.first < length self.now.truth.items) × (pair.second < length self.now.truth.items) }
+        ensures { (seen : List ℕ) → IsBest self.now.trail.items seen pair
+            → IsBest self.now.trail.items (seen ++ lit ∷ []) result }
     {
         if lit == pair.first {
             pair
@@ -76,7 +78,9 @@ impl Engine {
         requires best { IsBest self.old.trail.items (codes_at self.old.clauses at) pair }
         ensures engine { IsEngine self.new }
         ensures more { IfOk result (λ b. b ≡ true → length self.new.work ≡ length self.old.work + 1) }
-        ensures conflict { IfOk result (λ b. b ≡ false → is_negated flip (has nat_eq self.new.trail.items) (codes_at self.new.clauses at) ≡ true) }
+        ensures conflict { IfOk result
+            (λ b. b ≡ false
+                → is_negated flip (has nat_eq self.new.trail.items) (codes_at self.new.clauses at) ≡ true) }
         ensures keeps { Holds self.old self.new }
     {
         if self.truth[flip(pair.first) as usize] {
@@ -99,11 +103,15 @@ impl Engine {
         requires engine { IsEngine self.old }
         requires at { (at ≡ length self.old.work) × (at < length self.old.clauses) }
         requires best { IsBest self.old.trail.items (codes_at self.old.clauses at) pair }
-        requires free { (has nat_eq self.old.trail.items pair.first ≡ false) × (has nat_eq self.old.trail.items (flip pair.first) ≡ false) }
-        requires forces { forces nat_eq flip (has nat_eq self.old.trail.items) (codes_at self.old.clauses at) pair.first ≡ true }
+        requires free { (has nat_eq self.old.trail.items pair.first ≡ false) ×
+            (has nat_eq self.old.trail.items (flip pair.first) ≡ false) }
+        requires forces { forces nat_eq flip (has nat_eq self.old.trail.items)
+            (codes_at self.old.clauses at) pair.first ≡ true }
         ensures engine { IsEngine self.new }
         ensures more { IfOk result (λ b. b ≡ true → length self.new.work ≡ length self.old.work + 1) }
-        ensures conflict { IfOk result (λ b. b ≡ false → is_negated flip (has nat_eq self.new.trail.items) (codes_at self.new.clauses at) ≡ true) }
+        ensures conflict { IfOk result
+            (λ b. b ≡ false
+                → is_negated flip (has nat_eq self.new.trail.items) (codes_at self.new.clauses at) ≡ true) }
         ensures keeps { Holds self.old self.new }
     {
         self.put(pair.first, Some(at))?;
@@ -114,8 +122,12 @@ impl Engine {
     fn watch(&mut self, at: u32, pair: Pair) -> Result<bool, AllocError>
         requires engine { IsEngine self.old }
         requires at { (at ≡ length self.old.work) × (at < length self.old.clauses) }
-        requires guards { Guards (take self.old.head self.old.trail.items) self.old.trail.items (codes_at self.old.clauses at) pair }
-        requires bounds { All (λ v. Guards (take v.head self.old.trail.items) (take v.start self.old.trail.items) (codes_at self.old.clauses at) pair) self.old.levels.items }
+        requires guards { Guards (take self.old.head self.old.trail.items) self.old.trail.items
+            (codes_at self.old.clauses at) pair }
+        requires bounds { All
+            (λ v. Guards (take v.head self.old.trail.items) (take v.start self.old.trail.items)
+                (codes_at self.old.clauses at) pair)
+            self.old.levels.items }
         ensures engine { IsEngine self.new }
         ensures more { OnOk result (length self.new.work ≡ length self.old.work + 1) }
         ensures ok { IfOk result (λ b. b ≡ true) }
@@ -145,7 +157,9 @@ impl Engine {
         requires at { (at ≡ length self.old.work) × (at < length self.old.clauses) }
         ensures engine { IsEngine self.new }
         ensures more { IfOk result (λ b. b ≡ true → length self.new.work ≡ length self.old.work + 1) }
-        ensures conflict { IfOk result (λ b. b ≡ false → is_negated flip (has nat_eq self.new.trail.items) (codes_at self.new.clauses at) ≡ true) }
+        ensures conflict { IfOk result
+            (λ b. b ≡ false
+                → is_negated flip (has nat_eq self.new.trail.items) (codes_at self.new.clauses at) ≡ true) }
         ensures keeps { Holds self.old self.new }
     {
         match self.best(self.clauses.get(at)) {

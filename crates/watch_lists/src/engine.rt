@@ -13,11 +13,11 @@ pub(crate) struct Level {
     pub(crate) head: usize,
 }
 
-/// A trail over codes, with two watched literals a clause (Moskewicz, Madigan, Zhao, Zhang and Malik 2001; blocking
-/// literals by Sörensson and Eén).
+/// A trail over codes, with two watched literals a clause (Moskewicz, Madigan, Zhao, Zhang and Malik
+/// 2001; blocking literals by Sörensson and Eén).
 ///
-/// Watches stay as they are when levels are given up. Clauses that were added since the last propagation have none
-/// yet: `work` has the first clauses only.
+/// Watches stay as they are when levels are given up. Clauses that were added since the last
+/// propagation have none yet: `work` has the first clauses only.
 #[derive(Drop)]
 pub(crate) struct Engine {
     /// The clauses as they were added.

@@ -83,7 +83,8 @@ impl Flat {
         self.lits[start + place] = lit;
     }
 
-    /// Puts the literal at a place in front, beside the other that is watched, and the one that was watched there.
+    /// Puts the literal at a place in front, beside the other that is watched, and the one that was
+    /// watched there.
     pub(crate) fn turn(&mut self, at: u32, place: usize, lit: u32, other: u32, new: u32)
         requires at { at < length self.old }
         requires place { (2 ≤ place) × (place < length (codes_at self.old at)) }

@@ -15,11 +15,13 @@ impl Engine {
         requires { IsEngine self.old }
         ensures engine { IsEngine self.new }
         ensures none { IfOk result (λ r. IfNone r (
-            IsClosure nat_eq flip self.new.clauses (decisions self.new.trail.items self.new.reasons.items) self.new.trail.items
+            IsClosure nat_eq flip self.new.clauses
+                (decisions self.new.trail.items self.new.reasons.items) self.new.trail.items
             × ¬ Clashes flip self.new.clauses (has nat_eq self.new.trail.items))) }
         ensures some { IfOk result (λ r. IfSome r (λ i. IsStuck self.new i)) }
         ensures clash { IfOk result (λ r. IfSome r (λ _.
-            ClosureClashes nat_eq flip self.new.clauses (decisions self.new.trail.items self.new.reasons.items))) }
+            ClosureClashes nat_eq flip self.new.clauses
+                (decisions self.new.trail.items self.new.reasons.items))) }
         ensures stays { Stays self.old self.new }
     {
         match self.attach_all()? {
@@ -32,7 +34,8 @@ impl Engine {
     pub(crate) fn add(&mut self, clause: &[u32]) -> Result<(), AllocError>
         requires engine { IsEngine self.old }
         requires within { (l : ℕ) → has nat_eq clause.now l ≡ true → l < length self.old.truth.items }
-        requires settled { All (λ v. AsksNothing (take v.start self.old.trail.items) clause.now) self.old.levels.items }
+        requires settled { All
+            (λ v. AsksNothing (take v.start self.old.trail.items) clause.now) self.old.levels.items }
         ensures engine { IsEngine self.new }
         ensures ok { OnOk result (IsAdded self.old clause.now self.new) }
         ensures err { OnErr result (IsSame self.old self.new) }
@@ -46,9 +49,11 @@ impl Engine {
     /// A new level begins with a literal that is free, where no clause asks for anything.
     pub(crate) fn decide(&mut self, lit: u32) -> Result<(), AllocError>
         requires engine { IsEngine self.old }
-        requires settled { (i : ℕ) → i < length self.old.clauses → AsksNothing self.old.trail.items (codes_at self.old.clauses i) }
+        requires settled { (i : ℕ) → i < length self.old.clauses
+            → AsksNothing self.old.trail.items (codes_at self.old.clauses i) }
         requires within { lit < length self.old.truth.items }
-        requires free { (has nat_eq self.old.trail.items lit ≡ false) × (has nat_eq self.old.trail.items (flip lit) ≡ false) }
+        requires free { (has nat_eq self.old.trail.items lit ≡ false) ×
+            (has nat_eq self.old.trail.items (flip lit) ≡ false) }
         ensures engine { IsEngine self.new }
         ensures ok { OnOk result (IsDecided self.old lit self.new) }
         ensures err { OnErr result (IsSame self.old self.new) }
@@ -83,7 +88,8 @@ impl Engine {
 fn unmark(truth: &mut Vec<bool>, lits: &[u32])
     requires { (l : ℕ) → has nat_eq lits.now l ≡ true → l < length truth.old.items }
     ensures len { length truth.new.items ≡ length truth.old.items }
-    ensures marks { (l : ℕ) → slice_index_or truth.new.items l false ≡ (slice_index_or truth.old.items l false && not (has nat_eq lits.now l)) }
+    ensures marks { (l : ℕ) → slice_index_or truth.new.items l false
+        ≡ (slice_index_or truth.old.items l false && not (has nat_eq lits.now l)) }
 {
     for lit in lits {
         truth[*lit as usize] = false;

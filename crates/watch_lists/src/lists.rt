@@ -6,7 +6,8 @@ ghost use Rattle.watch_lists.specs.State.{list_at, no_watch, pushed};
 use std::alloc::{AllocError, Global};
 use std::marker::Model;
 
-/// That a clause watches a literal. Where the blocker, another literal of the clause, is true, the clause isn't read.
+/// That a clause watches a literal. Where the blocker, another literal of the clause, is true, the
+/// clause isn't read.
 #[derive(Clone, Copy)]
 pub(crate) struct Watch {
     pub(crate) clause: u32,
@@ -82,7 +83,8 @@ impl Lists {
     /// Takes the last watch of the literal away.
     fn drop_last(&mut self, lit: u32)
         requires { lit < length self.old }
-        ensures { self.new ≡ slice_set self.old lit (take (length (list_at self.old lit) - 1) (list_at self.old lit)) }
+        ensures { self.new
+            ≡ slice_set self.old lit (take (length (list_at self.old lit) - 1) (list_at self.old lit)) }
     {
         let _last = self.lists[lit as usize].pop();
     }
@@ -146,7 +148,8 @@ fn clear_first(lists: &mut Vec<Vec<Watch>>, count: usize)
 fn add_spare(lists: &mut Vec<Vec<Watch>>, alloc: Global, used: usize) -> Result<(), AllocError>
     requires { AreSpare (map (λ v. v.items) lists.old.items) used }
     ensures spare { AreSpare (map (λ v. v.items) lists.new.items) used }
-    ensures same { take used (map (λ v. v.items) lists.new.items) ≡ take used (map (λ v. v.items) lists.old.items) }
+    ensures same { take used (map (λ v. v.items) lists.new.items)
+        ≡ take used (map (λ v. v.items) lists.old.items) }
     ensures room { OnOk result (used + 2 ≤ length lists.new.items) }
 {
     if lists.len() - used < 2 {
@@ -160,7 +163,8 @@ fn add_spare(lists: &mut Vec<Vec<Watch>>, alloc: Global, used: usize) -> Result<
 fn push_empty(lists: &mut Vec<Vec<Watch>>, alloc: Global, used: usize) -> Result<(), AllocError>
     requires { AreSpare (map (λ v. v.items) lists.old.items) used }
     ensures spare { AreSpare (map (λ v. v.items) lists.new.items) used }
-    ensures same { take used (map (λ v. v.items) lists.new.items) ≡ take used (map (λ v. v.items) lists.old.items) }
+    ensures same { take used (map (λ v. v.items) lists.new.items)
+        ≡ take used (map (λ v. v.items) lists.old.items) }
     ensures more { OnOk result (length lists.new.items ≡ length lists.old.items + 1) }
 {
     lists.push(Vec::new(alloc))?;

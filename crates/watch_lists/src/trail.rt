@@ -52,8 +52,8 @@ impl Trail {
         })
     }
 
-    /// Gives up all clauses, literals and variables, and keeps the memory. It costs what they were, and not what memory
-    /// there is.
+    /// Gives up all clauses, literals and variables, and keeps the memory. It costs what they were, and
+    /// not what memory there is.
     pub fn clear(&mut self)
         ensures { self.new ≡ empty_trail }
     {
@@ -64,8 +64,8 @@ impl Trail {
 
     /// Adds a clause, as the last one.
     ///
-    /// At a level below the last it may neither be wholly negated nor force a literal that is missing there. After a
-    /// refusal some of its variables may have numbers.
+    /// At a level below the last it may neither be wholly negated nor force a literal that is missing
+    /// there. After a refusal some of its variables may have numbers.
     pub fn add(&mut self, clause: &Clause<Lit>) -> Result<(), AllocError>
         requires { (level : ℕ) → level < self.old.last → IsQuiet (up_to level self.old.puts) clause.now }
         ensures ok { OnOk result (Adds self.old clause.now self.new) }
@@ -75,7 +75,8 @@ impl Trail {
         self.add_codes(codes.as_slice())
     }
 
-    /// Begins a level with a literal that is free, where all literals are the closure of the clauses and the decisions.
+    /// Begins a level with a literal that is free, where all literals are the closure of the clauses
+    /// and the decisions.
     pub fn decide(&mut self, lit: Lit) -> Result<(), AllocError>
         requires free { IsFree same_lit opposite (lits_of self.old.puts) lit }
         requires complete { IsComplete self.old.clauses self.old.puts }
@@ -194,7 +195,8 @@ impl Trail {
     /// Whether neither the literal of the code nor its negation was put.
     pub fn is_free(&self, code: u32) -> bool
         requires { IsCode self.now.nodes code }
-        ensures { IsTrue result ↔ IsFree same_lit opposite (lits_of self.now.puts) (lit_at self.now.nodes code) }
+        ensures { IsTrue result ↔ IsFree same_lit opposite (lits_of self.now.puts)
+            (lit_at self.now.nodes code) }
     {
         !self.engine.truth[code as usize] && !self.engine.truth[flip(code) as usize]
     }
@@ -204,7 +206,8 @@ impl Trail {
         requires { IsCode self.now.nodes code }
         ensures some { IfSome result (λ p.
             (p < length self.now.puts) × ((put_at self.now.puts p).lit ≡ lit_at self.now.nodes code)) }
-        ensures none { IfNone result (has same_lit (lits_of self.now.puts) (lit_at self.now.nodes code) ≡ false) }
+        ensures none { IfNone result
+            (has same_lit (lits_of self.now.puts) (lit_at self.now.nodes code) ≡ false) }
     {
         if self.engine.truth[code as usize] {
             Some(self.engine.places[code as usize])
@@ -297,7 +300,8 @@ fn make_room(numbers: &Numbers, engine: &mut Engine, puts: &mut Vec<Put>) -> Res
     requires whole { IsWhole numbers.now engine.old puts.old.items (vec_capacity puts.old) }
     requires few { length numbers.now < 2 ^ 31 }
     ensures whole { IsWhole numbers.now engine.new puts.new.items (vec_capacity puts.new) }
-    ensures same { state_of numbers.now engine.new puts.new.items ≡ state_of numbers.now engine.old puts.old.items }
+    ensures same { state_of numbers.now engine.new puts.new.items
+        ≡ state_of numbers.now engine.old puts.old.items }
     ensures room { OnOk result (2 * length numbers.now + 2 ≤ length engine.new.truth.items) }
 {
     let count = 2 * numbers.len() + 2;

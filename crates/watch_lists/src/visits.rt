@@ -108,7 +108,8 @@ impl Engine {
         requires missing { slice_index_or self.old.truth.items other false ≡ false }
         requires negated { (k : ℕ) → 2 ≤ k → k < length (codes_at self.old.work clause)
             → nat_eq other (slice_index (codes_at self.old.work clause) k) ≡ false
-            → slice_index_or self.old.truth.items (flip (slice_index (codes_at self.old.work clause) k)) false ≡ true }
+            → slice_index_or self.old.truth.items
+                (flip (slice_index (codes_at self.old.work clause) k)) false ≡ true }
         ensures ok { IfOk result (λ v. IsVisited self.old self.new lit at v) }
         ensures err { OnErr result (IsEngine self.new) }
         ensures keeps { Holds self.old self.new }
@@ -135,7 +136,8 @@ impl Engine {
         requires other { IsOther (pair_at (pairs_of self.old.work) clause) lit other }
         requires apart { nat_eq other lit ≡ false }
         requires place { (2 ≤ place) × (place < length (codes_at self.old.work clause)) }
-        requires free { slice_index_or self.old.truth.items (flip (slice_index (codes_at self.old.work clause) place)) false ≡ false }
+        requires free { slice_index_or self.old.truth.items
+            (flip (slice_index (codes_at self.old.work clause) place)) false ≡ false }
         requires fresh { nat_eq other (slice_index (codes_at self.old.work clause) place) ≡ false }
         ensures ok { IfOk result (λ v. IsVisited self.old self.new lit at v) }
         ensures err { OnErr result (IsEngine self.new) }

@@ -9,8 +9,8 @@ use std::marker::Model;
 
 /// Patterns of truth values for the inputs of a pair of circuits, in order.
 ///
-/// The drawn words stand input by input, as they were drawn; of the added patterns each 64 share a block of one word per
-/// input, so that a pattern is added in the time of its own length.
+/// The drawn words stand input by input, as they were drawn; of the added patterns each 64 share a
+/// block of one word per input, so that a pattern is added in the time of its own length.
 #[derive(Drop)]
 pub struct Pool {
     inputs: u32,
@@ -29,7 +29,8 @@ impl Model for Pool {
 
     ghost view = { λ p. record {
       inputs = p.inputs;
-      patterns = drawn_patterns p.inputs p.drawn_words p.drawn.items ++ added_patterns p.inputs p.added_count p.added.items;
+      patterns = drawn_patterns p.inputs p.drawn_words p.drawn.items
+        ++ added_patterns p.inputs p.added_count p.added.items;
     } };
 
     ghost invariant = { λ p. (length p.drawn.items ≡ p.inputs * p.drawn_words)
@@ -80,7 +81,8 @@ impl Pool {
         requires input { input < self.now.inputs }
         requires word { word < words_of (length self.now.patterns) }
         ensures { (b : ℕ) → b < 64 → is_set result b
-            ≡ (nat_lt (64 * word + b) (length self.now.patterns) && truth_of self.now.patterns input (64 * word + b)) }
+            ≡ (nat_lt (64 * word + b) (length self.now.patterns) && truth_of self.now.patterns input
+                (64 * word + b)) }
     {
         if word < self.drawn_words {
             self.drawn[input as usize * self.drawn_words as usize + word as usize]

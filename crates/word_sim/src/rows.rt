@@ -7,8 +7,9 @@ use crate::pool::Pool;
 use crate::words::{put_gate, put_true};
 use netlist::{Fanins, Net, laws};
 
-/// Writes the row of every node on every pattern of the pool: that of position p stands at `p * words`, and bit b of
-/// its word w is the node's value on pattern 64 w + b. The bits behind the last pattern are 0.
+/// Writes the row of every node on every pattern of the pool: that of position p stands at `p * words`,
+/// and bit b of its word w is the node's value on pattern 64 w + b. The bits behind the last pattern
+/// are 0.
 ///
 /// Each gate is touched once, in the order of positions, and its fanins are found by their positions.
 pub fn fill(net: &Net, pool: &Pool, buf: &mut [u64])

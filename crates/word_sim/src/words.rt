@@ -8,7 +8,8 @@ pub(crate) fn clear_tail(words: &mut [u64], count: u64)
     requires { length words.old ≡ words_of count }
     ensures size { length words.new ≡ length words.old }
     ensures bits { (w b : ℕ) → w < length words.old → b < 64
-        → is_set (slice_index_or words.new w 0) b ≡ (nat_lt (64 * w + b) count && is_set (slice_index_or words.old w 0) b) }
+        → is_set (slice_index_or words.new w 0) b
+            ≡ (nat_lt (64 * w + b) count && is_set (slice_index_or words.old w 0) b) }
 {
     let rest = count % 64;
     if rest != 0 {
@@ -40,7 +41,8 @@ pub(crate) fn put_both(
     requires right { length right.now ≡ length words.old }
     ensures size { length words.new ≡ length words.old }
     ensures words { (w : ℕ) → w < length words.old → slice_index_or words.new w 0
-        ≡ bit_and (bit_xor (slice_index_or left.now w 0) left_mask) (bit_xor (slice_index_or right.now w 0) right_mask) }
+        ≡ bit_and (bit_xor (slice_index_or left.now w 0) left_mask)
+            (bit_xor (slice_index_or right.now w 0) right_mask) }
 {
     for w in 0..words.len() {
         words[w] = (left[w] ^ left_mask) & (right[w] ^ right_mask);

@@ -51,7 +51,8 @@ pub(crate) fn select_adder(alloc: Global, n: u32) -> Result<Design, AllocError>
     Ok(builder.finish(sums))
 }
 
-/// Adds the bits with carry 0 and with carry 1, of which the carry before them chooses, and answers the carry.
+/// Adds the bits with carry 0 and with carry 1, of which the carry before them chooses, and answers the
+/// carry.
 #[tactic(auto, unfolding(crate::specs::Adder::selected))]
 fn add_block(
     builder: &mut Builder,
@@ -81,7 +82,8 @@ fn add_block(
     builder.mux(carry, one, zero)
 }
 
-/// Adds the bits with a carry before them: puts the sums behind those that stand there, and answers the carry.
+/// Adds the bits with a carry before them: puts the sums behind those that stand there, and answers the
+/// carry.
 fn sum_bits(
     builder: &mut Builder,
     bits: Bits,

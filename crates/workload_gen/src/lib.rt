@@ -4,10 +4,10 @@
 //! circuits. Adders, comparators and parities in two architectures are the classic hard cases of equivalence
 //! checking.
 //!
-//! Data flows from `builder.rt` (gates, one at a time, and what is made of them) by `parity.rt`, `adder.rt` and
-//! `comparator.rt` (the architectures) to `design.rt` and `text.rt` (the bytes). Definitions:
-//! `specs/Workload.antt` (the bytes of a kind and a number), over `specs/Gates.antt` (what each construction adds
-//! to a list of gates). Begin to read at `workload.rt`.
+//! Data flows from `builder.rt` (gates, one at a time, and what is made of them) by `parity.rt`,
+//! `adder.rt` and `comparator.rt` (the architectures) to `design.rt` and `text.rt` (the bytes).
+//! Definitions: `specs/Workload.antt` (the bytes of a kind and a number), over `specs/Gates.antt` (what
+//! each construction adds to a list of gates). Begin to read at `workload.rt`.
 #![tactic(auto)]
 
 pub use kind::Kind;

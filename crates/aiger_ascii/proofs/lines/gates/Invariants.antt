@@ -1,4 +1,4 @@
-use Rattle.std.proofs.Common.{◌≡◌, ◌+◌, ◌-◌, [], length}
+use Rattle.std.proofs.Common.{◌≡◌, ◌-◌}
 use Rattle.aiger_ascii.specs.Ascii.{gates_at}
 use Rattle.aiger_ascii.proofs.lines.gates.Given as goal
 

@@ -1,4 +1,4 @@
-use Rattle.std.proofs.Common.{◌≡◌, ◌+◌, ◌-◌, [], length}
+use Rattle.std.proofs.Common.{◌≡◌, ◌-◌, []}
 use Rattle.aiger_ascii.specs.Ascii.{inputs_at}
 use Rattle.aiger_ascii.proofs.lines.inputs.Given as goal
 

@@ -1,4 +1,4 @@
-use Rattle.std.proofs.Common.{◌≡◌, ◌+◌, ◌-◌, [], length}
+use Rattle.std.proofs.Common.{◌≡◌, ◌+◌, ◌-◌, length}
 use Rattle.aiger_ascii.specs.Ascii.{outputs_at}
 use Rattle.aiger_ascii.proofs.lines.outputs.Given as goal
 

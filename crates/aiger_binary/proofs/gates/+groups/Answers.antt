@@ -1,9 +1,8 @@
-use Rattle.std.proofs.Common.{◌≡◌, ◌≢◌, ◌-◌, ◌≤◌, ◌<◌, arith, sym, false}
+use Rattle.std.proofs.Common.{◌≡◌, ◌-◌, ◌≤◌, arith, false}
 use Rattle.std.specs.Prelude.{nat_lt}
 use Rattle.std.proofs.lemmas.Bool.Decides.{nat_tests}
 use Rattle.std.proofs.lemmas.Result.{err_from_is_err_and}
-use Rattle.aiger_binary.specs.Binary.{power_of}
-use Rattle.aiger_binary.proofs.LoopLemmas.{power-small, power-first, power-more, groups-end, groups-fault}
+use Rattle.aiger_binary.proofs.LoopLemmas.{power-small, power-first, groups-end, groups-fault}
 use Rattle.aiger_binary.proofs.gates.+groups.Goals as goal
 
 pub overflow_mul-result : goal.overflow_mul-result

@@ -1,9 +1,7 @@
-use Rattle.std.proofs.Common.{◌≡◌, ◌∙◌, ◌-◌, ◌<◌, ◌+◌, arith, sym, ap, subst, length, ℕ, List, [], refl}
+use Rattle.std.proofs.Common.{◌≡◌, ◌∙◌, ◌-◌, ◌<◌, ◌+◌, arith, ap, length, ℕ, refl}
 use Rattle.std.proofs.lemmas.Result.{err_from_is_err_and}
 use Rattle.std.proofs.lemmas.List.{length_push}
-use Rattle.netlist.specs.declared.gate.And.{And}
 use Rattle.netlist.specs.Circuit.{var_of}
-use Rattle.aiger_binary.specs.Binary.{gates_at}
 use Rattle.aiger_binary.proofs.StackLemmas.{AreStacked-push}
 use Rattle.aiger_binary.proofs.LoopLemmas.{gates-step, gates-fault, gates-end}
 use Rattle.aiger_binary.proofs.gates.gates.Goals as goal

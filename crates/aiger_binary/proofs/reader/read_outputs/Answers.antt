@@ -1,9 +1,7 @@
-use Rattle.std.proofs.Common.{◌≡◌, ◌∙◌, ◌-◌, ◌<◌, ◌+◌, arith, sym, ap, subst, length, ℕ, List, [], refl}
+use Rattle.std.proofs.Common.{◌≡◌, ◌∙◌, ◌-◌, ◌<◌, ◌+◌, arith, ap, ℕ, refl}
 use Rattle.std.proofs.lemmas.Result.{err_from_is_err_and}
 use Rattle.std.proofs.lemmas.List.{length_push}
-use Rattle.byte_scan.specs.Reading.{IsFault}
 use Rattle.netlist.specs.Circuit.{var_of}
-use Rattle.aiger_binary.specs.Binary.{outputs_at, AreBelow}
 use Rattle.aiger_binary.proofs.StackLemmas.{AreBelow-push}
 use Rattle.aiger_binary.proofs.LoopLemmas.{outputs-step, outputs-fault, outputs-end}
 use Rattle.aiger_binary.proofs.reader.read_outputs.Goals as goal

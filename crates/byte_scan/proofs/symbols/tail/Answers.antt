@@ -1,4 +1,4 @@
-use Rattle.std.proofs.Common.{◌≡◌, arith, ap, sym, ◌∙◌, Err, ℕ}
+use Rattle.std.proofs.Common.{arith, ap, sym, ◌∙◌, Err, ℕ}
 use Rattle.byte_scan.specs.declared.errors.AigerErr.TheVariants.{BadSymbol}
 use Rattle.byte_scan.proofs.PlaceLemmas.{tail-comment, tail-bad, tail-symbol}
 use Rattle.byte_scan.proofs.symbols.tail.Goals as goal
