@@ -4,7 +4,8 @@
 Usage: examples.py [PROGRAM]
 
 A command is a line `    $ cec WORDS`; the lines below it, up to `    status N`, are what it prints on standard output and on
-standard error. PROGRAM is the repository's own where it is left out. Status 1 where anything differs.
+standard error. PROGRAM is the repository's own where it is left out. Status 1 where anything differs. The gate runs the same
+commands (the program `cec_examples`), and what it compares with is asked to be what the page says.
 """
 import shutil
 import subprocess
@@ -31,10 +32,15 @@ def examples(text):
 def main():
     program = house.program(sys.argv[1] if len(sys.argv) > 1 else None)
     folder, wrong, count = house.TOP / "examples", 0, 0
+    page = list(examples((folder / "README.md").read_text()))
+    told = "".join(f"$ cec {' '.join(w)}\n" + "".join(f"{l}\n" for l in ls) + f"status {s}\n" for w, ls, s in page)
+    if told != (house.TOP / "crates" / "cec_examples" / "stdout").read_text():
+        wrong += 1
+        print("crates/cec_examples/stdout isn't what the page says")
     with tempfile.TemporaryDirectory() as room:
         for file in folder.iterdir():
             shutil.copy(file, room)
-        for words, lines, status in examples((folder / "README.md").read_text()):
+        for words, lines, status in page:
             ran = subprocess.run([program, *words], cwd=room, capture_output=True, text=True)
             said = (ran.stdout + ran.stderr).splitlines()
             count += 1
