@@ -1,11 +1,13 @@
 #!/usr/bin/env python3
-"""The files of workloads, compared byte by byte with those of another generator, tools/workload.py.
+"""The files of workloads, compared byte by byte with those of another generator, tools/workload.py; and `cec self`, compared
+with `cec check` of those files.
 
-Usage: workloads.py [--most N] [--every N]
+Usage: workloads.py [--most N] [--every N] [--cec PROGRAM]
 
 Builds a small program over the crate workload_gen, in a folder that is given up, since `cec self` shows only counts and a
-verdict. Each kind is compared for each number up to --most (64), and for each --every (251) up to 4096. Status 1 where any
-byte differs.
+verdict. Each kind is compared for each number up to --most (64), and for each --every (251) up to 4096. For some numbers up
+to 16 `cec self` has to say the counts of the other generator's circuits and then what `cec check` says of them, with its
+status. PROGRAM is the repository's own where it is left out. Status 1 where anything differs.
 """
 import argparse
 import shutil
@@ -16,9 +18,13 @@ from pathlib import Path
 
 TOP = Path(__file__).resolve().parents[1]
 sys.path.insert(0, str(TOP / "tools"))
+import house
 import workload
 
 MOST = 4096
+
+# Of so many bits are the circuits that are checked.
+CHECKED = (1, 2, 3, 4, 5, 7, 8, 16)
 
 MAIN = """//! Writes the two files of a workload to standard output: a line with the length of the first, then both.
 #![tactic(auto)]
@@ -96,10 +102,22 @@ def written(program, kind, n):
     return files[:int(length)], files[int(length):]
 
 
+def checked(program, folder, kind, n):
+    """What `cec self` says with its status, and what it should."""
+    a, b = workload.KINDS[kind](n)
+    (folder / "a").write_bytes(a.ascii())
+    (folder / "b").write_bytes(b.binary())
+    own = subprocess.run([program, "self", kind, str(n)], cwd=folder, capture_output=True, text=True)
+    check = subprocess.run([program, "check", "a", "b"], cwd=folder, capture_output=True, text=True)
+    lines = f"kind {kind} n {n}\ngates {len(a.gates)} {len(b.gates)}\noutputs {len(a.outputs)}\n"
+    return (own.stdout, own.stderr, own.returncode), (lines + check.stdout, check.stderr, check.returncode)
+
+
 def main():
     parser = argparse.ArgumentParser(description=__doc__, formatter_class=argparse.RawDescriptionHelpFormatter)
     parser.add_argument("--most", type=int, default=64)
     parser.add_argument("--every", type=int, default=251)
+    parser.add_argument("--cec", metavar="PROGRAM")
     words = parser.parse_args()
     numbers = sorted({*range(1, words.most + 1), *range(words.every, MOST, words.every), MOST})
     wrong = 0
@@ -111,7 +129,16 @@ def main():
                 if written(program, kind, n) != (a.ascii(), b.binary()):
                     wrong += 1
                     print(f"{kind} {n}: the bytes differ")
-    print(f"{len(workload.KINDS) * len(numbers)} pairs of files, {wrong} wrong")
+        print(f"{len(workload.KINDS) * len(numbers)} pairs of files, {wrong} wrong")
+        cec, own_wrong = house.program(words.cec), 0
+        for kind in workload.KINDS:
+            for n in CHECKED:
+                own, expected = checked(cec, Path(folder), kind, n)
+                if own != expected:
+                    own_wrong += 1
+                    print(f"{kind} {n}: {own}, and not {expected}")
+        print(f"{len(workload.KINDS) * len(CHECKED)} self checks, {own_wrong} wrong")
+    wrong += own_wrong
     raise SystemExit(1 if wrong else 0)
 
 

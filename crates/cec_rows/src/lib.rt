@@ -9,6 +9,8 @@ mod desk;
 #[cfg(test)]
 mod files;
 #[cfg(test)]
+mod own;
+#[cfg(test)]
 mod proofs;
 #[cfg(test)]
 mod readers;

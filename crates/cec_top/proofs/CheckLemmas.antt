@@ -1,5 +1,6 @@
 -- How a whole check answers, from what was read and told.
 use Rattle.std.proofs.Common.{◌≡◌, inl, inr, List, [], ◌∷◌, Some, Ok, Err, refl, sym, ap, subst}
+use Rattle.std.specs.Prelude.{Result, IfOk, IfErr}
 use Rattle.desk_port.specs.Desk.{DeskState}
 use Rattle.netlist.specs.Net.{AigPair}
 use Rattle.endings.specs.declared.status.Status.{Status}
@@ -13,9 +14,9 @@ use Rattle.check_session.specs.Finding.{Finding, Finds}
 use Rattle.check_session.specs.Outputs.{finding_of}
 use Rattle.check_session.specs.Check.{State, IsSettled, IsFound}
 use Rattle.cec_top.specs.declared.kept.Kept.{Kept}
-use Rattle.cec_top.specs.Check.{Made, IsMade, IsProof, Tells, status_of_finding, AreSome}
-use Rattle.cec_top.specs.Answers.{KeepsOn, GoesOn, Ends, Stops}
-use Rattle.cec_top.specs.Steps.{ReadsPair, options_of}
+use Rattle.cec_top.specs.Check.{Made, IsMade, IsProof, KeepsOn, Tells, status_of_finding, kept_from, AreSome}
+use Rattle.cec_top.specs.Answers.{GoesOn, Ends, Stops}
+use Rattle.cec_top.specs.Steps.{ReadsPair, Settles, options_of}
 
 module _ (c : CheckCommand) (old : DeskState) (net : AigPair) (mid : DeskState) (read : ReadsPair c old mid (Ok net)) where
   -- nothing is made so far
@@ -23,14 +24,14 @@ module _ (c : CheckCommand) (old : DeskState) (net : AigPair) (mid : DeskState) 
   begins = record { net = net; reads = read.0; alike = read.1; checks = refl; told = read.2 }
 
   -- memory runs out before the check has its verdict
-  pub runs-out : Stops c old [] mid OutOfMemory
+  runs-out : Stops c old [] mid OutOfMemory
   runs-out = inr (inr (inr (record { out = refl; made = []; others = net ∷ []; before = begins; keeps = tt })))
 
-  module _ (m : Made) (new : DeskState) (kept : List Kept) (same : m.net ≡ net) (is : IsMade c m)
-      (keeps : kept ≡ record { check = 0; book = m.book } ∷ []) where
+  module _ (m : Made) (new : DeskState) (kept : List Kept) (same : m.net ≡ net) (is : IsMade c m) where
     -- the check is told whole
-    pub ends-told : (status : Status) → Tells c 0 m mid new (Ok tt) → status ≡ status_of_finding m.finding → Ends c old new status kept
-    ends-told status told status_is = record {
+    ends-told : (status : Status) → Tells c 0 m mid new (Ok tt) → status ≡ status_of_finding m.finding
+        → kept ≡ kept_from 0 (m ∷ []) → Ends c old new status kept
+    ends-told status told status_is keeps = record {
       made = m ∷ [];
       whole = record {
         net = net;
@@ -43,17 +44,9 @@ module _ (c : CheckCommand) (old : DeskState) (net : AigPair) (mid : DeskState) 
       keeps = keeps;
     }
 
-    keeps-on : (stop : Stop) → KeepsOn stop kept (record { check = 0; book = m.book } ∷ [])
-    keeps-on OutOfMemory = subst (λ (ks : List Kept). AreSome ks (record { check = 0; book = m.book } ∷ [])) (sym keeps) (inl (refl, tt))
-    keeps-on (CannotRead file) = keeps
-    keeps-on (TooLong file) = keeps
-    keeps-on (BadFile file text) = keeps
-    keeps-on (NotAlike text) = keeps
-    keeps-on CannotWrite = keeps
-
     -- the check is told in part
-    pub stops-told : (stop : Stop) → Tells c 0 m mid new (Err stop) → Stops c old kept new stop
-    stops-told stop told = inr (inr (inl (record {
+    stops-told : (stop : Stop) → Tells c 0 m mid new (Err stop) → KeepsOn stop kept (kept_from 0 (m ∷ [])) → Stops c old kept new stop
+    stops-told stop told keeps = inr (inr (inl (record {
       made = [];
       half = m;
       others = [];
@@ -61,8 +54,27 @@ module _ (c : CheckCommand) (old : DeskState) (net : AigPair) (mid : DeskState) 
       before = record { net = net; reads = read.0; alike = read.1; checks = ap (λ (n : AigPair). n ∷ []) same; told = read.2 };
       is_made = is;
       breaks = told;
-      keeps = keeps-on stop;
+      keeps = keeps;
     })))
+
+  module _ (new : DeskState) (kept : List Kept) where
+    pub settled-ends : (r : Result Status Stop) → Settles c net mid new kept r → IfOk r (λ status. Ends c old new status kept)
+    settled-ends (Ok status) p = ends-told p.made new kept p.same p.is_made status p.told p.status_is p.keeps
+    settled-ends (Err stop) p = tt
+
+    pub settled-stops : (r : Result Status Stop) → Settles c net mid new kept r → IfErr r (Stops c old kept new)
+    settled-stops (Ok status) p = tt
+    settled-stops (Err stop) (inl p) = stops-told p.half new kept p.same p.is_made stop p.breaks p.keeps
+    settled-stops (Err stop) (inr p) = rw (p.none, p.at, p.out) runs-out
+
+-- the one book is handed back, also where memory ran out
+pub keeps-on : (kept : List Kept) (k : Kept) → kept ≡ k ∷ [] → (stop : Stop) → KeepsOn stop kept (k ∷ [])
+keeps-on kept k keeps OutOfMemory = subst (λ (ks : List Kept). AreSome ks (k ∷ [])) (sym keeps) (inl (refl, tt))
+keeps-on kept k keeps (CannotRead file) = keeps
+keeps-on kept k keeps (TooLong file) = keeps
+keeps-on kept k keeps (BadFile file text) = keeps
+keeps-on kept k keeps (NotAlike text) = keeps
+keeps-on kept k keeps CannotWrite = keeps
 
 -- a check that was found is right
 pub is-made : (c : CheckCommand) (net : AigPair) (o : Options) (book : Entries) (v : Verdict) → o ≡ options_of c → IsFound net o book v

@@ -16,7 +16,7 @@ use Rattle.endings.specs.declared.stop.Stop.TheVariants.{CannotRead, TooLong, Ba
 use Rattle.endings.specs.Reading.{FileIs, StopsAt, ReadsUpTo, after_reads, limit}
 use Rattle.endings.specs.Writing.{Output, Leaves, after_file}
 use Rattle.endings.specs.Stops.{IsWarned, Warns, status_of, stop_line}
-use Rattle.command_line.specs.Words.{CheckCommand, Request, CheckIt, LratIt, Asks, WantHelp, AreRefused}
+use Rattle.command_line.specs.Words.{CheckCommand, Request, CheckIt, LratIt, SelfIt, Asks, WantHelp, AreRefused}
 use Rattle.cec_top.specs.declared.kept.Kept.{Kept}
 use Rattle.cec_top.specs.Headline.{FileSpells, SpellPair}
 use Rattle.check_session.specs.Finding.{Finding, Equivalent, Different, Undecided}
@@ -26,7 +26,7 @@ use Rattle.cec_top.specs.Answers.{fault_in, Answers, AnswersCheck, AreUnlike, Br
 use Rattle.cec_top.specs.Complete.{NoFault, IsWithinLimit, CanCheck, IsAmple, HasVerdict}
 use Rattle.cec_top.proofs.VerdictLemmas.{only-check}
 use Rattle.cec_top.proofs.HeadlineLemmas.{ends-code, spells-pair}
-use Rattle.cec_top.proofs.WordsLemmas.{check_or}
+use Rattle.cec_top.proofs.WordsLemmas.{check_or, same_request}
 
 -- memory ran out, or a fault was counted
 abbrev pub IsExcused : DeskState → DeskState → Stop → Type 0
@@ -85,10 +85,10 @@ circuit_or d (Err e) = d
 abbrev pub ok_is : Aig → Aig → Type 0
 ok_is a b = let r : Result Aig AigerErr = Ok a in r ≡ Ok b
 
-ok-equal : (a b : Aig) → ok_is a b → a ≡ b
+pub ok-equal : (a b : Aig) → ok_is a b → a ≡ b
 ok-equal a b e = ap (circuit_or a) e
 
-alike-from : (a b : Aig) → length a.inputs ≡ length b.inputs → length a.outputs ≡ length b.outputs → unlike_of a b ≡ None
+pub alike-from : (a b : Aig) → length a.inputs ≡ length b.inputs → length a.outputs ≡ length b.outputs → unlike_of a b ≡ None
 alike-from a b i o = rw (eq-eqb (length a.inputs) (length b.inputs) i, eq-eqb (length a.outputs) (length b.outputs) o) refl
 
 module _ (c : CheckCommand) (old : DeskState) (can : CanCheck c old) (kept : List Kept) where
@@ -148,7 +148,7 @@ warned-counts mid new line (inl p) = (ap (λ (s : DeskState). s.read_faults) p, 
 warned-counts mid new line (inr p) =
     (ap (λ (s : DeskState). s.read_faults) p.2.stays, ap (λ (s : DeskState). s.write_faults) p.2.stays)
 
-finding-code : (f : Finding) → code_of (status_of_finding f) ≤ 2
+pub finding-code : (f : Finding) → code_of (status_of_finding f) ≤ 2
 finding-code Equivalent = omega arith
 finding-code (Different j input) = omega arith
 finding-code Undecided = omega arith
@@ -209,12 +209,13 @@ module _ (words : List (List ℕ)) (old new : DeskState) (status : Status) (kept
   pub complete : (c : CheckCommand) → Asks words (CheckIt c) → CanCheck c old → NoFault old new → HasVerdict status
   complete c asks can none = elim answers [
     | inl p ↦
-        let same : p.command ≡ c = ap (check_or c) (same_Some (CheckIt p.command) (CheckIt c) (sym p.asked ∙ asks)) in
+        let same : p.command ≡ c = ap (check_or c) (same_request words (CheckIt p.command) (CheckIt c) p.asked asks) in
         check-complete c old new status kept can none (subst (λ (d : CheckCommand). AnswersCheck d old new status kept) same p.answers)
-    | inr (inl p) ↦ let t : LratIt p.command ≡ CheckIt c = same_Some (LratIt p.command) (CheckIt c) (sym p.asked ∙ asks) in cc
-    | inr (inr (inl p)) ↦ absurd (asked words (CheckIt c) asks (inl p.wanted))
-    | inr (inr (inr (inl p))) ↦ absurd (asked words (CheckIt c) asks (inr p.refused))
-    | inr (inr (inr (inr p))) ↦ at-once p.ends.stop p.ends.mid p.ends.cause p.ends.warns
+    | inr (inl p) ↦ let t : LratIt p.command ≡ CheckIt c = same_request words (LratIt p.command) (CheckIt c) p.asked asks in cc
+    | inr (inr (inl p)) ↦ let t : SelfIt p.command ≡ CheckIt c = same_request words (SelfIt p.command) (CheckIt c) p.asked asks in cc
+    | inr (inr (inr (inl p))) ↦ absurd (asked words (CheckIt c) asks (inl p.wanted))
+    | inr (inr (inr (inr (inl p)))) ↦ absurd (asked words (CheckIt c) asks (inr p.refused))
+    | inr (inr (inr (inr (inr p)))) ↦ at-once p.ends.stop p.ends.mid p.ends.cause p.ends.warns
   ]
     where
       at-once : (stop : Stop) (mid : DeskState) → IsAtOnce old mid stop → Warns (stop_line [] stop) (status_of stop) mid new status → HasVerdict status
@@ -224,10 +225,11 @@ module _ (words : List (List ℕ)) (old new : DeskState) (status : Status) (kept
   pub decided : (c : CheckCommand) → Asks words (CheckIt c) → IsAmple c old → code_of status ≢ 2
   decided c asks ample = λ code. elim answers [
     | inl p ↦
-        let same : p.command ≡ c = ap (check_or c) (same_Some (CheckIt p.command) (CheckIt c) (sym p.asked ∙ asks)) in
+        let same : p.command ≡ c = ap (check_or c) (same_request words (CheckIt p.command) (CheckIt c) p.asked asks) in
         check-decided c old new status kept ample (subst (λ (d : CheckCommand). AnswersCheck d old new status kept) same p.answers) code
-    | inr (inl p) ↦ let t : LratIt p.command ≡ CheckIt c = same_Some (LratIt p.command) (CheckIt c) (sym p.asked ∙ asks) in cc
-    | inr (inr (inl p)) ↦ absurd (asked words (CheckIt c) asks (inl p.wanted))
-    | inr (inr (inr (inl p))) ↦ absurd (asked words (CheckIt c) asks (inr p.refused))
-    | inr (inr (inr (inr p))) ↦ absurd (omega (arith, code, ends-code _ _ new status p.ends))
+    | inr (inl p) ↦ let t : LratIt p.command ≡ CheckIt c = same_request words (LratIt p.command) (CheckIt c) p.asked asks in cc
+    | inr (inr (inl p)) ↦ let t : SelfIt p.command ≡ CheckIt c = same_request words (SelfIt p.command) (CheckIt c) p.asked asks in cc
+    | inr (inr (inr (inl p))) ↦ absurd (asked words (CheckIt c) asks (inl p.wanted))
+    | inr (inr (inr (inr (inl p)))) ↦ absurd (asked words (CheckIt c) asks (inr p.refused))
+    | inr (inr (inr (inr (inr p)))) ↦ absurd (omega (arith, code, ends-code _ _ new status p.ends))
   ]

@@ -8,3 +8,5 @@ mod VerdictLemmas
 mod WordsLemmas
 mod CompleteLemmas
 mod ProvenLemmas
+mod OwnLemmas
+mod OwnVerdictLemmas

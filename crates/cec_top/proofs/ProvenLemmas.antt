@@ -15,12 +15,12 @@ use Rattle.endings.specs.Stops.{EndsBy, Warns, status_of, stop_line}
 use Rattle.lrat_run.specs.Files.{cnf_fault, proof_fault, clauses_of, clauses_in, cnf_input, proof_input, inputs_of}
 use Rattle.lrat_run.specs.Texts.{verdict_line}
 use Rattle.lrat_run.specs.Answers.{AnswersLrat, Stops}
-use Rattle.command_line.specs.Words.{LratCommand, Request, CheckIt, LratIt, Asks, WantHelp, AreRefused}
+use Rattle.command_line.specs.Words.{LratCommand, Request, CheckIt, LratIt, SelfIt, Asks, WantHelp, AreRefused}
 use Rattle.cec_top.specs.declared.kept.Kept.{Kept}
 use Rattle.cec_top.specs.Answers.{Answers, IsAtOnce}
 use Rattle.cec_top.specs.Complete.{NoFault, IsWithinLimit, CanVerify, HasVerdict}
 use Rattle.cec_top.proofs.CompleteLemmas.{IsExcused, leaves-stops, warned-counts}
-use Rattle.cec_top.proofs.WordsLemmas.{lrat_or}
+use Rattle.cec_top.proofs.WordsLemmas.{lrat_or, same_request}
 
 -- bytes of a file that is there
 there : (P : List ℕ → Type 0) (o : Option (List ℕ)) → IsSomeAnd o P → (bytes : List ℕ) → o ≡ Some bytes → P bytes
@@ -104,13 +104,14 @@ module _ (words : List (List ℕ)) (old new : DeskState) (status : Status) (kept
     (answers : Answers words old new status kept) where
   pub complete-lrat : (c : LratCommand) → Asks words (LratIt c) → CanVerify c old → NoFault old new → HasVerdict status
   complete-lrat c asks can none = elim answers [
-    | inl p ↦ let t : CheckIt p.command ≡ LratIt c = same_Some (CheckIt p.command) (LratIt c) (sym p.asked ∙ asks) in cc
+    | inl p ↦ let t : CheckIt p.command ≡ LratIt c = same_request words (CheckIt p.command) (LratIt c) p.asked asks in cc
     | inr (inl p) ↦
-        let same : p.command ≡ c = ap (lrat_or c) (same_Some (LratIt p.command) (LratIt c) (sym p.asked ∙ asks)) in
+        let same : p.command ≡ c = ap (lrat_or c) (same_request words (LratIt p.command) (LratIt c) p.asked asks) in
         lrat-complete c old can new status none (subst (λ (d : LratCommand). AnswersLrat d.cnf d.proof old new status) same p.answers)
-    | inr (inr (inl p)) ↦ absurd (asked words (LratIt c) asks (inl p.wanted))
-    | inr (inr (inr (inl p))) ↦ absurd (asked words (LratIt c) asks (inr p.refused))
-    | inr (inr (inr (inr p))) ↦ at-once p.ends.stop p.ends.mid p.ends.cause p.ends.warns
+    | inr (inr (inl p)) ↦ let t : SelfIt p.command ≡ LratIt c = same_request words (SelfIt p.command) (LratIt c) p.asked asks in cc
+    | inr (inr (inr (inl p))) ↦ absurd (asked words (LratIt c) asks (inl p.wanted))
+    | inr (inr (inr (inr (inl p)))) ↦ absurd (asked words (LratIt c) asks (inr p.refused))
+    | inr (inr (inr (inr (inr p)))) ↦ at-once p.ends.stop p.ends.mid p.ends.cause p.ends.warns
   ]
     where
       at-once : (stop : Stop) (mid : DeskState) → IsAtOnce old mid stop → Warns (stop_line [] stop) (status_of stop) mid new status → HasVerdict status

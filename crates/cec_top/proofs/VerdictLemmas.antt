@@ -15,16 +15,19 @@ use Rattle.lemma_book.specs.Good.{IsGood, Count}
 use Rattle.lemma_book.specs.Book.{IsLegal}
 use Rattle.lemma_book.proofs.Facts.{legal-last}
 use Rattle.check_session.proofs.Facts.{about-subject}
+use Rattle.lrat_text.specs.declared.step.Line.{Line}
+use Rattle.lrat_text.specs.declared.step.LratStep.{LratStep}
+use Rattle.lrat_text.specs.Writing.{numbered}
 use Rattle.proof_stitch.specs.declared.logs.Span.{Span}
 use Rattle.proof_stitch.specs.Written.{shown_ids}
 use Rattle.proof_stitch.specs.Stitch.{refutation_of}
-use Rattle.proof_stitch.specs.Derivation.{has_spent, spent_log, derivation_of, spans_of, outputs_of, AreSpans}
+use Rattle.proof_stitch.specs.Derivation.{has_spent, spent_log, derivation_of, spans_of, outputs_of, with_ids, AreSpans}
 use Rattle.command_line.specs.Words.{CheckCommand}
 use Rattle.endings.specs.declared.status.Status.{Status}
 use Rattle.endings.specs.Status.{code_of}
 use Rattle.endings.specs.Reading.{after_reads}
 use Rattle.cec_top.specs.declared.kept.Kept.{Kept}
-use Rattle.cec_top.specs.Headline.{SpellPair, IsEquivalent, IsDifferent, IsUndecided, EquivalentFiles, DifferentFiles, UndecidedFiles, SpendsBudget, HasLog, Left, Shows}
+use Rattle.cec_top.specs.Headline.{OfFiles, IsEquivalent, IsDifferent, IsUndecided, AreEquivalent, AreDifferent, AreUndecided, EquivalentFiles, DifferentFiles, UndecidedFiles, SpendsBudget, HasLog, Shows}
 use Rattle.check_session.specs.Finding.{Finding, Equivalent, Different, Undecided, open_outputs}
 use Rattle.check_session.specs.Check.{IsSettled}
 use Rattle.cec_top.specs.Check.{Made, IsMade, IsProof, AreTold, status_of_finding, outputs_of as files_of, proof_bytes, text_of_check, last_finding}
@@ -38,6 +41,11 @@ head-equal x y xs ys e = ap (head_or x) e
     head_or : AigPair → List AigPair → AigPair
     head_or d [] = d
     head_or d (z ∷ zs) = z
+
+-- the steps of numbered lines are those
+steps-numbered : (k : ℕ) (steps : List LratStep) → map (λ (line : Line). line.step) (numbered k steps) ≡ steps
+steps-numbered k [] = refl
+steps-numbered k (step ∷ steps) = ap (λ (ls : List LratStep). step ∷ ls) (steps-numbered (k + 1) steps)
 
 -- ---- the logs of open outputs
 
@@ -107,8 +115,8 @@ module _ (net : AigPair) (book : Entries) (budget : ℕ) (budget_is : book.out_b
   outputs-pass p (s ∷ ss) all (suc k) d below = outputs-pass p ss all.1 k d (omega arith)
 
   -- the lines that are said are the logs
-  pub spans-logs : AreSpans net book.entries (spans_of net book.entries)
-      → All (HasLog net budget (derivation_of net book.entries)) (spans_of net book.entries)
+  spans-logs : AreSpans net book.entries (spans_of net book.entries)
+      → All (HasLog net budget (numbered 1 (derivation_of net book.entries))) (spans_of net book.entries)
   spans-logs are = λ k d below.
       let es = book.entries in
       let span = slice_index_or (spans_of net es) k d in
@@ -120,92 +128,89 @@ module _ (net : AigPair) (book : Entries) (budget : ℕ) (budget_is : book.out_b
         log = spent_log es span.output;
         spends = spends;
         shown = shown_ids net es;
-        there = is.lines;
+        there = ap (with_ids span.first span.last) (steps-numbered 1 (derivation_of net es)) ∙ is.lines;
         whole = is.count ∙ ap (λ (n : ℕ). span.first + n) (spends.good Count ∙ spends.budget_is);
       }
 
 -- ---- each verdict
 
-module _ (c : CheckCommand) (old new : DeskState) (before : Files) (earlier : List ℕ) (told : old.files ≡ Some before) (heard : old.said ≡ Some earlier)
-    (net : AigPair) (book : Entries) (pair : SpellPair c before net) where
+module _ (out : Option (List ℕ)) (net : AigPair) (sweep budget : ℕ) (book : Entries) (before : Files) where
   abbrev made : Finding → Made
   made f = record { net = net; book = book; finding = f }
 
-  abbrev Whole : Finding → Type 0
-  Whole f = new ≡ after_say (after_outputs (after_reads old (inputs_of c)) (files_of c.out 0 (made f))) (text_of_check c.out (made f))
+  abbrev after : Finding → Files
+  after f = left_by out net (proof_bytes (made f)) before
 
-  pub shows-equivalent : (f : Finding) → IsSettled net c.sweep_budget c.budget book f → IsProof net book.entries f → Whole f → code_of (status_of_finding f) ≡ 0
-      → Left (IsEquivalent c) old new before earlier
-  shows-equivalent Equivalent settled proof whole code =
-      left-check c old new before earlier told heard (made Equivalent) pair whole (IsEquivalent c) (record {
-        net = net;
-        pair = pair;
-        agree = settled.means.agree;
-        says = refl;
-        files = go c.out;
-      })
+  abbrev Promises : Finding → (AigPair → Files → Files → List ℕ → Type 0) → Type 0
+  Promises f Holds = Holds net before (after f) (text_of_check out (made f))
+
+  pub are-equivalent : (f : Finding) → IsSettled net sweep budget book f → IsProof net book.entries f → code_of (status_of_finding f) ≡ 0
+      → Promises f (AreEquivalent out)
+  are-equivalent Equivalent settled proof code = record { agree = settled.means.agree; says = refl; files = go out }
     where
-      go : (out : Option (List ℕ)) → EquivalentFiles out net before (left_by out net (proof_bytes (made Equivalent)) before)
+      go : (o : Option (List ℕ)) → EquivalentFiles o net before (left_by o net (proof_bytes (made Equivalent)) before)
       go None = refl
       go (Some prefix) = record {
         proof = proof_bytes (made Equivalent);
         both = leaves-both prefix net (proof_bytes (made Equivalent)) before;
-        refutes = record { lines = refutation_of net book.entries; text = refl; refutes = proof.refutes; exact = settled.means.exact };
+        refutes = record {
+          lines = numbered 1 (refutation_of net book.entries);
+          spells = proof.spells;
+          refutes = proof.refutes;
+          exact = settled.means.exact;
+        };
       }
-  shows-equivalent (Different j input) settled proof whole code = cc
-  shows-equivalent Undecided settled proof whole code = cc
+  are-equivalent (Different j input) settled proof code = cc
+  are-equivalent Undecided settled proof code = cc
 
-  pub shows-different : (f : Finding) → IsSettled net c.sweep_budget c.budget book f → Whole f → code_of (status_of_finding f) ≡ 1 → Left (IsDifferent c) old new before earlier
-  shows-different (Different j input) settled whole code =
-      left-check c old new before earlier told heard (made (Different j input)) pair whole (IsDifferent c) (record {
-        net = net;
-        pair = pair;
-        output = j;
-        within = settled.means.within;
-        input = input;
-        whole = settled.means.apart.whole;
-        apart = settled.means.apart.apart;
-        says = refl;
-        files = go c.out;
-      })
+  pub are-different : (f : Finding) → IsSettled net sweep budget book f → code_of (status_of_finding f) ≡ 1 → Promises f (AreDifferent out)
+  are-different (Different j input) settled code = record {
+    output = j;
+    within = settled.means.within;
+    input = input;
+    whole = settled.means.apart.whole;
+    apart = settled.means.apart.apart;
+    says = refl;
+    files = go out;
+  }
     where
-      go : (out : Option (List ℕ)) → DifferentFiles out net before (left_by out net (proof_bytes (made (Different j input))) before)
+      go : (o : Option (List ℕ)) → DifferentFiles o net before (left_by o net (proof_bytes (made (Different j input))) before)
       go None = refl
       go (Some prefix) = leaves-both prefix net [] before
-  shows-different Equivalent settled whole code = cc
-  shows-different Undecided settled whole code = cc
+  are-different Equivalent settled code = cc
+  are-different Undecided settled code = cc
 
-  pub shows-undecided : (f : Finding) → IsSettled net c.sweep_budget c.budget book f → IsProof net book.entries f → Whole f → code_of (status_of_finding f) ≡ 2
-      → Left (IsUndecided c) old new before earlier
-  shows-undecided Undecided settled proof whole code =
-      left-check c old new before earlier told heard (made Undecided) pair whole (IsUndecided c) (record {
-        net = net;
-        pair = pair;
-        is_open = has_spent book.entries;
-        opens = open_outputs net book.entries;
-        opens_are = refl;
-        some_open = settled.finds.some_open;
-        spent = λ j below has. (spent_log book.entries j, spends-log net book c.budget settled.budget_is settled.legal j has);
-        others = settled.means;
-        files = go c.out;
-      })
+  pub are-undecided : (f : Finding) → IsSettled net sweep budget book f → IsProof net book.entries f → code_of (status_of_finding f) ≡ 2
+      → Promises f (AreUndecided out budget)
+  are-undecided Undecided settled proof code = record {
+    is_open = has_spent book.entries;
+    opens = open_outputs net book.entries;
+    opens_are = refl;
+    some_open = settled.finds.some_open;
+    spent = λ j below has. (spent_log book.entries j, spends-log net book budget settled.budget_is settled.legal j has);
+    others = settled.means;
+    files = go out;
+  }
     where
-      go : (out : Option (List ℕ)) → UndecidedFiles out net c.budget (open_outputs net book.entries) before
-          (left_by out net (proof_bytes (made Undecided)) before) (text_of_check out (made Undecided))
+      logs : All (HasLog net budget (numbered 1 (derivation_of net book.entries))) (spans_of net book.entries)
+      logs = spans-logs net book budget settled.budget_is settled.legal proof.1
+
+      go : (o : Option (List ℕ)) → UndecidedFiles o net budget (open_outputs net book.entries) before
+          (left_by o net (proof_bytes (made Undecided)) before) (text_of_check o (made Undecided))
       go None = (refl, refl)
       go (Some prefix) = record {
         proof = proof_bytes (made Undecided);
         both = leaves-both prefix net (proof_bytes (made Undecided)) before;
-        lines = derivation_of net book.entries;
-        text = refl;
+        lines = numbered 1 (derivation_of net book.entries);
+        spells = proof.0.spells;
         derives = proof.0.derives;
         spans = spans_of net book.entries;
         outputs = proof.1.outputs;
-        logs = spans-logs net book c.budget settled.budget_is settled.legal proof.1;
+        logs = logs;
         says = refl;
       }
-  shows-undecided Equivalent settled proof whole code = cc
-  shows-undecided (Different j input) settled proof whole code = cc
+  are-undecided Equivalent settled proof code = cc
+  are-undecided (Different j input) settled proof code = cc
 
 -- ---- the check that was made
 
@@ -247,20 +252,24 @@ module _ (c : CheckCommand) (old new : DeskState) (status : Status) (kept : List
     | inr p ↦ absurd (omega (arith, below, ends-code _ _ new status p))
   ]
 
+  shows : (Holds : AigPair → Files → Files → List ℕ → Type 0) (code : ℕ) → code_of status ≡ code → code < 4
+      → ((p : IsOnly c old new status kept) (before : Files) → code_of (status_of_finding p.check.finding) ≡ code
+      → Holds p.check.net before (left_by c.out p.check.net (proof_bytes p.check) before) (text_of_check c.out p.check))
+      → Shows (OfFiles c Holds) old new
+  shows Holds code is below holds before earlier told heard =
+      let p = verdict-only (omega (arith, is, below)) in
+      let pair = spells-pair c old before told p.check.net p.reads p.alike in
+      left-check c old new before earlier told heard p.check pair p.whole (OfFiles c Holds)
+      (record { net = p.check.net; pair = pair; holds = holds p before (ap code_of p.status_is ∙ is) })
+
   pub equivalent : code_of status ≡ 0 → Shows (IsEquivalent c) old new
-  equivalent code before earlier told heard =
-      let p = verdict-only (omega (arith, code)) in
-      shows-equivalent c old new before earlier told heard p.check.net p.check.book (spells-pair c old before told p.check.net p.reads p.alike)
-      p.check.finding p.is_made.settled p.is_made.proof p.whole (ap code_of p.status_is ∙ code)
+  equivalent is = shows (AreEquivalent c.out) 0 is (omega arith)
+      (λ p before code. are-equivalent c.out p.check.net c.sweep_budget c.budget p.check.book before p.check.finding p.is_made.settled p.is_made.proof code)
 
   pub different : code_of status ≡ 1 → Shows (IsDifferent c) old new
-  different code before earlier told heard =
-      let p = verdict-only (omega (arith, code)) in
-      shows-different c old new before earlier told heard p.check.net p.check.book (spells-pair c old before told p.check.net p.reads p.alike)
-      p.check.finding p.is_made.settled p.whole (ap code_of p.status_is ∙ code)
+  different is = shows (AreDifferent c.out) 1 is (omega arith)
+      (λ p before code. are-different c.out p.check.net c.sweep_budget c.budget p.check.book before p.check.finding p.is_made.settled code)
 
   pub undecided : code_of status ≡ 2 → Shows (IsUndecided c) old new
-  undecided code before earlier told heard =
-      let p = verdict-only (omega (arith, code)) in
-      shows-undecided c old new before earlier told heard p.check.net p.check.book (spells-pair c old before told p.check.net p.reads p.alike)
-      p.check.finding p.is_made.settled p.is_made.proof p.whole (ap code_of p.status_is ∙ code)
+  undecided is = shows (AreUndecided c.out c.budget) 2 is (omega arith)
+      (λ p before code. are-undecided c.out p.check.net c.sweep_budget c.budget p.check.book before p.check.finding p.is_made.settled p.is_made.proof code)

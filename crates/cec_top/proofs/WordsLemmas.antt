@@ -1,27 +1,44 @@
--- What the program answers to arguments that ask for a check, or for the check of a proof.
-use Rattle.std.proofs.Common.{◌≡◌, ℕ, ◌<◌, inl, inr, List, Some, Option, refl, sym, ap, ◌∙◌, subst, arith}
+-- What the program answers to arguments that ask for a check, of files or of its own, or for the check of a proof.
+use Rattle.std.proofs.Common.{◌≡◌, ℕ, ◌<◌, inl, inr, List, [], Some, Option, refl, sym, ap, ◌∙◌, subst, arith}
 use Rattle.std.specs.Prelude.{◌⊎◌, IfSome, IsSomeAnd, codes, option_map, ◌++◌}
 use Rattle.std.proofs.lemmas.Option.{same_Some}
 use Rattle.desk_port.specs.Desk.{Files, DeskState}
 use Rattle.endings.specs.declared.status.Status.{Status}
 use Rattle.endings.specs.declared.status.Status.TheVariants as ends
 use Rattle.endings.specs.Status.{code_of}
+use Rattle.endings.specs.Stops.{EndsBy}
 use Rattle.lrat_run.specs.Answers.{AnswersLrat}
 use Rattle.endings.specs.Reading.{FileIs}
-use Rattle.command_line.specs.Words.{CheckCommand, LratCommand, Request, CheckIt, LratIt, Asks, WantHelp, AreRefused}
+use Rattle.command_line.specs.Words.{CheckCommand, LratCommand, SelfCommand, Request, CheckIt, LratIt, SelfIt, Asks, WantHelp, AreRefused, Outcome, Requested, NamesNoKind}
 use Rattle.cec_top.specs.declared.kept.Kept.{Kept}
 use Rattle.cec_top.specs.Headline.{IsVerified, Shows}
-use Rattle.cec_top.specs.Answers.{Answers, AnswersCheck}
+use Rattle.cec_top.specs.Answers.{Answers, AnswersCheck, IsAtOnce}
+use Rattle.cec_top.specs.SelfCheck.{AnswersSelf}
 use Rattle.cec_top.proofs.HeadlineLemmas.{ends-code}
+
+abbrev request_or : Request → Outcome → Request
+request_or d (Requested r) = r
+request_or d (NamesNoKind word) = d
+
+-- words ask for one thing at most
+pub same_request : (words : List (List ℕ)) (x y : Request) → Asks words x → Asks words y → x ≡ y
+same_request words x y p q = ap (request_or x) (same_Some (Requested x) (Requested y) (sym p ∙ q))
 
 -- the command of a request, where it asks for a check
 abbrev pub check_or : CheckCommand → Request → CheckCommand
 check_or d (CheckIt c) = c
 check_or d (LratIt c) = d
+check_or d (SelfIt c) = d
 
 abbrev pub lrat_or : LratCommand → Request → LratCommand
 lrat_or d (CheckIt c) = d
 lrat_or d (LratIt c) = c
+lrat_or d (SelfIt c) = d
+
+abbrev pub self_or : SelfCommand → Request → SelfCommand
+self_or d (CheckIt c) = d
+self_or d (LratIt c) = d
+self_or d (SelfIt c) = c
 
 module _ (words : List (List ℕ)) (old new : DeskState) (status : Status) (kept : List Kept)
     (asked : (words : List (List ℕ)) (r : Request) → Asks words r → ¬ (WantHelp words ⊎ AreRefused words))
@@ -29,24 +46,42 @@ module _ (words : List (List ℕ)) (old new : DeskState) (status : Status) (kept
   pub answers-check : (c : CheckCommand) → Asks words (CheckIt c) → code_of status < 4 → AnswersCheck c old new status kept
   answers-check c asks below = elim answers [
     | inl p ↦
-        let same : p.command ≡ c = ap (check_or c) (same_Some (CheckIt p.command) (CheckIt c) (sym p.asked ∙ asks)) in
+        let same : p.command ≡ c = ap (check_or c) (same_request words (CheckIt p.command) (CheckIt c) p.asked asks) in
         subst (λ (d : CheckCommand). AnswersCheck d old new status kept) same p.answers
-    | inr (inl p) ↦ let t : LratIt p.command ≡ CheckIt c = same_Some (LratIt p.command) (CheckIt c) (sym p.asked ∙ asks) in cc
-    | inr (inr (inl p)) ↦ absurd (asked words (CheckIt c) asks (inl p.wanted))
-    | inr (inr (inr (inl p))) ↦ absurd (asked words (CheckIt c) asks (inr p.refused))
-    | inr (inr (inr (inr p))) ↦ absurd (omega (arith, below, ends-code _ _ new status p.ends))
+    | inr (inl p) ↦ let t : LratIt p.command ≡ CheckIt c = same_request words (LratIt p.command) (CheckIt c) p.asked asks in cc
+    | inr (inr (inl p)) ↦ let t : SelfIt p.command ≡ CheckIt c = same_request words (SelfIt p.command) (CheckIt c) p.asked asks in cc
+    | inr (inr (inr (inl p))) ↦ absurd (asked words (CheckIt c) asks (inl p.wanted))
+    | inr (inr (inr (inr (inl p)))) ↦ absurd (asked words (CheckIt c) asks (inr p.refused))
+    | inr (inr (inr (inr (inr p)))) ↦ absurd (omega (arith, below, ends-code _ _ new status p.ends))
   ]
 
   pub answers-lrat : (c : LratCommand) → Asks words (LratIt c) → code_of status < 4 → AnswersLrat c.cnf c.proof old new status
   answers-lrat c asks below = elim answers [
-    | inl p ↦ let t : CheckIt p.command ≡ LratIt c = same_Some (CheckIt p.command) (LratIt c) (sym p.asked ∙ asks) in cc
+    | inl p ↦ let t : CheckIt p.command ≡ LratIt c = same_request words (CheckIt p.command) (LratIt c) p.asked asks in cc
     | inr (inl p) ↦
-        let same : p.command ≡ c = ap (lrat_or c) (same_Some (LratIt p.command) (LratIt c) (sym p.asked ∙ asks)) in
+        let same : p.command ≡ c = ap (lrat_or c) (same_request words (LratIt p.command) (LratIt c) p.asked asks) in
         subst (λ (d : LratCommand). AnswersLrat d.cnf d.proof old new status) same p.answers
-    | inr (inr (inl p)) ↦ absurd (asked words (LratIt c) asks (inl p.wanted))
-    | inr (inr (inr (inl p))) ↦ absurd (asked words (LratIt c) asks (inr p.refused))
-    | inr (inr (inr (inr p))) ↦ absurd (omega (arith, below, ends-code _ _ new status p.ends))
+    | inr (inr (inl p)) ↦ let t : SelfIt p.command ≡ LratIt c = same_request words (SelfIt p.command) (LratIt c) p.asked asks in cc
+    | inr (inr (inr (inl p))) ↦ absurd (asked words (LratIt c) asks (inl p.wanted))
+    | inr (inr (inr (inr (inl p)))) ↦ absurd (asked words (LratIt c) asks (inr p.refused))
+    | inr (inr (inr (inr (inr p)))) ↦ absurd (omega (arith, below, ends-code _ _ new status p.ends))
   ]
+
+-- the same of arguments that ask for a check of circuits that the program makes, whatever the status
+pub answers-self : (words : List (List ℕ)) (old new : DeskState) (status : Status) (kept : List Kept)
+    → ((words : List (List ℕ)) (r : Request) → Asks words r → ¬ (WantHelp words ⊎ AreRefused words))
+    → Answers words old new status kept → (c : SelfCommand) → Asks words (SelfIt c)
+    → AnswersSelf c old new status kept ⊎ EndsBy [] (IsAtOnce old) new status
+answers-self words old new status kept asked answers c asks = elim answers [
+  | inl p ↦ let t : CheckIt p.command ≡ SelfIt c = same_request words (CheckIt p.command) (SelfIt c) p.asked asks in cc
+  | inr (inl p) ↦ let t : LratIt p.command ≡ SelfIt c = same_request words (LratIt p.command) (SelfIt c) p.asked asks in cc
+  | inr (inr (inl p)) ↦
+      let same : p.command ≡ c = ap (self_or c) (same_request words (SelfIt p.command) (SelfIt c) p.asked asks) in
+      inl (subst (λ (d : SelfCommand). AnswersSelf d old new status kept) same p.answers)
+  | inr (inr (inr (inl p))) ↦ absurd (asked words (SelfIt c) asks (inl p.wanted))
+  | inr (inr (inr (inr (inl p)))) ↦ absurd (asked words (SelfIt c) asks (inr p.refused))
+  | inr (inr (inr (inr (inr p)))) ↦ inr p.ends
+]
 
 -- the named file holds bytes of which the fact holds
 file-has : (s : DeskState) (files : Files) → s.files ≡ Some files → (name bytes : List ℕ) (P : List ℕ → Type 0) → FileIs s name bytes → P bytes

@@ -7,7 +7,7 @@ use Rattle.netlist.specs.Unlike.{unlike_of}
 use Rattle.byte_scan.specs.declared.errors.AigerErr.{AigerErr}
 use Rattle.netlist.specs.Circuit.{Aig}
 use Rattle.aiger_file.specs.File.{aiger_in, SpellsAiger}
-use Rattle.command_line.specs.Words.{CheckCommand, LratCommand, CheckIt, LratIt, Asks, WantHelp, AreRefused, names_help}
+use Rattle.command_line.specs.Words.{CheckCommand, LratCommand, SelfCommand, CheckIt, LratIt, SelfIt, Asks, WantHelp, AreRefused, names_help}
 use Rattle.command_line.specs.Answers.{no_help_text}
 use Rattle.endings.specs.Reading.{Input, AreRead, ReadsUpTo, after_reads}
 use Rattle.endings.specs.Writing.{Says}
@@ -19,7 +19,8 @@ use Rattle.endings.specs.declared.stop.Stop.TheVariants.{NotAlike, OutOfMemory}
 use Rattle.lrat_run.specs.Answers.{AnswersLrat}
 use Rattle.cec_top.specs.declared.kept.Kept.{Kept}
 use Rattle.cec_top.specs.Lines.{aiger_text, unlike_text}
-use Rattle.cec_top.specs.Check.{Made, IsMade, Tells, AreTold, status_of_finding, last_finding, kept_from, AreSome}
+use Rattle.cec_top.specs.Check.{Made, IsMade, Tells, AreTold, status_of_finding, last_finding, kept_from, AreSome, KeepsOn}
+use Rattle.cec_top.specs.SelfCheck.{AnswersSelf}
 
 -- ---- a check
 
@@ -81,11 +82,6 @@ pub record AreUnlike (c : CheckCommand) (old new : DeskState) (stop : Stop) : Ty
   pub stop_is : NamesUnlike unlike stop
   pub new_is : new ≡ after_reads old (inputs_of c)
 
--- the books that are handed back where a check breaks off: all where it couldn't write, some where memory ran out
-abbrev pub KeepsOn : Stop → List Kept → List Kept → Type 0
-KeepsOn OutOfMemory kept all = AreSome kept all
-KeepsOn stop kept all = kept ≡ all
-
 -- some checks are told whole, and the next one has its verdict and is told in part
 pub record BreaksOff (c : CheckCommand) (old new : DeskState) (kept : List Kept) (stop : Stop) : Type 0 where
   pub made : List Made
@@ -132,6 +128,12 @@ pub record ProvesWords (words : List (List ℕ)) (old new : DeskState) (status :
   pub none : kept ≡ []
   pub answers : AnswersLrat command.cnf command.proof old new status
 
+-- they ask for the check of two circuits that the program makes
+pub record MakesWords (words : List (List ℕ)) (old new : DeskState) (status : Status) (kept : List Kept) : Type 0 where
+  pub command : SelfCommand
+  pub asked : Asks words (SelfIt command)
+  pub answers : AnswersSelf command old new status kept
+
 -- the text is said; or saying it ends the program
 abbrev pub SaysHelp : List ℕ → DeskState → DeskState → Status → Type 0
 SaysHelp text old new status =
@@ -160,12 +162,14 @@ pub record KnowsNothing (old new : DeskState) (status : Status) (kept : List Kep
   pub none : kept ≡ []
   pub ends : EndsBy [] (IsAtOnce old) new status
 
--- What the program answers to its arguments. They ask for a check or for a proof to be checked, or want help, or are refused,
--- and only one of these (`command_line::words_are_one_of`); or memory ran out before it was known which.
+-- What the program answers to its arguments. They ask for a check, of files or of circuits that the program makes, or for a
+-- proof to be checked, or want help, or are refused, and only one of these (`command_line::words_are_one_of`); or memory ran
+-- out before it was known which.
 abbrev pub Answers : List (List ℕ) → DeskState → DeskState → Status → List Kept → Type 0
 Answers words old new status kept =
     ChecksWords words old new status kept
     ⊎ ProvesWords words old new status kept
+    ⊎ MakesWords words old new status kept
     ⊎ HelpsWords words old new status kept
     ⊎ RefusesWords words old new status kept
     ⊎ KnowsNothing old new status kept

@@ -4,6 +4,7 @@ use Rattle.desk_port.specs.Desk.{DeskState}
 use Rattle.endings.specs.Writing.{Output, Leaves}
 use Rattle.endings.specs.declared.status.Status.{Status}
 use Rattle.endings.specs.declared.stop.Stop.{Stop}
+use Rattle.endings.specs.declared.stop.Stop.TheVariants.{OutOfMemory}
 use Rattle.endings.specs.declared.status.Status.TheVariants.{Done, No, Undecided as Open}
 use Rattle.netlist.specs.Net.{AigPair}
 use Rattle.lrat_text.specs.declared.step.LratStep.{LratStep}
@@ -116,3 +117,8 @@ abbrev pub AreSome : List Kept → List Kept → Type 0
 AreSome [] ks = Unit {0}
 AreSome (j ∷ js) [] = ⊥
 AreSome (j ∷ js) (k ∷ ks) = ((j ≡ k) × AreSome js ks) ⊎ AreSome (j ∷ js) ks
+
+-- the books that are handed back where a check breaks off: all where it couldn't write, some where memory ran out
+abbrev pub KeepsOn : Stop → List Kept → List Kept → Type 0
+KeepsOn OutOfMemory kept all = AreSome kept all
+KeepsOn stop kept all = kept ≡ all

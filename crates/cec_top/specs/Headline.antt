@@ -19,16 +19,15 @@ use Rattle.lemma_book.specs.Good.{IsGood}
 use Rattle.lemma_book.specs.Book.{IsLegal}
 use Rattle.lemma_book.specs.Agreement.{IsSame}
 use Rattle.lrat_text.specs.declared.step.Line.{Line}
-use Rattle.lrat_text.specs.declared.step.LratStep.{LratStep}
 use Rattle.lrat_text.specs.Reading.{SpellsLrat}
-use Rattle.lrat_text.specs.Writing.{text_from, numbered}
 use Rattle.lrat_text.specs.Derivation.{Derives, Refutes}
 use Rattle.proof_stitch.specs.Steps.{additions_from}
 use Rattle.proof_stitch.specs.Derivation.{with_ids}
 use Rattle.proof_stitch.specs.declared.logs.Span.{Span}
-use Rattle.command_line.specs.Words.{CheckCommand, LratCommand}
+use Rattle.command_line.specs.Words.{CheckCommand, LratCommand, SelfCommand}
+use Rattle.workload_gen.specs.Workload.{first_bytes, second_bytes}
 use Rattle.cec_top.specs.Names.{cnf_name, proof_name}
-use Rattle.cec_top.specs.Texts.{different_text, open_text, open_text_with}
+use Rattle.cec_top.specs.Texts.{different_text, open_text, open_text_with, workload_text}
 
 -- ---- EQUIVALENT
 
@@ -43,6 +42,12 @@ pub record SpellPair (c : CheckCommand) (before : Files) (net : AigPair) : Type 
   pub inputs : length net.a.inputs ≡ length net.b.inputs
   pub outputs : length net.a.outputs ≡ length net.b.outputs
 
+-- the named files spell two circuits of which this holds
+pub record OfFiles (c : CheckCommand) (Holds : AigPair → Files → Files → List ℕ → Type 0) (before after : Files) (said : List ℕ) : Type 0 where
+  pub net : AigPair
+  pub pair : SpellPair c before net
+  pub holds : Holds net before after said
+
 -- the CNF of the circuits' miter
 unfoldable pub cnf_text_of : AigPair → List ℕ
 cnf_text_of net = cnf_text (length (variables_of net)) (miter_of net)
@@ -53,11 +58,11 @@ pub record LeavesBoth (prefix : List ℕ) (net : AigPair) (proof : List ℕ) (be
   pub proof_is : after (proof_name prefix 0) ≡ Some proof
   pub others : (q : List ℕ) → q ≢ cnf_name prefix 0 → q ≢ proof_name prefix 0 → after q ≡ before q
 
--- the bytes are the text of lines that refute the CNF, which has a model exactly if the circuits differ on some input
+-- the bytes spell lines that refute the CNF, which has a model exactly if the circuits differ on some input
 pub record RefutesMiter (net : AigPair) (bytes : List ℕ) : Type 0 where
-  pub lines : List LratStep
-  pub text : bytes ≡ text_from (length (miter_of net)) lines
-  pub refutes : Refutes (miter_of net) (numbered 1 lines)
+  pub lines : List Line
+  pub spells : SpellsLrat (length (miter_of net)) bytes lines
+  pub refutes : Refutes (miter_of net) lines
   pub exact : IsSatisfiable opposite_dim (miter_of net) ↔ Differ net
 
 -- the files of EQUIVALENT under a prefix
@@ -71,13 +76,15 @@ abbrev pub EquivalentFiles : Option (List ℕ) → AigPair → Files → Files �
 EquivalentFiles None net before after = after ≡ before
 EquivalentFiles (Some prefix) net before after = LeavesRefutation prefix net before after
 
--- EQUIVALENT: the files spell two circuits that agree on every input
-pub record IsEquivalent (c : CheckCommand) (before after : Files) (said : List ℕ) : Type 0 where
-  pub net : AigPair
-  pub pair : SpellPair c before net
+-- the circuits agree on every input
+pub record AreEquivalent (out : Option (List ℕ)) (net : AigPair) (before after : Files) (said : List ℕ) : Type 0 where
   pub agree : Agree net
   pub says : said ≡ codes "EQUIVALENT\n"
-  pub files : EquivalentFiles c.out net before after
+  pub files : EquivalentFiles out net before after
+
+-- EQUIVALENT: the files spell two such circuits
+abbrev pub IsEquivalent : CheckCommand → Files → Files → List ℕ → Type 0
+IsEquivalent c = OfFiles c (AreEquivalent c.out)
 
 -- ---- DIFFERENT
 
@@ -85,17 +92,19 @@ abbrev pub DifferentFiles : Option (List ℕ) → AigPair → Files → Files �
 DifferentFiles None net before after = after ≡ before
 DifferentFiles (Some prefix) net before after = LeavesBoth prefix net [] before after
 
--- DIFFERENT: they spell two circuits of which the output that is said differs on the input that is said
-pub record IsDifferent (c : CheckCommand) (before after : Files) (said : List ℕ) : Type 0 where
-  pub net : AigPair
-  pub pair : SpellPair c before net
+-- the output that is said differs on the input that is said
+pub record AreDifferent (out : Option (List ℕ)) (net : AigPair) (before after : Files) (said : List ℕ) : Type 0 where
   pub output : ℕ
   pub within : output < length net.a.outputs
   pub input : List Bool
   pub whole : length input ≡ length net.a.inputs
   pub apart : output_value net.a input output ≢ output_value net.b input output
   pub says : said ≡ different_text output input
-  pub files : DifferentFiles c.out net before after
+  pub files : DifferentFiles out net before after
+
+-- DIFFERENT: the files spell two such circuits
+abbrev pub IsDifferent : CheckCommand → Files → Files → List ℕ → Type 0
+IsDifferent c = OfFiles c (AreDifferent c.out)
 
 -- ---- UNDECIDED
 
@@ -110,20 +119,21 @@ pub record SpendsBudget (net : AigPair) (budget j : ℕ) (log : List Step) : Typ
 
 -- the lines with the ids from the first to the last are the additions of such a log, which cites entries by the ids of the
 -- clauses that these show
-pub record HasLog (net : AigPair) (budget : ℕ) (lines : List LratStep) (s : Span) : Type 0 where
+pub record HasLog (net : AigPair) (budget : ℕ) (lines : List Line) (s : Span) : Type 0 where
   pub log : List Step
   pub spends : SpendsBudget net budget s.output log
   pub shown : List ℕ
-  pub there : with_ids s.first s.last lines ≡ additions_from net shown s.first s.first log
+  pub there : with_ids s.first s.last (map (λ line. line.step) lines) ≡ additions_from net shown s.first s.first log
   pub whole : s.last + 1 ≡ s.first + budget
 
--- the files of UNDECIDED under a prefix: the proof's lines derive from the CNF, the logs among them stand where it is said
+-- the files of UNDECIDED under a prefix: the proof spells lines that derive from the CNF, and the logs among them stand where
+-- it is said
 pub record LeavesDerivation (prefix : List ℕ) (net : AigPair) (budget : ℕ) (opens : List ℕ) (before after : Files) (said : List ℕ) : Type 0 where
   pub proof : List ℕ
   pub both : LeavesBoth prefix net proof before after
-  pub lines : List LratStep
-  pub text : proof ≡ text_from (length (miter_of net)) lines
-  pub derives : Derives (miter_of net) (numbered 1 lines)
+  pub lines : List Line
+  pub spells : SpellsLrat (length (miter_of net)) proof lines
+  pub derives : Derives (miter_of net) lines
   pub spans : List Span
   pub outputs : map (λ s. s.output) spans ≡ opens
   pub logs : All (HasLog net budget lines) spans
@@ -133,18 +143,31 @@ abbrev pub UndecidedFiles : Option (List ℕ) → AigPair → ℕ → List ℕ �
 UndecidedFiles None net budget opens before after said = (after ≡ before) × (said ≡ open_text opens)
 UndecidedFiles (Some prefix) net budget opens before after said = LeavesDerivation prefix net budget opens before after said
 
--- UNDECIDED: they spell two circuits; for each output that is said a query spent its whole budget, and each other output has
--- one value in both circuits
-pub record IsUndecided (c : CheckCommand) (before after : Files) (said : List ℕ) : Type 0 where
-  pub net : AigPair
-  pub pair : SpellPair c before net
+-- for each output that is said a query spent its whole budget, and each other output has one value in both circuits
+pub record AreUndecided (out : Option (List ℕ)) (budget : ℕ) (net : AigPair) (before after : Files) (said : List ℕ) : Type 0 where
   pub is_open : ℕ → Bool
   pub opens : List ℕ
   pub opens_are : opens ≡ filter is_open (range_with_len 0 (length net.a.outputs))
   pub some_open : opens ≢ []
-  pub spent : (j : ℕ) → j < length net.a.outputs → is_open j ≡ true → (log : List Step) × SpendsBudget net c.budget j log
+  pub spent : (j : ℕ) → j < length net.a.outputs → is_open j ≡ true → (log : List Step) × SpendsBudget net budget j log
   pub others : (j : ℕ) → j < length net.a.outputs → is_open j ≡ false → IsSame net j
-  pub files : UndecidedFiles c.out net c.budget opens before after said
+  pub files : UndecidedFiles out net budget opens before after said
+
+-- UNDECIDED: the files spell two such circuits
+abbrev pub IsUndecided : CheckCommand → Files → Files → List ℕ → Type 0
+IsUndecided c = OfFiles c (AreUndecided c.out c.budget)
+
+-- ---- the same of two circuits that the program makes
+
+-- the circuits are those that the generator's bytes spell, and of them this holds, with what is said behind the lines that
+-- tell of them
+pub record OfWorkload (c : SelfCommand) (Holds : AigPair → Files → Files → List ℕ → Type 0) (before after : Files) (said : List ℕ) : Type 0 where
+  pub net : AigPair
+  pub spells_a : SpellsAiger (first_bytes c.kind c.n) net.a
+  pub spells_b : SpellsAiger (second_bytes c.kind c.n) net.b
+  pub verdict : List ℕ
+  pub says : said ≡ workload_text c net ++ verdict
+  pub holds : Holds net before after verdict
 
 -- ---- VERIFIED
 

@@ -2,7 +2,9 @@
 use Rattle.std.specs.Prelude.{◌≡◌, ◌⊎◌, ℕ, List, [], ◌∷◌, Option, None, Some, Result, Ok, Err, string_bytes}
 use Rattle.std.specs.Global.{Vec}
 use Rattle.desk_port.specs.Desk.{DeskState}
+use Rattle.netlist.specs.Circuit.{Aig}
 use Rattle.netlist.specs.Net.{AigPair}
+use Rattle.aiger_file.specs.File.{SpellsAiger}
 use Rattle.netlist.specs.Unlike.{unlike_of}
 use Rattle.lemma_book.specs.declared.entry.Entry.{Entry}
 use Rattle.lemma_book.specs.Book.{IsLegal}
@@ -11,12 +13,13 @@ use Rattle.proof_stitch.specs.declared.logs.Span.{Span}
 use Rattle.endings.specs.Reading.{ReadsUpTo, after_reads}
 use Rattle.endings.specs.Writing.{Output, Leaves, after_file}
 use Rattle.endings.specs.declared.stop.Stop.{Stop}
+use Rattle.endings.specs.declared.stop.Stop.TheVariants.{OutOfMemory}
 use Rattle.endings.specs.Stops.{EndsBy, Warns}
 use Rattle.endings.specs.declared.status.Status.{Status}
 use Rattle.endings.specs.declared.status.Status.TheVariants as ends
 use Rattle.command_line.specs.declared.reading.Refusal.{Refusal}
 use Rattle.command_line.specs.declared.reading.Refusal.TheVariants.{Help, Usage, NoMemory}
-use Rattle.command_line.specs.Words.{CheckCommand}
+use Rattle.command_line.specs.Words.{CheckCommand, SelfCommand}
 use Rattle.check_session.specs.declared.options.Options.{Options}
 use Rattle.check_session.specs.declared.verdict.Verdict.{Verdict}
 use Rattle.check_session.specs.declared.verdict.Verdict.TheVariants as verdict
@@ -24,7 +27,9 @@ use Rattle.check_session.specs.Finding.{Finding, Equivalent, Different, Undecide
 use Rattle.check_session.specs.Outputs.{ListsOpen, finding_of}
 use Rattle.check_session.specs.Check.{State}
 use Rattle.cec_top.specs.declared.settled.Settled.{Settled}
-use Rattle.cec_top.specs.Check.{Made}
+use Rattle.cec_top.specs.declared.kept.Kept.{Kept}
+use Rattle.cec_top.specs.Check.{Made, IsMade, Tells, status_of_finding, kept_from, KeepsOn}
+use Rattle.cec_top.specs.SelfCheck.{AreWorkload, own_check}
 use Rattle.cec_top.specs.Answers.{ReadsCircuits, AreUnlike, SaysHelp, IsAtOnce, inputs_of}
 
 -- ---- the pair is read
@@ -91,3 +96,44 @@ after_outputs s (o ∷ os) = after_outputs (after_file s o) os
 abbrev pub LeavesFiles : List Output → List ℕ → DeskState → DeskState → Result (Vec ℕ) Stop → Type 0
 LeavesFiles outputs text old new (Ok said) = (said.items ≡ text) × (new ≡ after_outputs old outputs)
 LeavesFiles outputs text old new (Err stop) = (any : List ℕ) → Leaves outputs any old new (Err stop)
+
+-- ---- a check of a session
+
+-- the check of these circuits is made and told whole
+pub record ToldWhole (c : CheckCommand) (net : AigPair) (old new : DeskState) (kept : List Kept) (status : Status) : Type 0 where
+  pub made : Made
+  pub same : made.net ≡ net
+  pub is_made : IsMade c made
+  pub told : Tells c 0 made old new (Ok tt)
+  pub status_is : status ≡ status_of_finding made.finding
+  pub keeps : kept ≡ kept_from 0 (made ∷ [])
+
+-- it has its verdict, and is told in part
+pub record ToldInPart (c : CheckCommand) (net : AigPair) (old new : DeskState) (kept : List Kept) (stop : Stop) : Type 0 where
+  pub half : Made
+  pub same : half.net ≡ net
+  pub is_made : IsMade c half
+  pub breaks : Tells c 0 half old new (Err stop)
+  pub keeps : KeepsOn stop kept (kept_from 0 (half ∷ []))
+
+-- memory runs out before it has its verdict
+pub record NotMade (old new : DeskState) (kept : List Kept) (stop : Stop) : Type 0 where
+  pub out : stop ≡ OutOfMemory
+  pub at : new ≡ old
+  pub none : kept ≡ []
+
+abbrev pub Settles : CheckCommand → AigPair → DeskState → DeskState → List Kept → Result Status Stop → Type 0
+Settles c net old new kept (Ok status) = ToldWhole c net old new kept status
+Settles c net old new kept (Err stop) = ToldInPart c net old new kept stop ⊎ NotMade old new kept stop
+
+-- ---- circuits that the program makes
+
+-- a session for them, without an option; or memory runs out
+abbrev pub MakesSession : SelfCommand → Result State Stop → Type 0
+MakesSession c (Ok s) = AreWorkload c s.net × (s.options ≡ options_of own_check)
+MakesSession c (Err stop) = stop ≡ OutOfMemory
+
+-- bytes that spell a circuit are read as it; or memory runs out
+abbrev pub ReadsBack : List ℕ → Result Aig Stop → Type 0
+ReadsBack bytes (Ok c) = SpellsAiger bytes c
+ReadsBack bytes (Err stop) = stop ≡ OutOfMemory

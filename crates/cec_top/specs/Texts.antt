@@ -1,7 +1,10 @@
 -- What the program says of a check.
-use Rattle.std.specs.Prelude.{ℕ, Bool, List, [], ◌∷◌, ◌++◌, map, codes, decimal, if◌then◌else◌}
+use Rattle.std.specs.Prelude.{ℕ, Bool, List, [], ◌∷◌, ◌++◌, length, map, codes, decimal, if◌then◌else◌}
 use Rattle.std.specs.List.{flat_map}
+use Rattle.netlist.specs.Net.{AigPair}
 use Rattle.proof_stitch.specs.declared.logs.Span.{Span}
+use Rattle.command_line.specs.Words.{SelfCommand}
+use Rattle.command_line.specs.Plain.{kind_name}
 
 -- an input's truth value as a digit
 abbrev pub digit_of : Bool → ℕ
@@ -31,3 +34,10 @@ open_text outputs = codes "UNDECIDED\n" ++ flat_map output_line outputs
 
 unfoldable pub open_text_with : List Span → List ℕ
 open_text_with spans = codes "UNDECIDED\n" ++ flat_map span_line spans
+
+-- what is said of two circuits that the program makes: what they compute of how many bits, and how many gates either has and
+-- how many outputs both have
+unfoldable pub workload_text : SelfCommand → AigPair → List ℕ
+workload_text c net =
+    codes "kind " ++ kind_name c.kind ++ codes " n " ++ decimal c.n ++ codes "\ngates " ++ decimal (length net.a.gates)
+    ++ codes " " ++ decimal (length net.b.gates) ++ codes "\noutputs " ++ decimal (length net.a.outputs) ++ codes "\n"

@@ -3,7 +3,7 @@ ghost use Rattle.check_session.specs.Outputs.{finding_of};
 ghost use Rattle.command_line.specs.Answers.{check_texts};
 ghost use Rattle.cec_top.specs.Answers.{Ends, Stops};
 ghost use Rattle.cec_top.specs.Check.{Tells, outputs_of, status_of_finding, text_of_check};
-ghost use Rattle.cec_top.specs.Steps.{HasBook, IsTold, LeavesFiles, made_of};
+ghost use Rattle.cec_top.specs.Steps.{HasBook, IsTold, LeavesFiles, Settles, made_of, options_of};
 
 use crate::content::{Miter, Proof};
 use crate::kept::Kept;
@@ -11,7 +11,7 @@ use crate::laws::proves;
 use crate::reading::read_session;
 use crate::settled::Settled;
 use crate::texts::{plain_text, text_with_lines};
-use check_session::Verdict;
+use check_session::{Session, Verdict};
 use command_line::CheckWords;
 use desk_port::Desk;
 use endings::{Status, Stop, say, write_file};
@@ -69,8 +69,7 @@ fn tell<D: Desk>(
     say(desk, text.as_slice())
 }
 
-/// Reads the pair, settles it, leaves the files and says the verdict. The book of a check that has a
-/// verdict is kept.
+/// Reads the pair, settles it, leaves the files and says the verdict.
 pub(crate) fn check<D: Desk>(
     alloc: Global,
     desk: &mut D,
@@ -84,7 +83,26 @@ pub(crate) fn check<D: Desk>(
     ensures err { IfErr result
         (Stops (check_texts words.entry) (D.state desk.old) kept.new.items (D.state desk.new)) }
 {
-    let mut session = read_session(alloc, desk, words)?;
+    let session = read_session(alloc, desk, words)?;
+    settle(alloc, desk, words, session, kept)
+}
+
+/// Settles the pair of a session, leaves the files and says the verdict. The book of a check that has a
+/// verdict is kept.
+pub(crate) fn settle<D: Desk>(
+    alloc: Global,
+    desk: &mut D,
+    words: CheckWords<'_>,
+    session: Session,
+    kept: &mut Vec<Kept>,
+) -> Result<Status, Stop>
+    requires started { (D.state desk.old).started ≡ None }
+    requires empty { kept.old.items ≡ [] }
+    requires options { session.options ≡ options_of (check_texts words) }
+    ensures { Settles (check_texts words.entry) session.net (D.state desk.old) (D.state desk.new)
+        kept.new.items result }
+{
+    let mut session = session;
     kept.reserve(1)?;
     let verdict = session.check(alloc)?;
     proves(session.net(), session.book());

@@ -3,7 +3,7 @@ ghost use Rattle.std.specs.Prelude.{◌≡◌, ◌≢◌, ◌⊎◌, ◌≤◌, 
 ghost use Rattle.desk_port.specs.Desk.{DeskState};
 ghost use Rattle.endings.specs.Status.{code_of};
 ghost use Rattle.endings.specs.declared.status.Status.{Status};
-ghost use Rattle.command_line.specs.Words.{CheckCommand, LratCommand, CheckIt, LratIt, Asks};
+ghost use Rattle.command_line.specs.Words.{CheckCommand, LratCommand, SelfCommand, CheckIt, LratIt, SelfIt, Asks};
 ghost use Rattle.lemma_book.specs.Book.{IsLegal};
 ghost use Rattle.check_session.specs.Finding.{Finding, Finds};
 ghost use Rattle.cec_top.specs.declared.kept.Kept.{Kept};
@@ -11,6 +11,10 @@ ghost use Rattle.cec_top.specs.Answers.{Answers};
 ghost use Rattle.cec_top.specs.Check.{IsProof};
 ghost use Rattle.cec_top.specs.Complete.{CanCheck, CanVerify, NoFault, IsAmple, HasVerdict};
 ghost use Rattle.cec_top.specs.Headline.{IsEquivalent, IsDifferent, IsUndecided, IsVerified, Shows};
+
+ghost use Rattle.cec_top.specs.Headline.{AreEquivalent, AreDifferent, AreUndecided, OfWorkload};
+ghost use Rattle.cec_top.specs.SelfCheck.{own_check};
+ghost use Rattle.std.specs.Prelude.{None};
 
 use lemma_book::Book;
 use netlist::Net;
@@ -33,6 +37,21 @@ pub fn verdicts()
         (old new : DeskState) (status : Status) (kept : List Kept) →
         Asks words (LratIt c) → Answers words old new status kept
         → code_of status ≡ 0 → Shows (IsVerified c) old new }
+
+    // The same of two circuits that the program makes: no file is left, and the budgets are those of a
+    // check without an option.
+    ensures own_equivalent { (words : List (List ℕ)) (c : SelfCommand)
+        (old new : DeskState) (status : Status) (kept : List Kept) →
+        Asks words (SelfIt c) → Answers words old new status kept
+        → code_of status ≡ 0 → Shows (OfWorkload c (AreEquivalent None)) old new }
+    ensures own_different { (words : List (List ℕ)) (c : SelfCommand)
+        (old new : DeskState) (status : Status) (kept : List Kept) →
+        Asks words (SelfIt c) → Answers words old new status kept
+        → code_of status ≡ 1 → Shows (OfWorkload c (AreDifferent None)) old new }
+    ensures own_undecided { (words : List (List ℕ)) (c : SelfCommand)
+        (old new : DeskState) (status : Status) (kept : List Kept) →
+        Asks words (SelfIt c) → Answers words old new status kept
+        → code_of status ≡ 2 → Shows (OfWorkload c (AreUndecided None own_check.budget)) old new }
 {
     command_line::words_are_one_of();
 }
@@ -48,6 +67,10 @@ pub fn completeness()
         (old new : DeskState) (status : Status) (kept : List Kept) →
         Asks words (LratIt c) → Answers words old new status kept
         → CanVerify c old → NoFault old new → HasVerdict status }
+    ensures own { (words : List (List ℕ)) (c : SelfCommand)
+        (old new : DeskState) (status : Status) (kept : List Kept) →
+        Asks words (SelfIt c) → Answers words old new status kept
+        → NoFault old new → HasVerdict status }
 
     // No output is left open where the budget is greater than the number of clauses that can be learned.
     ensures decided { (words : List (List ℕ)) (c : CheckCommand)

@@ -15,6 +15,7 @@ mod content;
 mod kept;
 pub mod laws;
 mod lines;
+mod own;
 mod program;
 mod reading;
 mod settled;

@@ -1,11 +1,13 @@
 ghost use Rattle.std.specs.Prelude.{◌≡◌, [], None, map, string_bytes};
-ghost use Rattle.command_line.specs.Answers.{check_texts};
+ghost use Rattle.command_line.specs.Answers.{check_texts, self_texts};
 ghost use Rattle.cec_top.specs.Answers.{Answers, AnswersCheck, SaysHelp};
+ghost use Rattle.cec_top.specs.SelfCheck.{AnswersSelf};
 ghost use Rattle.cec_top.specs.Steps.{AnswersRefusal};
 
 use crate::checking::check;
 use crate::kept::Kept;
-use command_line::{Asked, CheckWords, Refusal};
+use crate::own::check_own;
+use command_line::{Asked, CheckWords, Refusal, SelfWords};
 use desk_port::{Desk, Gate, PutErr};
 use endings::{Status, end, warn};
 use std::alloc::Global;
@@ -42,6 +44,7 @@ fn answer<D: Desk>(alloc: Global, words: &[String], desk: &mut D, kept: &mut Vec
     match command_line::read(alloc, words) {
         Ok(Asked::Check(words)) => run_check(alloc, desk, words, kept),
         Ok(Asked::Lrat(words)) => lrat_run::run(alloc, desk, words.cnf, words.proof),
+        Ok(Asked::SelfCheck(words)) => run_self(alloc, desk, words, kept),
         Err(refusal) => answer_refusal(desk, &refusal),
     }
 }
@@ -61,6 +64,24 @@ fn run_check<D: Desk>(
     match check(alloc, desk, words, kept) {
         Ok(status) => status,
         Err(stop) => end(alloc, desk, &[words.a, words.b], &stop),
+    }
+}
+
+/// Makes the check of two circuits that the program makes, and warns of what ends it without a verdict.
+fn run_self<D: Desk>(
+    alloc: Global,
+    desk: &mut D,
+    words: SelfWords,
+    kept: &mut Vec<Kept>,
+) -> Status
+    requires started { (D.state desk.old).started ≡ None }
+    requires empty { kept.old.items ≡ [] }
+    ensures { AnswersSelf (self_texts words) (D.state desk.old)
+        (D.state desk.new) result kept.new.items }
+{
+    match check_own(alloc, desk, words, kept) {
+        Ok(ended) => ended,
+        Err(stop) => end(alloc, desk, &[], &stop),
     }
 }
 

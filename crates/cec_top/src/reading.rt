@@ -58,7 +58,7 @@ pub(crate) fn read_session<D: Desk>(
 }
 
 /// The numbers that the arguments give.
-fn options_of(words: CheckWords<'_>) -> Options
+pub(crate) fn options_of(words: CheckWords<'_>) -> Options
     ensures options { result ≡ options_of (check_texts words.entry) }
     ensures range { AreInRange result }
 {

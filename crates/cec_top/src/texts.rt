@@ -1,13 +1,19 @@
 ghost use Rattle.std.specs.Prelude.{◌≡◌, ◌++◌, map, IfOk, OnOk};
+ghost use Rattle.command_line.specs.Answers.{self_texts};
+ghost use Rattle.command_line.specs.Plain.{kind_name};
 ghost use Rattle.cec_top.specs.Check.{text_of};
 ghost use Rattle.cec_top.specs.Steps.{opens_in};
 ghost use Rattle.check_session.specs.Outputs.{finding_of};
-ghost use Rattle.cec_top.specs.Texts.{digit_of, input_text, output_line, span_line, different_text, open_text, open_text_with};
+ghost use Rattle.cec_top.specs.Texts.{digit_of, input_text, output_line, span_line, different_text, open_text, open_text_with, workload_text};
 
 use check_session::Verdict;
+use command_line::SelfWords;
 use itoa::Buffer;
+use lits::Side;
+use netlist::Net;
 use proof_stitch::Span;
 use std::alloc::{AllocError, Global};
+use workload_gen::Kind;
 
 /// The text of a verdict that leaves no files.
 pub(crate) fn plain_text(alloc: Global, verdict: &Verdict) -> Result<Vec<u8>, AllocError>
@@ -123,4 +129,34 @@ fn digit_of(bit: bool) -> u8
     ensures { result ≡ digit_of bit }
 {
     if bit { b'1' } else { b'0' }
+}
+
+/// The lines that tell of two circuits that the program makes.
+#[tactic(auto, unfolding(crate::specs::Texts::workload_text))]
+pub(crate) fn workload_text(alloc: Global, words: SelfWords, net: &Net) -> Result<Vec<u8>, AllocError>
+    ensures { IfOk result (λ v. v.items ≡ workload_text (self_texts words) net.now) }
+{
+    let (a, b) = (net.circuit(Side::A), net.circuit(Side::B));
+    let mut text = Vec::from_slice(alloc, b"kind ")?;
+    text.extend_from_slice(kind_name(words.kind).as_bytes())?;
+    text.extend_from_slice(b" n ")?;
+    text.extend_from_slice(Buffer::new().format(words.n).as_bytes())?;
+    text.extend_from_slice(b"\ngates ")?;
+    text.extend_from_slice(Buffer::new().format(a.gates().len()).as_bytes())?;
+    text.extend_from_slice(b" ")?;
+    text.extend_from_slice(Buffer::new().format(b.gates().len()).as_bytes())?;
+    text.extend_from_slice(b"\noutputs ")?;
+    text.extend_from_slice(Buffer::new().format(net.outputs()).as_bytes())?;
+    text.extend_from_slice(b"\n")?;
+    Ok(text)
+}
+
+fn kind_name(kind: Kind) -> &'static str
+    ensures { result.now ≡ kind_name kind }
+{
+    match kind {
+        Kind::Adder => "adder",
+        Kind::Parity => "parity",
+        Kind::Comparator => "comparator",
+    }
 }

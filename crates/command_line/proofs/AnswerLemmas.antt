@@ -1,6 +1,6 @@
 -- What `read` answers, by the kinds of a refusal.
-use Rattle.std.proofs.Common.{◌≡◌, ◌⊎◌, ◌∙◌, true, false, inl, inr, refl, sym, ap, subst, List, [], ◌∷◌, Option, Some, is_some}
-use Rattle.std.specs.Prelude.{option_and_then}
+use Rattle.std.proofs.Common.{◌≡◌, ◌⊎◌, ◌∙◌, true, false, inl, inr, refl, sym, ap, subst, List, [], ◌∷◌, Bool, Option, Some, None, is_some}
+use Rattle.std.specs.Prelude.{option_and_then, Result, Ok, Err, IfOk, IfErr}
 use Rattle.std.specs.List.{list_any}
 use Rattle.std.proofs.lemmas.Bool.{false_from_ne_true}
 use Rattle.clap.specs.Kinds.{IsAmong, Kinds}
@@ -9,14 +9,15 @@ use Rattle.clap.specs.Walk.{Row, Text, is_empty}
 use Rattle.clap.specs.declared.parser.matches.ArgMatches.{ArgMatches}
 use Rattle.clap.specs.declared.error.kind.ErrorKind.{ErrorKind}
 use Rattle.clap.specs.declared.error.kind.ErrorKind.TheVariants.{DisplayHelp, OutOfMemory}
-use Rattle.command_line.specs.Answers.{MayRefuse}
-use Rattle.command_line.specs.Parsing.{IsRefusal, requested}
+use Rattle.command_line.specs.Answers.{MayRefuse, request}
+use Rattle.command_line.specs.Parsing.{IsRefusal, RefusesFound, RefusesHelp, RefusesKind, found}
+use Rattle.command_line.specs.declared.asked.Asked.{Asked}
 use Rattle.command_line.specs.Commands.{cec_app}
-use Rattle.command_line.specs.Words.{AreRefused, Asks, Request, WantHelp, faults, is_help, names_help, request_in, request_of}
+use Rattle.command_line.specs.Words.{AreRefused, AskNoKind, Asks, NamesNoKind, Outcome, Requested, WantHelp, faults, is_help, names_help, outcome_in, outcome_of}
 use Rattle.command_line.specs.declared.reading.Refusal.{Refusal}
 use Rattle.command_line.specs.declared.reading.Refusal.TheVariants.{Help, Usage, NoMemory}
 use Rattle.command_line.proofs.HelpLemmas.{faults_alone}
-use Rattle.command_line.proofs.RequestLemmas.{some_request}
+use Rattle.command_line.proofs.RequestLemmas.{some_outcome}
 use Rattle.std.proofs.lemmas.Bool.{ne_eqb, or_left, or_right}
 use Rattle.std.proofs.Common.{arith}
 
@@ -48,29 +49,103 @@ help_wanted words k named (inr among) help =
 words_refused : (words : List Text) (k : ErrorKind) → (k ≡ OutOfMemory) ⊎ IsAmong k (faults words) → is_help k ≡ false
     → (k ≡ OutOfMemory → ⊥) → AreRefused words
 words_refused words k (inl memory) other no_memory = absurd (no_memory memory)
-words_refused words k (inr among) other no_memory = inr (
+words_refused words k (inr among) other no_memory = inr (inl (
   among_some (faults words) k among,
   false_from_ne_true _ (λ help.
       let alone = (faults_alone words).alone help in
       let is : is_help k ≡ true = alone_help k (subst (λ (kinds : Kinds). IsAmong k kinds) alone among) in
       cc),
-)
+))
+
+-- words with a fault come to nothing
+no_outcome : (words : List Text) (o : Outcome) → is_empty (faults words) ≡ false → outcome_of words ≡ Some o → ⊥
+unfolding outcome_of
+no_outcome words o some is = go (names_help words) refl
+  where
+    go : (b : Bool) → names_help words ≡ b → ⊥
+    go true named = let bad : None ≡ Some o = rw named at is in cc
+    go false named = let bad : None ≡ Some o = rw (named, some) at is in cc
+
+fault_there : (words : List Text) (k : ErrorKind) → (k ≡ OutOfMemory) ⊎ IsAmong k (faults words) → (k ≡ OutOfMemory → ⊥)
+    → is_empty (faults words) ≡ false
+fault_there words k (inl memory) no_memory = absurd (no_memory memory)
+fault_there words k (inr among) no_memory = among_some (faults words) k among
 
 pub refusal_told : (words : List Text) (k : ErrorKind) (refusal : Refusal) → names_help words ≡ false
     → (k ≡ OutOfMemory) ⊎ IsAmong k (faults words) → IsRefusal k refusal → MayRefuse words refusal
 refusal_told words k (Help text) named fails is = help_wanted words k named fails is
-refusal_told words k (Usage text) named fails is = (words_refused words k fails is.0 is.1, λ help. let bad : true ≡ false = sym help ∙ named in cc)
+refusal_told words k (Usage text) named fails is = (
+  words_refused words k fails is.0 is.1,
+  record {
+    no_help = λ help. let bad : true ≡ false = sym help ∙ named in cc;
+    no_kind = λ word asks. absurd (no_outcome words (NamesNoKind word) (fault_there words k fails is.1) asks);
+  },
+)
 refusal_told words k NoMemory named fails is = tt
 
 -- ---- words that are taken
 
--- the matches make a request, which is what the words ask for
-pub request_there : (words : List Text) (m : ArgMatches) → faults words ≡ [] → HasMatchesOf cec_app words m → is_some (requested m) ≡ true
-request_there words m none matches =
-    ap (λ (p : Option (Text × List Row)). is_some (option_and_then (λ (q : Text × List Row). request_in q.0 q.1) p)) (matches refl).1
-    ∙ some_request words none
+-- the matches come to something
+pub outcome_there : (words : List Text) (m : ArgMatches) → faults words ≡ [] → HasMatchesOf cec_app words m → is_some (found m) ≡ true
+outcome_there words m none matches =
+    ap (λ (p : Option (Text × List Row)). is_some (option_and_then (λ (q : Text × List Row). outcome_in q.0 q.1) p)) (matches refl).1
+    ∙ some_outcome words none
 
-pub request_told : (words : List Text) (m : ArgMatches) (r : Request) → names_help words ≡ false → faults words ≡ [] → HasMatchesOf cec_app words m
-    → requested m ≡ Some r → Asks words r
-unfolding request_of
-request_told words m r named none matches made = rw (named, none, ← (matches refl).1) made
+-- to what the words come to
+pub outcome_told : (words : List Text) (m : ArgMatches) (o : Outcome) → names_help words ≡ false → faults words ≡ [] → HasMatchesOf cec_app words m
+    → found m ≡ Some o → outcome_of words ≡ Some o
+unfolding outcome_of
+outcome_told words m o named none matches made = rw (named, none, ← (matches refl).1) made
+
+-- a word that names no kind is refused
+kind_told : (words : List Text) (word : Text) (refusal : Refusal) → names_help words ≡ false → AskNoKind words word → RefusesKind word refusal
+    → MayRefuse words refusal
+kind_told words word (Help text) named asks is = absurd is
+kind_told words word (Usage text) named asks is = (
+  inr (inr (word, asks)),
+  record {
+    no_help = λ help. let bad : true ≡ false = sym help ∙ named in cc;
+    no_kind = λ other others.
+        let same : Some (NamesNoKind word) ≡ Some (NamesNoKind other) = sym asks ∙ others in
+        let equal : word ≡ other = cc in
+        rw (← equal) is;
+  },
+)
+kind_told words word NoMemory named asks is = tt
+
+found_told : (words : List Text) (m : ArgMatches) (refusal : Refusal) → names_help words ≡ false → faults words ≡ [] → HasMatchesOf cec_app words m
+    → RefusesFound (found m) refusal → MayRefuse words refusal
+found_told words m refusal named none matches refuses = go (found m) refl refuses
+  where
+    go : (o : Option Outcome) → found m ≡ o → RefusesFound o refusal → MayRefuse words refusal
+    go (Some (NamesNoKind word)) is r = kind_told words word refusal named (outcome_told words m (NamesNoKind word) named none matches is) r
+    go (Some (Requested request)) is r = absurd r
+    go None is r = absurd r
+
+-- the same of an answer
+pub answer_asks : (words : List Text) (m : ArgMatches) (answer : Result Asked Refusal) → names_help words ≡ false → faults words ≡ []
+    → HasMatchesOf cec_app words m → IfOk answer (λ asked. found m ≡ Some (Requested (request asked)))
+    → IfOk answer (λ asked. Asks words (request asked))
+answer_asks words m (Ok asked) named none matches is = outcome_told words m (Requested (request asked)) named none matches is
+answer_asks words m (Err refusal) named none matches is = is
+
+pub answer_refuses : (words : List Text) (m : ArgMatches) (answer : Result Asked Refusal) → names_help words ≡ false → faults words ≡ []
+    → HasMatchesOf cec_app words m → IfErr answer (RefusesFound (found m)) → IfErr answer (MayRefuse words)
+answer_refuses words m (Ok asked) named none matches is = is
+answer_refuses words m (Err refusal) named none matches is = found_told words m refusal named none matches is
+
+-- the command `help` is refused
+no_request : (words : List Text) (o : Outcome) → names_help words ≡ true → outcome_of words ≡ Some o → ⊥
+unfolding outcome_of
+no_request words o named is = let bad : None ≡ Some o = rw named at is in cc
+
+pub help_refused : (words : List Text) (refusal : Refusal) → names_help words ≡ true → RefusesHelp refusal → MayRefuse words refusal
+help_refused words (Help text) named is = absurd is
+help_refused words (Usage text) named is = (
+  inl named,
+  record {
+    no_help = λ help. is;
+    no_kind = λ word asks. absurd (no_request words (NamesNoKind word) named asks);
+  },
+)
+help_refused words NoMemory named is = tt

@@ -8,7 +8,7 @@ use Rattle.clap.specs.Walk.{Row, Text, first_of}
 use Rattle.clap.specs.declared.builder.value_parser.ValueParser.TheVariants.{Unsigned}
 use Rattle.command_line.specs.Commands.{most_seed}
 use Rattle.command_line.specs.declared.asked.TheConstants.{BUDGET_LIMIT, WORDS_LIMIT}
-use Rattle.command_line.specs.Words.{CheckIt, check_in, number_in, number_of}
+use Rattle.command_line.specs.Words.{CheckIt, Requested, check_in, number_in, number_of}
 
 -- an answer that shows as some text is some answer
 pub shown_is_there : {X Y : Type 0} (f : X → Y) (o : Option X) (v w : Option Y) → option_map f o ≡ v → v ≡ w → is_some w ≡ true → IsSome o
@@ -47,7 +47,7 @@ pub check_made : (rows : List Row) (a b : Text) (out : Option Text) (seed words 
     → first_of (codes "b") rows ≡ Some b → first_of (codes "out") rows ≡ out
     → number_of (codes "seed") 0 most_seed rows ≡ Some seed → number_of (codes "words") 1 WORDS_LIMIT rows ≡ Some words
     → number_of (codes "sweep-budget") 1 BUDGET_LIMIT rows ≡ Some sweep_budget → number_of (codes "budget") 1 BUDGET_LIMIT rows ≡ Some budget
-    → check_in rows ≡ Some (CheckIt (record {
+    → check_in rows ≡ Some (Requested (CheckIt (record {
       a = a;
       b = b;
       out = out;
@@ -55,7 +55,7 @@ pub check_made : (rows : List Row) (a b : Text) (out : Option Text) (seed words 
       words = words;
       sweep_budget = sweep_budget;
       budget = budget;
-    }))
+    })))
 check_made rows a b out seed words sweep_budget budget a_is b_is out_is seed_is words_is sweep_is budget_is =
     rw (a_is, b_is, out_is, seed_is, words_is, sweep_is, budget_is) refl
 

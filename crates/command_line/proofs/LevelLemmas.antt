@@ -249,3 +249,10 @@ module _ (id : Text) (least most : ℕ) where
         let there : has_row id rows ≡ true = rw is at has in
         let value = first_value id rows rows_filled (row_there id rows there) in
         (value.0, value.1, value.2 (same_bytes id))
+
+    -- and where it is required
+    pub required_number : (a : Rule) → arg_by_id s.rules a.id ≡ Some a → a.required ≡ true → a.id ≡ id
+        → (t : Text) × (first_of a.id (rows_after s.rules [] words) ≡ Some t) × (is_unsigned_in least most t ≡ true)
+    required_number a found required is =
+        let value = first_value a.id rows rows_filled (given_row a.id rows (required_given (λ x. bytes_eq x.id a.id) a found required)) in
+        (value.0, value.1, value.2 (rw is (same_bytes id)))

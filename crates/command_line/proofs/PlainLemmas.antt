@@ -13,10 +13,13 @@ use Rattle.clap.specs.ValueTests.{is_unsigned_in}
 use Rattle.clap.specs.Simple.{Shape, built_leaf, inherited, marked_built, on_top, with_leaf_noted}
 use Rattle.clap.specs.Walk.{Held, Rule, Step, Text, Waiting, Walk, after_step, finished, idle, is_empty, nothing_held, settled, option, plain_word, positional, walk_from, walked, word_met}
 use Rattle.clap.specs.Faults.{check_fault, defaults_fault, settle_fault, step_fault, turn_fault, walk_fault}
-use Rattle.command_line.specs.Commands.{cec_app, check_command, lrat_command, most_seed}
+use Rattle.command_line.specs.Commands.{cec_app, check_command, lrat_command, most_seed, self_command}
+use Rattle.workload_gen.specs.declared.kind.Kind.{Kind}
+use Rattle.workload_gen.specs.declared.kind.Kind.TheVariants.{Adder, Parity, Comparator}
+use Rattle.workload_gen.specs.declared.workload.TheConstants.{MOST_BITS}
 use Rattle.command_line.specs.declared.asked.TheConstants.{BUDGET_LIMIT, WORDS_LIMIT}
-use Rattle.command_line.specs.Words.{CheckIt, LratIt, Request, check_of, faults, number_in, request_in, request_of}
-use Rattle.command_line.specs.Plain.{IsPlain, Writes, plain_check}
+use Rattle.command_line.specs.Words.{CheckIt, LratIt, SelfIt, Outcome, Requested, check_of, faults, number_in, outcome_in, outcome_of, self_of}
+use Rattle.command_line.specs.Plain.{IsPlain, Writes, kind_name, plain_check}
 
 no_end : (word : Text) → IsPlain word → bytes_eq word (45 ∷ 45 ∷ []) ≡ false
 no_end [] plain = refl
@@ -114,16 +117,16 @@ leaf_fault s end walking =
     (or_else [] (or_else (settle_fault s.rules s.args_override_self end.held)
     (or_else (defaults_fault (settled s.rules end.held).rows s.rules) (check_fault s (finished s.rules end.held) false))))
 
-abbrev request_from : Shape → Walk → Kinds → Option Request
-request_from s end walking =
-    if is_empty (or_else (leaf_fault s end walking) []) then request_in s.name (finished s.rules end.held) else None
+abbrev outcome_from : Shape → Walk → Kinds → Option Outcome
+outcome_from s end walking =
+    if is_empty (or_else (leaf_fault s end walking) []) then outcome_in s.name (finished s.rules end.held) else None
 
-request-marked : (s : Shape) (ms : List Marked) → AreMarked s.rules (walk_from nothing_held) ms
-    → request_from s (fold (walked s.rules []) (walk_from nothing_held) (map word_of ms)) (walk_fault s [] (walk_from nothing_held) (map word_of ms))
-    ≡ request_from s (after_words s.rules (walk_from nothing_held) ms) (words_fault s (walk_from nothing_held) ms)
-request-marked s ms marked =
-    ap (λ (w : Walk). request_from s w (walk_fault s [] (walk_from nothing_held) (map word_of ms))) (walk-marked s.rules (walk_from nothing_held) ms marked)
-    ∙ ap (request_from s (after_words s.rules (walk_from nothing_held) ms)) (faults-marked s (walk_from nothing_held) ms marked)
+outcome-marked : (s : Shape) (ms : List Marked) → AreMarked s.rules (walk_from nothing_held) ms
+    → outcome_from s (fold (walked s.rules []) (walk_from nothing_held) (map word_of ms)) (walk_fault s [] (walk_from nothing_held) (map word_of ms))
+    ≡ outcome_from s (after_words s.rules (walk_from nothing_held) ms) (words_fault s (walk_from nothing_held) ms)
+outcome-marked s ms marked =
+    ap (λ (w : Walk). outcome_from s w (walk_fault s [] (walk_from nothing_held) (map word_of ms))) (walk-marked s.rules (walk_from nothing_held) ms marked)
+    ∙ ap (outcome_from s (after_words s.rules (walk_from nothing_held) ms)) (faults-marked s (walk_from nothing_held) ms marked)
 
 -- digits begin with no byte that is none
 other_first : (k d : ℕ) (ds : Text) → nat_lt (digit_value k) 10 ≡ false → list_all (λ d. nat_lt (digit_value d) 10) (d ∷ ds) ≡ true → eqb d k ≡ false
@@ -162,36 +165,59 @@ few_words = omega (arith, lit< {m = 64} {n = 18446744073709551615} tt)
 small_budget : BUDGET_LIMIT ≤ most_seed
 small_budget = omega (arith, lit< {m = 1000000000} {n = 18446744073709551615} tt)
 
+few_bits : MOST_BITS ≤ most_seed
+few_bits = omega (arith, lit< {m = 4096} {n = 18446744073709551615} tt)
+
+-- a workload of each kind
+module _ (program n : Text) (m : ℕ) (writes : Writes 1 MOST_BITS n m) where
+  pub asks-self : (kind : Kind) → outcome_of (program ∷ codes "self" ∷ kind_name kind ∷ n ∷ []) ≡ Some (Requested (SelfIt (record { kind = kind; n = m })))
+  unfolding outcome_of faults walked walk_fault defaults_fault
+  asks-self Adder =
+      outcome-marked (completed self_command) (plain (codes "adder") ∷ plain n ∷ []) (refl, refl, (digits-plain 1 MOST_BITS n m writes, refl, tt))
+      ∙ ap (λ (k : Kinds). if is_empty (or_else (or_else k []) []) then self_of (Some (codes "adder")) (number_in 1 MOST_BITS n) else None)
+      (accepted 1 MOST_BITS n m few_bits writes)
+      ∙ ap (self_of (Some (codes "adder"))) (known_number 1 MOST_BITS n m few_bits writes)
+  asks-self Parity =
+      outcome-marked (completed self_command) (plain (codes "parity") ∷ plain n ∷ []) (refl, refl, (digits-plain 1 MOST_BITS n m writes, refl, tt))
+      ∙ ap (λ (k : Kinds). if is_empty (or_else (or_else k []) []) then self_of (Some (codes "parity")) (number_in 1 MOST_BITS n) else None)
+      (accepted 1 MOST_BITS n m few_bits writes)
+      ∙ ap (self_of (Some (codes "parity"))) (known_number 1 MOST_BITS n m few_bits writes)
+  asks-self Comparator =
+      outcome-marked (completed self_command) (plain (codes "comparator") ∷ plain n ∷ []) (refl, refl, (digits-plain 1 MOST_BITS n m writes, refl, tt))
+      ∙ ap (λ (k : Kinds). if is_empty (or_else (or_else k []) []) then self_of (Some (codes "comparator")) (number_in 1 MOST_BITS n) else None)
+      (accepted 1 MOST_BITS n m few_bits writes)
+      ∙ ap (self_of (Some (codes "comparator"))) (known_number 1 MOST_BITS n m few_bits writes)
+
 module _ (program a b : Text) (plain_a : IsPlain a) (plain_b : IsPlain b) where
-  pub asks-lrat : request_of (program ∷ codes "lrat" ∷ a ∷ b ∷ []) ≡ Some (LratIt (record { cnf = a; proof = b }))
-  unfolding request_of faults walked walk_fault defaults_fault
-  asks-lrat = request-marked (completed lrat_command) (plain a ∷ plain b ∷ []) (plain_a, refl, (plain_b, refl, tt))
+  pub asks-lrat : outcome_of (program ∷ codes "lrat" ∷ a ∷ b ∷ []) ≡ Some (Requested (LratIt (record { cnf = a; proof = b })))
+  unfolding outcome_of faults walked walk_fault defaults_fault
+  asks-lrat = outcome-marked (completed lrat_command) (plain a ∷ plain b ∷ []) (plain_a, refl, (plain_b, refl, tt))
 
-  pub asks-check : request_of (program ∷ codes "check" ∷ a ∷ b ∷ []) ≡ Some (CheckIt (plain_check a b))
-  unfolding request_of faults walked walk_fault defaults_fault
-  asks-check = request-marked (completed check_command) (plain a ∷ plain b ∷ []) (plain_a, refl, (plain_b, refl, tt))
+  pub asks-check : outcome_of (program ∷ codes "check" ∷ a ∷ b ∷ []) ≡ Some (Requested (CheckIt (plain_check a b)))
+  unfolding outcome_of faults walked walk_fault defaults_fault
+  asks-check = outcome-marked (completed check_command) (plain a ∷ plain b ∷ []) (plain_a, refl, (plain_b, refl, tt))
 
-  pub asks-out : (p : Text) → IsPlain p → request_of (program ∷ codes "check" ∷ a ∷ b ∷ codes "--out" ∷ p ∷ [])
-      ≡ Some (CheckIt (record (plain_check a b) { out = Some p }))
-  unfolding request_of faults walked walk_fault defaults_fault
-  asks-out p plain_p = request-marked (completed check_command) (plain a ∷ plain b ∷ flag (codes "--out") ∷ plain p ∷ [])
+  pub asks-out : (p : Text) → IsPlain p → outcome_of (program ∷ codes "check" ∷ a ∷ b ∷ codes "--out" ∷ p ∷ [])
+      ≡ Some (Requested (CheckIt (record (plain_check a b) { out = Some p })))
+  unfolding outcome_of faults walked walk_fault defaults_fault
+  asks-out p plain_p = outcome-marked (completed check_command) (plain a ∷ plain b ∷ flag (codes "--out") ∷ plain p ∷ [])
       (plain_a, refl, (plain_b, refl, (plain_p, refl, tt)))
 
-  pub asks-seed : (n : Text) (m : ℕ) → Writes 0 most_seed n m → request_of (program ∷ codes "check" ∷ a ∷ b ∷ codes "--seed" ∷ n ∷ [])
-      ≡ Some (CheckIt (record (plain_check a b) { seed = m }))
-  unfolding request_of faults walked walk_fault defaults_fault
+  pub asks-seed : (n : Text) (m : ℕ) → Writes 0 most_seed n m → outcome_of (program ∷ codes "check" ∷ a ∷ b ∷ codes "--seed" ∷ n ∷ [])
+      ≡ Some (Requested (CheckIt (record (plain_check a b) { seed = m })))
+  unfolding outcome_of faults walked walk_fault defaults_fault
   asks-seed n m writes =
-      request-marked (completed check_command) (plain a ∷ plain b ∷ flag (codes "--seed") ∷ plain n ∷ [])
+      outcome-marked (completed check_command) (plain a ∷ plain b ∷ flag (codes "--seed") ∷ plain n ∷ [])
       (plain_a, refl, (plain_b, refl, (digits-plain 0 most_seed n m writes, refl, tt)))
       ∙ ap (λ (k : Kinds). if is_empty (or_else (or_else k []) []) then check_of (Some a) (Some b) None (number_in 0 most_seed n) (Some 4) (Some 100) (Some 100000) else None)
       (accepted 0 most_seed n m (omega arith) writes)
       ∙ ap (λ (v : Option ℕ). check_of (Some a) (Some b) None v (Some 4) (Some 100) (Some 100000)) (known_number 0 most_seed n m (omega arith) writes)
 
-  pub asks-words : (n : Text) (m : ℕ) → Writes 1 WORDS_LIMIT n m → request_of (program ∷ codes "check" ∷ a ∷ b ∷ codes "--words" ∷ n ∷ [])
-      ≡ Some (CheckIt (record (plain_check a b) { words = m }))
-  unfolding request_of faults walked walk_fault defaults_fault
+  pub asks-words : (n : Text) (m : ℕ) → Writes 1 WORDS_LIMIT n m → outcome_of (program ∷ codes "check" ∷ a ∷ b ∷ codes "--words" ∷ n ∷ [])
+      ≡ Some (Requested (CheckIt (record (plain_check a b) { words = m })))
+  unfolding outcome_of faults walked walk_fault defaults_fault
   asks-words n m writes =
-      request-marked (completed check_command) (plain a ∷ plain b ∷ flag (codes "--words") ∷ plain n ∷ [])
+      outcome-marked (completed check_command) (plain a ∷ plain b ∷ flag (codes "--words") ∷ plain n ∷ [])
       (plain_a, refl, (plain_b, refl, (digits-plain 1 WORDS_LIMIT n m writes, refl, tt)))
       ∙ ap (λ (k : Kinds). if is_empty (or_else (or_else k []) []) then check_of (Some a) (Some b) None (Some 1) (number_in 1 WORDS_LIMIT n) (Some 100) (Some 100000) else None)
       (accepted 1 WORDS_LIMIT n m few_words writes)
@@ -207,39 +233,39 @@ module _ (program a b : Text) (plain_a : IsPlain a) (plain_b : IsPlain b) where
     known : number_in 1 BUDGET_LIMIT n ≡ Some m
     known = known_number 1 BUDGET_LIMIT n m small_budget writes
 
-    pub asks-sweep_budget : request_of (program ∷ codes "check" ∷ a ∷ b ∷ codes "--sweep-budget" ∷ n ∷ [])
-        ≡ Some (CheckIt (record (plain_check a b) { sweep_budget = m }))
-    unfolding request_of faults walked walk_fault defaults_fault
+    pub asks-sweep_budget : outcome_of (program ∷ codes "check" ∷ a ∷ b ∷ codes "--sweep-budget" ∷ n ∷ [])
+        ≡ Some (Requested (CheckIt (record (plain_check a b) { sweep_budget = m })))
+    unfolding outcome_of faults walked walk_fault defaults_fault
     asks-sweep_budget =
-        request-marked (completed check_command) (plain a ∷ plain b ∷ flag (codes "--sweep-budget") ∷ plain n ∷ [])
+        outcome-marked (completed check_command) (plain a ∷ plain b ∷ flag (codes "--sweep-budget") ∷ plain n ∷ [])
         (plain_a, refl, (plain_b, refl, (plain_n, refl, tt)))
         ∙ ap (λ (k : Kinds). if is_empty (or_else (or_else k []) []) then check_of (Some a) (Some b) None (Some 1) (Some 4) (number_in 1 BUDGET_LIMIT n) (Some 100000) else None) taken
         ∙ ap (λ (v : Option ℕ). check_of (Some a) (Some b) None (Some 1) (Some 4) v (Some 100000)) known
 
-    pub asks-budget : request_of (program ∷ codes "check" ∷ a ∷ b ∷ codes "--budget" ∷ n ∷ [])
-        ≡ Some (CheckIt (record (plain_check a b) { budget = m }))
-    unfolding request_of faults walked walk_fault defaults_fault
+    pub asks-budget : outcome_of (program ∷ codes "check" ∷ a ∷ b ∷ codes "--budget" ∷ n ∷ [])
+        ≡ Some (Requested (CheckIt (record (plain_check a b) { budget = m })))
+    unfolding outcome_of faults walked walk_fault defaults_fault
     asks-budget =
-        request-marked (completed check_command) (plain a ∷ plain b ∷ flag (codes "--budget") ∷ plain n ∷ [])
+        outcome-marked (completed check_command) (plain a ∷ plain b ∷ flag (codes "--budget") ∷ plain n ∷ [])
         (plain_a, refl, (plain_b, refl, (plain_n, refl, tt)))
         ∙ ap (λ (k : Kinds). if is_empty (or_else (or_else k []) []) then check_of (Some a) (Some b) None (Some 1) (Some 4) (Some 100) (number_in 1 BUDGET_LIMIT n) else None) taken
         ∙ ap (check_of (Some a) (Some b) None (Some 1) (Some 4) (Some 100)) known
 
     module _ (p : Text) (plain_p : IsPlain p) where
-      pub asks-out_budget : request_of (program ∷ codes "check" ∷ a ∷ b ∷ codes "--out" ∷ p ∷ codes "--budget" ∷ n ∷ [])
-          ≡ Some (CheckIt (record (plain_check a b) { out = Some p; budget = m }))
-      unfolding request_of faults walked walk_fault defaults_fault
+      pub asks-out_budget : outcome_of (program ∷ codes "check" ∷ a ∷ b ∷ codes "--out" ∷ p ∷ codes "--budget" ∷ n ∷ [])
+          ≡ Some (Requested (CheckIt (record (plain_check a b) { out = Some p; budget = m })))
+      unfolding outcome_of faults walked walk_fault defaults_fault
       asks-out_budget =
-          request-marked (completed check_command) (plain a ∷ plain b ∷ flag (codes "--out") ∷ plain p ∷ flag (codes "--budget") ∷ plain n ∷ [])
+          outcome-marked (completed check_command) (plain a ∷ plain b ∷ flag (codes "--out") ∷ plain p ∷ flag (codes "--budget") ∷ plain n ∷ [])
           (plain_a, refl, (plain_b, refl, (plain_p, refl, (plain_n, refl, tt))))
           ∙ ap (λ (k : Kinds). if is_empty (or_else (or_else k []) []) then check_of (Some a) (Some b) (Some p) (Some 1) (Some 4) (Some 100) (number_in 1 BUDGET_LIMIT n) else None) taken
           ∙ ap (check_of (Some a) (Some b) (Some p) (Some 1) (Some 4) (Some 100)) known
 
-      pub asks-budget_out : request_of (program ∷ codes "check" ∷ a ∷ b ∷ codes "--budget" ∷ n ∷ codes "--out" ∷ p ∷ [])
-          ≡ Some (CheckIt (record (plain_check a b) { out = Some p; budget = m }))
-      unfolding request_of faults walked walk_fault defaults_fault
+      pub asks-budget_out : outcome_of (program ∷ codes "check" ∷ a ∷ b ∷ codes "--budget" ∷ n ∷ codes "--out" ∷ p ∷ [])
+          ≡ Some (Requested (CheckIt (record (plain_check a b) { out = Some p; budget = m })))
+      unfolding outcome_of faults walked walk_fault defaults_fault
       asks-budget_out =
-          request-marked (completed check_command) (plain a ∷ plain b ∷ flag (codes "--budget") ∷ plain n ∷ flag (codes "--out") ∷ plain p ∷ [])
+          outcome-marked (completed check_command) (plain a ∷ plain b ∷ flag (codes "--budget") ∷ plain n ∷ flag (codes "--out") ∷ plain p ∷ [])
           (plain_a, refl, (plain_b, refl, (plain_n, refl, (plain_p, refl, tt))))
           ∙ ap (λ (k : Kinds). if is_empty (or_else (or_else (or_else (or_else k []) []) []) []) then check_of (Some a) (Some b) (Some p) (Some 1) (Some 4) (Some 100) (number_in 1 BUDGET_LIMIT n) else None) taken
           ∙ ap (check_of (Some a) (Some b) (Some p) (Some 1) (Some 4) (Some 100)) known

@@ -1,4 +1,4 @@
--- Words without a fault ask for something.
+-- Words without a fault ask for something, or name no kind of workload.
 use Rattle.std.proofs.Common.{◌≡◌, ◌&&◌, ℕ, Bool, true, false, not, refl, sym, subst, codes, List, [], Option, Some, None, is_some, find}
 use Rattle.std.specs.Prelude.{option_and_then, option_map}
 use Rattle.std.specs.List.{AllByRecursion, list_all, list_any}
@@ -12,9 +12,10 @@ use Rattle.clap.specs.ValueTests.{is_unsigned_in}
 use Rattle.clap.specs.Walk.{Held, Row, Rule, Text, answers_to, arg_by_id, finished, first_of, is_empty, nothing_held, rows_after, settled, walk, walk_from}
 use Rattle.command_line.specs.Commands.{cec_app, most_seed}
 use Rattle.command_line.specs.declared.asked.TheConstants.{BUDGET_LIMIT, WORDS_LIMIT}
-use Rattle.command_line.specs.Words.{check_of, faults, lrat_of, number_in, number_of, request_in}
+use Rattle.workload_gen.specs.declared.workload.TheConstants.{MOST_BITS}
+use Rattle.command_line.specs.Words.{check_of, faults, lrat_of, number_in, number_of, outcome_in, self_of}
 use Rattle.command_line.proofs.FoundLemmas.{found_holds}
-use Rattle.command_line.proofs.LevelLemmas.{number_value, required_value}
+use Rattle.command_line.proofs.LevelLemmas.{number_value, required_number, required_value}
 use Rattle.command_line.proofs.RowLemmas.{first_passed, second_passed, takes_one}
 
 -- ---- the command that the words name
@@ -125,7 +126,7 @@ check_given : (s : Shape) (a b : Rule) (words : List Text) → HasNumber s (code
     → arg_by_id s.rules (codes "a") ≡ Some a → a.required ≡ true → a.id ≡ codes "a"
     → arg_by_id s.rules (codes "b") ≡ Some b → b.required ≡ true → b.id ≡ codes "b"
     → level_fault s [] nothing_held words false [] ≡ []
-    → is_some (request_in (codes "check") (rows_after s.rules [] words)) ≡ true
+    → is_some (outcome_in (codes "check") (rows_after s.rules [] words)) ≡ true
 check_given s a b words seed count sweep budget a_is a_required a_id b_is b_required b_id passed =
     let value = named_value (codes "budget") 1 BUDGET_LIMIT s words budget.takes passed in
     check_some _ _ _ _ _ _ _ (value (codes "a") a a_is a_required a_id) (value (codes "b") b b_is b_required b_id)
@@ -140,21 +141,43 @@ lrat_given : (s : Shape) (a b : Rule) (words : List Text) → list_all (takes_on
     → arg_by_id s.rules (codes "cnf") ≡ Some a → a.required ≡ true → a.id ≡ codes "cnf"
     → arg_by_id s.rules (codes "proof") ≡ Some b → b.required ≡ true → b.id ≡ codes "proof"
     → level_fault s [] nothing_held words false [] ≡ []
-    → is_some (request_in (codes "lrat") (rows_after s.rules [] words)) ≡ true
+    → is_some (outcome_in (codes "lrat") (rows_after s.rules [] words)) ≡ true
 lrat_given s a b words takes a_is a_required a_id b_is b_required b_id passed =
     let value = named_value [] 0 0 s words takes passed in
     lrat_some _ _ (value (codes "cnf") a a_is a_required a_id) (value (codes "proof") b b_is b_required b_id)
 
-pub some_request : (words : List Text) → faults words ≡ []
-    → is_some (option_and_then (λ p. request_in p.0 p.1) (subcommand_of cec_app words)) ≡ true
+-- `self` gives a word and a number
+self_some : (word : Option Text) (n : Option ℕ) → is_some word ≡ true → is_some n ≡ true → is_some (self_of word n) ≡ true
+self_some (Some word) (Some n) hw hn = refl
+self_some None n hw hn = cc
+self_some (Some word) None hw hn = cc
+
+self_given : (s : Shape) (a n : Rule) (words : List Text) → list_all (takes_one (codes "n") 1 MOST_BITS) s.rules ≡ true
+    → arg_by_id s.rules (codes "kind") ≡ Some a → a.required ≡ true → a.id ≡ codes "kind"
+    → arg_by_id s.rules (codes "n") ≡ Some n → n.required ≡ true → n.id ≡ codes "n"
+    → level_fault s [] nothing_held words false [] ≡ []
+    → is_some (outcome_in (codes "self") (rows_after s.rules [] words)) ≡ true
+self_given s a n words takes a_is a_required a_id n_is n_required n_id passed =
+    let number = required_number (codes "n") 1 MOST_BITS s words takes passed n
+    (subst (λ (t : Text). arg_by_id s.rules t ≡ Some n) (sym n_id) n_is) n_required n_id in
+    let value : first_of (codes "n") (rows_after s.rules [] words) ≡ Some number.0 =
+    subst (λ (t : Text). first_of t (rows_after s.rules [] words) ≡ Some number.0) n_id number.1 in
+    self_some _ _ (named_value (codes "n") 1 MOST_BITS s words takes passed (codes "kind") a a_is a_required a_id)
+    (number_some 1 MOST_BITS _ number.0 value number.2)
+
+pub some_outcome : (words : List Text) → faults words ≡ []
+    → is_some (option_and_then (λ p. outcome_in p.0 p.1) (subcommand_of cec_app words)) ≡ true
 unfolding faults
-some_request words passed =
-    built_gives (built cec_app) (argument_words cec_app words) (λ p. request_in p.0 p.1) refl (
+some_outcome words passed =
+    built_gives (built cec_app) (argument_words cec_app words) (λ p. outcome_in p.0 p.1) refl (
       λ ws none. check_given _ _ _ ws
           (record { rule = _; takes = refl; is = refl; default = refl; same = refl })
           (record { rule = _; takes = refl; is = refl; default = refl; same = refl })
           (record { rule = _; takes = refl; is = refl; default = refl; same = refl })
           (record { rule = _; takes = refl; is = refl; default = refl; same = refl })
           refl refl refl refl refl refl none,
-      (λ ws none. lrat_given _ _ _ ws refl refl refl refl refl refl refl none, tt),
+      (
+        λ ws none. lrat_given _ _ _ ws refl refl refl refl refl refl refl none,
+        (λ ws none. self_given _ _ _ ws refl refl refl refl refl refl refl none, tt),
+      ),
     ) passed

@@ -1,11 +1,12 @@
 -- What `read` answers to words.
-use Rattle.std.specs.Prelude.{◌≡◌, ℕ, true, List, codes, option_map, string_bytes}
+use Rattle.std.specs.Prelude.{◌≡◌, ℕ, true, List, ◌++◌, codes, option_map, string_bytes}
 use Rattle.clap.specs.Walk.{Text}
-use Rattle.command_line.specs.Words.{CheckCommand, LratCommand, Request, CheckIt, LratIt, WantHelp, AreRefused, names_help}
+use Rattle.command_line.specs.Words.{CheckCommand, LratCommand, SelfCommand, Request, CheckIt, LratIt, SelfIt, WantHelp, AreRefused, AskNoKind, names_help}
 use Rattle.command_line.specs.declared.asked.Asked.{Asked}
-use Rattle.command_line.specs.declared.asked.Asked.TheVariants.{Check, Lrat}
+use Rattle.command_line.specs.declared.asked.Asked.TheVariants.{Check, Lrat, SelfCheck}
 use Rattle.command_line.specs.declared.asked.CheckWords.{CheckWords}
 use Rattle.command_line.specs.declared.asked.LratWords.{LratWords}
+use Rattle.command_line.specs.declared.asked.SelfWords.{SelfWords}
 use Rattle.command_line.specs.declared.reading.Refusal.{Refusal}
 use Rattle.command_line.specs.declared.reading.Refusal.TheVariants.{Help, Usage, NoMemory}
 
@@ -23,17 +24,31 @@ check_texts c = record {
 abbrev pub lrat_texts : LratWords → LratCommand
 lrat_texts c = record { cnf = c.cnf.now; proof = c.proof.now }
 
+abbrev pub self_texts : SelfWords → SelfCommand
+self_texts s = record { kind = s.kind; n = s.n }
+
 -- the request in the texts that were handed out
 abbrev pub request : Asked → Request
 request (Check c) = CheckIt (check_texts c)
 request (Lrat c) = LratIt (lrat_texts c)
+request (SelfCheck c) = SelfIt (self_texts c)
 
 -- what is said of the command `help`
 abbrev pub no_help_text : List ℕ
 no_help_text = codes "cec: no command help\n"
 
+-- what is said of a word that names no kind of workload, in the form that `clap` gives such a refusal
+abbrev pub no_kind_text : Text → List ℕ
+no_kind_text word = codes "error: invalid value '" ++ word ++ codes "' for '<KIND>'\n  [possible values: adder, parity, comparator]\n"
+    ++ codes "\nFor more information, try '--help'.\n"
+
+-- such a word, or the command `help`, is told of by its own text
+pub record Names (words : List Text) (text : List ℕ) : Type 0 where
+  pub no_help : names_help words ≡ true → text ≡ no_help_text
+  pub no_kind : (word : Text) → AskNoKind words word → text ≡ no_kind_text word
+
 -- when each refusal may come; want of memory is free
 abbrev pub MayRefuse : List Text → Refusal → Type 0
 MayRefuse words (Help text) = WantHelp words
-MayRefuse words (Usage text) = AreRefused words × (names_help words ≡ true → string_bytes text ≡ no_help_text)
+MayRefuse words (Usage text) = AreRefused words × Names words (string_bytes text)
 MayRefuse words NoMemory = Unit {0}

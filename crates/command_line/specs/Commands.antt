@@ -4,6 +4,7 @@ use Rattle.clap.specs.Walk.{Rule, Text, is_empty}
 use Rattle.clap.specs.Simple.{App, Shape, new_rule, new_shape}
 use Rattle.command_line.specs.declared.asked.TheConstants.{BUDGET_LIMIT, WORDS_LIMIT}
 use Rattle.clap.specs.declared.builder.value_parser.ValueParser.TheVariants.{Unsigned}
+use Rattle.workload_gen.specs.declared.workload.TheConstants.{MOST_BITS}
 
 -- the greatest number of 64 bits
 abbrev pub most_seed : ℕ
@@ -12,6 +13,10 @@ most_seed = 18446744073709551615
 -- an argument without a name, which has to be there
 abbrev pub place : Text → Rule
 place id = record (new_rule id) { required = true; value_names = 1 }
+
+-- such an argument that is a number from least to most
+abbrev pub number_place : Text → ℕ → ℕ → Rule
+number_place id least most = record (place id) { parser = Some (Unsigned least most) }
 
 -- `--ID` with any text, which may be left out
 abbrev pub text_option : Text → Rule
@@ -38,6 +43,10 @@ check_command = command (codes "check")
 abbrev pub lrat_command : Shape
 lrat_command = command (codes "lrat") (place (codes "cnf") ∷ place (codes "proof") ∷ [])
 
+-- `cec self KIND N`
+abbrev pub self_command : Shape
+self_command = command (codes "self") (place (codes "kind") ∷ number_place (codes "n") 1 MOST_BITS ∷ [])
+
 -- the program with these commands, of which one has to be there; `help` is none of its own
 abbrev pub program : List Shape → App
 program commands = record {
@@ -50,4 +59,4 @@ program commands = record {
 }
 
 abbrev pub cec_app : App
-cec_app = program (check_command ∷ lrat_command ∷ [])
+cec_app = program (check_command ∷ lrat_command ∷ self_command ∷ [])

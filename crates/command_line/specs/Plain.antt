@@ -1,9 +1,11 @@
 -- Words that say plainly what they ask for, as a user writes them.
-use Rattle.std.specs.Prelude.{◌≡◌, ℕ, ◌≤◌, ◌==◌, Bool, true, false, List, [], ◌∷◌, length, None, nat_lt}
+use Rattle.std.specs.Prelude.{◌≡◌, ℕ, ◌≤◌, ◌==◌, Bool, true, false, List, [], ◌∷◌, length, None, nat_lt, codes}
 use Rattle.std.specs.List.{list_all}
 use Rattle.std.specs.Char.{digit_value}
 use Rattle.std.specs.Str.Parse.{digits_value}
 use Rattle.command_line.specs.Words.{Asks, CheckCommand, CheckIt}
+use Rattle.workload_gen.specs.declared.kind.Kind.{Kind}
+use Rattle.workload_gen.specs.declared.kind.Kind.TheVariants.{Adder, Parity, Comparator}
 
 -- the word begins with `-`
 abbrev pub begins_with_dash : List ℕ → Bool
@@ -28,3 +30,9 @@ plain_check a b = record { a = a; b = b; out = None; seed = 1; words = 4; sweep_
 -- the words behind the program's name ask for this check
 abbrev pub AskCheck : List (List ℕ) → CheckCommand → Type 0
 AskCheck words command = (program : List ℕ) → Asks (program ∷ words) (CheckIt command)
+
+-- the name of a kind of workload
+abbrev pub kind_name : Kind → List ℕ
+kind_name Adder = codes "adder"
+kind_name Parity = codes "parity"
+kind_name Comparator = codes "comparator"

@@ -2,7 +2,7 @@
 use Rattle.std.specs.Prelude.{[], map}
 use Rattle.clap.specs.Walk.{Rule, Text}
 use Rattle.clap.specs.Simple.{App, Shape}
-use Rattle.command_line.specs.Commands.{command, number_option, place, text_option}
+use Rattle.command_line.specs.Commands.{command, number_option, number_place, place, text_option}
 use Rattle.command_line.specs.declared.table.ArgumentRow.{ArgumentRow}
 use Rattle.command_line.specs.declared.table.CommandRow.{CommandRow}
 use Rattle.command_line.specs.declared.table.Takes.{Takes}
@@ -10,6 +10,7 @@ use Rattle.command_line.specs.declared.table.Takes.TheVariants as takes
 
 abbrev pub rule_of_takes : Takes → Text → Rule
 rule_of_takes takes.Place id = place id
+rule_of_takes (takes.Count least most) id = number_place id least most
 rule_of_takes takes.Text id = text_option id
 rule_of_takes (takes.Number least most default) id = number_option id least most default.now
 

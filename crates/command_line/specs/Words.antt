@@ -13,6 +13,9 @@ use Rattle.clap.specs.declared.error.kind.ErrorKind.{ErrorKind}
 use Rattle.clap.specs.declared.error.kind.ErrorKind.TheVariants.{DisplayHelp}
 use Rattle.command_line.specs.Commands.{cec_app, most_seed}
 use Rattle.command_line.specs.declared.asked.TheConstants.{BUDGET_LIMIT, WORDS_LIMIT}
+use Rattle.workload_gen.specs.declared.kind.Kind.{Kind}
+use Rattle.workload_gen.specs.declared.kind.Kind.TheVariants.{Adder, Parity, Comparator}
+use Rattle.workload_gen.specs.declared.workload.TheConstants.{MOST_BITS}
 
 -- `check A B`: the names of the two circuits' files, what the names of the written files begin with, if any are to be
 -- written, from which seed how many words of 64 patterns are drawn, and how many clauses a solver may learn for a pair of
@@ -31,18 +34,29 @@ pub record LratCommand : Type 0 where
   pub cnf : List ℕ
   pub proof : List ℕ
 
+-- `self KIND N`: what the two circuits compute that the program makes, and of how many bits
+pub record SelfCommand : Type 0 where
+  pub kind : Kind
+  pub n : ℕ
+
 -- what the program is asked to do
 pub data Request : Type 0 where
   CheckIt : CheckCommand → Request
   LratIt : LratCommand → Request
+  SelfIt : SelfCommand → Request
+
+-- what the values of arguments come to: what the program is asked to do, or the word for a kind of workload that names none
+pub data Outcome : Type 0 where
+  Requested : Request → Outcome
+  NamesNoKind : Text → Outcome
 
 -- the number that a text spells, if it is in a range: decimal digits, which zeros and one + may precede
 abbrev pub number_in : ℕ → ℕ → Text → Option ℕ
 number_in least most text =
     if is_unsigned_in least most text then Some (digits_value 10 (without_leading_plus text)) else None
 
-abbrev pub check_of : Option Text → Option Text → Option Text → Option ℕ → Option ℕ → Option ℕ → Option ℕ → Option Request
-check_of (Some a) (Some b) out (Some seed) (Some words) (Some sweep_budget) (Some budget) = Some (CheckIt (record {
+abbrev pub check_of : Option Text → Option Text → Option Text → Option ℕ → Option ℕ → Option ℕ → Option ℕ → Option Outcome
+check_of (Some a) (Some b) out (Some seed) (Some words) (Some sweep_budget) (Some budget) = Some (Requested (CheckIt (record {
   a = a;
   b = b;
   out = out;
@@ -50,32 +64,53 @@ check_of (Some a) (Some b) out (Some seed) (Some words) (Some sweep_budget) (Som
   words = words;
   sweep_budget = sweep_budget;
   budget = budget;
-}))
+})))
 check_of a b out seed words sweep_budget budget = None
 
-abbrev pub lrat_of : Option Text → Option Text → Option Request
-lrat_of (Some cnf) (Some proof) = Some (LratIt (record { cnf = cnf; proof = proof }))
+abbrev pub lrat_of : Option Text → Option Text → Option Outcome
+lrat_of (Some cnf) (Some proof) = Some (Requested (LratIt (record { cnf = cnf; proof = proof })))
 lrat_of cnf proof = None
 
--- the number that is the value of an option
+-- the kind of workload that a text names, if it is one
+abbrev pub kind_named : Text → Option Kind
+kind_named text =
+    if bytes_eq text (codes "adder") then Some Adder
+    else if bytes_eq text (codes "parity") then Some Parity
+    else if bytes_eq text (codes "comparator") then Some Comparator
+    else None
+
+-- a workload of the kind that the word names, if it names one
+abbrev pub workload_of : Option Kind → Text → ℕ → Outcome
+workload_of (Some kind) word n = Requested (SelfIt (record { kind = kind; n = n }))
+workload_of None word n = NamesNoKind word
+
+abbrev pub self_of : Option Text → Option ℕ → Option Outcome
+self_of (Some word) (Some n) = Some (workload_of (kind_named word) word n)
+self_of word n = None
+
+-- the number that is the value of an argument
 abbrev pub number_of : Text → ℕ → ℕ → List Row → Option ℕ
 number_of id least most rows = option_and_then (number_in least most) (first_of id rows)
 
--- the requests that the values of the arguments make
-abbrev pub check_in : List Row → Option Request
+-- what the values of the arguments of each command come to
+abbrev pub check_in : List Row → Option Outcome
 check_in rows =
     check_of (first_of (codes "a") rows) (first_of (codes "b") rows) (first_of (codes "out") rows)
     (number_of (codes "seed") 0 most_seed rows) (number_of (codes "words") 1 WORDS_LIMIT rows)
     (number_of (codes "sweep-budget") 1 BUDGET_LIMIT rows) (number_of (codes "budget") 1 BUDGET_LIMIT rows)
 
-abbrev pub lrat_in : List Row → Option Request
+abbrev pub lrat_in : List Row → Option Outcome
 lrat_in rows = lrat_of (first_of (codes "cnf") rows) (first_of (codes "proof") rows)
 
--- the one that the command of this name makes
-abbrev pub request_in : Text → List Row → Option Request
-request_in name rows =
+abbrev pub self_in : List Row → Option Outcome
+self_in rows = self_of (first_of (codes "kind") rows) (number_of (codes "n") 1 MOST_BITS rows)
+
+-- and those of the command of this name
+abbrev pub outcome_in : Text → List Row → Option Outcome
+outcome_in name rows =
     if bytes_eq name (codes "check") then check_in rows
     else if bytes_eq name (codes "lrat") then lrat_in rows
+    else if bytes_eq name (codes "self") then self_in rows
     else None
 
 -- the second word is `help`, which is no command of the program
@@ -92,21 +127,26 @@ abbrev pub is_help : ErrorKind → Bool
 is_help DisplayHelp = true
 is_help kind = false
 
--- what the words ask for, where they have no fault
-unfoldable pub request_of : List Text → Option Request
-request_of words =
+-- what the words come to, where they have no fault
+unfoldable pub outcome_of : List Text → Option Outcome
+outcome_of words =
     if not (names_help words) && is_empty (faults words)
-    then option_and_then (λ p. request_in p.0 p.1) (subcommand_of cec_app words) else None
+    then option_and_then (λ p. outcome_in p.0 p.1) (subcommand_of cec_app words) else None
 
 abbrev pub Asks : List Text → Request → Type 0
-Asks words request = request_of words ≡ Some request
+Asks words request = outcome_of words ≡ Some (Requested request)
 
 -- the words ask for help, by `--help` or `-h`
 abbrev pub WantHelp : List Text → Type 0
 WantHelp words = (names_help words ≡ false) × (faults words ≡ DisplayHelp ∷ [])
 
+-- the words ask for a workload, by a word that names no kind
+abbrev pub AskNoKind : List Text → Text → Type 0
+AskNoKind words word = outcome_of words ≡ Some (NamesNoKind word)
+
 -- the words ask neither for help nor for what the program does: they name the command `help`, or have another fault than
--- that they ask for help
+-- that they ask for help, or name no kind of workload
 abbrev pub AreRefused : List Text → Type 0
 AreRefused words = (names_help words ≡ true)
     ⊎ ((is_empty (faults words) ≡ false) × (list_any is_help (faults words) ≡ false))
+    ⊎ ((word : Text) × AskNoKind words word)

@@ -1,5 +1,8 @@
 ghost use Rattle.std.specs.Prelude.{◌≤◌};
 ghost use Rattle.command_line.specs.declared.asked.TheConstants.{BUDGET_LIMIT, WORDS_LIMIT};
+ghost use Rattle.workload_gen.specs.declared.workload.TheConstants.{MOST_BITS};
+
+use workload_gen::{Kind, MOST_BITS};
 
 /// No budget is greater: so many clauses a solver may learn for a pair of nodes or an output.
 pub const BUDGET_LIMIT: u64 = 1_000_000_000;
@@ -41,6 +44,17 @@ pub struct LratWords<'a> {
     pub proof: &'a str,
 }
 
+/// What `self` was given.
+#[derive(Clone, Copy)]
+pub struct SelfWords {
+    /// Which function the circuits compute that the program makes.
+    pub kind: Kind,
+    /// Of so many bits.
+    pub n: u32,
+    pub ghost least: { 1 ≤ n },
+    pub ghost most: { n ≤ MOST_BITS },
+}
+
 /// What the words ask for.
 #[derive(Clone, Copy)]
 pub enum Asked<'a> {
@@ -48,4 +62,6 @@ pub enum Asked<'a> {
     Check(CheckWords<'a>),
     /// To check a proof.
     Lrat(LratWords<'a>),
+    /// To decide whether two circuits agree that the program makes.
+    SelfCheck(SelfWords),
 }

@@ -46,6 +46,9 @@ fn argument_of<'a>(alloc: Global, row: &ArgumentRow) -> Arg<'a>
         .help(row.help);
     match row.takes {
         Takes::Place => arg.required(true),
+        Takes::Count { least, most } => arg
+            .required(true)
+            .value_parser(ValueParser::Unsigned(least, most)),
         Takes::Text => arg.long(row.name),
         Takes::Number {
             least,

@@ -1,8 +1,10 @@
 ghost use Rattle.std.specs.Prelude.{◌≡◌, ◌⊎◌, ℕ, List, [], ◌∷◌, Some, codes};
 ghost use Rattle.command_line.specs.Commands.{most_seed};
-ghost use Rattle.command_line.specs.Plain.{AskCheck, IsPlain, Writes, plain_check};
+ghost use Rattle.command_line.specs.Plain.{AskCheck, IsPlain, Writes, kind_name, plain_check};
 ghost use Rattle.command_line.specs.declared.asked.TheConstants.{BUDGET_LIMIT, WORDS_LIMIT};
-ghost use Rattle.command_line.specs.Words.{AreRefused, Asks, LratIt, Request, WantHelp};
+ghost use Rattle.command_line.specs.Words.{AreRefused, Asks, LratIt, Request, SelfIt, WantHelp};
+ghost use Rattle.workload_gen.specs.declared.kind.Kind.{Kind};
+ghost use Rattle.workload_gen.specs.declared.workload.TheConstants.{MOST_BITS};
 
 /// Words ask for something, or for help, or are refused, and no two of these at once.
 pub fn words_are_one_of()
@@ -43,4 +45,6 @@ pub fn plain_words()
         (record (plain_check a b) { out = Some p; budget = n }) }
     ensures lrat { (program cnf proof : List ℕ) → IsPlain cnf → IsPlain proof →
         Asks (program ∷ codes "lrat" ∷ cnf ∷ proof ∷ []) (LratIt (record { cnf = cnf; proof = proof })) }
+    ensures own { (program word : List ℕ) (kind : Kind) (n : ℕ) → Writes 1 MOST_BITS word n →
+        Asks (program ∷ codes "self" ∷ kind_name kind ∷ word ∷ []) (SelfIt (record { kind = kind; n = n })) }
 {}

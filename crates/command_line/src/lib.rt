@@ -10,7 +10,7 @@
 //! read at `table.rt`.
 #![tactic(auto)]
 
-pub use asked::{Asked, BUDGET_LIMIT, CheckWords, LratWords, WORDS_LIMIT};
+pub use asked::{Asked, BUDGET_LIMIT, CheckWords, LratWords, SelfWords, WORDS_LIMIT};
 pub use laws::{plain_words, words_are_one_of};
 pub use reading::{Refusal, read};
 

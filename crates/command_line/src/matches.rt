@@ -1,27 +1,47 @@
 ghost use Rattle.std.specs.Prelude.{◌≡◌, ◌≤◌, Some, true, is_some};
 ghost use Rattle.clap.specs.Words.{first_of, found_of, rows_of};
-ghost use Rattle.command_line.specs.Words.{CheckIt, LratIt, check_in, lrat_in, number_of};
-ghost use Rattle.command_line.specs.Answers.{check_texts, lrat_texts, request};
-ghost use Rattle.command_line.specs.Parsing.{requested};
+ghost use Rattle.command_line.specs.Words.{CheckIt, LratIt, Requested, check_in, kind_named, lrat_in, number_of, outcome_in, self_in};
+ghost use Rattle.command_line.specs.Answers.{check_texts, lrat_texts};
+ghost use Rattle.command_line.specs.Parsing.{found, outcome, workload};
 
-use crate::asked::{Asked, BUDGET_LIMIT, CheckWords, LratWords, WORDS_LIMIT};
+use crate::asked::{Asked, BUDGET_LIMIT, CheckWords, LratWords, SelfWords, WORDS_LIMIT};
 use clap::ArgMatches;
+use workload_gen::{Kind, MOST_BITS};
 
-/// What the matches of the program's command ask for.
-pub(crate) fn asked_in<'a>(matches: &ArgMatches<'a>) -> Asked<'a>
-    requires { is_some (requested matches.now) ≡ true }
-    ensures { requested matches.now ≡ Some (request result) }
+/// What the matches of the program's command ask for, or the word in them that names no kind of workload.
+pub(crate) fn asked_in<'a>(matches: &ArgMatches<'a>) -> Result<Asked<'a>, &'a str>
+    requires { is_some (found matches.now) ≡ true }
+    ensures { found matches.now ≡ Some (outcome result) }
 {
     match matches.subcommand() {
-        Some((name, inner)) if name == "check" => Asked::Check(check_words(inner)),
-        Some((name, inner)) if name == "lrat" => Asked::Lrat(lrat_words(inner)),
-        _ => unreachable!(),
+        Some((name, inner)) => asked_by(name, inner),
+        None => unreachable!(),
     }
+}
+
+/// What the matches of the command of this name ask for.
+fn asked_by<'a>(name: &str, matches: &ArgMatches<'a>) -> Result<Asked<'a>, &'a str>
+    requires { is_some (outcome_in name.now (rows_of (found_of matches.now))) ≡ true }
+    ensures { outcome_in name.now (rows_of (found_of matches.now)) ≡ Some (outcome result) }
+{
+    if name == "check" {
+        return Ok(Asked::Check(check_words(matches)));
+    }
+    if name == "lrat" {
+        return Ok(Asked::Lrat(lrat_words(matches)));
+    }
+    if name == "self" {
+        return match self_words(matches) {
+            Ok(words) => Ok(Asked::SelfCheck(words)),
+            Err(word) => Err(word),
+        };
+    }
+    unreachable!()
 }
 
 fn check_words<'a>(matches: &ArgMatches<'a>) -> CheckWords<'a>
     requires { is_some (check_in (rows_of (found_of matches.now))) ≡ true }
-    ensures { check_in (rows_of (found_of matches.now)) ≡ Some (CheckIt (check_texts result)) }
+    ensures { check_in (rows_of (found_of matches.now)) ≡ Some (Requested (CheckIt (check_texts result))) }
 {
     CheckWords {
         a: text(matches, "a"),
@@ -36,7 +56,7 @@ fn check_words<'a>(matches: &ArgMatches<'a>) -> CheckWords<'a>
 
 fn lrat_words<'a>(matches: &ArgMatches<'a>) -> LratWords<'a>
     requires { is_some (lrat_in (rows_of (found_of matches.now))) ≡ true }
-    ensures { lrat_in (rows_of (found_of matches.now)) ≡ Some (LratIt (lrat_texts result)) }
+    ensures { lrat_in (rows_of (found_of matches.now)) ≡ Some (Requested (LratIt (lrat_texts result))) }
 {
     LratWords {
         cnf: text(matches, "cnf"),
@@ -44,7 +64,32 @@ fn lrat_words<'a>(matches: &ArgMatches<'a>) -> LratWords<'a>
     }
 }
 
-/// The number behind an option, which is in its range.
+/// The workload, or the word that should name its kind and doesn't.
+fn self_words<'a>(matches: &ArgMatches<'a>) -> Result<SelfWords, &'a str>
+    requires { is_some (self_in (rows_of (found_of matches.now))) ≡ true }
+    ensures { self_in (rows_of (found_of matches.now)) ≡ Some (workload result) }
+{
+    let word = text(matches, "kind");
+    let n = number(matches, "n", 1, MOST_BITS as u64);
+    match kind_named(word) {
+        Some(kind) => Ok(SelfWords { kind, n: n as u32 }),
+        None => Err(word),
+    }
+}
+
+/// The kind of workload of this name.
+fn kind_named(name: &str) -> Option<Kind>
+    ensures { result ≡ kind_named name.now }
+{
+    match name {
+        "adder" => Some(Kind::Adder),
+        "parity" => Some(Kind::Parity),
+        "comparator" => Some(Kind::Comparator),
+        _ => None,
+    }
+}
+
+/// The number of an argument, which is in its range.
 fn number(matches: &ArgMatches<'_>, id: &str, least: u64, most: u64) -> u64
     requires { is_some (number_of id.now least most (rows_of (found_of matches.now))) ≡ true }
     ensures value { number_of id.now least most (rows_of (found_of matches.now)) ≡ Some result }

@@ -1,16 +1,16 @@
-ghost use Rattle.std.specs.Prelude.{◌≡◌, IfOk, IfErr, map, string_bytes};
+ghost use Rattle.std.specs.Prelude.{◌≡◌, IfOk, IfErr, Some, is_some, map, string_bytes, true};
 ghost use Rattle.clap.specs.Words.{FailsBy, HasMatchesOf, kind_of};
 ghost use Rattle.command_line.specs.Commands.{cec_app};
-ghost use Rattle.command_line.specs.Words.{Asks, faults, names_help};
-ghost use Rattle.command_line.specs.Answers.{request, MayRefuse};
-ghost use Rattle.command_line.specs.Parsing.{RefusesHelp, IsRefusal};
+ghost use Rattle.command_line.specs.Words.{Asks, Requested, faults, names_help};
+ghost use Rattle.command_line.specs.Answers.{request, no_kind_text, MayRefuse};
+ghost use Rattle.command_line.specs.Parsing.{RefusesFound, RefusesHelp, RefusesKind, IsRefusal, found};
 
 use crate::asked::Asked;
 use crate::command::cec_command;
 use crate::matches::asked_in;
 use clap::error::ErrorKind;
 use clap::{ArgMatches, Error};
-use std::alloc::Global;
+use std::alloc::{AllocError, Global};
 
 /// Why words ask for nothing that the program does.
 #[derive(Debug, Drop)]
@@ -32,7 +32,7 @@ pub fn read<'a>(alloc: Global, words: &'a [String]) -> Result<Asked<'a>, Refusal
         return Err(no_command_help(alloc));
     }
     match matches_of(alloc, words) {
-        Ok(matches) => Ok(asked_in(&matches)),
+        Ok(matches) => answer_to(alloc, &matches),
         Err(error) => Err(refusal_of(alloc, &error)),
     }
 }
@@ -55,6 +55,40 @@ fn no_command_help(alloc: Global) -> Refusal
         Ok(text) => Refusal::Usage(text),
         Err(_) => Refusal::NoMemory,
     }
+}
+
+/// What the matches ask for. A word that names no kind of workload is refused here.
+fn answer_to<'a>(alloc: Global, matches: &ArgMatches<'a>) -> Result<Asked<'a>, Refusal>
+    requires { is_some (found matches.now) ≡ true }
+    ensures asked { IfOk result (λ asked. found matches.now ≡ Some (Requested (request asked))) }
+    ensures refused { IfErr result (RefusesFound (found matches.now)) }
+{
+    match asked_in(matches) {
+        Ok(asked) => Ok(asked),
+        Err(word) => Err(no_kind(alloc, word)),
+    }
+}
+
+/// The refusal of a word that names no kind of workload. `clap` could refuse it, by the list of names of the
+/// argument; but its definitions see such a list as a place in memory, of which no definition can speak.
+fn no_kind(alloc: Global, word: &str) -> Refusal
+    ensures { RefusesKind word.now result }
+{
+    match no_kind_text(alloc, word) {
+        Ok(text) => Refusal::Usage(text),
+        Err(_) => Refusal::NoMemory,
+    }
+}
+
+/// The text of it, as `clap` says this of a value that isn't among the names of its argument.
+fn no_kind_text(alloc: Global, word: &str) -> Result<String, AllocError>
+    ensures { IfOk result (λ s. string_bytes s ≡ no_kind_text word.now) }
+{
+    let mut text = String::from_str(alloc, "error: invalid value '")?;
+    text.push_str(word)?;
+    text.push_str("' for '<KIND>'\n  [possible values: adder, parity, comparator]\n")?;
+    text.push_str("\nFor more information, try '--help'.\n")?;
+    Ok(text)
 }
 
 /// What `clap` reads in the words.

@@ -2,12 +2,18 @@
 //! of what `read` hands out.
 
 use crate::asked::{BUDGET_LIMIT, WORDS_LIMIT};
+use workload_gen::MOST_BITS;
 
 /// What an argument takes.
 #[derive(Clone, Copy)]
 pub(crate) enum Takes {
     /// Any text, without a name, which has to be there.
     Place,
+    /// A number from `least` to `most`, without a name, which has to be there.
+    Count {
+        least: u64,
+        most: u64,
+    },
     /// Any text behind `--NAME`, which may be left out.
     Text,
     /// A number from `least` to `most` behind `--NAME`, and the one in `default` where it is left out.
@@ -45,7 +51,7 @@ pub(crate) struct CommandRow {
 pub(crate) const PROGRAM_HELP: &str =
     "Decide whether circuits compute the same, and leave a proof that others can check";
 
-pub(crate) static COMMANDS: [CommandRow; 2] = [
+pub(crate) static COMMANDS: [CommandRow; 3] = [
     CommandRow {
         name: "check",
         help: "Decide whether two circuits compute the same outputs",
@@ -130,6 +136,28 @@ pub(crate) static COMMANDS: [CommandRow; 2] = [
             },
         ],
     },
+    CommandRow {
+        name: "self",
+        help: "Decide whether two circuits agree that the program makes, in two architectures",
+        notes: SELF_NOTES,
+        arguments: &[
+            ArgumentRow {
+                name: "kind",
+                value_name: "KIND",
+                takes: Takes::Place,
+                help: "What they compute: adder, parity or comparator",
+            },
+            ArgumentRow {
+                name: "n",
+                value_name: "N",
+                takes: Takes::Count {
+                    least: 1,
+                    most: MOST_BITS as u64,
+                },
+                help: "Of how many bits, from 1 to 4096",
+            },
+        ],
+    },
 ];
 
 /// The statuses that are the same for each command, at the end of the program's help.
@@ -160,3 +188,10 @@ Says, and ends with the status before it:
   0  VERIFIED
   1  REFUSED, with the first line that does not follow, or for want of an empty clause
 Other statuses tell of a fault: see cec --help.";
+
+const SELF_NOTES: &str = "\
+Says three lines, and then what check says of the circuits without an option, with its status:
+  kind KIND n N
+  gates A B      how many gates either circuit has
+  outputs N      how many outputs both have
+Reads no file and leaves none.";

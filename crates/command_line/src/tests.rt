@@ -2,6 +2,7 @@ use crate::{Asked, Refusal, read};
 use std::alloc::Global;
 use std::process::Abort;
 use std::test::Fail;
+use workload_gen::Kind;
 
 const PROGRAM_HELP: &str = "help: \
 Decide whether circuits compute the same, and leave a proof that others can check
@@ -11,6 +12,7 @@ Usage: cec <COMMAND>
 Commands:
   check  Decide whether two circuits compute the same outputs
   lrat   Check a proof that a formula has no model
+  self   Decide whether two circuits agree that the program makes, in two architectures
 
 Options:
   -h, --help  Print help
@@ -73,11 +75,37 @@ Says, and ends with the status before it:
 Other statuses tell of a fault: see cec --help.
 ";
 
+const SELF_HELP: &str = "help: \
+Decide whether two circuits agree that the program makes, in two architectures
+
+Usage: cec self <KIND> <N>
+
+Arguments:
+  <KIND>  What they compute: adder, parity or comparator
+  <N>     Of how many bits, from 1 to 4096
+
+Options:
+  -h, --help  Print help
+
+Says three lines, and then what check says of the circuits without an option, with its status:
+  kind KIND n N
+  gates A B      how many gates either circuit has
+  outputs N      how many outputs both have
+Reads no file and leaves none.
+";
+
 const NO_COMMAND: &str = "usage: \
 error: 'cec' requires a subcommand but one was not provided
-  [subcommands: check, lrat]
+  [subcommands: check, lrat, self]
 
 Usage: cec <COMMAND>
+
+For more information, try '--help'.
+";
+
+const NO_KIND: &str = "usage: \
+error: invalid value 'help' for '<KIND>'
+  [possible values: adder, parity, comparator]
 
 For more information, try '--help'.
 ";
@@ -85,7 +113,7 @@ For more information, try '--help'.
 const NO_HELP: &str = "usage: cec: no command help\n";
 
 /// Words, and what they are told.
-const TAKEN: [(&str, &str); 17] = [
+const TAKEN: [(&str, &str); 20] = [
     (
         "cec check x y",
         "x and y, to nowhere, by 1, 4, 100 and 100000",
@@ -151,10 +179,13 @@ const TAKEN: [(&str, &str); 17] = [
         "x and y, to p, by 1, 6, 5 and 100000",
     ),
     ("cec lrat f p", "p of f"),
+    ("cec self adder 1", "an adder of 1"),
+    ("cec self parity 4096", "a parity of 4096"),
+    ("cec self comparator +08", "a comparator of 8"),
 ];
 
 /// Words, and how the text of their refusal begins.
-const REFUSED: [(&str, &str); 18] = [
+const REFUSED: [(&str, &str); 21] = [
     (
         "cec check x y --budget 0",
         "invalid value '0' for '--budget <N>': 0 is not in 1..=1000000000\n",
@@ -217,7 +248,22 @@ const REFUSED: [(&str, &str); 18] = [
         "unexpected argument '--workers' found\n",
     ),
     ("cec --version", "unexpected argument '--version' found\n"),
-    ("cec self adder 4", "unrecognized subcommand 'self'\n"),
+    (
+        "cec self adders 4",
+        "invalid value 'adders' for '<KIND>'\n  [possible values: adder, parity, comparator]\n",
+    ),
+    (
+        "cec self adder 0",
+        "invalid value '0' for '<N>': 0 is not in 1..=4096\n",
+    ),
+    (
+        "cec self adder 4097",
+        "invalid value '4097' for '<N>': 4097 is not in 1..=4096\n",
+    ),
+    (
+        "cec self parity",
+        "the following required arguments were not provided:\n  <N>\n",
+    ),
 ];
 
 /// What `read` answers to the words of a line: the request, or the text of the refusal with its kind before
@@ -236,6 +282,11 @@ fn told(alloc: Global, line: &str) -> Result<String, Fail> {
             )?
         }
         Ok(Asked::Lrat(lrat)) => format!(in alloc; "{} of {}", lrat.proof, lrat.cnf)?,
+        Ok(Asked::SelfCheck(own)) => match own.kind {
+            Kind::Adder => format!(in alloc; "an adder of {}", own.n)?,
+            Kind::Parity => format!(in alloc; "a parity of {}", own.n)?,
+            Kind::Comparator => format!(in alloc; "a comparator of {}", own.n)?,
+        },
         Err(Refusal::Help(text)) => format!(in alloc; "help: {text}")?,
         Err(Refusal::Usage(text)) => format!(in alloc; "usage: {text}")?,
         Err(Refusal::NoMemory) => return Err(Fail::from("out of memory")),
@@ -257,7 +308,9 @@ fn help_and_usage_texts(rt: HostRuntime) -> Result<(), Fail> {
     check_told(&rt, alloc, "cec check --help", CHECK_HELP)?;
     check_told(&rt, alloc, "cec check x y -h", CHECK_HELP)?;
     check_told(&rt, alloc, "cec lrat --help", LRAT_HELP)?;
+    check_told(&rt, alloc, "cec self --help", SELF_HELP)?;
     check_told(&rt, alloc, "cec", NO_COMMAND)?;
+    check_told(&rt, alloc, "cec self help 1", NO_KIND)?;
     check_told(&rt, alloc, "cec help", NO_HELP)?;
     check_told(&rt, alloc, "cec help check", NO_HELP)
 }

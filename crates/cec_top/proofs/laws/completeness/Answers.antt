@@ -1,5 +1,7 @@
 use Rattle.cec_top.proofs.CompleteLemmas.{complete, decided}
+use Rattle.cec_top.proofs.OwnVerdictLemmas.{own-complete}
 use Rattle.cec_top.proofs.ProvenLemmas.{complete-lrat}
+use Rattle.cec_top.proofs.WordsLemmas.{answers-self}
 use Rattle.cec_top.proofs.laws.completeness.Goals as goal
 
 pub returns-clause-check : goal.returns-clause-check
@@ -13,3 +15,7 @@ returns-clause-lrat call = λ words c old new status kept asks answers can none.
 pub returns-clause-decided : goal.returns-clause-decided
 returns-clause-decided call = λ words c old new status kept asks answers ample.
     decided words old new status kept call.words_are_one_of.ensures.asked answers c asks ample
+
+pub returns-clause-own : goal.returns-clause-own
+returns-clause-own call = λ words c old new status kept asks answers none.
+    own-complete c old new status kept none (answers-self words old new status kept call.words_are_one_of.ensures.asked answers c asks)

@@ -1,6 +1,7 @@
 use Rattle.std.proofs.Common.{arith}
 use Rattle.cec_top.proofs.VerdictLemmas.{equivalent, different, undecided}
-use Rattle.cec_top.proofs.WordsLemmas.{answers-check, answers-lrat, verified}
+use Rattle.cec_top.proofs.OwnVerdictLemmas.{own-equivalent, own-different, own-undecided}
+use Rattle.cec_top.proofs.WordsLemmas.{answers-check, answers-lrat, answers-self, verified}
 use Rattle.cec_top.proofs.laws.verdicts.Goals as goal
 
 pub returns-clause-equivalent : goal.returns-clause-equivalent
@@ -22,3 +23,15 @@ pub returns-clause-verified : goal.returns-clause-verified
 returns-clause-verified call = λ words c old new status kept asks answers code.
     verified c old new status
     (answers-lrat words old new status kept call.words_are_one_of.ensures.asked answers c asks (omega (arith, code))) code
+
+pub returns-clause-own_equivalent : goal.returns-clause-own_equivalent
+returns-clause-own_equivalent call = λ words c old new status kept asks answers code.
+    own-equivalent c old new status kept (answers-self words old new status kept call.words_are_one_of.ensures.asked answers c asks) code
+
+pub returns-clause-own_different : goal.returns-clause-own_different
+returns-clause-own_different call = λ words c old new status kept asks answers code.
+    own-different c old new status kept (answers-self words old new status kept call.words_are_one_of.ensures.asked answers c asks) code
+
+pub returns-clause-own_undecided : goal.returns-clause-own_undecided
+returns-clause-own_undecided call = λ words c old new status kept asks answers code.
+    own-undecided c old new status kept (answers-self words old new status kept call.words_are_one_of.ensures.asked answers c asks) code

@@ -9,5 +9,5 @@ loop-row-preserved c =
 
 pub returns : goal.returns
 returns c =
-    let all : c.loop-row.row-index ≡ 2 = omega arith in
+    let all : c.loop-row.row-index ≡ 3 = omega arith in
     rw all at c.loop-row.invariant

@@ -1,4 +1,4 @@
-use Rattle.command_line.proofs.PlainLemmas.{asks-lrat, asks-check, asks-out, asks-seed, asks-words, asks-sweep_budget, asks-budget, asks-out_budget, asks-budget_out}
+use Rattle.command_line.proofs.PlainLemmas.{asks-lrat, asks-self, asks-check, asks-out, asks-seed, asks-words, asks-sweep_budget, asks-budget, asks-out_budget, asks-budget_out}
 use Rattle.command_line.proofs.laws.plain_words.Goals as goal
 
 pub returns : goal.returns
@@ -12,4 +12,5 @@ returns c = record {
   out_budget = λ a b p word n plain_a plain_b plain_p writes program. asks-out_budget program a b plain_a plain_b word n writes p plain_p;
   budget_out = λ a b p word n plain_a plain_b plain_p writes program. asks-budget_out program a b plain_a plain_b word n writes p plain_p;
   lrat = λ program cnf proof plain_a plain_b. asks-lrat program cnf proof plain_a plain_b;
+  own = λ program word kind n writes. asks-self program word n writes kind;
 }

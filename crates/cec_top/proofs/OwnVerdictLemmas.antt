@@ -1,0 +1,112 @@
+-- What each verdict promises of circuits that the program makes, and that the check of them comes to one.
+use Rattle.std.proofs.Common.{◌≡◌, ℕ, ◌<◌, ◌≤◌, inl, inr, List, [], ◌++◌, Option, Some, None, Ok, Err, refl, sym, ap, ◌∙◌, subst, arith, append_assoc}
+use Rattle.std.specs.Prelude.{◌⊎◌, option_map}
+use Rattle.desk_port.specs.Desk.{Files, DeskState, Rose, after_say}
+use Rattle.netlist.specs.Net.{AigPair}
+use Rattle.endings.specs.declared.status.Status.{Status}
+use Rattle.endings.specs.Status.{code_of}
+use Rattle.endings.specs.declared.stop.Stop.{Stop}
+use Rattle.endings.specs.declared.stop.Stop.TheVariants.{OutOfMemory}
+use Rattle.endings.specs.Stops.{EndsBy, Warns, status_of, stop_line}
+use Rattle.command_line.specs.Words.{SelfCommand}
+use Rattle.cec_top.specs.declared.kept.Kept.{Kept}
+use Rattle.cec_top.specs.Headline.{AreEquivalent, AreDifferent, AreUndecided, Left, OfWorkload, Shows}
+use Rattle.cec_top.specs.Check.{Made, status_of_finding, text_of_check, proof_bytes}
+use Rattle.cec_top.specs.Answers.{IsAtOnce}
+use Rattle.cec_top.specs.SelfCheck.{AnswersSelf, EndsSelf, StopsSelf, after_workload, own_check}
+use Rattle.cec_top.specs.Complete.{NoFault, HasVerdict}
+use Rattle.cec_top.specs.Texts.{workload_text}
+use Rattle.cec_top.proofs.HeadlineLemmas.{ends-code}
+use Rattle.cec_top.proofs.VerdictLemmas.{are-equivalent, are-different, are-undecided}
+use Rattle.cec_top.proofs.CompleteLemmas.{IsExcused, finding-code, leaves-stops, warned-counts}
+
+module _ (c : SelfCommand) (old new : DeskState) (status : Status) (kept : List Kept) where
+  whole : (p : EndsSelf c old new status kept) → new ≡ after_say (after_workload c p.made.net old) (text_of_check None p.made)
+  whole p = p.told
+
+  -- what holds of the check is promised
+  promised : (Holds : AigPair → Files → Files → List ℕ → Type 0) (p : EndsSelf c old new status kept)
+      → ((before : Files) → Holds p.made.net before before (text_of_check None p.made)) → Shows (OfWorkload c Holds) old new
+  promised Holds p holds before earlier told heard =
+      let first = workload_text c p.made.net in
+      let verdict = text_of_check None p.made in
+      record {
+        after = before;
+        said = first ++ verdict;
+        left = ap (λ (s : DeskState). s.files) (whole p) ∙ told;
+        heard =
+            ap (λ (s : DeskState). s.said) (whole p)
+            ∙ ap (λ (o : Option (List ℕ)). option_map (λ x. x ++ verdict) (option_map (λ x. x ++ first) o)) heard
+            ∙ ap (λ (x : List ℕ). Some x) (append_assoc earlier first verdict);
+        quiet = ap (λ (s : DeskState). s.warned) (whole p);
+        promise = record {
+          net = p.made.net;
+          spells_a = p.circuits.a;
+          spells_b = p.circuits.b;
+          verdict = verdict;
+          says = refl;
+          holds = holds before;
+        };
+      }
+
+  module _ (answers : AnswersSelf c old new status kept ⊎ EndsBy [] (IsAtOnce old) new status) where
+    ends-whole : code_of status < 4 → EndsSelf c old new status kept
+    ends-whole below = elim answers [
+      | inl (inl p) ↦ p
+      | inl (inr p) ↦ absurd (omega (arith, below, ends-code _ _ new status p))
+      | inr p ↦ absurd (omega (arith, below, ends-code _ _ new status p))
+    ]
+
+    shows : (Holds : AigPair → Files → Files → List ℕ → Type 0) (code : ℕ) → code_of status ≡ code → code < 4
+        → ((p : EndsSelf c old new status kept) (before : Files) → code_of (status_of_finding p.made.finding) ≡ code
+        → Holds p.made.net before before (text_of_check None p.made))
+        → Shows (OfWorkload c Holds) old new
+    shows Holds code is below holds =
+        let p = ends-whole (omega (arith, is, below)) in
+        promised Holds p (λ before. holds p before (sym (ap code_of p.status_is) ∙ is))
+
+    pub own-equivalent : code_of status ≡ 0 → Shows (OfWorkload c (AreEquivalent None)) old new
+    own-equivalent is = shows (AreEquivalent None) 0 is (omega arith)
+        (λ p before code. are-equivalent None p.made.net own_check.sweep_budget own_check.budget p.made.book before p.made.finding p.is_made.settled
+        p.is_made.proof code)
+
+    pub own-different : code_of status ≡ 1 → Shows (OfWorkload c (AreDifferent None)) old new
+    own-different is = shows (AreDifferent None) 1 is (omega arith)
+        (λ p before code. are-different None p.made.net own_check.sweep_budget own_check.budget p.made.book before p.made.finding p.is_made.settled code)
+
+    pub own-undecided : code_of status ≡ 2 → Shows (OfWorkload c (AreUndecided None own_check.budget)) old new
+    own-undecided is = shows (AreUndecided None own_check.budget) 2 is (omega arith)
+        (λ p before code. are-undecided None p.made.net own_check.sweep_budget own_check.budget p.made.book before p.made.finding p.is_made.settled
+        p.is_made.proof code)
+
+  -- ---- a verdict, or want of memory
+
+  excused-said : (s t : DeskState) (stop : Stop) → s.write_faults ≡ old.write_faults → (stop ≡ OutOfMemory) ⊎ Rose s.write_faults t.write_faults
+      → IsExcused old t stop
+  excused-said s t stop same (inl out) = inl out
+  excused-said s t stop same (inr rose) = inr (inr (subst (λ (n : ℕ). Rose n t.write_faults) same rose))
+
+  excused : (mid : DeskState) (stop : Stop) → StopsSelf c old kept mid stop → IsExcused old mid stop
+  excused mid stop (inl p) =
+      excused-said old mid stop refl (leaves-stops [] (workload_text c p.net) old mid stop p.breaks)
+  excused mid stop (inr (inl p)) =
+      let s = after_workload c p.half.net old in
+      excused-said s mid stop refl (leaves-stops [] (text_of_check None p.half) s mid stop p.breaks)
+  excused mid stop (inr (inr p)) = inl p.out
+
+  pub own-complete : NoFault old new → AnswersSelf c old new status kept ⊎ EndsBy [] (IsAtOnce old) new status → HasVerdict status
+  own-complete none (inl (inl p)) = inl (subst (λ (s : Status). code_of s ≤ 2) (sym p.status_is) (finding-code p.made.finding))
+  own-complete none (inl (inr p)) = go p.warns (excused p.mid p.stop p.cause)
+    where
+      go : Warns (stop_line [] p.stop) (status_of p.stop) p.mid new status → IsExcused old p.mid p.stop → HasVerdict status
+      go (inr w) excuse = inr (ap code_of w.0)
+      go (inl w) (inl memory) = inr (ap code_of w.0 ∙ ap (λ (s : Stop). code_of (status_of s)) memory)
+      go (inl w) (inr (inl reads)) =
+          absurd (none.reads (subst (λ (n : ℕ). Rose old.read_faults n) (sym (warned-counts p.mid new _ w.1).0) reads))
+      go (inl w) (inr (inr writes)) =
+          absurd (none.writes (subst (λ (n : ℕ). Rose old.write_faults n) (sym (warned-counts p.mid new _ w.1).1) writes))
+  own-complete none (inr p) = go p.warns
+    where
+      go : Warns (stop_line [] p.stop) (status_of p.stop) p.mid new status → HasVerdict status
+      go (inl w) = inr (ap code_of w.0 ∙ ap (λ (s : Stop). code_of (status_of s)) p.cause.0)
+      go (inr w) = inr (ap code_of w.0)

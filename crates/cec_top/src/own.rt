@@ -1,0 +1,80 @@
+ghost use Rattle.std.specs.Prelude.{◌≡◌, [], IfOk, IfErr, None, Some};
+ghost use Rattle.netlist.specs.Circuit.{Aig};
+ghost use Rattle.aiger_file.specs.File.{SpellsAiger};
+ghost use Rattle.command_line.specs.Answers.{check_texts, self_texts};
+ghost use Rattle.cec_top.specs.SelfCheck.{EndsSelf, StopsSelf, own_check};
+ghost use Rattle.cec_top.specs.Steps.{MakesSession, ReadsBack};
+
+use crate::checking::settle;
+use crate::kept::Kept;
+use crate::reading::options_of;
+use crate::texts::workload_text;
+use byte_scan::AigerErr;
+use check_session::Session;
+use command_line::{CheckWords, SelfWords};
+use desk_port::Desk;
+use endings::{Status, Stop, say};
+use netlist::{Circuit, Unlike};
+use std::alloc::Global;
+
+/// Makes two circuits, says which they are, settles them and says the verdict.
+pub(crate) fn check_own<D: Desk>(
+    alloc: Global,
+    desk: &mut D,
+    words: SelfWords,
+    kept: &mut Vec<Kept>,
+) -> Result<Status, Stop>
+    requires started { (D.state desk.old).started ≡ None }
+    requires empty { kept.old.items ≡ [] }
+    ensures ok { IfOk result (λ status.
+        EndsSelf (self_texts words) (D.state desk.old) (D.state desk.new) status kept.new.items) }
+    ensures err { IfErr result
+        (StopsSelf (self_texts words) (D.state desk.old) kept.new.items (D.state desk.new)) }
+{
+    let session = own_session(alloc, words)?;
+    let text = workload_text(alloc, words, session.net())?;
+    say(desk, text.as_slice())?;
+    settle(alloc, desk, without_options(), session, kept)
+}
+
+/// A check without an option, of no files.
+fn without_options() -> CheckWords<'static>
+    ensures { check_texts result ≡ own_check }
+{
+    CheckWords {
+        a: "",
+        b: "",
+        out: None,
+        seed: 1,
+        words: 4,
+        sweep_budget: 100,
+        budget: 100_000,
+    }
+}
+
+/// A session for the two circuits, which are made as files and read like those.
+fn own_session(alloc: Global, words: SelfWords) -> Result<Session, Stop>
+    ensures { MakesSession (self_texts words) result }
+{
+    workload_gen::circuits_are_alike();
+    let (first, second) = workload_gen::make(alloc, words.kind, words.n)?;
+    let a = read_back(alloc, first.as_slice())?;
+    let b = read_back(alloc, second.as_slice())?;
+    match Session::open(alloc, a, b, options_of(without_options())) {
+        Ok(session) => Ok(session),
+        Err(Unlike::NoMemory) => Err(Stop::OutOfMemory),
+        Err(_) => unreachable!(),
+    }
+}
+
+/// The circuit that the bytes spell, which spell one.
+fn read_back(alloc: Global, bytes: &[u8]) -> Result<Circuit, Stop>
+    requires { (c : Aig) × SpellsAiger bytes.now c }
+    ensures { ReadsBack bytes.now result }
+{
+    match aiger_file::read(alloc, bytes) {
+        Ok(circuit) => Ok(circuit),
+        Err(AigerErr::NoMemory) => Err(Stop::OutOfMemory),
+        Err(_) => unreachable!(),
+    }
+}
