@@ -1,6 +1,6 @@
 -- How the check of circuits that the program makes answers.
-use Rattle.std.proofs.Common.{◌≡◌, ℕ, ◌≤◌, inl, inr, List, [], Ok, Err, Some, None, Option, length, refl, sym, ap, ◌∙◌, subst}
-use Rattle.std.specs.Prelude.{Result, IfOk, IfErr, IfSome, IfNone, MatchResult}
+use Rattle.std.proofs.Common.{◌≡◌, ℕ, inl, inr, List, [], Ok, Err, None, Option, length, refl, sym, ap, ◌∙◌, subst}
+use Rattle.std.specs.Prelude.{Result, IfOk, IfErr, IfNone, MatchResult}
 use Rattle.desk_port.specs.Desk.{DeskState, after_say}
 use Rattle.netlist.specs.Circuit.{Aig}
 use Rattle.netlist.specs.Net.{AigPair}
@@ -11,7 +11,7 @@ use Rattle.byte_scan.specs.Reading.{IsFault}
 use Rattle.byte_scan.specs.declared.errors.AigerErr.{AigerErr}
 use Rattle.byte_scan.specs.declared.errors.AigerErr.TheVariants as aiger
 use Rattle.aiger_file.specs.File.{SpellsAiger, aiger_in}
-use Rattle.workload_gen.specs.Workload.{first_circuit, second_circuit}
+use Rattle.workload_gen.specs.Workload.{first_bytes, second_bytes}
 use Rattle.endings.specs.Writing.{Says}
 use Rattle.endings.specs.declared.status.Status.{Status}
 use Rattle.endings.specs.declared.stop.Stop.{Stop}
@@ -104,3 +104,13 @@ own-refused a b e t none like =
 pub only-memory : (bytes : List ℕ) (c : Aig) (e : AigerErr) → SpellsAiger bytes c → IsFault e (aiger_in bytes) → e ≡ aiger.NoMemory
 only-memory bytes c aiger.NoMemory is fault = refl
 only-memory bytes c other is fault = let bad = rw is at fault in cc
+
+-- ---- the session
+
+-- it is of the circuits that were read back
+pub made-own : (c : SelfCommand) (x y : List ℕ) (a b : Aig) (net : AigPair) → x ≡ first_bytes c.kind c.n → y ≡ second_bytes c.kind c.n
+    → SpellsAiger x a → SpellsAiger y b → net ≡ record { a = a; b = b } → AreWorkload c net
+made-own c x y a b net x_is y_is a_is b_is is = subst (AreWorkload c) (sym is) (record {
+  a = subst (λ (bytes : List ℕ). SpellsAiger bytes a) x_is a_is;
+  b = subst (λ (bytes : List ℕ). SpellsAiger bytes b) y_is b_is;
+})

@@ -1,5 +1,5 @@
 -- What each verdict promises of circuits that the program makes, and that the check of them comes to one.
-use Rattle.std.proofs.Common.{◌≡◌, ℕ, ◌<◌, ◌≤◌, inl, inr, List, [], ◌++◌, Option, Some, None, Ok, Err, refl, sym, ap, ◌∙◌, subst, arith, append_assoc}
+use Rattle.std.proofs.Common.{◌≡◌, ℕ, ◌<◌, ◌≤◌, inl, inr, List, [], ◌++◌, Option, Some, None, refl, sym, ap, ◌∙◌, subst, arith, append_assoc}
 use Rattle.std.specs.Prelude.{◌⊎◌, option_map}
 use Rattle.desk_port.specs.Desk.{Files, DeskState, Rose, after_say}
 use Rattle.netlist.specs.Net.{AigPair}
@@ -10,8 +10,8 @@ use Rattle.endings.specs.declared.stop.Stop.TheVariants.{OutOfMemory}
 use Rattle.endings.specs.Stops.{EndsBy, Warns, status_of, stop_line}
 use Rattle.command_line.specs.Words.{SelfCommand}
 use Rattle.cec_top.specs.declared.kept.Kept.{Kept}
-use Rattle.cec_top.specs.Headline.{AreEquivalent, AreDifferent, AreUndecided, Left, OfWorkload, Shows}
-use Rattle.cec_top.specs.Check.{Made, status_of_finding, text_of_check, proof_bytes}
+use Rattle.cec_top.specs.Headline.{AreEquivalent, AreDifferent, AreUndecided, OfWorkload, Shows}
+use Rattle.cec_top.specs.Check.{status_of_finding, text_of_check}
 use Rattle.cec_top.specs.Answers.{IsAtOnce}
 use Rattle.cec_top.specs.SelfCheck.{AnswersSelf, EndsSelf, StopsSelf, after_workload, own_check}
 use Rattle.cec_top.specs.Complete.{NoFault, HasVerdict}

@@ -1,5 +1,5 @@
 -- What a run of the program answers.
-use Rattle.std.specs.Prelude.{◌≡◌, ◌⊎◌, ℕ, List, [], ◌∷◌, ◌++◌, length, map, option_map, None, Some, Err, true, string_bytes, Option, Result, Ok}
+use Rattle.std.specs.Prelude.{◌≡◌, ◌⊎◌, ℕ, List, [], ◌∷◌, ◌++◌, length, map, option_map, None, Some, Err, string_bytes, Option, Result, Ok}
 use Rattle.desk_port.specs.Desk.{DeskState, after_say}
 use Rattle.netlist.specs.declared.unlike.Unlike.{Unlike}
 use Rattle.netlist.specs.Net.{AigPair}
@@ -7,8 +7,8 @@ use Rattle.netlist.specs.Unlike.{unlike_of}
 use Rattle.byte_scan.specs.declared.errors.AigerErr.{AigerErr}
 use Rattle.netlist.specs.Circuit.{Aig}
 use Rattle.aiger_file.specs.File.{aiger_in, SpellsAiger}
-use Rattle.command_line.specs.Words.{CheckCommand, LratCommand, SelfCommand, CheckIt, LratIt, SelfIt, Asks, WantHelp, AreRefused, names_help}
-use Rattle.command_line.specs.Answers.{no_help_text}
+use Rattle.command_line.specs.Words.{CheckCommand, LratCommand, SelfCommand, CheckIt, LratIt, SelfIt, Asks, WantHelp, AreRefused}
+use Rattle.command_line.specs.Answers.{Names}
 use Rattle.endings.specs.Reading.{Input, AreRead, ReadsUpTo, after_reads}
 use Rattle.endings.specs.Writing.{Says}
 use Rattle.endings.specs.Stops.{EndsBy, Warns}
@@ -146,12 +146,12 @@ pub record HelpsWords (words : List (List ℕ)) (old new : DeskState) (status : 
   pub text : List ℕ
   pub says : SaysHelp text old new status
 
--- they are refused, by a text that is warned
+-- they are refused, by a text that is warned and tells of a command `help` and of a word that names no kind of workload
 pub record RefusesWords (words : List (List ℕ)) (old new : DeskState) (status : Status) (kept : List Kept) : Type 0 where
   pub refused : AreRefused words
   pub none : kept ≡ []
   pub text : List ℕ
-  pub no_help : names_help words ≡ true → text ≡ no_help_text
+  pub named : Names words text
   pub warns : Warns text ends.BadUsage old new status
 
 -- memory ran out, before anything was done

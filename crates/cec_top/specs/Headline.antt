@@ -1,6 +1,6 @@
 -- What each verdict promises: of the files that the arguments name, of the circuits that they spell, of the files that are
 -- left, and of what is said. `before` and `after` are what the file system holds, by names, before and after the run.
-use Rattle.std.specs.Prelude.{◌≡◌, ◌≢◌, ◌↔◌, ℕ, ◌+◌, ◌<◌, Bool, true, false, All, List, [], ◌∷◌, ◌++◌, length, map, filter, codes, Option, None, Some, IsSomeAnd}
+use Rattle.std.specs.Prelude.{◌≡◌, ◌≢◌, ◌↔◌, ℕ, ◌+◌, ◌<◌, Bool, true, false, All, List, [], ◌++◌, length, map, filter, codes, Option, None, Some, IsSomeAnd}
 use Rattle.std.specs.List.{range_with_len}
 use Rattle.lits.specs.Assignment.{IsSatisfiable}
 use Rattle.lits.specs.Same.{opposite_dim}

@@ -1,5 +1,5 @@
 -- What the program answers to arguments that ask for the check of two circuits that it makes.
-use Rattle.std.specs.Prelude.{◌≡◌, ◌⊎◌, List, [], ◌∷◌, None, Ok, Err}
+use Rattle.std.specs.Prelude.{◌≡◌, ◌⊎◌, List, [], ◌∷◌, Ok, Err}
 use Rattle.desk_port.specs.Desk.{DeskState, after_say}
 use Rattle.netlist.specs.Net.{AigPair}
 use Rattle.aiger_file.specs.File.{SpellsAiger}
