@@ -85,10 +85,10 @@ circuit_or d (Err e) = d
 abbrev pub ok_is : Aig → Aig → Type 0
 ok_is a b = let r : Result Aig AigerErr = Ok a in r ≡ Ok b
 
-pub ok-equal : (a b : Aig) → ok_is a b → a ≡ b
+ok-equal : (a b : Aig) → ok_is a b → a ≡ b
 ok-equal a b e = ap (circuit_or a) e
 
-pub alike-from : (a b : Aig) → length a.inputs ≡ length b.inputs → length a.outputs ≡ length b.outputs → unlike_of a b ≡ None
+alike-from : (a b : Aig) → length a.inputs ≡ length b.inputs → length a.outputs ≡ length b.outputs → unlike_of a b ≡ None
 alike-from a b i o = rw (eq-eqb (length a.inputs) (length b.inputs) i, eq-eqb (length a.outputs) (length b.outputs) o) refl
 
 module _ (c : CheckCommand) (old : DeskState) (can : CanCheck c old) (kept : List Kept) where

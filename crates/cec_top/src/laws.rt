@@ -1,5 +1,5 @@
 //! What a run promises, each law the contract of a function that does nothing when it runs.
-ghost use Rattle.std.specs.Prelude.{◌≡◌, ◌≢◌, ◌⊎◌, ◌≤◌, ℕ, List};
+ghost use Rattle.std.specs.Prelude.{◌≡◌, ◌≢◌, ◌⊎◌, ◌≤◌, ℕ, List, None};
 ghost use Rattle.desk_port.specs.Desk.{DeskState};
 ghost use Rattle.endings.specs.Status.{code_of};
 ghost use Rattle.endings.specs.declared.status.Status.{Status};
@@ -11,10 +11,8 @@ ghost use Rattle.cec_top.specs.Answers.{Answers};
 ghost use Rattle.cec_top.specs.Check.{IsProof};
 ghost use Rattle.cec_top.specs.Complete.{CanCheck, CanVerify, NoFault, IsAmple, HasVerdict};
 ghost use Rattle.cec_top.specs.Headline.{IsEquivalent, IsDifferent, IsUndecided, IsVerified, Shows};
-
 ghost use Rattle.cec_top.specs.Headline.{AreEquivalent, AreDifferent, AreUndecided, OfWorkload};
 ghost use Rattle.cec_top.specs.SelfCheck.{own_check};
-ghost use Rattle.std.specs.Prelude.{None};
 
 use lemma_book::Book;
 use netlist::Net;
