@@ -1,11 +1,10 @@
 -- Values of nodes that meet the clauses of a cone over a legal book are the nodes' values there: a merged node has its
 -- target's value, and any other is what its axioms say. So a model of a cone is a counterexample in the circuits.
-use Rattle.std.proofs.Common.{◌≡◌, ℕ, zero, suc, ◌+◌, ◌<◌, Bool, true, false, not, ◌&&◌, ◌||◌, Option, Some, None, List, [], ◌∷◌, ◌++◌, map, filter, flat_map, length, take, refl, sym, ap, ap₂, ◌∙◌, subst, if◌then◌else◌, arith}
+use Rattle.std.proofs.Common.{◌≡◌, ℕ, zero, suc, ◌+◌, ◌<◌, Bool, true, false, not, ◌&&◌, ◌||◌, Option, Some, None, List, [], ◌∷◌, filter, flat_map, length, take, refl, sym, ap, ap₂, ◌∙◌, subst, if◌then◌else◌, arith}
 use Rattle.std.specs.Prelude.{◌==◌, slice_index_or}
-use Rattle.std.specs.Option.{option_map_or, IsSome, is_some}
+use Rattle.std.specs.Option.{IsSome, is_some}
 use Rattle.std.specs.List.{list_any, find, AllByRecursion}
 use Rattle.std.proofs.lemmas.Map.Views.{any-filter_same}
-use Rattle.std.proofs.lemmas.Option.{none-some, same_Some}
 use Rattle.lits.specs.Assignment.{Holds, Meets}
 use Rattle.lits.specs.Clause.{has}
 use Rattle.lits.specs.declared.node.Side.{Side}
@@ -15,21 +14,20 @@ use Rattle.lits.specs.declared.literal.Lit.{Lit}
 use Rattle.lits.specs.declared.step.Named.{Named}
 use Rattle.lits.specs.declared.step.Ref.{Ref}
 use Rattle.lits.specs.declared.step.Ref.TheVariants.{Axiom, Entry as Shown}
-use Rattle.lits.specs.Same.{same_node, same_lit, opposite}
+use Rattle.lits.specs.Same.{same_node}
 use Rattle.lits.proofs.Facts.{exact-node, all-append}
 use Rattle.netlist.specs.declared.gate.And.{And}
 use Rattle.netlist.specs.Circuit.{Aig, var_of}
 use Rattle.netlist.specs.Net.{AigPair, IsNet, circuit_of, node_of, lit_named, gate_at, nodes_of, position_of, value_of, lit_holds}
-use Rattle.netlist.specs.Miter.{positive, negative, axioms_of, variables_of}
+use Rattle.netlist.specs.Miter.{axioms_of, variables_of}
 use Rattle.netlist.proofs.Facts.{flat_map-member, values-meet, is_some-place, input-below, has-gate, lit_holds-opposite}
 use Rattle.unit_prop.specs.Log.{base_clauses}
-use Rattle.unit_prop.proofs.Facts.{contrary}
 use Rattle.lemma_book.specs.declared.entry.Entry.{Entry}
 use Rattle.lemma_book.specs.Agreement.{IsTrue}
 use Rattle.lemma_book.specs.Book.{IsLegal}
-use Rattle.lemma_book.specs.Cone.{named_from, named_clauses, next_of, AreIn, IsCone}
+use Rattle.lemma_book.specs.Cone.{named_from, named_clauses, AreIn, IsCone}
 use Rattle.lemma_book.specs.Entry.{Entries, merge_clauses}
-use Rattle.lemma_book.specs.Good.{IsBefore, IsEarlier}
+use Rattle.lemma_book.specs.Good.{IsBefore}
 use Rattle.lemma_book.specs.Root.{MergeAt, merge_of}
 use Rattle.lemma_book.proofs.Facts.{reach-there, merge-earlier, merge-value}
 use Rattle.cone_query.proofs.GateClauses.{constant_from_axioms, gate_from_axioms}

@@ -1,22 +1,14 @@
 -- What values of nodes that meet the clauses which define a node say of it: it is true, the AND of its fanins, or true
 -- exactly where its outputs differ.
-use Rattle.std.proofs.Common.{◌≡◌, ℕ, ◌<◌, length, Bool, true, false, not, ◌&&◌, ◌||◌, Option, Some, List, [], ◌∷◌, refl, sym, ap, ap₂, ◌∙◌, subst, if◌then◌else◌}
-use Rattle.std.specs.Prelude.{◌==◌, ⊤}
+use Rattle.std.proofs.Common.{◌≡◌, ℕ, ◌<◌, length, Bool, true, false, ◌&&◌, ◌||◌, Option, Some, [], refl, subst}
 use Rattle.std.specs.Option.{option_map_or}
-use Rattle.std.specs.List.{list_any}
-use Rattle.std.proofs.lemmas.Map.Views.{any-filter_same}
-use Rattle.lits.specs.Clause.{has, firsts, has_pair}
-use Rattle.lits.specs.Assignment.{IsAssignment, Meets}
+use Rattle.lits.specs.Assignment.{Meets}
 use Rattle.lits.specs.declared.node.Side.{Side}
 use Rattle.lits.specs.declared.node.Side.TheVariants.{A, B}
 use Rattle.lits.specs.declared.node.Node.{Node}
 use Rattle.lits.specs.declared.node.Node.TheVariants.{Const, Gate, Xor}
 use Rattle.lits.specs.declared.literal.Lit.{Lit}
-use Rattle.lits.specs.Same.{same_lit, opposite}
-use Rattle.lits.proofs.Facts.{exact-lit}
 use Rattle.netlist.specs.declared.gate.And.{And}
-use Rattle.netlist.specs.declared.gate.Definition.{Definition}
-use Rattle.netlist.specs.Circuit.{Aig}
 use Rattle.netlist.specs.Net.{AigPair, IsNet, circuit_of, definition_of, gate_at, lit_named, output_of, differs, lit_holds}
 use Rattle.netlist.specs.Miter.{gate_clauses, xor_clauses, xor_axioms, kept, axioms_of}
 use Rattle.netlist.proofs.Facts.{output_lit, output_of-below, meets_from_kept, gate_from_meets, xor_from_meets}

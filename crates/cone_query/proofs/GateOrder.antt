@@ -1,8 +1,8 @@
 -- A gate stands at a position behind those of its fanins.
-use Rattle.std.proofs.Common.{◌≡◌, ℕ, zero, suc, ◌+◌, ◌<◌, Bool, true, false, not, ◌||◌, Option, Some, None, List, [], ◌∷◌, ◌++◌, map, length, refl, sym, ap, ◌∙◌, subst, cond, if◌then◌else◌, arith}
+use Rattle.std.proofs.Common.{◌≡◌, ℕ, zero, suc, ◌+◌, ◌<◌, Bool, true, false, Option, Some, None, List, [], ◌∷◌, map, length, refl, sym, ap, ◌∙◌, cond, if◌then◌else◌, arith}
 use Rattle.std.specs.Prelude.{◌==◌, slice_get}
-use Rattle.std.specs.List.{list_any, range_with_len, find}
-use Rattle.std.specs.Option.{option_map, option_map_or, option_and_then, unwrap_or, is_some, IsSome}
+use Rattle.std.specs.List.{range_with_len, find}
+use Rattle.std.specs.Option.{option_map, option_map_or, option_and_then, unwrap_or, is_some}
 use Rattle.std.proofs.lemmas.Option.{none-some, same_Some, slice_get_within}
 use Rattle.lits.specs.Clause.{has}
 use Rattle.lits.specs.Same.{same_node}
@@ -10,15 +10,13 @@ use Rattle.lits.specs.declared.node.Side.{Side}
 use Rattle.lits.specs.declared.node.Side.TheVariants.{A, B}
 use Rattle.lits.specs.declared.node.Node.{Node}
 use Rattle.lits.specs.declared.node.Node.TheVariants.{Const, Input, Gate, Xor}
-use Rattle.lits.specs.declared.literal.Lit.{Lit}
 use Rattle.netlist.specs.declared.gate.And.{And}
 use Rattle.netlist.specs.declared.gate.Definition.{Definition}
-use Rattle.netlist.specs.declared.gate.Fanins.{Fanins}
 use Rattle.netlist.specs.Place.{place_of}
 use Rattle.netlist.specs.Circuit.{Aig, var_of}
-use Rattle.netlist.specs.Net.{AigPair, IsNet, circuit_of, node_of, definition_of, definitions, gate_at, nodes_of, position_of, placed, fanins_of, all_fanins}
+use Rattle.netlist.specs.Net.{AigPair, IsNet, circuit_of, node_of, definition_of, definitions, gate_at, nodes_of, position_of, fanins_of}
 use Rattle.netlist.specs.Miter.{variables_of}
-use Rattle.netlist.proofs.Facts.{at_place, find-place, place_of-append, or_place, slice_get-left, slice_get-right, is_some-place, length-range, equal-number, has-position, has-variable, variables-fanins, gate-at, IsGateAt}
+use Rattle.netlist.proofs.Facts.{find-place, place_of-append, or_place, slice_get-left, slice_get-right, is_some-place, length-range, equal-number, has-position, has-variable, variables-fanins, gate-at, IsGateAt}
 use Rattle.lemma_book.specs.Good.{IsBefore}
 
 -- ---- places in mapped lists

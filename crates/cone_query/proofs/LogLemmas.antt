@@ -1,19 +1,17 @@
 -- What logs over a cone are over the whole book: chains over what steps may cite, and over nodes that the miter has
 -- variables for.
-use Rattle.std.proofs.Common.{◌≡◌, ℕ, ◌+◌, ◌≤◌, Bool, true, false, ◌||◌, Option, Some, None, List, [], ◌∷◌, ◌++◌, length, take, refl, sym, ap, ◌∙◌, subst, inl, inr, if◌then◌else◌, arith}
+use Rattle.std.proofs.Common.{◌≡◌, ℕ, ◌+◌, Bool, true, false, ◌||◌, Option, Some, None, List, [], ◌∷◌, ◌++◌, length, take, refl, sym, ap, ◌∙◌, subst, arith}
 use Rattle.std.specs.Option.{IsSome, is_some, option_map_or}
 use Rattle.std.specs.List.{AllByRecursion}
 use Rattle.std.proofs.lemmas.List.{take_all}
-use Rattle.std.proofs.lemmas.Option.{none-some}
 use Rattle.lits.specs.Clause.{has}
-use Rattle.lits.specs.declared.node.Side.{Side}
 use Rattle.lits.specs.declared.node.Node.{Node}
 use Rattle.lits.specs.declared.node.Node.TheVariants.{Const, Input, Gate, Xor}
 use Rattle.lits.specs.declared.literal.Lit.{Lit}
 use Rattle.lits.specs.declared.step.Named.{Named}
 use Rattle.lits.specs.declared.step.Step.{Step}
 use Rattle.lits.specs.declared.step.Ref.{Ref}
-use Rattle.lits.specs.declared.step.Ref.TheVariants.{Axiom, Entry as Shown, Own}
+use Rattle.lits.specs.declared.step.Ref.TheVariants.{Axiom, Entry as Shown}
 use Rattle.lits.specs.Same.{same_node, same_lit, opposite}
 use Rattle.lits.proofs.Facts.{exact-lit, all-append}
 use Rattle.netlist.specs.declared.gate.And.{And}
@@ -21,17 +19,16 @@ use Rattle.netlist.specs.Circuit.{var_of}
 use Rattle.netlist.specs.Net.{AigPair, IsNet, circuit_of, node_of, gate_at, position_of}
 use Rattle.netlist.specs.Miter.{axioms_of, variables_of, variable_of}
 use Rattle.unit_prop.specs.New.{occurs}
-use Rattle.unit_prop.specs.Step.{IsStep}
-use Rattle.unit_prop.specs.Log.{base_clause, base_clauses, with_own, clauses_of, InTurn, IsStepAfter, IsChain, IsLearned, IsLog}
+use Rattle.unit_prop.specs.Log.{base_clause, base_clauses, clauses_of, InTurn, IsStepAfter, IsChain, IsLearned, IsLog}
 use Rattle.unit_prop.specs.Refuter.{IsOver}
 use Rattle.unit_prop.proofs.Facts.{in_turn-map, contrary}
 use Rattle.lemma_book.specs.declared.entry.Entry.{Entry}
 use Rattle.lemma_book.specs.Book.{IsLegal}
-use Rattle.lemma_book.specs.Cone.{AreThere, AreIn, named_from, named_clauses, next_of, IsClosed, IsCone}
+use Rattle.lemma_book.specs.Cone.{AreThere, AreIn, named_from, named_clauses, next_of, IsCone}
 use Rattle.lemma_book.specs.Entry.{Entries, merge_clauses}
 use Rattle.lemma_book.specs.Good.{AreOver, IsBefore, out_clause, node_clause}
 use Rattle.lemma_book.specs.Root.{MergeAt, merge_of}
-use Rattle.lemma_book.proofs.Facts.{is_some-variable, cone-over, cone-named, found-clause, step_after-more, chain-more, merge-placed, placed-there}
+use Rattle.lemma_book.proofs.Facts.{is_some-variable, cone-over, cone-named, found-clause, chain-more, merge-placed, placed-there}
 use Rattle.cone_query.proofs.ConeModel.{cone-at, cone-from}
 use Rattle.cone_query.proofs.GateOrder.{left-earlier, right-earlier, xor-nowhere}
 

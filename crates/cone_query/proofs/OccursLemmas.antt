@@ -1,26 +1,20 @@
 -- Which variables occur in a cone: those of its nodes that are gates, merged or the constant.
-use Rattle.std.proofs.Common.{◌≡◌, ℕ, ◌+◌, ◌<◌, Bool, true, false, not, ◌||◌, ◌&&◌, Option, Some, None, List, [], ◌∷◌, ◌++◌, length, take, refl, sym, ap, ◌∙◌, subst, if◌then◌else◌, arith}
+use Rattle.std.proofs.Common.{◌≡◌, ℕ, Bool, true, false, not, ◌||◌, Option, Some, None, List, [], ◌∷◌, length, take, refl, sym, ap, ◌∙◌, subst, arith}
 use Rattle.std.specs.Bool.{OnTrue, OnFalse}
-use Rattle.std.specs.Option.{IsSome, is_some, option_map_or}
 use Rattle.std.specs.List.{list_any, AllByRecursion}
-use Rattle.std.proofs.lemmas.Option.{none-some}
-use Rattle.std.proofs.lemmas.Bool.{or_left, or_right}
+use Rattle.std.proofs.lemmas.Bool.{or_left}
 use Rattle.lits.specs.Clause.{has, has_pair, firsts}
 use Rattle.lits.specs.declared.node.Side.{Side}
 use Rattle.lits.specs.declared.node.Node.{Node}
-use Rattle.lits.specs.declared.node.Node.TheVariants.{Const, Input, Gate, Xor}
+use Rattle.lits.specs.declared.node.Node.TheVariants.{Const, Input, Gate}
 use Rattle.lits.specs.declared.literal.Lit.{Lit}
 use Rattle.lits.specs.declared.step.Named.{Named}
-use Rattle.lits.specs.declared.step.Ref.{Ref}
 use Rattle.lits.specs.declared.step.Ref.TheVariants.{Axiom, Entry as Shown}
 use Rattle.lits.specs.Same.{same_node, same_lit, opposite}
-use Rattle.lits.proofs.Facts.{exact-lit, same-node_self}
+use Rattle.lits.proofs.Facts.{exact-lit}
 use Rattle.netlist.specs.declared.gate.And.{And}
-use Rattle.netlist.specs.Circuit.{var_of}
-use Rattle.netlist.specs.Net.{AigPair, IsNet, circuit_of, node_of, lit_named, definition_of, gate_at, position_of}
-use Rattle.netlist.specs.Miter.{positive, negative, kept, gate_clauses, axioms_of, variables_of}
-use Rattle.unit_prop.specs.New.{occurs}
-use Rattle.unit_prop.specs.Log.{base_clauses}
+use Rattle.netlist.specs.Net.{AigPair, IsNet, circuit_of, lit_named, gate_at, position_of}
+use Rattle.netlist.specs.Miter.{positive, negative, kept, axioms_of, variables_of}
 use Rattle.unit_prop.specs.Refuter.{is_over}
 use Rattle.unit_prop.proofs.Facts.{contrary, lit_laws}
 use Rattle.lemma_book.specs.declared.entry.Entry.{Entry}

@@ -1,16 +1,16 @@
 -- What each answer over the cone of an output's XOR shows of the output.
-use Rattle.std.proofs.Common.{◌≡◌, ◌≢◌, ℕ, ◌+◌, ◌<◌, ◌≤◌, ◌^◌, Bool, true, false, not, ◌||◌, ◌&&◌, Option, Some, None, List, [], ◌∷◌, ◌++◌, map, length, take, refl, sym, ap, ap₂, ◌∙◌, subst, inl, inr, if◌then◌else◌, append_assoc, length-append, arith}
-use Rattle.std.specs.Prelude.{slice_get, slice_index, ◌==◌}
-use Rattle.std.specs.Option.{IsSome, is_some, option_map, option_map_or, option_and_then, option_to_list}
-use Rattle.std.specs.List.{list_any, list_all, find, AllByRecursion}
+use Rattle.std.proofs.Common.{◌≡◌, ℕ, ◌+◌, ◌≤◌, ◌^◌, Bool, true, false, not, ◌||◌, Option, Some, None, List, [], ◌∷◌, ◌++◌, length, take, refl, sym, ap, ap₂, ◌∙◌, subst, length-append, arith}
+use Rattle.std.specs.Prelude.{slice_get, slice_index}
+use Rattle.std.specs.Option.{IsSome, is_some, option_and_then, option_to_list}
+use Rattle.std.specs.List.{list_any, find, AllByRecursion}
 use Rattle.std.proofs.lemmas.Bool.{and_parts}
-use Rattle.std.proofs.lemmas.Option.{none-some, same_Some}
+use Rattle.std.proofs.lemmas.Option.{none-some}
 use Rattle.lits.specs.Assignment.{Holds, Meets}
 use Rattle.lits.specs.Clause.{has, has_pair, firsts}
 use Rattle.lits.specs.declared.node.Side.{Side}
 use Rattle.lits.specs.declared.node.Side.TheVariants.{A, B}
 use Rattle.lits.specs.declared.node.Node.{Node}
-use Rattle.lits.specs.declared.node.Node.TheVariants.{Const, Input, Gate, Xor}
+use Rattle.lits.specs.declared.node.Node.TheVariants.{Xor}
 use Rattle.lits.specs.declared.literal.Lit.{Lit}
 use Rattle.lits.specs.declared.step.Named.{Named}
 use Rattle.lits.specs.declared.step.Step.{Step}
@@ -19,27 +19,24 @@ use Rattle.lits.specs.declared.step.Ref.TheVariants.{Axiom}
 use Rattle.lits.specs.Same.{same_node, same_lit, opposite}
 use Rattle.lits.specs.contracts.literal.LitLiteral.TheImpl.Laws as lit
 use Rattle.lits.proofs.Facts.{exact-lit, exact-node, same-node_self, all-append}
-use Rattle.netlist.specs.Circuit.{Aig, var_of, output_value}
-use Rattle.netlist.specs.Net.{AigPair, IsNet, circuit_of, node_of, output_of, nodes_of, position_of, differs, value_of, lit_holds}
+use Rattle.netlist.specs.Circuit.{var_of, output_value}
+use Rattle.netlist.specs.Net.{AigPair, circuit_of, output_of, nodes_of, position_of, differs, value_of, lit_holds}
 use Rattle.netlist.specs.Miter.{positive, negative, kept, xor_clauses, xor_axioms, axioms_of, variables_of, variable_of}
-use Rattle.netlist.specs.Place.{place_of}
-use Rattle.netlist.proofs.Facts.{at_place, find-place, has-xor, range-has, has-position, is_some-place, values-meet, output_lit, output_of-below, lit_holds-opposite}
+use Rattle.netlist.proofs.Facts.{at_place, find-place, has-xor, range-has, has-position, is_some-place, values-meet, output_lit, output_of-below}
 use Rattle.unit_prop.specs.declared.refuter.Refuted.{Refuted}
 use Rattle.unit_prop.specs.declared.refuter.Refuted.TheVariants.{Yes, No, Spent as Gone}
 use Rattle.unit_prop.specs.New.{occurs}
-use Rattle.unit_prop.specs.Log.{base_clause, base_clauses, with_own, IsStepAfter, IsChain, IsLog, IsBudgetLog}
-use Rattle.unit_prop.specs.Refuter.{is_over, IsOver, IsModel, Answers, StaysUndecided}
+use Rattle.unit_prop.specs.Log.{base_clause, base_clauses, with_own, IsStepAfter, IsLog, IsBudgetLog}
+use Rattle.unit_prop.specs.Refuter.{IsOver, IsModel, Answers, StaysUndecided}
 use Rattle.unit_prop.specs.Step.{IsStep}
 use Rattle.unit_prop.specs.Variables.{variables}
 use Rattle.unit_prop.proofs.Facts.{contrary, in_turn-append, log-grows, lit_laws}
 use Rattle.lemma_book.specs.declared.entry.Entry.{Entry}
-use Rattle.lemma_book.specs.declared.entry.Entry.TheVariants.{Merge, Apart, Spent, Out, OutApart, OutSpent}
+use Rattle.lemma_book.specs.declared.entry.Entry.TheVariants.{Out, OutApart, OutSpent}
 use Rattle.lemma_book.specs.declared.entry.Subject.TheVariants.{Output}
-use Rattle.lemma_book.specs.Agreement.{IsTrue}
-use Rattle.lemma_book.specs.Book.{IsLegal}
 use Rattle.lemma_book.specs.Cone.{AreThere, AreIn, named_from, named_clauses, nodes_in, next_of, IsReach, IsCone}
 use Rattle.lemma_book.specs.Entry.{Entries, is_on, place_on, about, equal_clause}
-use Rattle.lemma_book.specs.Good.{IsOutApart, AreOver, EndsIn, out_clause}
+use Rattle.lemma_book.specs.Good.{AreOver, out_clause}
 use Rattle.lemma_book.specs.Root.{MergeAt, merge_of}
 use Rattle.lemma_book.proofs.Facts.{good-out, good-out_apart, good-out_spent, is_some-variable, step_after-more, merge-placed, reach-there}
 use Rattle.cone_query.specs.Input.{input_from}

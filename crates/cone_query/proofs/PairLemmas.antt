@@ -1,14 +1,13 @@
 -- What each answer about an implication between a pair shows of the pair.
-use Rattle.std.proofs.Common.{◌≡◌, ◌≢◌, ℕ, ◌+◌, ◌<◌, ◌≤◌, ◌^◌, Bool, true, false, not, ◌||◌, ◌&&◌, Option, Some, None, List, [], ◌∷◌, ◌++◌, map, length, take, refl, sym, ap, ◌∙◌, subst, inl, inr, if◌then◌else◌, append_assoc, length-append, arith}
+use Rattle.std.proofs.Common.{◌≡◌, ◌≢◌, ℕ, ◌+◌, ◌≤◌, ◌^◌, Bool, true, false, not, ◌||◌, ◌&&◌, Option, Some, None, List, [], ◌∷◌, ◌++◌, length, take, refl, sym, ap, ◌∙◌, subst, inl, inr, append_assoc, length-append, arith}
 use Rattle.std.specs.Prelude.{slice_get, Result, Ok, Err, IfOk, OnOk}
-use Rattle.std.specs.Option.{IsSome, is_some, option_map, option_map_or, option_and_then}
-use Rattle.std.specs.List.{list_any, list_all, AllByRecursion}
+use Rattle.std.specs.Option.{IsSome, option_map}
+use Rattle.std.specs.List.{list_all, AllByRecursion}
 use Rattle.std.proofs.lemmas.Bool.{and_parts}
-use Rattle.std.proofs.lemmas.Option.{none-some, same_Some, slice_get_within}
-use Rattle.lits.specs.Assignment.{Holds, Meets}
+use Rattle.std.proofs.lemmas.Option.{none-some, slice_get_within}
+use Rattle.lits.specs.Assignment.{Holds}
 use Rattle.lits.specs.Clause.{has}
 use Rattle.lits.specs.declared.node.Node.{Node}
-use Rattle.lits.specs.declared.node.Node.TheVariants.{Input}
 use Rattle.lits.specs.declared.literal.Lit.{Lit}
 use Rattle.lits.specs.declared.step.Named.{Named}
 use Rattle.lits.specs.declared.step.Step.{Step}
@@ -21,24 +20,23 @@ use Rattle.netlist.specs.Net.{AigPair, position_of, value_of, lit_holds}
 use Rattle.netlist.specs.Miter.{positive, negative, variables_of}
 use Rattle.netlist.proofs.Facts.{at_place, slice_get-left, lit_holds-opposite}
 use Rattle.unit_prop.specs.declared.refuter.Refuted.{Refuted}
-use Rattle.unit_prop.specs.declared.refuter.Refuted.TheVariants.{Yes, No, Spent as Gone}
+use Rattle.unit_prop.specs.declared.refuter.Refuted.TheVariants.{No, Spent as Gone}
 use Rattle.unit_prop.specs.New.{occurs}
-use Rattle.unit_prop.specs.Log.{base_clause, base_clauses, with_own, InTurn, IsStepAfter, IsChain, IsLog, IsBudgetLog}
+use Rattle.unit_prop.specs.Log.{base_clause, base_clauses, with_own, IsStepAfter, IsChain, IsBudgetLog}
 use Rattle.unit_prop.specs.Refuter.{is_over, IsOver, IsModel, Answers}
 use Rattle.unit_prop.specs.Step.{IsStep}
 use Rattle.unit_prop.specs.Variables.{variables}
-use Rattle.unit_prop.proofs.Facts.{contrary, in_turn-append, log-grows, step-more}
+use Rattle.unit_prop.proofs.Facts.{in_turn-append, log-grows, step-more}
 use Rattle.lemma_book.specs.declared.entry.Task.{Task}
 use Rattle.lemma_book.specs.declared.entry.Entry.{Entry}
 use Rattle.lemma_book.specs.declared.entry.Entry.TheVariants.{Merge, Apart, Spent, Out, OutApart, OutSpent}
 use Rattle.lemma_book.specs.declared.entry.Subject.TheVariants.{Merged}
 use Rattle.lemma_book.specs.Cone.{AreThere, AreIn, next_of, IsReach, IsCone}
 use Rattle.lemma_book.specs.Entry.{Entries, is_on, place_on, merge_clauses}
-use Rattle.lemma_book.specs.Good.{ArePlaced, IsBefore, IsApart, AreOver, EndsIn, node_clause}
-use Rattle.lemma_book.specs.Root.{merge_in, merge_of, IsRoot}
+use Rattle.lemma_book.specs.Good.{ArePlaced, IsBefore, AreOver, EndsIn, node_clause}
+use Rattle.lemma_book.specs.Root.{merge_in, IsRoot}
 use Rattle.lemma_book.proofs.Facts.{good-merge, good-apart, good-spent, is_some-variable, placed-there, step_after-more}
 use Rattle.cone_query.specs.Input.{input_from}
-use Rattle.cone_query.specs.Query.{AreFalseOutside}
 use Rattle.cone_query.specs.declared.pair_query.Asked.{Asked}
 use Rattle.cone_query.specs.declared.pair_query.Asked.TheVariants.{Shown as Asks_shown}
 use Rattle.cone_query.specs.Asked.{IsPair, IsQuery, IsImplication, IsShown, IsAsked, Settles, seeds_of, forth, back}

@@ -1,11 +1,10 @@
 -- A cone's clauses are over the nodes that its seeds reach, so a model of a cone says nothing of other inputs.
-use Rattle.std.proofs.Common.{◌≡◌, ℕ, ◌+◌, ◌<◌, ◌≤◌, Bool, true, false, not, ◌||◌, Option, Some, None, List, [], ◌∷◌, ◌++◌, filter, length, get_or, refl, sym, ap, ◌∙◌, subst, inl, inr, if◌then◌else◌, arith}
-use Rattle.std.specs.Option.{option_map_or, option_to_list}
+use Rattle.std.proofs.Common.{◌≡◌, ℕ, ◌+◌, Bool, true, false, ◌||◌, Option, Some, None, List, [], ◌∷◌, length, get_or, refl, sym, ap, ◌∙◌, subst, inl, inr, arith}
+use Rattle.std.specs.Option.{option_map_or}
 use Rattle.std.specs.List.{AllByRecursion}
 use Rattle.std.proofs.lemmas.Bool.{cases_lt}
 use Rattle.std.proofs.lemmas.List.{get_or_past}
-use Rattle.lits.specs.Clause.{has, has_pair, firsts}
-use Rattle.lits.specs.declared.node.Side.{Side}
+use Rattle.lits.specs.Clause.{has}
 use Rattle.lits.specs.declared.node.Side.TheVariants.{A, B}
 use Rattle.lits.specs.declared.node.Node.{Node}
 use Rattle.lits.specs.declared.node.Node.TheVariants.{Const, Input, Gate, Xor}
@@ -13,7 +12,7 @@ use Rattle.lits.specs.declared.literal.Lit.{Lit}
 use Rattle.lits.specs.declared.step.Named.{Named}
 use Rattle.lits.specs.declared.step.Ref.{Ref}
 use Rattle.lits.specs.declared.step.Ref.TheVariants.{Axiom, Entry as Shown}
-use Rattle.lits.specs.Same.{same_lit, opposite}
+use Rattle.lits.specs.Same.{same_lit}
 use Rattle.lits.proofs.Facts.{exact-lit}
 use Rattle.netlist.specs.declared.gate.And.{And}
 use Rattle.netlist.specs.Circuit.{var_of}
@@ -23,7 +22,7 @@ use Rattle.netlist.proofs.Facts.{AreOver, over-kept}
 use Rattle.unit_prop.specs.Log.{base_clauses}
 use Rattle.unit_prop.specs.Refuter.{is_over, IsOver}
 use Rattle.lemma_book.specs.declared.entry.Entry.{Entry}
-use Rattle.lemma_book.specs.Cone.{AreIn, fanins_of, nodes_in, named_from, named_clauses, next_of, IsCone}
+use Rattle.lemma_book.specs.Cone.{AreIn, fanins_of, named_from, named_clauses, IsCone}
 use Rattle.lemma_book.specs.Entry.{merge_clauses}
 use Rattle.lemma_book.specs.Root.{MergeAt, merge_of}
 use Rattle.cone_query.specs.Input.{input_from}
@@ -45,7 +44,7 @@ module _ (p : Node → Bool) where
       go (Some g) e =
           let both : AreIn p (node_of s (circuit_of net s) (var_of g.left) ∷ node_of s (circuit_of net s) (var_of g.right) ∷ []) = rw e at all in
           let here : p (Gate s g.var) ≡ true = subst (λ (x : ℕ). p (Gate s x) ≡ true) (sym (found-var net s v g e)) q in
-          over-kept (gate_clauses (definition_of s (circuit_of net s) g))
+          over-kept p (gate_clauses (definition_of s (circuit_of net s) g))
           ((here, (both.0, tt)), ((here, (both.1.0, tt)), ((here, (both.0, (both.1.0, tt))), tt)))
   over-fanins net (Xor j) q all = go (output_of net A j) (output_of net B j) refl refl
     where
@@ -54,7 +53,7 @@ module _ (p : Node → Bool) where
       go (Some a) None e f = tt
       go (Some a) (Some b) e f =
           let both : AreIn p (a.node ∷ b.node ∷ []) = rw (e, f) at all in
-          over-kept (xor_clauses (Xor j) a b) (
+          over-kept p (xor_clauses (Xor j) a b) (
             (q, (both.0, (both.1.0, tt))),
             ((q, (both.0, (both.1.0, tt))), ((q, (both.0, (both.1.0, tt))), ((q, (both.0, (both.1.0, tt))), tt))),
           )

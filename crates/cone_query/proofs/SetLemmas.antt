@@ -1,8 +1,7 @@
 -- An input that no clause of a node's cone names can be set without a change of the node's value.
-use Rattle.std.proofs.Common.{◌≡◌, ◌≢◌, ℕ, ◌+◌, ◌<◌, Bool, true, false, not, ◌||◌, ◌&&◌, List, [], ◌∷◌, ◌++◌, length, take, set, get_or, replicate, refl, sym, ap, ◌∙◌, subst, if◌then◌else◌, arith, length-set, get_or-set_same, get_or-set_other}
+use Rattle.std.proofs.Common.{◌≡◌, ◌≢◌, ℕ, ◌<◌, Bool, true, false, not, ◌||◌, List, [], ◌∷◌, length, take, set, get_or, replicate, refl, sym, ap, ◌∙◌, subst, if◌then◌else◌, arith, length-set, get_or-set_same, get_or-set_other}
 use Rattle.std.specs.Prelude.{◌==◌, slice_index_or}
 use Rattle.std.specs.List.{list_any, AllByRecursion}
-use Rattle.std.specs.Option.{IsSome}
 use Rattle.std.proofs.lemmas.Bool.Decides.{nat_tests}
 use Rattle.std.proofs.lemmas.Bool.{cases_lt}
 use Rattle.std.proofs.lemmas.List.{get_or-replicate, length-replicate, get_or_past}
@@ -15,16 +14,14 @@ use Rattle.lits.specs.declared.literal.Lit.{Lit}
 use Rattle.lits.specs.declared.step.Named.{Named}
 use Rattle.lits.specs.Same.{same_node, same_lit, opposite}
 use Rattle.lits.proofs.Facts.{exact-node, same-node_self}
-use Rattle.netlist.specs.Net.{AigPair, position_of, value_of, lit_holds}
-use Rattle.netlist.specs.Miter.{variables_of}
+use Rattle.netlist.specs.Net.{AigPair, value_of, lit_holds}
 use Rattle.netlist.proofs.Facts.{equal-number}
 use Rattle.unit_prop.proofs.Facts.{contrary, lit_laws}
 use Rattle.lemma_book.specs.declared.entry.Task.{Task}
 use Rattle.lemma_book.specs.declared.entry.Entry.{Entry}
 use Rattle.lemma_book.specs.declared.entry.Entry.TheVariants.{Apart}
-use Rattle.lemma_book.specs.Cone.{next_of, IsReach, IsCone, AreIn}
+use Rattle.lemma_book.specs.Cone.{next_of, IsReach, IsCone}
 use Rattle.lemma_book.specs.Entry.{Entries}
-use Rattle.lemma_book.specs.Good.{IsApart}
 use Rattle.lemma_book.proofs.Facts.{good-apart}
 use Rattle.cone_query.specs.Input.{IsBelow, with_input, other_value}
 use Rattle.cone_query.specs.Query.{IsUnnamed, IsSetAlone, IsGate}

@@ -1,17 +1,14 @@
 -- Before the first implication of a pair is asked for: both nodes occur in their cone.
-use Rattle.std.proofs.Common.{◌≡◌, ℕ, ◌+◌, Bool, true, false, not, Option, Some, None, List, [], ◌∷◌, length, take, refl, sym, ap, ◌∙◌, subst, arith}
+use Rattle.std.proofs.Common.{◌≡◌, ℕ, Bool, true, false, not, Option, Some, None, List, [], ◌∷◌, length, take, refl, sym, ap, ◌∙◌, subst, arith}
 use Rattle.std.specs.Prelude.{◌==◌}
 use Rattle.std.specs.Option.{IsSome, is_some}
 use Rattle.lits.specs.Clause.{has, IsClause}
-use Rattle.lits.specs.declared.node.Side.{Side}
 use Rattle.lits.specs.declared.node.Node.{Node}
 use Rattle.lits.specs.declared.node.Node.TheVariants.{Const, Input, Gate, Xor}
 use Rattle.lits.specs.declared.literal.Lit.{Lit}
 use Rattle.lits.specs.declared.step.Named.{Named}
-use Rattle.lits.specs.declared.step.Step.{Step}
 use Rattle.lits.specs.Same.{same_node, same_lit, opposite}
-use Rattle.lits.specs.contracts.literal.LitLiteral.TheImpl.Laws as lit
-use Rattle.lits.proofs.Facts.{exact-node, exact-lit, same-node_self}
+use Rattle.lits.proofs.Facts.{exact-node}
 use Rattle.netlist.specs.Net.{AigPair, circuit_of, nodes_of, position_of}
 use Rattle.netlist.specs.Miter.{positive, negative, variables_of}
 use Rattle.netlist.proofs.Facts.{is_some-place, has-gate}
@@ -19,7 +16,7 @@ use Rattle.unit_prop.specs.Refuter.{is_over, IsOver}
 use Rattle.unit_prop.proofs.Facts.{contrary}
 use Rattle.lemma_book.specs.declared.entry.Task.{Task}
 use Rattle.lemma_book.specs.declared.entry.Entry.{Entry}
-use Rattle.lemma_book.specs.Cone.{next_of, AreIn, IsClosed, IsCone}
+use Rattle.lemma_book.specs.Cone.{next_of, IsClosed, IsCone}
 use Rattle.lemma_book.specs.Entry.{Entries}
 use Rattle.lemma_book.specs.Good.{IsBefore}
 use Rattle.lemma_book.specs.Root.{MergeAt, merge_of}

@@ -1,8 +1,8 @@
 -- The AIGER literal of a gate that has a position.
-use Rattle.std.proofs.Common.{◌≡◌, ℕ, ◌*◌, ◌/◌, ◌<◌, ◌≤◌, Bool, true, false, ◌||◌, ◌&&◌, List, [], ◌∷◌, ◌++◌, refl, sym, ap, ◌∙◌, subst, arith}
+use Rattle.std.proofs.Common.{◌≡◌, ℕ, ◌*◌, ◌≤◌, Bool, true, false, List, [], ◌∷◌, refl, sym, ap, ◌∙◌, subst, arith}
 use Rattle.std.specs.Prelude.{◌==◌, nat_le}
 use Rattle.std.specs.Option.{IsSome, is_some}
-use Rattle.std.specs.List.{list_any, list_all}
+use Rattle.std.specs.List.{list_all}
 use Rattle.std.proofs.Math.Nat.{mul-div_cancel_left}
 use Rattle.std.proofs.lemmas.Bool.Decides.{nat_tests}
 use Rattle.std.proofs.lemmas.List.Folds.{list_any-append}
@@ -13,7 +13,7 @@ use Rattle.lits.specs.declared.node.Side.{Side}
 use Rattle.lits.specs.declared.node.Node.{Node}
 use Rattle.lits.specs.declared.node.Node.TheVariants.{Gate}
 use Rattle.lits.proofs.Facts.{list_any-map}
-use Rattle.netlist.specs.Circuit.{Aig, IsCircuit, var_of, gate_vars, is_over, variables_in, most}
+use Rattle.netlist.specs.Circuit.{var_of, gate_vars, is_over, variables_in, most}
 use Rattle.netlist.specs.Net.{AigPair, IsNet, circuit_of, nodes_of, position_of}
 use Rattle.netlist.proofs.Facts.{is_some-place, has-gate, is_circuit, equal-number}
 

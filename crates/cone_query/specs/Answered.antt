@@ -1,5 +1,5 @@
 -- What is known while an output is asked about, and what an answer settles.
-use Rattle.std.specs.Prelude.{◌≡◌, ℕ, ◌<◌, None, Some, List, length}
+use Rattle.std.specs.Prelude.{◌≡◌, ℕ, ◌<◌, None, Some, length}
 use Rattle.std.specs.List.{AllByRecursion}
 use Rattle.netlist.specs.Net.{AigPair, IsNet}
 use Rattle.lemma_book.specs.declared.entry.Entry.{Entry}

@@ -1,12 +1,9 @@
 -- All other inputs are false, and the gate keeps its value whatever this one is.
-use Rattle.std.proofs.Common.{◌≡◌, ℕ, Bool, false, List, replicate, length, ap, sym, ◌∙◌, subst}
+use Rattle.std.proofs.Common.{ℕ, Bool, false, List, replicate, length, ap, sym, ◌∙◌, subst}
 use Rattle.std.proofs.lemmas.List.{length-replicate}
 use Rattle.netlist.specs.Circuit.{Aig}
 use Rattle.netlist.specs.Net.{value_of}
-use Rattle.lemma_book.specs.declared.entry.Entry.TheVariants.{Apart}
-use Rattle.cone_query.specs.Input.{with_input, other_value, IsBelow}
-use Rattle.cone_query.specs.Query.{IsSetAlone}
-use Rattle.cone_query.specs.Asked.{Settles}
+use Rattle.cone_query.specs.Input.{with_input, IsBelow}
 use Rattle.cone_query.proofs.InputLemmas.{there-below}
 use Rattle.cone_query.proofs.PairLemmas.{pair-there}
 use Rattle.cone_query.proofs.SetLemmas.{set-settles, set-alone}
