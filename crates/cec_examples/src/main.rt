@@ -1,5 +1,5 @@
-//! The commands of `data/README.md`, run one after the other over real files, each with what it prints and its
-//! status: the gate compares this with what the page says.
+//! The commands of `data/README.md`, run one after the other over real files, each with what it prints and
+//! its status: the gate compares this with what the page says.
 //!
 //! Both streams go to standard output, in the order in which the program writes them.
 #![tactic(auto)]
@@ -12,14 +12,27 @@ use os_desk::OsDesk;
 use std::alloc::Global;
 use std::process::ExitCode;
 use std::sync::Wait;
-
 use std::thread::Threads;
 
 const EXAMPLES: [&[&str]; 7] = [
-    &["check", "adder_ripple.aag", "adder_select.aag", "--out", "adder"],
+    &[
+        "check",
+        "adder_ripple.aag",
+        "adder_select.aag",
+        "--out",
+        "adder",
+    ],
     &["lrat", "adder.0.cnf", "adder.0.lrat"],
     &["check", "adder_ripple.aag", "adder_wrong.aag"],
-    &["check", "adder_ripple.aag", "adder_select.aag", "--sweep-budget", "1", "--budget", "1"],
+    &[
+        "check",
+        "adder_ripple.aag",
+        "adder_select.aag",
+        "--sweep-budget",
+        "1",
+        "--budget",
+        "1",
+    ],
     &["check", "adder_ripple.aag", "adder_cut.aag"],
     &["lrat", "and.cnf", "and.lrat"],
     &["lrat", "and.cnf", "and_refused.lrat"],
