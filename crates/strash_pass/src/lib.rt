@@ -15,5 +15,7 @@ mod fold;
 mod merge;
 mod pair;
 mod pass;
+#[cfg(test)]
+mod tests;
 mod visit;
 mod ways;
