@@ -23,3 +23,5 @@ mod marks;
 mod order;
 mod restarts;
 mod solver;
+#[cfg(test)]
+mod tests;
