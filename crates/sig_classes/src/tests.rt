@@ -7,6 +7,7 @@ use lemma_book::{Book, Entry, Offered, Task};
 use lits::{Clause, Listed, Lit, Literal, Node, Ref, Side, Step};
 use netlist::{And, Circuit, Net};
 use std::alloc::{AllocError, Global};
+use std::process::Abort;
 use std::test::Fail;
 use word_sim::{Pool, Sigs, signatures};
 
@@ -19,7 +20,6 @@ fn and(var: u32, left: u32, right: u32) -> And
 /// A circuit of two inputs with one output.
 fn circuit(alloc: Global, gates: &[And], output: u32) -> Result<Circuit, AllocError>
     requires { IsCircuit (record { inputs = 1 ∷ 2 ∷ []; gates = gates.now; outputs = output ∷ [] }) }
-    ensures { IfOk result (λ c. c ≡ record { inputs = 1 ∷ 2 ∷ []; gates = gates.now; outputs = output ∷ [] }) }
 {
     Circuit::of(
         alloc,
@@ -30,17 +30,14 @@ fn circuit(alloc: Global, gates: &[And], output: u32) -> Result<Circuit, AllocEr
 }
 
 /// Two XORs by other gates, whose outputs are a gate and the negation of one.
-fn two_xors(alloc: Global) -> Result<Net, Fail>
-    ensures { IfOk result (λ n. length n.a.inputs ≡ 2) }
-{
+fn two_xors(alloc: Global) -> Result<Net, Fail> {
     let a = circuit(alloc, &[and(3, 2, 5), and(4, 3, 4), and(5, 7, 9)], 11)?;
     let b = circuit(alloc, &[and(3, 2, 4), and(4, 3, 5), and(5, 7, 9)], 10)?;
     Ok(Net::of(alloc, a, b).map_err(|_| "a net")?)
 }
 
 /// The rows on a seeded pool and on all four inputs.
-fn rows(alloc: Global, net: &Net) -> Result<Sigs, Fail>
-    requires { length net.now.a.inputs ≡ 2 }
+fn rows(rt: &impl Abort, alloc: Global, net: &Net) -> Result<Sigs, Fail>
     ensures { IfOk result (λ s. length s.rows ≡ length (nodes_of net.now)) }
 {
     let mut pool = Pool::seeded(alloc, 1, 1, 2)?;
@@ -48,6 +45,7 @@ fn rows(alloc: Global, net: &Net) -> Result<Sigs, Fail>
     pool.add(&[false, true])?;
     pool.add(&[true, false])?;
     pool.add(&[true, true])?;
+    assert!(rt; net.circuit(Side::A).inputs().len() == 2);
     Ok(signatures(alloc, net, &pool)?)
 }
 
@@ -75,7 +73,7 @@ const PAIR: Task = Task {
 fn tasks_of_two_xors(rt: HostRuntime) -> Result<(), Fail> {
     let alloc = rt.alloc();
     let net = two_xors(alloc)?;
-    let sigs = rows(alloc, &net)?;
+    let sigs = rows(&rt, alloc, &net)?;
     let book = Book::new(alloc, 1, 1);
     let found = tasks(alloc, &net, &sigs, &book)?;
     assert_eq!(rt; found.as_slice(), [PAIR].as_slice());
@@ -119,7 +117,7 @@ fn spent(alloc: Global) -> Result<Entry, Fail> {
 fn spent_pair(rt: HostRuntime) -> Result<(), Fail> {
     let alloc = rt.alloc();
     let net = two_xors(alloc)?;
-    let sigs = rows(alloc, &net)?;
+    let sigs = rows(&rt, alloc, &net)?;
     let mut book = Book::new(alloc, 1, 1);
     let offered = book
         .offer(alloc, &net, spent(alloc)?)
@@ -134,10 +132,10 @@ fn spent_pair(rt: HostRuntime) -> Result<(), Fail> {
 fn leaders(rt: HostRuntime) -> Result<(), Fail> {
     let alloc = rt.alloc();
     let net = two_xors(alloc)?;
-    let sigs = rows(alloc, &net)?;
+    let sigs = rows(&rt, alloc, &net)?;
     let book = Book::new(alloc, 1, 1);
-    let first = net.position(A5).is_some() && net.position(B5).is_some();
-    assert!(rt; first);
+    assert!(rt; net.position(A5).is_some());
+    assert!(rt; net.position(B5).is_some());
     assert_eq!(rt; leader(&net, &sigs, &book, B5), PAIR.lit);
     assert_eq!(rt; leader(&net, &sigs, &book, A5), gate(Side::A, 5));
     Ok(())
@@ -150,7 +148,7 @@ fn classes_with_complements(rt: HostRuntime) -> Result<(), Fail> {
     let a = circuit(alloc, &[and(3, 4, 4), and(4, 2, 3)], 6)?;
     let b = circuit(alloc, &[and(3, 5, 1)], 6)?;
     let net = Net::of(alloc, a, b).map_err(|_| "a net")?;
-    let sigs = rows(alloc, &net)?;
+    let sigs = rows(&rt, alloc, &net)?;
     let book = Book::new(alloc, 1, 1);
     let lit = |node: Node, neg: bool| Lit { node, neg };
     let task = |side: Side, var: u32, lit: Lit| Task {

@@ -1,4 +1,4 @@
-ghost use Rattle.std.specs.Prelude.{◌≡◌, IfOk};
+ghost use Rattle.std.specs.Prelude.{◌≡◌};
 ghost use Rattle.netlist.specs.Circuit.{IsCircuit};
 
 use crate::fold::folded;
@@ -15,8 +15,6 @@ fn circuit(
     outputs: &[u32],
 ) -> Result<Circuit, AllocError>
     requires { IsCircuit (record { inputs = inputs.now; gates = gates.now; outputs = outputs.now }) }
-    ensures { IfOk result
-        (λ c. c ≡ record { inputs = inputs.now; gates = gates.now; outputs = outputs.now }) }
 {
     Circuit::of(
         alloc,
