@@ -21,4 +21,6 @@ mod patterns;
 mod rounds;
 mod session;
 mod settling;
+#[cfg(test)]
+mod tests;
 mod verdict;

@@ -46,8 +46,29 @@ fn two_xors(alloc: Global) -> Result<Net, Fail> {
 /// An entry, as `text` reads it, and the answer to it.
 type Row<'a> = (&'a str, &'a str);
 
-/// Offers the entries to one book, in order.
+/// Offers the entry to the book.
 fn offer(
+    rt: &impl Abort,
+    alloc: Global,
+    net: &Net,
+    book: &mut Book,
+    row: Row<'_>,
+) -> Result<(), Fail>
+    requires { IsLegal net.now book.old }
+    ensures { IsLegal net.now book.new }
+{
+    let (text, expected) = row;
+    let entry = text::entry(alloc, text)?;
+    let answer = book
+        .offer(alloc, net, entry)
+        .map_err(|(_, refused)| refused);
+    let answer = format!(in alloc; "{answer:?}")?;
+    assert_eq!(rt; answer.as_str(), expected, "{text}");
+    Ok(())
+}
+
+/// Offers the entries to one book, in order.
+fn offer_all(
     rt: &impl Abort,
     alloc: Global,
     net: &Net,
@@ -57,12 +78,8 @@ fn offer(
     requires { IsLegal net.now book.old }
     ensures { IsLegal net.now book.new }
 {
-    for (entry, expected) in rows {
-        let answer = book
-            .offer(alloc, net, text::entry(alloc, entry)?)
-            .map_err(|(_, refused)| refused);
-        let answer = format!(in alloc; "{answer:?}")?;
-        assert_eq!(rt; answer.as_str(), *expected, "{entry}");
+    for row in rows {
+        offer(rt, alloc, net, book, *row)?;
     }
     Ok(())
 }
@@ -92,7 +109,7 @@ fn offers(rt: HostRuntime) -> Result<(), Fail> {
     let alloc = rt.alloc();
     let net = swapped_ands(alloc)?;
     let mut book = Book::new(alloc, 1, 1);
-    offer(&rt, alloc, &net, &mut book, &OFFERS)
+    offer_all(&rt, alloc, &net, &mut book, &OFFERS)
 }
 
 /// Each cause that is found without looking at steps.
@@ -165,7 +182,7 @@ fn faults_of_names_and_sizes(rt: HostRuntime) -> Result<(), Fail> {
     let alloc = rt.alloc();
     let net = swapped_ands(alloc)?;
     let mut book = Book::new(alloc, 1, 1);
-    offer(&rt, alloc, &net, &mut book, &NAMES_AND_SIZES)
+    offer_all(&rt, alloc, &net, &mut book, &NAMES_AND_SIZES)
 }
 
 /// Each cause that is found in steps.
@@ -234,7 +251,7 @@ fn faults_of_steps(rt: HostRuntime) -> Result<(), Fail> {
     let alloc = rt.alloc();
     let net = swapped_ands(alloc)?;
     let mut book = Book::new(alloc, 1, 1);
-    offer(&rt, alloc, &net, &mut book, &STEPS)
+    offer_all(&rt, alloc, &net, &mut book, &STEPS)
 }
 
 /// Two causes stand, and the earlier is told.
@@ -283,7 +300,7 @@ fn earlier_of_two_faults(rt: HostRuntime) -> Result<(), Fail> {
     let alloc = rt.alloc();
     let net = swapped_ands(alloc)?;
     let mut book = Book::new(alloc, 1, 1);
-    offer(&rt, alloc, &net, &mut book, &PAIRS)
+    offer_all(&rt, alloc, &net, &mut book, &PAIRS)
 }
 
 /// A merge, its output, and what comes after them.
@@ -328,7 +345,7 @@ fn settled_entries(rt: HostRuntime) -> Result<(), Fail> {
     let alloc = rt.alloc();
     let net = swapped_ands(alloc)?;
     let mut book = Book::new(alloc, 1, 1);
-    offer(&rt, alloc, &net, &mut book, &SETTLED)
+    offer_all(&rt, alloc, &net, &mut book, &SETTLED)
 }
 
 /// Logs of one clause.
@@ -377,7 +394,7 @@ fn logs_of_queries(rt: HostRuntime) -> Result<(), Fail> {
     let alloc = rt.alloc();
     let net = two_xors(alloc)?;
     let mut book = Book::new(alloc, 1, 1);
-    offer(&rt, alloc, &net, &mut book, &LOGS)
+    offer_all(&rt, alloc, &net, &mut book, &LOGS)
 }
 
 /// Logs of two clauses, and a merge by two learned clauses.
@@ -411,7 +428,7 @@ fn longer_logs(rt: HostRuntime) -> Result<(), Fail> {
     let alloc = rt.alloc();
     let net = two_xors(alloc)?;
     let mut book = Book::new(alloc, 2, 2);
-    offer(&rt, alloc, &net, &mut book, &LONGER_LOGS)
+    offer_all(&rt, alloc, &net, &mut book, &LONGER_LOGS)
 }
 
 /// Whether these are the names of the clauses.
@@ -426,7 +443,7 @@ fn merged(rt: &impl Abort, alloc: Global) -> Result<(Net, Book), Fail>
 {
     let net = swapped_ands(alloc)?;
     let mut book = Book::new(alloc, 1, 2);
-    offer(rt, alloc, &net, &mut book, &OFFERS)?;
+    offer_all(rt, alloc, &net, &mut book, &OFFERS)?;
     Ok((net, book))
 }
 

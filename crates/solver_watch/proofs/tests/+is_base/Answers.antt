@@ -1,5 +1,5 @@
 use Rattle.std.proofs.Common.{sym, ◌∙◌}
-use Rattle.solver_watch.proofs.GuardLemmas.{base-cons}
+use Rattle.solver_plain.proofs.Facts.{base-cons}
 use Rattle.solver_watch.proofs.tests.+is_base.Goals as goal
 
 pub returns : goal.returns

@@ -1,5 +1,5 @@
 use Rattle.std.proofs.Common.{sym, ◌∙◌}
-use Rattle.solver_watch.proofs.GuardLemmas.{over-cons}
+use Rattle.solver_plain.proofs.Facts.{over-cons}
 use Rattle.solver_watch.proofs.tests.+is_over.Goals as goal
 
 pub returns : goal.returns
