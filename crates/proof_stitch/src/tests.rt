@@ -143,7 +143,8 @@ fn stitched_entries(rt: HostRuntime) -> Result<(), Fail> {
     Ok(())
 }
 
-/// What a query of two XORs learned with a budget of one clause: where the output differs and A's gate is false, x is true.
+/// What a query of two XORs learned with a budget of one clause: where the output differs and A's gate is
+/// false, x is true.
 fn spent(alloc: Global) -> Result<Entry, Fail> {
     let a = |var: u32| Node::Gate(Side::A, var);
     let b = |var: u32| Node::Gate(Side::B, var);
