@@ -3,7 +3,7 @@
 
 Usage: solver.py [--runs N] [--seed N] [--reference COMMAND]
 
-Draws N queries (1500): a base of clauses, a target and budgets. The bases are 3-CNFs near the threshold of satisfiability, chains
+Draws N queries (2000): a base of clauses, a target and budgets. The bases are 3-CNFs near the threshold of satisfiability, chains
 of XORs, pigeonholes and cones of random circuits. A small program over the crates is built without proof in a folder that is given
 up, and asks both solvers. COMMAND (else `cadical -q`, else `minisat -verb=0`, whichever is there) decides the base with the
 target's negation apart. Yes must be unsatisfiable, and its hints make the target a strict step over base and log. No must
@@ -192,7 +192,7 @@ def reference(given):
 
 def main():
     parser = argparse.ArgumentParser(description=__doc__, formatter_class=argparse.RawDescriptionHelpFormatter)
-    parser.add_argument("--runs", type=int, default=1500)
+    parser.add_argument("--runs", type=int, default=2000)
     parser.add_argument("--seed", type=int, default=SEED)
     parser.add_argument("--reference")
     words = parser.parse_args()

@@ -13,17 +13,21 @@ use std::test::Fail;
 pub(crate) fn entry(alloc: Global, line: &str) -> Result<Entry, Fail> {
     let (head, body) = line.split_once(':').ok_or("a colon is missing")?;
     let words: Vec<&str> = head.split_whitespace().collect(alloc)?;
-    let word = |place: usize| words.get(place).copied().unwrap_or("");
-    match word(0) {
-        "merge" | "apart" | "spent" => of_pair(
+    match words.as_slice() {
+        [kind, output] => of_output(alloc, kind, u32::from(number(output)), "", body),
+        ["outspent", output, seen] => {
+            of_output(alloc, "outspent", u32::from(number(output)), seen, body)
+        }
+        [kind, node, target] => of_pair(alloc, kind, lit(node)?.node, lit(target)?, "", body),
+        [kind, node, target, seen] => of_pair(
             alloc,
-            word(0),
-            lit(word(1))?.node,
-            lit(word(2))?,
-            word(3),
+            kind,
+            lit(node)?.node,
+            lit(target)?,
+            seen,
             body,
         ),
-        kind => of_output(alloc, kind, u32::from(number(word(1))), word(2), body),
+        _ => Err("another number of words".into()),
     }
 }
 
