@@ -1,8 +1,8 @@
-ghost use Rattle.std.specs.Prelude.{◌≡◌};
+ghost use Rattle.std.specs.Prelude.{◌≡◌, None, length};
 ghost use Rattle.netlist.specs.Circuit.{IsCircuit};
 ghost use Rattle.lemma_book.specs.Book.{IsLegal};
 
-use crate::{Span, derivation, refutation};
+use crate::{Span, StitchErr, derivation, refutation};
 use desk_port::{Desk, MemDesk};
 use lemma_book::{Book, Entry};
 use lits::{Clause, Listed, Lit, Literal, Node, Ref, Side, Step};
@@ -33,6 +33,30 @@ fn and(var: u32, left: u32, right: u32) -> And
     And { var, left, right }
 }
 
+/// Starts a file and writes the derivation.
+fn derived<D: Desk>(
+    alloc: Global,
+    net: &Net,
+    book: &Book,
+    desk: &mut D,
+) -> Result<Vec<Span>, StitchErr>
+    requires quiet { (D.state desk.old).started ≡ None }
+    requires legal { IsLegal net.now book.now }
+{
+    desk.start("p")?;
+    derivation(alloc, net, book, desk)
+}
+
+/// Starts a file and writes the refutation of a pair without outputs.
+fn refuted<D: Desk>(alloc: Global, net: &Net, book: &Book, desk: &mut D) -> Result<u64, StitchErr>
+    requires quiet { (D.state desk.old).started ≡ None }
+    requires legal { IsLegal net.now book.now }
+    requires outputs { length net.now.a.outputs ≡ 0 }
+{
+    desk.start("p")?;
+    refutation(alloc, net, book, desk)
+}
+
 /// Circuits without inputs and outputs: the miter's last clause is empty.
 #[test]
 fn stitched_from_nothing(rt: HostRuntime) -> Result<(), Fail> {
@@ -43,8 +67,7 @@ fn stitched_from_nothing(rt: HostRuntime) -> Result<(), Fail> {
     assert!(rt; net.outputs() == 0);
     let book = Book::new(alloc, 1, 1);
     let mut desk = MemDesk::new(alloc, BTreeMap::new(alloc), Vec::new(alloc))?;
-    desk.start("p").map_err(|_| "start")?;
-    let lines = refutation(alloc, &net, &book, &mut desk).map_err(|_| "a proof")?;
+    let lines = refuted(alloc, &net, &book, &mut desk).map_err(|_| "a proof")?;
     assert_eq!(rt; lines, 1);
     assert_eq!(rt; desk.file("p"), Some(&b"3 0 2 0\n"[..]));
     Ok(())
@@ -135,15 +158,15 @@ fn stitched_entries(rt: HostRuntime) -> Result<(), Fail> {
     put(alloc, &net, &mut book, merge(alloc)?)?;
     put(alloc, &net, &mut book, out(alloc)?)?;
     let mut desk = MemDesk::new(alloc, BTreeMap::new(alloc), Vec::new(alloc))?;
-    desk.start("p").map_err(|_| "start")?;
-    let spans = derivation(alloc, &net, &book, &mut desk).map_err(|_| "a proof")?;
+    let spans = derived(alloc, &net, &book, &mut desk).map_err(|_| "a proof")?;
     assert!(rt; spans.is_empty());
     let text = b"13 -5 4 0 5 6 4 0\n14 5 -4 0 2 3 7 0\n15 -6 4 0 8 13 0\n16 -6 0 15 9 14 0\n";
     assert_eq!(rt; desk.file("p"), Some(&text[..]));
     Ok(())
 }
 
-/// What a query of two XORs learned with a budget of one clause: where the output differs and A's gate is false, x is true.
+/// What a query of two XORs learned with a budget of one clause: where the output differs and A's gate is
+/// false, x is true.
 fn spent(alloc: Global) -> Result<Entry, Fail> {
     let a = |var: u32| Node::Gate(Side::A, var);
     let b = |var: u32| Node::Gate(Side::B, var);
@@ -185,8 +208,7 @@ fn stitched_log(rt: HostRuntime) -> Result<(), Fail> {
     let mut book = Book::new(alloc, 1, 1);
     put(alloc, &net, &mut book, spent(alloc)?)?;
     let mut desk = MemDesk::new(alloc, BTreeMap::new(alloc), Vec::new(alloc))?;
-    desk.start("p").map_err(|_| "start")?;
-    let spans = derivation(alloc, &net, &book, &mut desk).map_err(|_| "a proof")?;
+    let spans = derived(alloc, &net, &book, &mut desk).map_err(|_| "a proof")?;
     let span = Span {
         output: 0,
         first: 25,

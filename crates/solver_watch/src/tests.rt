@@ -14,8 +14,8 @@ use std::process::Abort;
 use std::test::Fail;
 use unit_prop::{Closure, Refuted, Refuter, StepCheck, close_under};
 
-/// The literal of a numbered node, negated where the number is: 1 and 2 are the inputs x and y, other numbers are gates
-/// of A below 10, gates of B below 20, and 20 is whether the outputs differ.
+/// The literal of a numbered node, negated where the number is: 1 and 2 are the inputs x and y, other numbers
+/// are gates of A below 10, gates of B below 20, and 20 is whether the outputs differ.
 fn lit(number: i32) -> Lit {
     let node = match number.unsigned_abs() {
         1 => Node::Input(0),
@@ -124,7 +124,8 @@ fn is_step(
     Ok(check.end().is_ok())
 }
 
-/// Whether the closure of the clauses and of the negations of all literals but one lacks that one and doesn't clash.
+/// Whether the closure of the clauses and of the negations of all literals but one lacks that one and
+/// doesn't clash.
 fn is_open(
     alloc: Global,
     clauses: &[Clause<Lit>],
@@ -195,7 +196,8 @@ fn check_answer(
     Ok(())
 }
 
-/// The solver's answer to the query of the target over the base, which is checked, and the units that are left.
+/// The solver's answer to the query of the target over the base, which is checked, and the units that are
+/// left.
 fn solved<R: Refuter>(
     rt: &impl Abort,
     alloc: Global,
@@ -257,8 +259,8 @@ fn refuter_no(rt: HostRuntime) -> Result<(), Fail> {
     Ok(())
 }
 
-/// The cone of the output of two circuits, each an XOR of x and y by other gates: gates 3 to 5, gates 13 to 15, and what
-/// tells whether the outputs differ.
+/// The cone of the output of two circuits, each an XOR of x and y by other gates: gates 3 to 5, gates 13 to 15,
+/// and what tells whether the outputs differ.
 const TWO_XORS: [&[i32]; 22] = [
     &[-3, 1],
     &[-3, -2],

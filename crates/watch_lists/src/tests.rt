@@ -18,6 +18,14 @@ fn clause(alloc: Global, numbers: [i32; 3]) -> Result<Clause<Lit>, Fail> {
     Ok(Clause::of(alloc, &[lit(a), lit(b), lit(c)]).map_err(|_| "a clause")?)
 }
 
+/// Adds a clause of three literals, or the same again, to a trail without decisions.
+fn add(rt: &impl Abort, alloc: Global, trail: &mut Trail, numbers: [i32; 3]) -> Result<(), Fail> {
+    assert!(rt; trail.level() == 0);
+    let clause = clause(alloc, numbers)?;
+    trail.add(&clause)?;
+    Ok(())
+}
+
 /// What a trail has at a place.
 fn put(number: i32, level: u64, by: Option<u64>) -> Put {
     Put {
@@ -31,8 +39,8 @@ fn put(number: i32, level: u64, by: Option<u64>) -> Put {
 fn close_under(rt: HostRuntime) -> Result<(), Fail> {
     let alloc = rt.alloc();
     let mut trail = Trail::new(alloc)?;
-    trail.add(&clause(alloc, [1, -2, 1])?)?;
-    trail.add(&clause(alloc, [2, 2, 2])?)?;
+    add(&rt, alloc, &mut trail, [1, -2, 1])?;
+    add(&rt, alloc, &mut trail, [2, 2, 2])?;
     assert_eq!(rt; trail.propagate()?, None);
     let expected = [put(2, 0, Some(1)), put(1, 0, Some(0))];
     assert_eq!(rt; trail.lits(), expected.as_slice());
@@ -43,8 +51,8 @@ fn close_under(rt: HostRuntime) -> Result<(), Fail> {
 fn close_under_clashes(rt: HostRuntime) -> Result<(), Fail> {
     let alloc = rt.alloc();
     let mut trail = Trail::new(alloc)?;
-    trail.add(&clause(alloc, [1, 1, 1])?)?;
-    trail.add(&clause(alloc, [-1, -1, -1])?)?;
+    add(&rt, alloc, &mut trail, [1, 1, 1])?;
+    add(&rt, alloc, &mut trail, [-1, -1, -1])?;
     let found = trail.propagate()?;
     assert!(rt; matches!(found, Some(0 | 1)));
     Ok(())
@@ -55,24 +63,26 @@ fn decided(rt: &impl Abort, trail: &mut Trail, number: i32) -> Result<Option<u64
     if let Some(negated) = trail.propagate()? {
         return Ok(Some(negated));
     }
-    let code = trail.code(lit(number)).ok_or("a code")?;
+    let Some(code) = trail.code(lit(number)) else {
+        return Err("no such variable".into());
+    };
     assert!(rt; trail.is_free(code));
-    trail.decide(lit(number))?;
+    trail.decide_code(code)?;
     Ok(trail.propagate()?)
 }
 
 /// A gate 3 that is the AND of 1 and 2.
-fn gate(alloc: Global) -> Result<Trail, Fail> {
+fn gate(rt: &impl Abort, alloc: Global) -> Result<Trail, Fail> {
     let mut trail = Trail::new(alloc)?;
-    trail.add(&clause(alloc, [-3, 1, 1])?)?;
-    trail.add(&clause(alloc, [-3, 2, 2])?)?;
-    trail.add(&clause(alloc, [3, -1, -2])?)?;
+    add(rt, alloc, &mut trail, [-3, 1, 1])?;
+    add(rt, alloc, &mut trail, [-3, 2, 2])?;
+    add(rt, alloc, &mut trail, [3, -1, -2])?;
     Ok(trail)
 }
 
 #[test]
 fn levels_and_reasons(rt: HostRuntime) -> Result<(), Fail> {
-    let mut trail = gate(rt.alloc())?;
+    let mut trail = gate(&rt, rt.alloc())?;
     assert_eq!(rt; decided(&rt, &mut trail, 1)?, None);
     assert_eq!(rt; decided(&rt, &mut trail, 2)?, None);
     let expected = [put(1, 1, None), put(2, 2, None), put(3, 2, Some(2))];
@@ -87,7 +97,7 @@ fn levels_and_reasons(rt: HostRuntime) -> Result<(), Fail> {
 /// After a step back other literals are decided, with the watches that the first ones left.
 #[test]
 fn back_to_a_level(rt: HostRuntime) -> Result<(), Fail> {
-    let mut trail = gate(rt.alloc())?;
+    let mut trail = gate(&rt, rt.alloc())?;
     decided(&rt, &mut trail, 1)?;
     decided(&rt, &mut trail, 2)?;
     trail.back(1);
@@ -105,8 +115,8 @@ fn back_to_a_level(rt: HostRuntime) -> Result<(), Fail> {
 fn negated_clause(rt: HostRuntime) -> Result<(), Fail> {
     let alloc = rt.alloc();
     let mut trail = Trail::new(alloc)?;
-    trail.add(&clause(alloc, [1, 2, 3])?)?;
-    trail.add(&clause(alloc, [1, 2, -3])?)?;
+    add(&rt, alloc, &mut trail, [1, 2, 3])?;
+    add(&rt, alloc, &mut trail, [1, 2, -3])?;
     assert_eq!(rt; decided(&rt, &mut trail, -1)?, None);
     assert_eq!(rt; trail.lits(), [put(-1, 1, None)].as_slice());
     let found = decided(&rt, &mut trail, -2)?;
@@ -114,7 +124,7 @@ fn negated_clause(rt: HostRuntime) -> Result<(), Fail> {
     // The learned clause is added where it forces its literal.
     trail.back(1);
     trail.back(0);
-    trail.add(&clause(alloc, [1, 2, 2])?)?;
+    add(&rt, alloc, &mut trail, [1, 2, 2])?;
     assert_eq!(rt; decided(&rt, &mut trail, -1)?, None);
     let expected = [put(-1, 1, None), put(2, 1, Some(2))];
     assert_eq!(rt; trail.lits(), expected.as_slice());
@@ -123,9 +133,11 @@ fn negated_clause(rt: HostRuntime) -> Result<(), Fail> {
 
 #[test]
 fn codes(rt: HostRuntime) -> Result<(), Fail> {
-    let mut trail = gate(rt.alloc())?;
+    let mut trail = gate(&rt, rt.alloc())?;
     assert_eq!(rt; decided(&rt, &mut trail, 3)?, None);
-    let code = trail.code(lit(3)).ok_or("a code")?;
+    let Some(code) = trail.code(lit(3)) else {
+        return Err("no such variable".into());
+    };
     assert_eq!(rt; trail.code(lit(-3)), Some(flip(code)));
     assert_eq!(rt; trail.code(lit(4)), None);
     assert_eq!(rt; trail.lit(code), lit(3));

@@ -81,16 +81,16 @@ fn rows_of_swapped_ands(rt: HostRuntime) -> Result<(), Fail> {
     Ok(())
 }
 
-/// Rows of gates over complements and over the constant, in one buffer; the bits behind pattern 64 are cleared.
+/// Rows of gates over complements and over the constant, in one buffer; the bits behind pattern 64 are
+/// cleared.
 #[test]
 fn rows_of_complements(rt: HostRuntime) -> Result<(), Fail> {
     let alloc = rt.alloc();
     let net = Net::of(alloc, and(alloc, 3, 5)?, and(alloc, 1, 5)?).map_err(|_| "a net")?;
     let pool = pool(alloc)?;
     assert!(rt; fits(&net, &pool));
-    let mut rows = [7; 10];
-    assert!(rt; net.positions() == 5 && pool.words() == 2);
-    fill(&net, &pool, &mut rows);
+    let mut rows = vec![in alloc; 7; net.positions() as usize * pool.words() as usize]?;
+    fill(&net, &pool, rows.as_mut_slice());
     let expected = [
         u64::MAX,
         1,
@@ -103,6 +103,6 @@ fn rows_of_complements(rt: HostRuntime) -> Result<(), Fail> {
         0xc4c7_948b_aae7_ddb2,
         1,
     ];
-    assert_eq!(rt; rows, expected);
+    assert_eq!(rt; rows.as_slice(), expected.as_slice());
     Ok(())
 }

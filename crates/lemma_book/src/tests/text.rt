@@ -1,8 +1,8 @@
 //! Entries as a line of text: what they say of what, a colon, and the steps, or the input's digits.
 //!
-//! Nodes are `t`, the constant true, `i0`, an input, `a3` or `b3`, a gate, and `d0`, whether the outputs differ; a
-//! literal has a `-` where it is negated. A step is its clause, the word `by`, and the names of its hints: `a3.2` is an
-//! axiom, `e0.1` a clause of an entry, `s0` an own step. Numbers have one digit.
+//! Nodes are `t`, the constant true, `i0`, an input, `a3` or `b3`, a gate, and `d0`, whether the outputs
+//! differ; a literal has a `-` where it is negated. A step is its clause, the word `by`, and the names of its
+//! hints: `a3.2` is an axiom, `e0.1` a clause of an entry, `s0` an own step. Numbers have one digit.
 
 use crate::Entry;
 use lits::{Clause, Listed, Lit, Node, Ref, Side, Step};
@@ -10,20 +10,24 @@ use std::alloc::Global;
 use std::test::Fail;
 
 /// The entry of a line.
-pub fn entry(alloc: Global, line: &str) -> Result<Entry, Fail> {
+pub(crate) fn entry(alloc: Global, line: &str) -> Result<Entry, Fail> {
     let (head, body) = line.split_once(':').ok_or("a colon is missing")?;
     let words: Vec<&str> = head.split_whitespace().collect(alloc)?;
-    let word = |place: usize| words.get(place).copied().unwrap_or("");
-    match word(0) {
-        "merge" | "apart" | "spent" => of_pair(
+    match words.as_slice() {
+        [kind, output] => of_output(alloc, kind, u32::from(number(output)), "", body),
+        ["outspent", output, seen] => {
+            of_output(alloc, "outspent", u32::from(number(output)), seen, body)
+        }
+        [kind, node, target] => of_pair(alloc, kind, lit(node)?.node, lit(target)?, "", body),
+        [kind, node, target, seen] => of_pair(
             alloc,
-            word(0),
-            lit(word(1))?.node,
-            lit(word(2))?,
-            word(3),
+            kind,
+            lit(node)?.node,
+            lit(target)?,
+            seen,
             body,
         ),
-        kind => of_output(alloc, kind, u32::from(number(word(1))), word(2), body),
+        _ => Err("another number of words".into()),
     }
 }
 
