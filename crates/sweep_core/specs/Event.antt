@@ -1,4 +1,4 @@
--- One event of the book machine, whatever its kind: when it may come, what it does, and what it leaves as it was.
+-- One event of the book machine, whatever its kind: when it may come, what it does, and what it keeps.
 use Rattle.std.specs.Prelude.{◌≡◌, ℕ, ◌<◌, ◌≤◌, Some, List, length, slice_get}
 use Rattle.std.specs.List.{AllByRecursion}
 use Rattle.netlist.specs.Net.{AigPair}
@@ -43,7 +43,7 @@ pub record KnowsFrom (n w : ℕ) (state : Machine) : Type 0 where
   pub known_is : slice_get state.known w ≡ Some known
   pub from : n ≤ known
 
--- the book begins as before; what each worker knew is still its first part, and no worker knows less
+-- the book begins as before, each worker knows a first part of it, and no worker knows less than before
 pub record Keeps (old new : Machine) : Type 0 where
   pub begins : StartsWith new.book old.book
   pub within : AreWithin new.book new.known

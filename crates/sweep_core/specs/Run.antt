@@ -12,11 +12,14 @@ use Rattle.sweep_core.specs.declared.event.Reply.{Reply}
 use Rattle.sweep_core.specs.declared.event.Reply.TheVariants.{Known, Offered as Answer}
 use Rattle.sweep_core.specs.Event.{Core, MayCome, IsStep}
 
--- each event may come after those before it, whatever these came to
+-- whatever the event comes to, this holds after it
+abbrev pub HoldsAfter : Event → Core → (Core → Type 0) → Type 0
+HoldsAfter e core P = (next : Core) (reply : Reply) → IsStep e core next reply → P next
+
+-- each event may come after those before it
 abbrev pub MayRun : AigPair → List Event → Core → Type 0
 MayRun net [] core = ⊤
-MayRun net (e ∷ es) core =
-    MayCome net e core.machine × ((next : Core) (reply : Reply) → IsStep e core next reply → MayRun net es next)
+MayRun net (e ∷ es) core = MayCome net e core.machine × HoldsAfter e core (MayRun net es)
 
 -- there is a core between the two
 pub record Through (First Rest : Core → Type 0) : Type 0 where
@@ -29,7 +32,8 @@ abbrev pub IsRun : List Event → Core → Core → List Reply → Type 0
 IsRun [] old new [] = new ≡ old
 IsRun [] old new (r ∷ rs) = ⊥
 IsRun (e ∷ es) old new [] = ⊥
-IsRun (e ∷ es) old new (r ∷ rs) = Through (λ core. IsStep e old core r) (λ core. IsRun es core new rs)
+IsRun (e ∷ es) old new (r ∷ rs) =
+    Through (λ core. IsStep e old core r) (λ core. IsRun es core new rs)
 
 -- the first of the events were done, the others weren't
 pub record HasRunFirst (events : List Event) (old new : Core) : Type 0 where

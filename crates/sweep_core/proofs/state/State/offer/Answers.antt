@@ -6,7 +6,10 @@ use Rattle.sweep_core.proofs.state.State.offer.Goals as goal
 
 pub returns-clause-keeps : goal.returns-clause-keeps
 returns-clause-keeps c =
-    let inside : Machine = record { book = c.self.inside.book; next = c.self.inside.next; known = c.self.inside.known.items } in
-    subst (λ (core : Core). Keeps core.machine (record { book = c.append.new.self; next = c.self.inside.next; known = c.self.inside.known.items }))
-    c.self.view_is
-    (keeps-append c.args.entry inside c.append.new.self c.append.result _ c.self.invariant c.append.ensures.after c.append.ensures.refused)
+    let own = c.self.inside in
+    let old : Machine = record { book = own.book; next = own.next; known = own.known.items } in
+    let new : Machine = record old { book = c.append.new.self } in
+    let taken = c.append.ensures.after in
+    let refused = c.append.ensures.refused in
+    subst (λ (core : Core). Keeps core.machine new) c.self.view_is
+    (keeps-append c.args.entry old new.book c.append.result _ c.self.invariant taken refused)
