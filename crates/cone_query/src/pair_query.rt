@@ -23,11 +23,11 @@ use std::alloc::{AllocError, Global};
 use unit_prop::laws::budget;
 use unit_prop::{Refuted, Refuter};
 
-/// Asks whether a gate, which isn't merged yet, has the value of a literal of an earlier node, for at most the book's
-/// budget of learned clauses.
+/// Asks whether a gate, which isn't merged yet, has the value of a literal of an earlier node, for at most the
+/// book's budget of learned clauses.
 ///
-/// Each of the two implications is a query over the cone of both nodes, and one budget pays for both. A literal of an
-/// input that no clause of the gate's cone names needs no query: the input is set so that they differ.
+/// Each of the two implications is a query over the cone of both nodes, and one budget pays for both. A literal
+/// of an input that no clause of the gate's cone names needs no query: the input is set so that they differ.
 pub fn pair<R: Refuter + Send>(
     alloc: Global,
     net: &Net,
@@ -106,8 +106,8 @@ fn mentions(base: &[Named], lit: Lit) -> bool
     base.iter().any(|named| named.clause.has(lit) || named.clause.has(lit.not()))
 }
 
-/// The entry of a pair whose literal is that of an input that no clause of the gate's cone names. All other inputs are
-/// false, and this one is set so that the literal hasn't the gate's value.
+/// The entry of a pair whose literal is that of an input that no clause of the gate's cone names. All other
+/// inputs are false, and this one is set so that the literal hasn't the gate's value.
 fn set_apart(
     alloc: Global,
     net: &Net,
@@ -117,7 +117,8 @@ fn set_apart(
 ) -> Result<Entry, AllocError>
     requires pair { IsPair net.now seen.now task.now }
     requires gate { IsGate task.now.node }
-    requires cone { IsCone net.now (take (length seen.now.entries) seen.now.entries) (seeds_of task.now) base.now }
+    requires cone { IsCone net.now (take (length seen.now.entries) seen.now.entries)
+        (seeds_of task.now) base.now }
     requires unnamed { IsUnnamed net.now seen.now.entries task.now }
     ensures settles { IfOk result (Settles net.now seen.now task.now) }
     ensures alone { IfOk result IsSetAlone }
