@@ -76,12 +76,12 @@ fn chain_of_a_thousand_merges(rt: HostRuntime) -> Result<(), Fail> {
     Ok(())
 }
 
-/// Output 0 is an XOR, in another way on each side. Output 1 is the AND of both inputs, gate 6 in A and gate 3 in B,
-/// over which B's XOR is; they are merged, so it is shown by the merge's clauses, whatever the budget. Output 2 is
-/// input 0.
+/// Output 0 is an XOR, in another way on each side. Output 1 is the AND of both inputs, gate 6 in A and gate
+/// 3 in B, over which B's XOR is; they are merged, so the merge's clauses show it, whatever the budget.
+/// Output 2 is input 0.
 ///
-/// The miter has 33 clauses. The proof has the two steps of the merge, two of output 1, since from its XOR alone unit
-/// propagation goes nowhere, one of output 2, and output 0's log of one clause.
+/// The miter has 33 clauses. The proof has the two steps of the merge, two of output 1, since from its XOR
+/// alone unit propagation goes nowhere, one of output 2, and output 0's log of one clause.
 #[test]
 fn open_output_over_a_merge(rt: HostRuntime) -> Result<(), Fail> {
     let files = [
