@@ -1,0 +1,93 @@
+ghost use Rattle.std.specs.Prelude.{◌≡◌, IfOk, IfSome};
+ghost use Rattle.lemma_book.specs.Book.{IsLegal};
+ghost use Rattle.lemma_book.specs.Good.{IsGood};
+ghost use Rattle.circuit_search.specs.Answer.{Finds, SettlesOutput, SettlesPair};
+
+use crate::caps::Caps;
+use crate::engine::Engine;
+use lemma_book::{Book, Entry, Judgement, Task};
+use netlist::Net;
+use std::alloc::{AllocError, Global};
+
+/// Searches a net for why two nodes, or the two literals of an output, are equal or not. It keeps its memory from query
+/// to query.
+#[derive(Drop)]
+pub struct Search {
+    engine: Engine,
+    dropped: u64,
+}
+
+impl Search {
+    /// A search of a net, over any of its books.
+    pub fn new(alloc: Global, net: &Net) -> Result<Search, AllocError> {
+        Ok(Search {
+            engine: Engine::of(alloc, net)?,
+            dropped: 0,
+        })
+    }
+
+    /// How many of the entries that it found the books refused.
+    pub fn dropped(&self) -> u64 {
+        self.dropped
+    }
+
+    /// Searches for an entry about a pair: that node and literal have one value, or an input on which they differ. None
+    /// where it gives up.
+    pub fn pair(
+        &mut self,
+        alloc: Global,
+        net: &Net,
+        book: &Book,
+        task: &Task,
+        caps: Caps,
+    ) -> Result<Option<Entry>, AllocError>
+        requires legal { IsLegal net.now book.now }
+        ensures { IfOk result (Finds (SettlesPair task.now) net.now book.now) }
+    {
+        self.engine.merges.catch_up(net, book);
+        match self.engine.pair(alloc, net, task, caps)? {
+            Some(entry) => self.judged(alloc, net, book, entry),
+            None => Ok(None),
+        }
+    }
+
+    /// Searches for an entry about an output: that both circuits give it one value, or an input on which they don't. None
+    /// where it gives up.
+    pub fn output(
+        &mut self,
+        alloc: Global,
+        net: &Net,
+        book: &Book,
+        output: u32,
+        caps: Caps,
+    ) -> Result<Option<Entry>, AllocError>
+        requires legal { IsLegal net.now book.now }
+        ensures { IfOk result (Finds (SettlesOutput output) net.now book.now) }
+    {
+        self.engine.merges.catch_up(net, book);
+        match self.engine.output(alloc, net, output, caps)? {
+            Some(entry) => self.judged(alloc, net, book, entry),
+            None => Ok(None),
+        }
+    }
+
+    /// The entry, if it is good over the book.
+    fn judged(
+        &mut self,
+        alloc: Global,
+        net: &Net,
+        book: &Book,
+        entry: Entry,
+    ) -> Result<Option<Entry>, AllocError>
+        requires legal { IsLegal net.now book.now }
+        ensures { IfOk result (λ o. IfSome o (λ e. (e ≡ entry) × IsGood net.now book.now e)) }
+    {
+        match book.judge(alloc, net, &entry)? {
+            Judgement::Good => Ok(Some(entry)),
+            _ => {
+                self.dropped = self.dropped.saturating_add(1);
+                Ok(None)
+            }
+        }
+    }
+}
