@@ -14,7 +14,7 @@ use std::process::ExitCode;
 use std::sync::Wait;
 use std::thread::Threads;
 
-const EXAMPLES: [&[&str]; 7] = [
+const EXAMPLES: [&[&str]; 8] = [
     &[
         "check",
         "adder_ripple.aag",
@@ -26,13 +26,14 @@ const EXAMPLES: [&[&str]; 7] = [
     &["check", "adder_ripple.aag", "adder_wrong.aag"],
     &[
         "check",
-        "adder_ripple.aag",
-        "adder_select.aag",
+        "multiplier_rows.aag",
+        "multiplier_columns.aag",
         "--sweep-budget",
         "1",
         "--budget",
         "1",
     ],
+    &["check", "multiplier_rows.aag", "multiplier_columns.aag"],
     &["check", "adder_ripple.aag", "adder_cut.aag"],
     &["lrat", "and.cnf", "and.lrat"],
     &["lrat", "and.cnf", "and_refused.lrat"],
