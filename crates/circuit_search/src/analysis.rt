@@ -6,7 +6,8 @@ use crate::trail::FALSE;
 use std::alloc::AllocError;
 
 impl Engine {
-    /// The highest level of a false clause's codes, how many of them stand there, and the second highest level.
+    /// The highest level of a false clause's codes, how many of them stand there, and the second highest
+    /// level.
     pub(crate) fn levels(&self, clause: u32) -> (u32, u32, u32) {
         let mut highest = 0;
         let mut many: u32 = 0;
@@ -26,8 +27,8 @@ impl Engine {
         (highest, many, second)
     }
 
-    /// Learns from a clause that is false at the last level: the clause of the first unique implication point, by the
-    /// reasons between it and the conflict (Marques-Silva and Sakallah 1996).
+    /// Learns from a clause that is false at the last level: the clause of the first unique implication
+    /// point, by the reasons between it and the conflict (Marques-Silva and Sakallah 1996).
     pub(crate) fn learn(&mut self, conflict: u32) -> Result<(), AllocError> {
         let level = self.trail.level();
         self.lessons.restart();
@@ -41,8 +42,8 @@ impl Engine {
         self.take_lesson()
     }
 
-    /// Passes a code that a conflict comes from: it stays in the clause that is learned, or its reason takes its place.
-    /// `many` is how many such codes of the last level haven't been passed yet.
+    /// Passes a code that a conflict comes from: it stays in the clause that is learned, or its reason takes
+    /// its place. `many` is how many such codes of the last level haven't been passed yet.
     fn pass(&mut self, code: u32, level: u32, many: u32) -> Result<u32, AllocError> {
         let here = self.trail.level_of(code / 2);
         let is_last = here == level;
@@ -60,7 +61,8 @@ impl Engine {
         Ok(if is_last { 0 } else { many })
     }
 
-    /// Takes a clause as a hint, and marks what makes its codes false. Tells how many codes of the level are new.
+    /// Takes a clause as a hint, and marks what makes its codes false. Tells how many codes of the level are
+    /// new.
     fn trace(&mut self, clause: u32, level: u32) -> Result<u32, AllocError> {
         let mut many: u32 = 0;
         self.lessons.trace.push(clause)?;

@@ -4,7 +4,8 @@ use crate::trail::FREE;
 use std::alloc::AllocError;
 
 impl Engine {
-    /// Assumes two codes at a level of their own. Tells the clause that has made one of them false before, if one has.
+    /// Assumes two codes at a level of their own. Tells the clause that has made one of them false before, if
+    /// one has.
     pub(crate) fn assume(&mut self, first: u32, second: u32) -> Result<u32, AllocError> {
         for place in 0..count(self.trail.lits().len()) {
             let code = at(self.trail.lits(), place);

@@ -106,7 +106,8 @@ impl Engine {
         }
     }
 
-    /// What a clause that was added asks for: nothing, or a code that is to be true; its number where it is a conflict.
+    /// What a clause that was added asks for: nothing, or a code that is to be true; its number where it is a
+    /// conflict.
     pub(crate) fn settle(&mut self, clause: u32) -> Result<u32, AllocError> {
         let first = self.clauses.lit(clause, 0);
         if self.trail.value(first) == FALSE {

@@ -3,8 +3,8 @@ use crate::table::{at, count};
 use crate::trail::{FALSE, FREE};
 
 impl Engine {
-    /// The code that is to be chosen next: it makes a fanin of the first gate false that is false without a false fanin.
-    /// Where there is no such gate all values follow from those of the inputs.
+    /// The code that is to be chosen next: it makes a fanin of the first gate false that is false without a
+    /// false fanin. Where there is no such gate all values follow from those of the inputs.
     pub(crate) fn open_fanin(&mut self) -> Option<u32> {
         for place in self.trail.justified..count(self.trail.lits().len()) {
             self.trail.justified = place;

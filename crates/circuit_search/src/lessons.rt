@@ -8,8 +8,8 @@ pub(crate) struct Hints {
     pub(crate) len: u32,
 }
 
-/// What a query learned: clauses, each with the clauses that show it by unit propagation, in order; and the tools to find
-/// these.
+/// What a query learned: clauses, each with the clauses that show it by unit propagation, in order; and the
+/// tools to find these.
 #[derive(Drop)]
 pub(crate) struct Lessons {
     /// The numbers of the lessons' clauses.

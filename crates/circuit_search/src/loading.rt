@@ -6,8 +6,8 @@ use netlist::Net;
 use std::alloc::AllocError;
 
 impl Engine {
-    /// Loads the clauses of a variable, unless they are there: those of its merge, or else of its gate. Tells a clause of
-    /// which all codes are false; one that comes late may be.
+    /// Loads the clauses of a variable, unless they are there: those of its merge, or else of its gate. Tells
+    /// a clause of which all codes are false; one that comes late may be.
     pub(crate) fn load(&mut self, net: &Net, var: u32) -> Result<u32, AllocError> {
         if self.variables.is_loaded(var) {
             return Ok(NONE);

@@ -6,12 +6,14 @@ use std::alloc::{AllocError, Global};
 
 /// The circuit by positions: what a book merges, the gates' fanins, and how deep each node lies.
 ///
-/// A node's merge is read from a table and not from the book's index, since a search asks for it at every node.
+/// A node's merge is read from a table and not from the book's index, since a search asks for it at every
+/// node.
 #[derive(Drop)]
 pub(crate) struct Merges {
     /// For each position the place of the entry that merges its node, and 1; 0 where none does.
     entries: Vec<u32>,
-    /// For each position the target of the merge, as a code: twice the target's position, and 1 where it is negated.
+    /// For each position the target of the merge, as a code: twice the target's position, and 1 where it is
+    /// negated.
     targets: Vec<u32>,
     /// For each position the length of the longest way down to an input.
     depths: Vec<u32>,

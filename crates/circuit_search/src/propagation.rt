@@ -12,7 +12,8 @@ enum Visit {
 }
 
 impl Engine {
-    /// Propagates until nothing is left or a clause is false, whose number it gives; `NONE` where there is none.
+    /// Propagates until nothing is left or a clause is false, whose number it gives; `NONE` where there is
+    /// none.
     pub(crate) fn propagate(&mut self, net: &Net) -> Result<u32, AllocError> {
         for _ in 0..u64::MAX {
             let Some(code) = self.trail.next() else {
@@ -49,7 +50,8 @@ impl Engine {
         Ok(NONE)
     }
 
-    /// Visits one watch: it moves to a code that isn't false, or the clause's other watched code has to be true.
+    /// Visits one watch: it moves to a code that isn't false, or the clause's other watched code has to be
+    /// true.
     fn visit(&mut self, code: u32, before: u32, watch: u32) -> Result<Visit, AllocError> {
         let clause = (watch / 2).wrapping_sub(1);
         let side = watch & 1;

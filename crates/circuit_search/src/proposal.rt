@@ -13,7 +13,8 @@ use std::alloc::{AllocError, Global};
 
 /// What was found out of two codes.
 enum Found {
-    /// They have one value: the first clauses refute that only the first code is true, the other ones that only the second.
+    /// They have one value: the first clauses refute that only the first code is true, the other ones that
+    /// only the second.
     Equal(Hints, Hints),
     /// They differ on the inputs that the trail has.
     Apart,
@@ -131,8 +132,8 @@ impl Engine {
         Ok(Some(Entry::Merge { node, lit, steps }))
     }
 
-    /// The entry of an output of which both cases are refuted: first that the second literal alone is true, and then that
-    /// the first is.
+    /// The entry of an output of which both cases are refuted: first that the second literal alone is true,
+    /// and then that the first is.
     fn out(
         &mut self,
         alloc: Global,

@@ -62,8 +62,8 @@ impl Engine {
         Ok(None)
     }
 
-    /// Answers a conflict of what is assumed, and learns from any other. A clause that came late may have one code alone at
-    /// its highest level: then it should have forced that code earlier, and does so now.
+    /// Answers a conflict of what is assumed, and learns from any other. A clause that came late may have one
+    /// code alone at its highest level: then it should have forced that code earlier, and does so now.
     fn meet(&mut self, conflict: u32) -> Result<Option<Outcome>, AllocError> {
         let (level, many, second) = self.levels(conflict);
         if level <= 1 {

@@ -9,8 +9,8 @@ use lemma_book::{Book, Entry, Judgement, Task};
 use netlist::Net;
 use std::alloc::{AllocError, Global};
 
-/// Searches a net for why two nodes, or the two literals of an output, are equal or not. It keeps its memory from query
-/// to query.
+/// Searches a net for why two nodes, or the two literals of an output, are equal or not. It keeps its memory
+/// from query to query.
 #[derive(Drop)]
 pub struct Search {
     engine: Engine,
@@ -31,8 +31,8 @@ impl Search {
         self.dropped
     }
 
-    /// Searches for an entry about a pair: that node and literal have one value, or an input on which they differ. None
-    /// where it gives up.
+    /// Searches for an entry about a pair: that node and literal have one value, or an input on which they
+    /// differ. None where it gives up.
     pub fn pair(
         &mut self,
         alloc: Global,
@@ -51,8 +51,8 @@ impl Search {
         }
     }
 
-    /// Searches for an entry about an output: that both circuits give it one value, or an input on which they don't. None
-    /// where it gives up.
+    /// Searches for an entry about an output: that both circuits give it one value, or an input on which they
+    /// don't. None where it gives up.
     pub fn output(
         &mut self,
         alloc: Global,

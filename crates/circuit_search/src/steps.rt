@@ -7,8 +7,8 @@ use netlist::Net;
 use std::alloc::{AllocError, Global};
 
 impl Engine {
-    /// Numbers the lessons that two lists of hints lead to, in order. The others are left out: a merge may have so many
-    /// steps and no more.
+    /// Numbers the lessons that two lists of hints lead to, in order. The others are left out: a merge may
+    /// have so many steps and no more.
     pub(crate) fn reach(
         &mut self,
         alloc: Global,
@@ -52,8 +52,8 @@ impl Engine {
         Ok(steps)
     }
 
-    /// Puts the step last that adds a clause, shown by these names and then by the hints. A clause with a complementary
-    /// pair, which is none, adds no step.
+    /// Puts the step last that adds a clause, shown by these names and then by the hints. A clause with a
+    /// complementary pair, which is none, adds no step.
     pub(crate) fn add_step(
         &self,
         alloc: Global,

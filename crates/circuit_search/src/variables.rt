@@ -1,9 +1,11 @@
 use crate::table::{at, count, has, mark, put};
 use std::alloc::{AllocError, Global};
 
-/// The variables of a query: nodes get numbers in the order in which it comes to them. The constant is variable 0.
+/// The variables of a query: nodes get numbers in the order in which it comes to them. The constant is
+/// variable 0.
 ///
-/// What was used is cleared before the next query, so that a query costs what it looks at and not the size of the net.
+/// What was used is cleared before the next query, so that a query costs what it looks at and not the size of
+/// the net.
 #[derive(Drop)]
 pub(crate) struct Variables {
     /// For each position the variable of its node; 0 where it has none.

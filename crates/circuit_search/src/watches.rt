@@ -1,10 +1,11 @@
 use crate::table::{at, put};
 use std::alloc::{AllocError, Global};
 
-/// Which clauses watch each code, as chains that run through the clauses themselves, so that a watch that moves takes no
-/// memory.
+/// Which clauses watch each code, as chains that run through the clauses themselves, so that a watch that
+/// moves takes no memory.
 ///
-/// A watch is twice its clause's number and 2, and 1 more where it is that of the clause's second code; 0 ends a chain.
+/// A watch is twice its clause's number and 2, and 1 more where it is that of the clause's second code; 0
+/// ends a chain.
 #[derive(Drop)]
 pub(crate) struct Watches {
     heads: Vec<u32>,
