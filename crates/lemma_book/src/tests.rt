@@ -1,8 +1,9 @@
 ghost use Rattle.std.specs.Prelude.{◌≡◌, [], ◌∷◌, IfOk};
 ghost use Rattle.netlist.specs.Circuit.{IsCircuit};
 ghost use Rattle.lemma_book.specs.Book.{IsLegal};
+ghost use Rattle.lemma_book.specs.Good.{IsGood};
 
-use crate::{Book, Entry};
+use crate::{Book, Entry, Judgement, Offered};
 use lits::{Lit, Named, Node, Ref, Side};
 use netlist::{And, Circuit, Net};
 use std::alloc::{AllocError, Global};
@@ -489,5 +490,34 @@ fn copy_of_a_book(rt: HostRuntime) -> Result<(), Fail> {
     );
     assert_eq!(rt; copy.root(B3), book.root(B3));
     assert!(rt; matches!(copy.entry(0), Some(Entry::Merge { .. })));
+    Ok(())
+}
+
+/// The merge of b3 to a3, once it is known to be good over the book.
+fn good_merge(alloc: Global, net: &Net, book: &Book) -> Result<Entry, Fail>
+    requires { IsLegal net.now book.now }
+    ensures { IfOk result (IsGood net.now book.now) }
+{
+    let (text, _) = OFFERS[2];
+    let entry = text::entry(alloc, text)?;
+    match book.judge(alloc, net, &entry)? {
+        Judgement::Good => Ok(entry),
+        _ => Err("a good entry".into()),
+    }
+}
+
+/// Appends an entry that was good over the empty book, and the same once more.
+#[test]
+fn append(rt: HostRuntime) -> Result<(), Fail> {
+    let alloc = rt.alloc();
+    let net = swapped_ands(alloc)?;
+    let mut book = Book::new(alloc, 1, 1);
+    let entry = good_merge(alloc, &net, &book)?;
+    let again = good_merge(alloc, &net, &book)?;
+    let first = book.append(alloc, &net, 0, entry).map_err(|_| "no memory")?;
+    assert_eq!(rt; first, Offered::At(0));
+    let second = book.append(alloc, &net, 0, again).map_err(|_| "no memory")?;
+    assert_eq!(rt; second, Offered::Already(0));
+    assert_eq!(rt; book.len(), 1);
     Ok(())
 }
