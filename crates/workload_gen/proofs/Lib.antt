@@ -4,3 +4,4 @@ mod BelowLemmas
 mod ParityLemmas
 mod AdderLemmas
 mod ComparatorLemmas
+mod AlikeLemmas

@@ -11,6 +11,7 @@
 #![tactic(auto)]
 
 pub use kind::Kind;
+pub use laws::circuits_are_alike;
 pub use workload::{MOST_BITS, make};
 
 mod adder;
@@ -18,6 +19,7 @@ mod builder;
 mod comparator;
 mod design;
 mod kind;
+mod laws;
 mod parity;
 #[cfg(test)]
 mod tests;
