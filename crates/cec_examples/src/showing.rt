@@ -7,7 +7,7 @@ use std::sync::Wait;
 use std::thread::Threads;
 
 /// The commands of the page, in its order.
-pub const EXAMPLES: [&[&str]; 8] = [
+pub(crate) const EXAMPLES: [&[&str]; 8] = [
     &[
         "check",
         "adder_ripple.aag",
@@ -54,7 +54,7 @@ fn line_of(alloc: Global, words: &[String]) -> Result<String, PutErr> {
 }
 
 /// Says the command, runs it, and says the status that it ends with.
-pub fn show<D: Desk>(
+pub(crate) fn show<D: Desk>(
     rt: &(impl Threads + Wait),
     alloc: Global,
     example: &[&str],

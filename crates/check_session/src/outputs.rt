@@ -10,6 +10,7 @@ ghost use Rattle.check_session.specs.Outputs.{AreSettled, SeeMerges, is_of_outpu
 use crate::rounds::caps;
 use circuit_search::Search;
 use lemma_book::{Book, Entry};
+use lits::Node;
 use netlist::Net;
 use std::alloc::{AllocError, Global};
 use unit_prop::Refuter;
@@ -72,7 +73,8 @@ fn settle_output<R: Refuter + Send>(
     put(alloc, net, book, entry)
 }
 
-/// A good entry about an output: what the lazy search finds, or else what the query of the whole cone answers.
+/// A good entry about an output: what its equal roots show, else what the lazy search finds, else what the
+/// query of the whole cone answers.
 fn entry_on<R: Refuter + Send>(
     alloc: Global,
     net: &Net,
@@ -88,8 +90,19 @@ fn entry_on<R: Refuter + Send>(
     ensures good { IfOk result (λ e. IsGood net.now book.now e) }
     ensures seen { IfOk result (SeesAll book.now) }
 {
-    match search.output(alloc, net, book, output, caps(book.out_budget()))? {
-        Some(entry) => Ok(entry),
-        None => cone_query::output(alloc, net, book, output, refuter),
+    if !has_equal_roots(net, book, output) {
+        match search.output(alloc, net, book, output, caps(book.out_budget()))? {
+            Some(entry) => return Ok(entry),
+            None => {}
+        }
+    }
+    cone_query::output(alloc, net, book, output, refuter)
+}
+
+/// Whether the merges alone make an output's literals one, so that there is nothing to search for.
+fn has_equal_roots(net: &Net, book: &Book, output: u32) -> bool {
+    match net.definition(Node::Xor(output)) {
+        Some(xor) => book.root(xor.left) == book.root(xor.right),
+        None => false,
     }
 }

@@ -19,7 +19,9 @@ pub struct Search {
 
 impl Search {
     /// A search of a net, over any of its books.
-    pub fn new(alloc: Global, net: &Net) -> Result<Search, AllocError> {
+    pub fn new(alloc: Global, net: &Net) -> Result<Search, AllocError>
+        ensures { IfOk result (λ s. s.dropped ≡ 0) }
+    {
         Ok(Search {
             engine: Engine::of(alloc, net)?,
             dropped: 0,
@@ -27,7 +29,9 @@ impl Search {
     }
 
     /// How many of the entries that it found the books refused.
-    pub fn dropped(&self) -> u64 {
+    pub fn dropped(&self) -> u64
+        ensures { result ≡ self.now.dropped }
+    {
         self.dropped
     }
 
