@@ -127,7 +127,8 @@ fn spent_pair(rt: HostRuntime) -> Result<(), Fail> {
     Ok(())
 }
 
-/// A gate of a class is led by the first of the class, as it is or as its complement; who is first leads itself.
+/// A gate of a class is led by the first of the class, as it is or as its complement; who is first leads
+/// itself.
 #[test]
 fn leaders(rt: HostRuntime) -> Result<(), Fail> {
     let alloc = rt.alloc();
