@@ -259,8 +259,8 @@ fn refuter_no(rt: HostRuntime) -> Result<(), Fail> {
     Ok(())
 }
 
-/// The cone of the output of two circuits, each an XOR of x and y by other gates: gates 3 to 5, gates 13 to 15,
-/// and what tells whether the outputs differ.
+/// The cone of the output of two circuits, each an XOR of x and y by other gates: gates 3 to 5, gates 13
+/// to 15, and what tells whether the outputs differ.
 const TWO_XORS: [&[i32]; 22] = [
     &[-3, 1],
     &[-3, -2],

@@ -99,8 +99,8 @@ fn strash_of_two_xors(rt: HostRuntime) -> Result<(), Fail> {
     Ok(())
 }
 
-/// Gates that merge, by what they are merged to: an AND of one literal twice, of a literal and its negation, of
-/// an input and true, and of false and an input.
+/// Gates that merge, by what they are merged to: an AND of one literal twice, of a literal and its negation,
+/// of an input and true, and of false and an input.
 #[test]
 fn folded_gates(rt: HostRuntime) -> Result<(), Fail> {
     let alloc = rt.alloc();
@@ -114,7 +114,8 @@ fn folded_gates(rt: HostRuntime) -> Result<(), Fail> {
     Ok(())
 }
 
-/// A gate whose fanins are merged is seen by their roots: B's second gate is a twin of A's by way of its first.
+/// A gate whose fanins are merged is seen by their roots: B's second gate is a twin of A's by way of its
+/// first.
 #[test]
 fn twins_by_their_roots(rt: HostRuntime) -> Result<(), Fail> {
     let alloc = rt.alloc();
