@@ -17,8 +17,8 @@ use std::alloc::{AllocError, Global};
 use unit_prop::laws::budget;
 use unit_prop::{Refuted, Refuter};
 
-/// Settles output j, which has no entry yet: from the merges on its two paths where their roots are equal, else
-/// by a query for at most the book's budget of learned clauses.
+/// Settles output j, which has no entry yet: from the merges on its two paths where their roots are equal,
+/// else by a query for at most the book's budget of learned clauses.
 pub fn output<R: Refuter + Send>(
     alloc: Global,
     net: &Net,

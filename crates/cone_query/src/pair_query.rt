@@ -23,11 +23,12 @@ use std::alloc::{AllocError, Global};
 use unit_prop::laws::budget;
 use unit_prop::{Refuted, Refuter};
 
-/// Asks whether a gate, which isn't merged yet, has the value of a literal of an earlier node, for at most the
-/// book's budget of learned clauses.
+/// Asks whether a gate, which isn't merged yet, has the value of a literal of an earlier node, for at most
+/// the book's budget of learned clauses.
 ///
-/// Each of the two implications is a query over the cone of both nodes, and one budget pays for both. A literal
-/// of an input that no clause of the gate's cone names needs no query: the input is set so that they differ.
+/// Each of the two implications is a query over the cone of both nodes, and one budget pays for both. A
+/// literal of an input that no clause of the gate's cone names needs no query: the input is set so that they
+/// differ.
 pub fn pair<R: Refuter + Send>(
     alloc: Global,
     net: &Net,
