@@ -1,3 +1,4 @@
+ghost use Rattle.std.specs.Prelude.{◌≡◌, ◌≤◌, [], ◌∷◌};
 ghost use Rattle.std.specs.Bool.{OnTrue};
 ghost use Rattle.netlist.specs.Circuit.{IsCircuit};
 ghost use Rattle.lemma_book.specs.Book.{IsLegal};
@@ -21,7 +22,9 @@ fn circuit(alloc: Global, gates: &[And], output: u32) -> Result<Circuit, AllocEr
     Circuit::of(alloc, inputs, gates, Vec::from_slice(alloc, &[output])?)
 }
 
-const fn and(var: u32, left: u32, right: u32) -> And {
+fn and(var: u32, left: u32, right: u32) -> And
+    ensures { result ≡ record { var = var; left = left; right = right } }
+{
     And { var, left, right }
 }
 
