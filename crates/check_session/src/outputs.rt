@@ -72,7 +72,7 @@ fn settle_output<R: Refuter + Send>(
     put(alloc, net, book, entry)
 }
 
-/// A good entry about an output: what the lazy search finds, or else what the query of the whole cone answers.
+/// A good entry about an output: what the lazy search finds, or else the answer of the whole cone's query.
 fn entry_on<R: Refuter + Send>(
     alloc: Global,
     net: &Net,
