@@ -62,6 +62,7 @@ fn settle_rounds<R: Refuter + Send>(
             laws::reduced_is_swept();
             return Ok(());
         }
+        search.sift(net, pairs)?;
         settle_all(alloc, net, pairs, book, pool, search, refuter)?;
     }
     Err(AllocError)
@@ -116,6 +117,7 @@ fn settle<R: Refuter + Send>(
     ensures fits { OnOk result (Fits net.now pool.new) }
 {
     let entry = entry_on(alloc, net, book, &task, search, refuter)?;
+    note_input(net, &entry, search)?;
     keep_input(&entry, pool)?;
     put(alloc, net, book, entry)
 }
@@ -146,6 +148,14 @@ pub(crate) fn caps(budget: u64) -> Caps {
     Caps {
         conflicts: budget.min(100),
         decisions: 2000,
+    }
+}
+
+/// Lets the search use the input of a counterexample for the round's later pairs.
+fn note_input(net: &Net, entry: &Entry, search: &mut Search) -> Result<(), AllocError> {
+    match entry {
+        Entry::Apart { input, .. } => search.note(net, input.as_slice()),
+        _ => Ok(()),
     }
 }
 

@@ -84,7 +84,7 @@ fn settle_by_sweep(
     requires fits { Fits net.now pool }
     ensures { IfOk result (λ s. IsFound net.now options s.book s.verdict) }
 {
-    let mut search = Search::new(alloc, net)?;
+    let mut search = Search::new(alloc, net, options.seed, options.words)?;
     let mut refuter = WatchSolver::new(alloc)?;
     sweep(alloc, net, &mut book, &mut pool, &mut search, &mut refuter)?;
     settle_outputs(alloc, net, &mut book, &mut search, &mut refuter)?;

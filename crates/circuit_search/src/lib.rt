@@ -28,6 +28,7 @@ mod merges;
 mod propagation;
 mod proposal;
 mod round;
+mod scratch;
 mod search;
 mod steps;
 mod table;

@@ -103,7 +103,7 @@ fn of_pair(
         decisions,
     };
     let book = Book::new(alloc, 10, 10);
-    let mut search = Search::new(alloc, net)?;
+    let mut search = Search::new(alloc, net, 1, 1)?;
     let found = search.pair(alloc, net, &book, &task, caps)?;
     Ok((found, search.dropped()))
 }
@@ -115,7 +115,7 @@ fn of_output(alloc: Global, net: &Net) -> Result<(Option<Entry>, u64), AllocErro
         decisions: 10,
     };
     let book = Book::new(alloc, 10, 10);
-    let mut search = Search::new(alloc, net)?;
+    let mut search = Search::new(alloc, net, 1, 1)?;
     let found = search.output(alloc, net, &book, 0, caps)?;
     Ok((found, search.dropped()))
 }
