@@ -1,71 +1,18 @@
-//! The commands of `data/README.md`, run one after the other over real files, each with what it prints and its
-//! status: the gate compares this with what the page says.
+//! The commands of `data/README.md`, run one after the other over real files, each with what it prints and
+//! its status: the gate compares this with what the page says.
 //!
 //! Both streams go to standard output, in the order in which the program writes them.
 #![tactic(auto)]
 
-ghost use Rattle.std.specs.Prelude.{◌≡◌, None};
+mod showing;
 
-use cec_top::run;
-use desk_port::{Desk, OpenGate, PutErr};
 use os_desk::OsDesk;
-use std::alloc::Global;
+use showing::{EXAMPLES, show};
 use std::process::ExitCode;
-use std::sync::Wait;
-
-use std::thread::Threads;
-
-const EXAMPLES: [&[&str]; 7] = [
-    &["check", "adder_ripple.aag", "adder_select.aag", "--out", "adder"],
-    &["lrat", "adder.0.cnf", "adder.0.lrat"],
-    &["check", "adder_ripple.aag", "adder_wrong.aag"],
-    &["check", "adder_ripple.aag", "adder_select.aag", "--sweep-budget", "1", "--budget", "1"],
-    &["check", "adder_ripple.aag", "adder_cut.aag"],
-    &["lrat", "and.cnf", "and.lrat"],
-    &["lrat", "and.cnf", "and_refused.lrat"],
-];
-
-/// The arguments of an example, the program's name before them.
-fn words_of(alloc: Global, example: &[&str]) -> Result<Vec<String>, PutErr> {
-    let mut words = Vec::new(alloc);
-    words.push(String::from_str(alloc, "cec")?)?;
-    for word in example {
-        words.push(String::from_str(alloc, word)?)?;
-    }
-    Ok(words)
-}
-
-/// The command as a reader would type it.
-fn line_of(alloc: Global, words: &[String]) -> Result<String, PutErr> {
-    let mut line = String::from_str(alloc, "$")?;
-    for word in words {
-        line.push(' ')?;
-        line.push_str(word.as_str())?;
-    }
-    line.push('\n')?;
-    Ok(line)
-}
-
-fn show<D: Desk>(
-    rt: &(impl Threads + Wait),
-    alloc: Global,
-    example: &[&str],
-    desk: &mut D,
-) -> Result<(), PutErr>
-    requires { (D.state desk.old).started ≡ None }
-    ensures { (D.state desk.new).started ≡ None }
-{
-    let words = words_of(alloc, example)?;
-    desk.say(line_of(alloc, words.as_slice())?.as_bytes())?;
-    let (status, _kept) = run(rt, alloc, words.as_slice(), desk, &OpenGate);
-    let status = format!(in alloc; "status {}\n", status.code())?;
-    desk.say(status.as_bytes())?;
-    Ok(())
-}
 
 fn main(rt: HostRuntime) -> ExitCode {
-    let mut desk = OsDesk::new(rt.alloc(), &rt, rt.stdout(), rt.stdout());
     for example in EXAMPLES {
+        let mut desk = OsDesk::new(rt.alloc(), &rt, rt.stdout(), rt.stdout());
         if show(&rt, rt.alloc(), example, &mut desk).is_err() {
             return ExitCode::FAILURE;
         }

@@ -76,14 +76,14 @@ fn chain_of_a_thousand_merges(rt: HostRuntime) -> Result<(), Fail> {
     Ok(())
 }
 
-/// Output 0 is an XOR, in another way on each side. Output 1 is the AND of both inputs, gate 6 in A and
-/// gate 3 in B, over which B's XOR is; they are merged, but from the XOR of the outputs alone unit
-/// propagation goes nowhere. Output 2 is input 0.
+/// Output 0 is an XOR, in another way on each side. Output 1 is the AND of both inputs, gate 6 in A and gate
+/// 3 in B, over which B's XOR is; they are merged, so the merge's clauses show it, whatever the budget.
+/// Output 2 is input 0.
 ///
-/// The miter has 33 clauses. The proof has the two steps of the merge, that of output 2, and two logs
-/// of one clause.
+/// The miter has 33 clauses. The proof has the two steps of the merge, two of output 1, since from its XOR
+/// alone unit propagation goes nowhere, one of output 2, and output 0's log of one clause.
 #[test]
-fn open_outputs_over_a_merge(rt: HostRuntime) -> Result<(), Fail> {
+fn open_output_over_a_merge(rt: HostRuntime) -> Result<(), Fail> {
     let files = [
         (
             "A",
@@ -98,10 +98,10 @@ fn open_outputs_over_a_merge(rt: HostRuntime) -> Result<(), Fail> {
     assert!(rt; ran.status == Status::Undecided);
     assert_eq!(rt;
         ran.desk.said(),
-        b"UNDECIDED\noutput 0 lines 37-37\noutput 1 lines 38-38\n".as_slice()
+        b"UNDECIDED\noutput 0 lines 39-39\n".as_slice()
     );
     let proof = ran.desk.file("p.0.lrat").unwrap_or(b"");
     assert!(rt; proof.starts_with(b"34 -8 7 0 "));
-    assert_eq!(rt; proof.iter().filter(|byte| **byte == b'\n').count(), 5);
+    assert_eq!(rt; proof.iter().filter(|byte| **byte == b'\n').count(), 6);
     Ok(())
 }

@@ -24,7 +24,7 @@ fn read_circuit<D: Desk>(
 ) -> Result<Circuit, Stop>
     ensures { (earlier : List (List ℕ)) →
         ReadsAs SpellsAiger file (circuit_file name.now) earlier
-            (D.state desk.old) (D.state desk.new) result }
+        (D.state desk.old) (D.state desk.new) result }
 {
     let bytes = read_file(alloc, desk, name, file)?;
     match aiger_file::read(alloc, bytes.as_slice()) {

@@ -22,4 +22,6 @@ mod patterns;
 mod rounds;
 mod session;
 mod settling;
+#[cfg(test)]
+mod tests;
 mod verdict;

@@ -1,11 +1,16 @@
-ghost use Rattle.std.specs.Prelude.{◌≡◌, ◌≢◌, ◌<◌, None, length, OnOk, OnErr};
+ghost use Rattle.std.specs.Prelude.{◌≡◌, ◌≢◌, ◌<◌, None, Some, length, IfOk, OnOk, OnErr};
 ghost use Rattle.lemma_book.specs.Book.{IsLegal};
-ghost use Rattle.lemma_book.specs.Entry.{about, with_last};
+ghost use Rattle.lemma_book.specs.Entry.{about, subject_of, with_last};
+ghost use Rattle.lemma_book.specs.declared.entry.Subject.TheVariants.{Output};
+ghost use Rattle.cone_query.specs.Query.{SeesAll};
 ghost use Rattle.lemma_book.specs.Good.{IsGood};
 ghost use Rattle.check_session.specs.Growth.{Grows};
 ghost use Rattle.check_session.specs.Outputs.{AreSettled, SeeMerges, is_of_output};
 
+use crate::rounds::caps;
+use circuit_search::Search;
 use lemma_book::{Book, Entry};
+use lits::Node;
 use netlist::Net;
 use std::alloc::{AllocError, Global};
 use unit_prop::Refuter;
@@ -30,6 +35,7 @@ pub(crate) fn settle_outputs<R: Refuter + Send>(
     alloc: Global,
     net: &Net,
     book: &mut Book,
+    search: &mut Search,
     refuter: &mut R,
 ) -> Result<(), AllocError>
     requires legal { IsLegal net.now book.old }
@@ -39,7 +45,7 @@ pub(crate) fn settle_outputs<R: Refuter + Send>(
     ensures seen { OnOk result (SeeMerges book.new.entries) }
 {
     for output in 0..net.outputs() {
-        settle_output(alloc, net, output, book, refuter)?;
+        settle_output(alloc, net, output, book, search, refuter)?;
     }
     Ok(())
 }
@@ -50,6 +56,7 @@ fn settle_output<R: Refuter + Send>(
     net: &Net,
     output: u32,
     book: &mut Book,
+    search: &mut Search,
     refuter: &mut R,
 ) -> Result<(), AllocError>
     requires legal { IsLegal net.now book.old }
@@ -62,6 +69,40 @@ fn settle_output<R: Refuter + Send>(
     if book.about(output).is_some() {
         return Ok(());
     }
-    let entry = cone_query::output(alloc, net, book, output, refuter)?;
+    let entry = entry_on(alloc, net, output, book, search, refuter)?;
     put(alloc, net, book, entry)
+}
+
+/// A good entry about an output: what its equal roots show, else what the lazy search finds, else what the
+/// query of the whole cone answers.
+fn entry_on<R: Refuter + Send>(
+    alloc: Global,
+    net: &Net,
+    output: u32,
+    book: &Book,
+    search: &mut Search,
+    refuter: &mut R,
+) -> Result<Entry, AllocError>
+    requires legal { IsLegal net.now book.now }
+    requires output { output < length net.now.a.outputs }
+    requires unsettled { about book.now.entries output ≡ None }
+    ensures about { IfOk result (λ e. subject_of e ≡ Some (Output output)) }
+    ensures good { IfOk result (λ e. IsGood net.now book.now e) }
+    ensures seen { IfOk result (SeesAll book.now) }
+{
+    if !has_equal_roots(net, book, output) {
+        match search.output(alloc, net, book, output, caps(book.out_budget()))? {
+            Some(entry) => return Ok(entry),
+            None => {}
+        }
+    }
+    cone_query::output(alloc, net, book, output, refuter)
+}
+
+/// Whether the merges alone make an output's literals one, so that there is nothing to search for.
+fn has_equal_roots(net: &Net, book: &Book, output: u32) -> bool {
+    match net.definition(Node::Xor(output)) {
+        Some(xor) => book.root(xor.left) == book.root(xor.right),
+        None => false,
+    }
 }

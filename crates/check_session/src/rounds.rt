@@ -1,10 +1,13 @@
-ghost use Rattle.std.specs.Prelude.{◌≡◌, ◌<◌, ◌≤◌, length, IfOk, OnOk};
+ghost use Rattle.std.specs.Prelude.{◌≡◌, ◌<◌, ◌≤◌, length, Some, IfOk, OnOk};
 ghost use Rattle.lemma_book.specs.Book.{IsLegal};
+ghost use Rattle.lemma_book.specs.Good.{IsGood};
+ghost use Rattle.cone_query.specs.Query.{task_of};
 ghost use Rattle.sig_classes.specs.Leader.{AreTasks, IsSwept};
 ghost use Rattle.check_session.specs.Growth.{Grows, is_of_pair};
 ghost use Rattle.check_session.specs.Rounds.{Fits, MayAsk, AreAsked, HasWholeInput, Joins, Settles};
 
 use crate::outputs::put;
+use circuit_search::{Caps, Search};
 use cone_query::pair;
 use lemma_book::{Book, Entry, Task};
 use netlist::Net;
@@ -20,6 +23,7 @@ pub(crate) fn sweep<R: Refuter + Send>(
     net: &Net,
     book: &mut Book,
     pool: &mut Pool,
+    search: &mut Search,
     refuter: &mut R,
 ) -> Result<(), AllocError>
     requires legal { IsLegal net.now book.old }
@@ -28,7 +32,7 @@ pub(crate) fn sweep<R: Refuter + Send>(
     ensures swept { OnOk result (IsSwept net.now book.new.entries) }
 {
     strash_pass::run(alloc, net, book)?;
-    settle_rounds(alloc, net, book, pool, refuter)
+    settle_rounds(alloc, net, book, pool, search, refuter)
 }
 
 /// Settles pairs of nodes that no pattern tells apart, round after round, until simulation has no
@@ -41,6 +45,7 @@ fn settle_rounds<R: Refuter + Send>(
     net: &Net,
     book: &mut Book,
     pool: &mut Pool,
+    search: &mut Search,
     refuter: &mut R,
 ) -> Result<(), AllocError>
     requires legal { IsLegal net.now book.old }
@@ -57,7 +62,8 @@ fn settle_rounds<R: Refuter + Send>(
             laws::reduced_is_swept();
             return Ok(());
         }
-        settle_all(alloc, net, pairs, book, pool, refuter)?;
+        search.sift(net, pairs)?;
+        settle_all(alloc, net, pairs, book, pool, search, refuter)?;
     }
     Err(AllocError)
 }
@@ -79,6 +85,7 @@ fn settle_all<R: Refuter + Send>(
     tasks: &[Task],
     book: &mut Book,
     pool: &mut Pool,
+    search: &mut Search,
     refuter: &mut R,
 ) -> Result<(), AllocError>
     requires legal { IsLegal net.now book.old }
@@ -88,7 +95,7 @@ fn settle_all<R: Refuter + Send>(
     ensures fits { OnOk result (Fits net.now pool.new) }
 {
     for task in tasks {
-        settle(alloc, net, *task, book, pool, refuter)?;
+        settle(alloc, net, *task, book, pool, search, refuter)?;
     }
     Ok(())
 }
@@ -100,6 +107,7 @@ fn settle<R: Refuter + Send>(
     task: Task,
     book: &mut Book,
     pool: &mut Pool,
+    search: &mut Search,
     refuter: &mut R,
 ) -> Result<(), AllocError>
     requires legal { IsLegal net.now book.old }
@@ -108,9 +116,47 @@ fn settle<R: Refuter + Send>(
     ensures settles { OnOk result (Settles net.now task book.old book.new) }
     ensures fits { OnOk result (Fits net.now pool.new) }
 {
-    let entry = pair(alloc, net, book, &task, refuter)?;
+    let entry = entry_on(alloc, net, book, &task, search, refuter)?;
+    note_input(net, &entry, search)?;
     keep_input(&entry, pool)?;
     put(alloc, net, book, entry)
+}
+
+/// A good entry about a pair: what the lazy search finds, or else what the query of the whole cone answers.
+fn entry_on<R: Refuter + Send>(
+    alloc: Global,
+    net: &Net,
+    book: &Book,
+    task: &Task,
+    search: &mut Search,
+    refuter: &mut R,
+) -> Result<Entry, AllocError>
+    requires legal { IsLegal net.now book.now }
+    requires task { MayAsk net.now book.now.entries task.now }
+    ensures about { IfOk result (λ e. task_of e ≡ Some task.now) }
+    ensures good { IfOk result (λ e. IsGood net.now book.now e) }
+{
+    match search.pair(alloc, net, book, task, caps(book.sweep_budget()))? {
+        Some(entry) => Ok(entry),
+        None => pair(alloc, net, book, task, refuter),
+    }
+}
+
+/// How far the lazy search goes for a query of this budget. More conflicts are left to the solver, and deep
+/// candidates that are false would take many thousand choices.
+pub(crate) fn caps(budget: u64) -> Caps {
+    Caps {
+        conflicts: budget.min(100),
+        decisions: 2000,
+    }
+}
+
+/// Lets the search use the input of a counterexample for the round's later pairs.
+fn note_input(net: &Net, entry: &Entry, search: &mut Search) -> Result<(), AllocError> {
+    match entry {
+        Entry::Apart { input, .. } => search.note(net, input.as_slice()),
+        _ => Ok(()),
+    }
 }
 
 /// Lets the input of a counterexample join the patterns.

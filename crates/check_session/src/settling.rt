@@ -9,6 +9,7 @@ use crate::outputs::{put, settle_outputs};
 use crate::patterns::{Difference, difference_in};
 use crate::rounds::sweep;
 use crate::verdict::Verdict;
+use circuit_search::Search;
 use lemma_book::{Book, Entry};
 use lits::{Listed, Side};
 use netlist::Net;
@@ -83,9 +84,10 @@ fn settle_by_sweep(
     requires fits { Fits net.now pool }
     ensures { IfOk result (λ s. IsFound net.now options s.book s.verdict) }
 {
+    let mut search = Search::new(alloc, net, options.seed, options.words)?;
     let mut refuter = WatchSolver::new(alloc)?;
-    sweep(alloc, net, &mut book, &mut pool, &mut refuter)?;
-    settle_outputs(alloc, net, &mut book, &mut refuter)?;
+    sweep(alloc, net, &mut book, &mut pool, &mut search, &mut refuter)?;
+    settle_outputs(alloc, net, &mut book, &mut search, &mut refuter)?;
     let verdict = Verdict::of(alloc, net, &book)?;
     means(net, &book);
     is_within(net, &book);

@@ -125,14 +125,14 @@ module _ (net : AigPair) (book : Entries) (j : ℕ) (asks : IsOutput net book j)
   es = take (length book.entries) book.entries
 
   -- the miter has a variable for the XOR
-  xor-there : has same_node (variables_of net) (Xor j) ≡ true
+  pub xor-there : has same_node (variables_of net) (Xor j) ≡ true
   xor-there = has-xor net j ∙ range-has 0 (length net.a.outputs) j (omega arith) (omega (arith, asks.below))
 
   pub xor-variable : IsSome (variable_of net (Xor j))
   xor-variable = is_some-variable net (Xor j) ∙ xor-there
 
   -- an XOR isn't merged
-  not-merged : merge_of es (Xor j) ≡ None
+  pub not-merged : merge_of es (Xor j) ≡ None
   not-merged = go (merge_of es (Xor j)) refl
     where
       go : (o : Option MergeAt) → merge_of es (Xor j) ≡ o → merge_of es (Xor j) ≡ None
@@ -140,7 +140,7 @@ module _ (net : AigPair) (book : Entries) (j : ℕ) (asks : IsOutput net book j)
       go (Some m) e =
           contrary (is_some (position_of net (Xor j))) (merge-placed net book asks.legal (length book.entries) (Xor j) m e).0 (ap is_some (xor-nowhere net j))
 
-  axioms-are : axioms_of net (Xor j) ≡ kept (xor_clauses (Xor j) (output_lit net A j) (output_lit net B j))
+  pub axioms-are : axioms_of net (Xor j) ≡ kept (xor_clauses (Xor j) (output_lit net A j) (output_lit net B j))
   axioms-are =
       ap (λ (o : Option Lit). xor_axioms j o (output_of net B j)) (output_of-below net asks.net_is A j asks.below)
       ∙ ap (λ (o : Option Lit). xor_axioms j (Some (output_lit net A j)) o) (output_of-below net asks.net_is B j asks.below)

@@ -2,3 +2,4 @@ pub mod Input
 pub mod Query
 pub mod Asked
 pub mod Answered
+pub mod EqualRoots

@@ -7,6 +7,7 @@ ghost use Rattle.cone_query.specs.Answered.{IsOutput, SettlesOutput};
 ghost use Rattle.cone_query.specs.Query.{SeesAll, IsFalseOutside, IsWithin};
 
 use crate::copies::{copied, one_more, unit};
+use crate::equal_roots::entry_of_equal_roots;
 use crate::input::input_of;
 use lemma_book::laws::entries_are_true;
 use lemma_book::{Book, Entry};
@@ -16,8 +17,8 @@ use std::alloc::{AllocError, Global};
 use unit_prop::laws::budget;
 use unit_prop::{Refuted, Refuter};
 
-/// Asks whether output j, which has no entry yet, is the same in both circuits, for at most the book's
-/// budget of learned clauses.
+/// Settles output j, which has no entry yet: from the merges on its two paths where their roots are
+/// equal, else by a query for at most the book's budget of learned clauses.
 pub fn output<R: Refuter + Send>(
     alloc: Global,
     net: &Net,
@@ -36,7 +37,24 @@ pub fn output<R: Refuter + Send>(
 {
     laws::is_net(net);
     entries_are_true(net, seen);
-    query(alloc, net, seen, j, refuter)
+    settle(alloc, net, seen, j, refuter)
+}
+
+/// Settles an output by its roots, where they are equal, else by a query.
+fn settle<R: Refuter>(
+    alloc: Global,
+    net: &Net,
+    seen: &Book,
+    j: u32,
+    refuter: &mut R,
+) -> Result<Entry, AllocError>
+    requires { IsOutput net.now seen.now j }
+    ensures { IfOk result (SettlesOutput net.now seen.now j) }
+{
+    match entry_of_equal_roots(alloc, net, seen, j)? {
+        Some(entry) => Ok(entry),
+        None => query(alloc, net, seen, j, refuter),
+    }
 }
 
 /// Asks whether the cone of the output's XOR implies that the XOR is false.

@@ -107,8 +107,8 @@ fn mentions(base: &[Named], lit: Lit) -> bool
     base.iter().any(|named| named.clause.has(lit) || named.clause.has(lit.not()))
 }
 
-/// The entry of a pair whose literal is that of an input that no clause of the gate's cone names. All
-/// other inputs are false, and this one is set so that the literal hasn't the gate's value.
+/// The entry of a pair whose literal is that of an input that no clause of the gate's cone names. All other
+/// inputs are false, and this one is set so that the literal hasn't the gate's value.
 fn set_apart(
     alloc: Global,
     net: &Net,

@@ -65,7 +65,7 @@ fn clauses_found(
     requires walk { IsWalk net.now walk.now }
     ensures { IfOk result (λ v. v.items
         ≡ flat_map (named_clauses net.now (take seen book.now.entries))
-            (filter (is_found walk.now) (variables_of net.now))) }
+        (filter (is_found walk.now) (variables_of net.now))) }
 {
     let mut clauses = Vec::new(alloc);
     for node in walk.found.values() {

@@ -33,5 +33,7 @@ mod shape;
 mod shelf;
 mod sources;
 mod steps;
+#[cfg(test)]
+mod tests;
 mod turn;
 mod walk;

@@ -72,7 +72,7 @@ fn is_new_and_open(
 ) -> Result<bool, AllocError>
     ensures { IfOk result
         (Tells (IsNew same_lit opposite clauses.now clause.now
-            × IsOpen same_lit opposite clauses.now (lit ∷ []))) }
+        × IsOpen same_lit opposite clauses.now (lit ∷ []))) }
 {
     if !is_new(alloc, clauses, clause)? {
         return Ok(false);

@@ -29,7 +29,7 @@ pub fn push_entries(
     requires start { proof.old.last ≡ length (miter_of net.now) }
     ensures text { OnOk result (proof.new.text.items
         ≡ proof.old.text.items ++ text_from (length (miter_of net.now))
-            (book_additions net.now book.now.entries)) }
+        (book_additions net.now book.now.entries)) }
     ensures last { OnOk result (proof.new.last
         ≡ length (miter_of net.now) + length (book_additions net.now book.now.entries)) }
     ensures room { OnOk result (proof.new.last + 1 < 2 ^ 60) }
@@ -61,7 +61,7 @@ pub fn units(alloc: Global, net: &Net, book: &Book, shown: &[u64]) -> Result<Vec
 fn unit(book: &Book, shown: &[u64], output: u32) -> u64
     ensures { result
         ≡ option_map_or (λ place. slice_index_or shown.now place 0)
-            (place_on book.now.entries (Output output)) 0 }
+        (place_on book.now.entries (Output output)) 0 }
 {
     match book.place_on(Subject::Output(output)) {
         Some(place) => first_shown(shown, place),

@@ -63,7 +63,7 @@ fn push_log(
     ensures text { OnOk result (proof.new.text.items ≡ proof.old.text.items
         ++ text_from proof.old.last
         (additions_from net.now shown.now (proof.old.last + 1) (proof.old.last + 1)
-            (spent_log book.now.entries output))) }
+        (spent_log book.now.entries output))) }
     ensures last { OnOk result
         (proof.new.last ≡ proof.old.last + length (spent_log book.now.entries output)) }
     ensures spans { OnOk result (spans.new.items

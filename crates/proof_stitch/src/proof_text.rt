@@ -69,7 +69,7 @@ impl ProofText {
         requires room { self.old.last + length steps.now + 1 < 2 ^ 64 }
         ensures text { OnOk result (self.new.text.items ≡ self.old.text.items
             ++ text_from self.old.last
-                (additions_from net.now shown.now (self.old.last + 1) (self.old.last + 1) steps.now)) }
+            (additions_from net.now shown.now (self.old.last + 1) (self.old.last + 1) steps.now)) }
         ensures last { OnOk result (self.new.last ≡ self.old.last + length steps.now) }
     {
         let first = self.last + 1;

@@ -47,7 +47,7 @@ fn enter(net: &Net, sigs: &Sigs, book: &Book, firsts: &mut Firsts, position: u32
     ensures task { HasFirsts net.now book.now.entries sigs.now position firsts.old
         → (patterns : List (List Bool))
         → AreSignatures net.now patterns sigs.now
-            → IsNextTask net.now book.now.entries patterns position result }
+        → IsNextTask net.now book.now.entries patterns position result }
 {
     netlist::laws::is_net(net);
     if book.is_merged(net.node(position)) {

@@ -19,3 +19,5 @@ mod chains;
 mod classes;
 mod first;
 pub mod laws;
+#[cfg(test)]
+mod tests;

@@ -39,3 +39,5 @@ pub use Rattle.solver_plain.proofs.ModelLemmas.{pair-none}
 pub use Rattle.solver_plain.proofs.SettleLemmas.{way-start, way-next}
 -- what a query over the formula `first` with `left` units has made of formula and units so far
 pub use Rattle.solver_plain.proofs.SettleLemmas.{IsUnderWay}
+-- ---- what tests' guards show of a base with one name more, and of a literal more that is over it
+pub use Rattle.solver_plain.proofs.GuardLemmas.{base-cons, over-cons}

@@ -187,7 +187,7 @@ impl Cut {
         requires room { length trail.now.puts ≤ length self.now.marks }
         ensures { result
             ≡ (is_marked self.now.marks place
-                && not (has same_lit target.now (opposite (put_at trail.now.puts place).lit))) }
+            && not (has same_lit target.now (opposite (put_at trail.now.puts place).lit))) }
     {
         self.marks.has(place) && !target.has(trail.lits()[place].lit.not())
     }

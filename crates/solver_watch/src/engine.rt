@@ -149,7 +149,7 @@ impl Engine {
         ensures state { OnOk result (IsState self.new target.now) }
         ensures found { IfOk result
             (λ r. IfSome r (IsFound (clauses_known self.old.formula) target.now
-                (clauses_known self.new.formula))) }
+            (clauses_known self.new.formula))) }
         ensures none { IfOk result (λ r. IfNone r (Advances self.old self.new)) }
     {
         match self.formula.trail.propagate()? {
@@ -236,7 +236,7 @@ impl Engine {
         ensures state { OnOk result (IsState self.new target.now) }
         ensures found { IfOk result
             (λ r. IfSome r (IsFound (clauses_known self.old.formula) target.now
-                (clauses_known self.new.formula))) }
+            (clauses_known self.new.formula))) }
         ensures none { IfOk result (λ r. IfNone r (Advances self.old self.new)) }
     {
         if level(&self.formula.trail) == self.assumed {
@@ -268,7 +268,7 @@ impl Engine {
         ensures clauses { OnOk result (clauses_known self.new.formula ≡ clauses_known self.old.formula) }
         ensures trail { OnOk result
             (Decides self.old.formula.trail (lit_at self.old.formula.trail.nodes code)
-                self.new.formula.trail) }
+            self.new.formula.trail) }
         ensures nodes { OnOk result (self.new.formula.trail.nodes ≡ self.old.formula.trail.nodes) }
         ensures room { OnOk result
             (length self.new.formula.trail.puts ≤ 2 * length self.new.formula.trail.nodes) }

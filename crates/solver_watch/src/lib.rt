@@ -25,3 +25,5 @@ mod marks;
 mod order;
 mod restarts;
 mod solver;
+#[cfg(test)]
+mod tests;

@@ -16,5 +16,7 @@ mod fold;
 mod merge;
 mod pair;
 mod pass;
+#[cfg(test)]
+mod tests;
 mod visit;
 mod ways;

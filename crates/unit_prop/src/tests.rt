@@ -76,12 +76,7 @@ impl Clauses<usize, Dim> for Hints<'_> {
 }
 
 /// A step's clause, the clauses that its hints name, the hints, and the fault that is to be told.
-type Judged<'a> = (
-    &'a [i32],
-    &'a [&'a [i32]],
-    &'a [usize],
-    Option<(u64, Why)>,
-);
+type Judged<'a> = (&'a [i32], &'a [&'a [i32]], &'a [usize], Option<(u64, Why)>);
 
 fn judge(rt: &impl Abort, alloc: Global, cases: &[Judged]) -> Result<(), Fail> {
     let mut check = StepCheck::new(alloc);
@@ -95,8 +90,8 @@ fn judge(rt: &impl Abort, alloc: Global, cases: &[Judged]) -> Result<(), Fail> {
     Ok(())
 }
 
-/// Two gates that compute the same: the first step of their proof, the same without its last hint, and with a literal
-/// twice.
+/// Two gates that compute the same: the first step of their proof, the same without its last hint, and with
+/// a literal twice.
 #[test]
 fn step_check(rt: HostRuntime) -> Result<(), Fail> {
     let twin: &[&[i32]] = &[&[-5, 3], &[4, -2, -3], &[-5, 2]];

@@ -80,7 +80,7 @@ impl Engine {
         ensures more { IfOk result (λ b. b ≡ true → length self.new.work ≡ length self.old.work + 1) }
         ensures conflict { IfOk result
             (λ b. b ≡ false
-                → is_negated flip (has nat_eq self.new.trail.items) (codes_at self.new.clauses at) ≡ true) }
+            → is_negated flip (has nat_eq self.new.trail.items) (codes_at self.new.clauses at) ≡ true) }
         ensures keeps { Holds self.old self.new }
     {
         if self.truth[flip(pair.first) as usize] {
@@ -111,7 +111,7 @@ impl Engine {
         ensures more { IfOk result (λ b. b ≡ true → length self.new.work ≡ length self.old.work + 1) }
         ensures conflict { IfOk result
             (λ b. b ≡ false
-                → is_negated flip (has nat_eq self.new.trail.items) (codes_at self.new.clauses at) ≡ true) }
+            → is_negated flip (has nat_eq self.new.trail.items) (codes_at self.new.clauses at) ≡ true) }
         ensures keeps { Holds self.old self.new }
     {
         self.put(pair.first, Some(at))?;
@@ -126,7 +126,7 @@ impl Engine {
             (codes_at self.old.clauses at) pair }
         requires bounds { All
             (λ v. Guards (take v.head self.old.trail.items) (take v.start self.old.trail.items)
-                (codes_at self.old.clauses at) pair)
+            (codes_at self.old.clauses at) pair)
             self.old.levels.items }
         ensures engine { IsEngine self.new }
         ensures more { OnOk result (length self.new.work ≡ length self.old.work + 1) }
@@ -159,7 +159,7 @@ impl Engine {
         ensures more { IfOk result (λ b. b ≡ true → length self.new.work ≡ length self.old.work + 1) }
         ensures conflict { IfOk result
             (λ b. b ≡ false
-                → is_negated flip (has nat_eq self.new.trail.items) (codes_at self.new.clauses at) ≡ true) }
+            → is_negated flip (has nat_eq self.new.trail.items) (codes_at self.new.clauses at) ≡ true) }
         ensures keeps { Holds self.old self.new }
     {
         match self.best(self.clauses.get(at)) {

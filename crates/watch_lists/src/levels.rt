@@ -16,12 +16,12 @@ impl Engine {
         ensures engine { IsEngine self.new }
         ensures none { IfOk result (λ r. IfNone r (
             IsClosure nat_eq flip self.new.clauses
-                (decisions self.new.trail.items self.new.reasons.items) self.new.trail.items
+            (decisions self.new.trail.items self.new.reasons.items) self.new.trail.items
             × ¬ Clashes flip self.new.clauses (has nat_eq self.new.trail.items))) }
         ensures some { IfOk result (λ r. IfSome r (λ i. IsStuck self.new i)) }
         ensures clash { IfOk result (λ r. IfSome r (λ _.
             ClosureClashes nat_eq flip self.new.clauses
-                (decisions self.new.trail.items self.new.reasons.items))) }
+            (decisions self.new.trail.items self.new.reasons.items))) }
         ensures stays { Stays self.old self.new }
     {
         match self.attach_all()? {

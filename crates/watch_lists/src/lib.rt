@@ -22,5 +22,7 @@ mod levels;
 mod lists;
 mod numbers;
 mod put;
+#[cfg(test)]
+mod tests;
 mod trail;
 mod visits;

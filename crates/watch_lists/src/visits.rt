@@ -109,7 +109,7 @@ impl Engine {
         requires negated { (k : ℕ) → 2 ≤ k → k < length (codes_at self.old.work clause)
             → nat_eq other (slice_index (codes_at self.old.work clause) k) ≡ false
             → slice_index_or self.old.truth.items
-                (flip (slice_index (codes_at self.old.work clause) k)) false ≡ true }
+            (flip (slice_index (codes_at self.old.work clause) k)) false ≡ true }
         ensures ok { IfOk result (λ v. IsVisited self.old self.new lit at v) }
         ensures err { OnErr result (IsEngine self.new) }
         ensures keeps { Holds self.old self.new }

@@ -30,7 +30,7 @@ impl Model for Pool {
     ghost view = { λ p. record {
       inputs = p.inputs;
       patterns = drawn_patterns p.inputs p.drawn_words p.drawn.items
-        ++ added_patterns p.inputs p.added_count p.added.items;
+          ++ added_patterns p.inputs p.added_count p.added.items;
     } };
 
     ghost invariant = { λ p. (length p.drawn.items ≡ p.inputs * p.drawn_words)
@@ -82,7 +82,7 @@ impl Pool {
         requires word { word < words_of (length self.now.patterns) }
         ensures { (b : ℕ) → b < 64 → is_set result b
             ≡ (nat_lt (64 * word + b) (length self.now.patterns) && truth_of self.now.patterns input
-                (64 * word + b)) }
+            (64 * word + b)) }
     {
         if word < self.drawn_words {
             self.drawn[input as usize * self.drawn_words as usize + word as usize]

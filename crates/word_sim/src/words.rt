@@ -9,7 +9,7 @@ pub(crate) fn clear_tail(words: &mut [u64], count: u64)
     ensures size { length words.new ≡ length words.old }
     ensures bits { (w b : ℕ) → w < length words.old → b < 64
         → is_set (slice_index_or words.new w 0) b
-            ≡ (nat_lt (64 * w + b) count && is_set (slice_index_or words.old w 0) b) }
+        ≡ (nat_lt (64 * w + b) count && is_set (slice_index_or words.old w 0) b) }
 {
     let rest = count % 64;
     if rest != 0 {
@@ -42,7 +42,7 @@ pub(crate) fn put_both(
     ensures size { length words.new ≡ length words.old }
     ensures words { (w : ℕ) → w < length words.old → slice_index_or words.new w 0
         ≡ bit_and (bit_xor (slice_index_or left.now w 0) left_mask)
-            (bit_xor (slice_index_or right.now w 0) right_mask) }
+        (bit_xor (slice_index_or right.now w 0) right_mask) }
 {
     for w in 0..words.len() {
         words[w] = (left[w] ^ left_mask) & (right[w] ^ right_mask);

@@ -1,0 +1,123 @@
+use crate::caps::Caps;
+use crate::clauses::{Clauses, Name};
+use crate::lessons::Lessons;
+use crate::merges::Merges;
+use crate::table::NONE;
+use crate::trail::{FALSE, FREE, Trail};
+use crate::variables::Variables;
+use crate::watches::Watches;
+use netlist::Net;
+use std::alloc::{AllocError, Global};
+
+/// The memory of a search, which is kept from query to query.
+#[derive(Drop)]
+pub(crate) struct Engine {
+    pub(crate) merges: Merges,
+    pub(crate) variables: Variables,
+    pub(crate) clauses: Clauses,
+    pub(crate) watches: Watches,
+    pub(crate) trail: Trail,
+    pub(crate) lessons: Lessons,
+    /// The variables that the query assumes a value of.
+    pub(crate) assumed: (u32, u32),
+    /// What is left of the caps.
+    pub(crate) left: Caps,
+}
+
+impl Engine {
+    /// An engine for queries about a net.
+    pub(crate) fn of(alloc: Global, net: &Net) -> Result<Engine, AllocError> {
+        Ok(Engine {
+            merges: Merges::of(alloc, net)?,
+            variables: Variables::of(alloc, net.positions())?,
+            clauses: Clauses::new(alloc),
+            watches: Watches::new(alloc),
+            trail: Trail::new(alloc),
+            lessons: Lessons::new(alloc),
+            assumed: (0, 0),
+            left: Caps {
+                conflicts: 0,
+                decisions: 0,
+            },
+        })
+    }
+
+    /// Forgets the query before, and begins one. The constant is true.
+    pub(crate) fn begin(&mut self, caps: Caps) -> Result<(), AllocError> {
+        self.variables.clear();
+        self.clauses.clear();
+        self.watches.clear();
+        self.trail.clear();
+        self.lessons.clear();
+        self.left = caps;
+        let constant = self.code(0)?;
+        let _loaded = self.variables.is_loaded(constant / 2);
+        let clause = self.add(&[constant], Name::Axiom(constant / 2, 0))?;
+        self.trail.assign(constant, clause)
+    }
+
+    /// The code of a literal that is given by twice its position, and 1 where it is negated.
+    pub(crate) fn code(&mut self, placed: u32) -> Result<u32, AllocError> {
+        let (number, is_new) = self.variables.number(placed / 2)?;
+        if is_new {
+            self.trail.grow()?;
+            self.watches.grow()?;
+            self.lessons.grow()?;
+        }
+        Ok(number.wrapping_mul(2) | (placed & 1))
+    }
+
+    /// Puts a clause last, and gives its number.
+    pub(crate) fn add(&mut self, lits: &[u32], name: Name) -> Result<u32, AllocError> {
+        let clause = self.clauses.push(lits, name)?;
+        self.watch(clause)?;
+        Ok(clause)
+    }
+
+    /// Watches the clause that was put last by the two of its codes that aren't false for longest.
+    pub(crate) fn watch(&mut self, clause: u32) -> Result<(), AllocError> {
+        self.watches.grow_clauses()?;
+        self.bring(clause, 0);
+        self.bring(clause, 1);
+        if self.clauses.len(clause) > 1 {
+            let watch = clause.wrapping_add(1).wrapping_mul(2);
+            self.watches.push(self.clauses.lit(clause, 0), watch);
+            self.watches.push(self.clauses.lit(clause, 1), watch | 1);
+        }
+        Ok(())
+    }
+
+    /// Brings the code that isn't false for longest, of those from a place on, to that place.
+    fn bring(&mut self, clause: u32, place: u32) {
+        for other in place..self.clauses.len(clause) {
+            let here = self.rank(self.clauses.lit(clause, place));
+            if self.rank(self.clauses.lit(clause, other)) > here {
+                self.clauses.swap(clause, place, other);
+            }
+        }
+    }
+
+    /// The level from which on a code is false.
+    fn rank(&self, code: u32) -> u32 {
+        if self.trail.value(code) == FALSE {
+            self.trail.level_of(code / 2)
+        } else {
+            NONE
+        }
+    }
+
+    /// What a clause that was added asks for: nothing, or a code that is to be true; its number where it is a
+    /// conflict.
+    pub(crate) fn settle(&mut self, clause: u32) -> Result<u32, AllocError> {
+        let first = self.clauses.lit(clause, 0);
+        if self.trail.value(first) == FALSE {
+            return Ok(clause);
+        }
+        let is_unit = self.clauses.len(clause) < 2
+            || self.trail.value(self.clauses.lit(clause, 1)) == FALSE;
+        if is_unit && self.trail.value(first) == FREE {
+            self.trail.assign(first, clause)?;
+        }
+        Ok(NONE)
+    }
+}

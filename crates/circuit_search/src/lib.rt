@@ -1,0 +1,39 @@
+//! The lazy search: pairs of nodes and outputs are settled in the circuit, without the clauses of their whole
+//! cones.
+//!
+//! A `Search` assumes that two nodes differ and justifies that from the nodes down towards the inputs: a
+//! node's clauses are loaded when it first has a value, so most of a cone is never looked at. It learns from
+//! conflicts as a solver does, and gives up at its caps. This is the justification of ATPG (Goel 1981) with
+//! clauses learned as in Kuehlmann, Paruthi, Krohm and Ganai's circuit-based reasoning (2002).
+//!
+//! It may be wrong: nothing is claimed of how it searches. What it finds is an entry that it gives to
+//! `Book::judge`, and it hands out an entry only where the book says that it is good; so its answers are
+//! those of the lemma book, whatever the search. An entry that the book refuses is dropped, and counted.
+//!
+//! Definitions: `specs/Answer.antt`. Begin to read at `search.rt`, then `round.rt`.
+#![tactic(auto)]
+
+pub use caps::Caps;
+pub use search::Search;
+
+mod analysis;
+mod assumptions;
+mod caps;
+mod clauses;
+mod engine;
+mod justify;
+mod lessons;
+mod loading;
+mod merges;
+mod propagation;
+mod proposal;
+mod round;
+mod scratch;
+mod search;
+mod steps;
+mod table;
+#[cfg(test)]
+mod tests;
+mod trail;
+mod variables;
+mod watches;

@@ -1,0 +1,61 @@
+use crate::clauses::Name;
+use crate::engine::Engine;
+use crate::merges::Source;
+use crate::table::NONE;
+use netlist::Net;
+use std::alloc::AllocError;
+
+impl Engine {
+    /// Loads the clauses of a variable, unless they are there: those of its merge, or else of its gate. Tells
+    /// a clause of which all codes are false; one that comes late may be.
+    pub(crate) fn load(&mut self, net: &Net, var: u32) -> Result<u32, AllocError> {
+        if self.variables.is_loaded(var) {
+            return Ok(NONE);
+        }
+        match self.merges.source(net, self.variables.position(var)) {
+            Source::Free => Ok(NONE),
+            Source::Merged(entry, target) => self.load_merge(var, entry, target),
+            Source::Gate(left, right) => self.load_gate(var, left, right),
+        }
+    }
+
+    /// Loads the two clauses of a merge.
+    fn load_merge(&mut self, var: u32, entry: u32, target: u32) -> Result<u32, AllocError> {
+        let lit = var.wrapping_mul(2);
+        let target = self.code(target)?;
+        let below = self.put(&[lit | 1, target], Name::Entry(entry, 0))?;
+        let above = self.put(&[lit, target ^ 1], Name::Entry(entry, 1))?;
+        Ok(below.min(above))
+    }
+
+    /// Loads the clauses of a gate. Those that would have a literal beside its negation aren't there.
+    fn load_gate(&mut self, var: u32, left: u32, right: u32) -> Result<u32, AllocError> {
+        let lit = var.wrapping_mul(2);
+        let left = self.code(left)?;
+        let right = self.code(right)?;
+        self.variables.note_fanins(var, left, right);
+        let first = self.put(&[lit | 1, left], Name::Axiom(var, 0))?;
+        let second = self.put(&[lit | 1, right], Name::Axiom(var, 1))?;
+        let third = self.load_third(var, left, right)?;
+        Ok(first.min(second).min(third))
+    }
+
+    /// Loads the clause that makes a gate true.
+    fn load_third(&mut self, var: u32, left: u32, right: u32) -> Result<u32, AllocError> {
+        let lit = var.wrapping_mul(2);
+        let name = Name::Axiom(var, 2);
+        if left == right {
+            self.put(&[lit, left ^ 1], name)
+        } else if left == right ^ 1 {
+            Ok(NONE)
+        } else {
+            self.put(&[lit, left ^ 1, right ^ 1], name)
+        }
+    }
+
+    /// Adds a clause and does what it asks for.
+    fn put(&mut self, lits: &[u32], name: Name) -> Result<u32, AllocError> {
+        let clause = self.add(lits, name)?;
+        self.settle(clause)
+    }
+}

@@ -1,0 +1,134 @@
+use crate::table::{at, count, put};
+use lemma_book::{Book, Entry};
+use lits::{Lit, Node};
+use netlist::{Fanins, Net, Placed};
+use std::alloc::{AllocError, Global};
+
+/// The circuit by positions: what a book merges, the gates' fanins, and how deep each node lies.
+///
+/// A node's merge is read from a table and not from the book's index, since a search asks for it at every
+/// node.
+#[derive(Drop)]
+pub(crate) struct Merges {
+    /// For each position the place of the entry that merges its node, and 1; 0 where none does.
+    entries: Vec<u32>,
+    /// For each position the target of the merge, as a code: twice the target's position, and 1 where it is
+    /// negated.
+    targets: Vec<u32>,
+    /// For each position the length of the longest way down to an input.
+    depths: Vec<u32>,
+    /// The position of the first gate.
+    first_gate: u32,
+    /// How many entries of the book were read.
+    seen: u64,
+}
+
+/// What defines the value of a node, in codes of positions.
+#[derive(Clone, Copy)]
+pub(crate) enum Source {
+    /// An input.
+    Free,
+    /// The entry at this place merges the node to this code.
+    Merged(u32, u32),
+    /// The AND of these codes.
+    Gate(u32, u32),
+}
+
+impl Merges {
+    /// The circuit without merges.
+    pub(crate) fn of(alloc: Global, net: &Net) -> Result<Merges, AllocError> {
+        let len = net.positions() as usize;
+        let mut merges = Merges {
+            entries: vec![in alloc; 0; len]?,
+            targets: vec![in alloc; 0; len]?,
+            depths: vec![in alloc; 0; len]?,
+            first_gate: net
+                .positions()
+                .saturating_sub(count(net.all_fanins().len())),
+            seen: 0,
+        };
+        merges.measure(net);
+        Ok(merges)
+    }
+
+    /// Measures the depths of the gates.
+    fn measure(&mut self, net: &Net) {
+        let mut position = self.first_gate;
+        for fanins in net.all_fanins() {
+            let left = at(&self.depths, fanins.left.position);
+            let right = at(&self.depths, fanins.right.position);
+            put(
+                &mut self.depths,
+                position,
+                left.max(right).saturating_add(1),
+            );
+            position = position.saturating_add(1);
+        }
+    }
+
+    /// How deep the node at a position lies.
+    pub(crate) fn depth(&self, position: u32) -> u32 {
+        at(&self.depths, position)
+    }
+
+    /// Whether the position is that of an input.
+    pub(crate) fn is_input(&self, position: u32) -> bool {
+        0 < position && position < self.first_gate
+    }
+
+    /// Reads the entries of the book that are new.
+    pub(crate) fn catch_up(&mut self, net: &Net, book: &Book) {
+        if book.len() < self.seen {
+            self.forget();
+        }
+        for place in self.seen..book.len() {
+            if let Some(Entry::Merge { node, lit, .. }) = book.entry(place) {
+                self.note(net, place, *node, *lit);
+            }
+        }
+        self.seen = book.len();
+    }
+
+    /// Forgets what was read, where the book is another one.
+    fn forget(&mut self) {
+        self.seen = 0;
+        for entry in self.entries.iter_mut() {
+            *entry = 0;
+        }
+    }
+
+    /// Notes that an entry merges the node to the literal.
+    fn note(&mut self, net: &Net, place: u64, node: Node, lit: Lit) {
+        let Ok(place) = u32::try_from(place) else {
+            return;
+        };
+        if let (Some(position), Some(target)) = (net.position(node), net.position(lit.node)) {
+            put(&mut self.entries, position, place.saturating_add(1));
+            let target = Placed {
+                position: target,
+                neg: lit.neg,
+            };
+            put(&mut self.targets, position, code_of(target));
+        }
+    }
+
+    /// What defines the node at a position.
+    pub(crate) fn source(&self, net: &Net, position: u32) -> Source {
+        let entry = at(&self.entries, position);
+        if entry > 0 {
+            return Source::Merged(entry - 1, at(&self.targets, position));
+        }
+        if position < self.first_gate {
+            return Source::Free;
+        }
+        match net.fanins(position - self.first_gate) {
+            Some(Fanins { left, right }) => Source::Gate(code_of(left), code_of(right)),
+            None => Source::Free,
+        }
+    }
+}
+
+/// The code of a literal by its position.
+pub(crate) fn code_of(placed: Placed) -> u32 {
+    placed.position.wrapping_mul(2) | u32::from(placed.neg)
+}

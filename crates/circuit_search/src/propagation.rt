@@ -1,0 +1,78 @@
+use crate::engine::Engine;
+use crate::table::NONE;
+use crate::trail::{FALSE, FREE, TRUE};
+use netlist::Net;
+use std::alloc::AllocError;
+
+/// What becomes of a watch.
+enum Visit {
+    Stays,
+    Moves,
+    Conflict(u32),
+}
+
+impl Engine {
+    /// Propagates until nothing is left or a clause is false, whose number it gives; `NONE` where there is
+    /// none.
+    pub(crate) fn propagate(&mut self, net: &Net) -> Result<u32, AllocError> {
+        for _ in 0..u64::MAX {
+            let Some(code) = self.trail.next() else {
+                return Ok(NONE);
+            };
+            let late = self.load(net, code / 2)?;
+            if late != NONE {
+                return Ok(late);
+            }
+            let conflict = self.visit_all(code ^ 1)?;
+            if conflict != NONE {
+                return Ok(conflict);
+            }
+        }
+        Ok(NONE)
+    }
+
+    /// Visits the watches of a code that is false now.
+    fn visit_all(&mut self, code: u32) -> Result<u32, AllocError> {
+        let mut before = 0;
+        let mut watch = self.watches.first(code);
+        for _ in 0..u64::MAX {
+            if watch == 0 {
+                return Ok(NONE);
+            }
+            let next = self.watches.next(watch);
+            match self.visit(code, before, watch)? {
+                Visit::Stays => before = watch,
+                Visit::Moves => {}
+                Visit::Conflict(clause) => return Ok(clause),
+            }
+            watch = next;
+        }
+        Ok(NONE)
+    }
+
+    /// Visits one watch: it moves to a code that isn't false, or the clause's other watched code has to be
+    /// true.
+    fn visit(&mut self, code: u32, before: u32, watch: u32) -> Result<Visit, AllocError> {
+        let clause = (watch / 2).wrapping_sub(1);
+        let side = watch & 1;
+        let other = self.clauses.lit(clause, side ^ 1);
+        let value = self.trail.value(other);
+        if value == TRUE {
+            return Ok(Visit::Stays);
+        }
+        for place in 2..self.clauses.len(clause) {
+            let found = self.clauses.lit(clause, place);
+            if self.trail.value(found) != FALSE {
+                self.clauses.swap(clause, side, place);
+                self.watches.take(code, before, watch);
+                self.watches.push(found, watch);
+                return Ok(Visit::Moves);
+            }
+        }
+        if value == FREE {
+            self.trail.assign(other, clause)?;
+            return Ok(Visit::Stays);
+        }
+        Ok(Visit::Conflict(clause))
+    }
+}

@@ -1,0 +1,191 @@
+ghost use Rattle.std.specs.Prelude.{◌≡◌, IfOk, IfSome};
+ghost use Rattle.circuit_search.specs.Answer.{SettlesOutput, SettlesPair};
+
+use crate::caps::Caps;
+use crate::engine::Engine;
+use crate::lessons::Hints;
+use crate::merges::code_of;
+use crate::round::Outcome;
+use lemma_book::{Entry, Task};
+use lits::{Listed, Lit, Literal, Node, Ref, Side};
+use netlist::{Net, Placed};
+use std::alloc::{AllocError, Global};
+
+/// What was found out of two codes.
+enum Found {
+    /// They have one value: the first clauses refute that only the first code is true, the other ones that
+    /// only the second.
+    Equal(Hints, Hints),
+    /// They differ on the inputs that the trail has.
+    Apart,
+    Open,
+}
+
+impl Engine {
+    /// The entry that a search proposes for a pair.
+    pub(crate) fn pair(
+        &mut self,
+        alloc: Global,
+        net: &Net,
+        task: &Task,
+        caps: Caps,
+    ) -> Result<Option<Entry>, AllocError>
+        ensures { IfOk result (λ o. IfSome o (SettlesPair task.now)) }
+    {
+        let Task { node, lit } = *task;
+        let positive = Lit { node, neg: false };
+        match self.compare(net, positive, lit, caps)? {
+            Found::Equal(there, back) => self.merge(alloc, net, node, lit, there, back),
+            Found::Apart => {
+                let input = self.input(alloc, net)?;
+                Ok(Some(Entry::Apart { node, lit, input }))
+            }
+            Found::Open => Ok(None),
+        }
+    }
+
+    /// The entry that a search proposes for an output.
+    pub(crate) fn output(
+        &mut self,
+        alloc: Global,
+        net: &Net,
+        output: u32,
+        caps: Caps,
+    ) -> Result<Option<Entry>, AllocError>
+        ensures { IfOk result (λ o. IfSome o (SettlesOutput output)) }
+    {
+        let sides = (net.output(Side::A, output), net.output(Side::B, output));
+        let (Some(first), Some(second)) = sides else {
+            return Ok(None);
+        };
+        if first == second {
+            return self.out_of_one(alloc, net, output);
+        }
+        match self.compare(net, first, second, caps)? {
+            Found::Equal(there, back) => self.out(alloc, net, output, first, there, back),
+            Found::Apart => {
+                let input = self.input(alloc, net)?;
+                Ok(Some(Entry::OutApart { output, input }))
+            }
+            Found::Open => Ok(None),
+        }
+    }
+
+    /// Asks whether two literals have one value.
+    fn compare(
+        &mut self,
+        net: &Net,
+        first: Lit,
+        second: Lit,
+        caps: Caps,
+    ) -> Result<Found, AllocError> {
+        let positions = (net.position(first.node), net.position(second.node));
+        let (Some(first_place), Some(second_place)) = positions else {
+            return Ok(Found::Open);
+        };
+        self.begin(caps)?;
+        let first = self.code(code_of(Placed {
+            position: first_place,
+            neg: first.neg,
+        }))?;
+        let second = self.code(code_of(Placed {
+            position: second_place,
+            neg: second.neg,
+        }))?;
+        if first / 2 == second / 2 {
+            return Ok(Found::Open);
+        }
+        self.ask_both(net, first, second)
+    }
+
+    /// Asks whether the first code alone can be true, and then whether the second can.
+    fn ask_both(&mut self, net: &Net, first: u32, second: u32) -> Result<Found, AllocError> {
+        match self.ask(net, first, second ^ 1)? {
+            Outcome::Refuted(there) => match self.ask(net, first ^ 1, second)? {
+                Outcome::Refuted(back) => Ok(Found::Equal(there, back)),
+                Outcome::Possible => Ok(Found::Apart),
+                Outcome::Open => Ok(Found::Open),
+            },
+            Outcome::Possible => Ok(Found::Apart),
+            Outcome::Open => Ok(Found::Open),
+        }
+    }
+
+    /// The merge of a pair of which both implications are refuted otherwise.
+    fn merge(
+        &mut self,
+        alloc: Global,
+        net: &Net,
+        node: Node,
+        lit: Lit,
+        there: Hints,
+        back: Hints,
+    ) -> Result<Option<Entry>, AllocError>
+        ensures { IfOk result (λ o. IfSome o (SettlesPair (record { node = node; lit = lit }))) }
+    {
+        let positive = Lit { node, neg: false };
+        self.reach(alloc, there, back)?;
+        let mut steps = self.steps(alloc, net)?;
+        self.add_step(alloc, net, &[positive.not(), lit], &[], there, &mut steps)?;
+        self.add_step(alloc, net, &[positive, lit.not()], &[], back, &mut steps)?;
+        let steps = Listed::of(steps);
+        Ok(Some(Entry::Merge { node, lit, steps }))
+    }
+
+    /// The entry of an output of which both cases are refuted: first that the second literal alone is true,
+    /// and then that the first is.
+    fn out(
+        &mut self,
+        alloc: Global,
+        net: &Net,
+        output: u32,
+        first: Lit,
+        there: Hints,
+        back: Hints,
+    ) -> Result<Option<Entry>, AllocError>
+        ensures { IfOk result (λ o. IfSome o (SettlesOutput output)) }
+    {
+        let equal = Lit {
+            node: Node::Xor(output),
+            neg: true,
+        };
+        self.reach(alloc, back, there)?;
+        let mut steps = self.steps(alloc, net)?;
+        let before = Ref::Own(steps.len() as u64);
+        let one = Ref::Axiom(Node::Xor(output), 0);
+        let both = Ref::Axiom(Node::Xor(output), 1);
+        self.add_step(alloc, net, &[equal, first], &[one], back, &mut steps)?;
+        self.add_step(alloc, net, &[equal], &[before, both], there, &mut steps)?;
+        let steps = Listed::of(steps);
+        Ok(Some(Entry::Out { output, steps }))
+    }
+
+    /// The entry of an output that is one literal in both circuits.
+    fn out_of_one(
+        &mut self,
+        alloc: Global,
+        net: &Net,
+        output: u32,
+    ) -> Result<Option<Entry>, AllocError>
+        ensures { IfOk result (λ o. IfSome o (SettlesOutput output)) }
+    {
+        let xor = Node::Xor(output);
+        let equal = Lit {
+            node: xor,
+            neg: true,
+        };
+        let mut steps = Vec::new(alloc);
+        let names = [Ref::Axiom(xor, 0), Ref::Axiom(xor, 1)];
+        let none = Hints { start: 0, len: 0 };
+        self.add_step(alloc, net, &[equal], &names, none, &mut steps)?;
+        let steps = Listed::of(steps);
+        Ok(Some(Entry::Out { output, steps }))
+    }
+
+    /// The inputs on which the codes that were asked for are both true.
+    fn input(&self, alloc: Global, net: &Net) -> Result<Listed<bool>, AllocError> {
+        let mut input = vec![in alloc; false; net.circuit(Side::A).inputs().len()]?;
+        self.set_inputs(&mut input);
+        Ok(Listed::of(input))
+    }
+}

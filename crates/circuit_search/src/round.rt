@@ -1,0 +1,106 @@
+use crate::engine::Engine;
+use crate::lessons::Hints;
+use crate::table::{NONE, mark};
+use netlist::Net;
+use std::alloc::AllocError;
+
+/// What a query of two codes ends with.
+#[derive(Clone, Copy)]
+pub(crate) enum Outcome {
+    /// They aren't both true, by these clauses.
+    Refuted(Hints),
+    /// They are both true on the inputs that the trail has, where all others are false.
+    Possible,
+    /// A cap was reached.
+    Open,
+}
+
+impl Engine {
+    /// Asks whether two codes can both be true.
+    pub(crate) fn ask(
+        &mut self,
+        net: &Net,
+        first: u32,
+        second: u32,
+    ) -> Result<Outcome, AllocError> {
+        self.trail.cut(0);
+        self.assumed = (first / 2, second / 2);
+        for _ in 0..u64::MAX {
+            if let Some(outcome) = self.round(net, first, second)? {
+                return Ok(outcome);
+            }
+        }
+        Ok(Outcome::Open)
+    }
+
+    /// Propagates, and then learns from a conflict or makes a choice.
+    fn round(&mut self, net: &Net, first: u32, second: u32) -> Result<Option<Outcome>, AllocError> {
+        let conflict = self.propagate(net)?;
+        if conflict != NONE {
+            return self.meet(conflict);
+        }
+        if self.trail.level() > 0 {
+            return self.go_on();
+        }
+        let refuted = self.assume(first, second)?;
+        if refuted != NONE {
+            return self.meet(refuted);
+        }
+        Ok(None)
+    }
+
+    /// Makes the next choice, or ends where no gate is left to be justified.
+    fn go_on(&mut self) -> Result<Option<Outcome>, AllocError> {
+        let Some(code) = self.open_fanin() else {
+            return Ok(Some(Outcome::Possible));
+        };
+        if self.left.decisions == 0 {
+            return Ok(Some(Outcome::Open));
+        }
+        self.left.decisions -= 1;
+        self.decide(code)?;
+        Ok(None)
+    }
+
+    /// Answers a conflict of what is assumed, and learns from any other. A clause that came late may have one
+    /// code alone at its highest level: then it should have forced that code earlier, and does so now.
+    fn meet(&mut self, conflict: u32) -> Result<Option<Outcome>, AllocError> {
+        let (level, many, second) = self.levels(conflict);
+        if level <= 1 {
+            return Ok(Some(Outcome::Refuted(self.refutation(conflict)?)));
+        }
+        self.trail.cut(level);
+        if many == 1 {
+            self.force(conflict, level, second)?;
+            return Ok(None);
+        }
+        if self.left.conflicts == 0 {
+            return Ok(Some(Outcome::Open));
+        }
+        self.left.conflicts -= 1;
+        self.learn(conflict)?;
+        Ok(None)
+    }
+
+    /// Goes back to the second highest level of a false clause, and makes the code true that stood higher.
+    fn force(&mut self, clause: u32, level: u32, second: u32) -> Result<(), AllocError> {
+        let mut forced = NONE;
+        for code in self.clauses.get(clause) {
+            if self.trail.level_of(*code / 2) == level {
+                forced = *code;
+            }
+        }
+        self.trail.cut(second);
+        self.trail.assign(forced, clause)
+    }
+
+    /// Makes the inputs true that the trail makes true.
+    pub(crate) fn set_inputs(&self, input: &mut [bool]) {
+        for code in self.trail.lits() {
+            let position = self.variables.position(*code / 2);
+            if *code & 1 == 0 && self.merges.is_input(position) {
+                mark(input, position.wrapping_sub(1), true);
+            }
+        }
+    }
+}

@@ -1,0 +1,207 @@
+use crate::merges::code_of;
+use crate::table::{at, count, put};
+use lemma_book::Task;
+use netlist::{Net, Placed};
+use rand_core::SeedableRng;
+use rand_core::utils::NextWord;
+use rand_pcg::Lcg128Xsl64;
+use std::alloc::{AllocError, Global};
+
+/// How many words of 64 patterns are drawn for each input.
+const DRAWN: u32 = 64;
+
+/// A pair of a round, by positions.
+#[derive(Clone, Copy)]
+struct Asked {
+    node: u32,
+    /// Twice the position of the literal's node, and 1 where it is negated.
+    target: u32,
+}
+
+/// Patterns outside the pool: those that are drawn, and the counterexamples of the round. A pair that one of
+/// them tells apart needs no query.
+///
+/// The pool keeps the few patterns that are needed, while these may be many: each word is simulated by
+/// itself, so that no node has more than one.
+#[derive(Drop)]
+pub(crate) struct Scratch {
+    inputs: u32,
+    /// The inputs' words: word w of input i stands at w times the inputs and i.
+    words: Vec<u64>,
+    /// The word of each position in the simulation.
+    row: Vec<u64>,
+    /// The pairs of the round.
+    asked: Vec<Asked>,
+    /// For each position the pattern that tells its pair apart, and 1; 0 where none does.
+    found: Vec<u32>,
+    /// How many counterexamples the round had.
+    noted: u32,
+}
+
+impl Scratch {
+    /// The patterns that the seed draws behind its first words.
+    pub(crate) fn of(
+        alloc: Global,
+        net: &Net,
+        seed: u64,
+        words: u32,
+    ) -> Result<Scratch, AllocError> {
+        let positions = net.positions();
+        let inputs = positions
+            .saturating_sub(count(net.all_fanins().len()))
+            .saturating_sub(1);
+        let mut scratch = Scratch {
+            inputs,
+            words: Vec::new(alloc),
+            row: vec![in alloc; 0; positions as usize]?,
+            asked: Vec::new(alloc),
+            found: vec![in alloc; 0; positions as usize]?,
+            noted: 0,
+        };
+        scratch.draw(seed, words)?;
+        Ok(scratch)
+    }
+
+    /// Draws the patterns.
+    fn draw(&mut self, seed: u64, words: u32) -> Result<(), AllocError> {
+        let mut generator = Lcg128Xsl64::seed_from_u64(seed);
+        for _ in 0..u64::from(self.inputs).saturating_mul(u64::from(words)) {
+            let _drawn = generator.next_word();
+        }
+        for _ in 0..u64::from(self.inputs).saturating_mul(u64::from(DRAWN)) {
+            self.words.push(generator.next_word())?;
+        }
+        Ok(())
+    }
+
+    /// Takes the pairs of a round, and looks for those that the patterns tell apart.
+    pub(crate) fn sift(&mut self, net: &Net, tasks: &[Task]) -> Result<(), AllocError> {
+        self.forget();
+        for task in tasks {
+            let positions = (net.position(task.node), net.position(task.lit.node));
+            if let (Some(node), Some(position)) = positions {
+                let neg = task.lit.neg;
+                let target = code_of(Placed { position, neg });
+                self.asked.push(Asked { node, target })?;
+            }
+        }
+        for word in 0..DRAWN {
+            self.simulate(net, word);
+            self.compare(word);
+        }
+        Ok(())
+    }
+
+    /// Forgets the round before.
+    fn forget(&mut self) {
+        for asked in &self.asked {
+            put(&mut self.found, asked.node, 0);
+        }
+        self.asked.clear();
+        self.noted = 0;
+        self.words
+            .truncate((self.inputs as usize).saturating_mul(DRAWN as usize));
+    }
+
+    /// Takes a counterexample of the round. They are simulated when 1, 2, 4 and so on up to 64 of them are
+    /// waiting.
+    pub(crate) fn note(&mut self, net: &Net, input: &[bool]) -> Result<(), AllocError> {
+        let bit = self.noted % 64;
+        let word = DRAWN.saturating_add(self.noted / 64);
+        if bit == 0 {
+            for _ in 0..self.inputs {
+                self.words.push(0)?;
+            }
+        }
+        let mut place = self.place(word, 0);
+        for value in input {
+            if *value {
+                let old = word_at(&self.words, place);
+                put_word(&mut self.words, place, old | (1 << bit));
+            }
+            place = place.saturating_add(1);
+        }
+        self.noted = self.noted.saturating_add(1);
+        if (bit + 1).is_power_of_two() {
+            self.simulate(net, word);
+            self.compare(word);
+        }
+        Ok(())
+    }
+
+    /// Where a word of an input stands.
+    fn place(&self, word: u32, input: u32) -> usize {
+        (word as usize)
+            .saturating_mul(self.inputs as usize)
+            .saturating_add(input as usize)
+    }
+
+    /// Gives each position its values on one word of patterns.
+    fn simulate(&mut self, net: &Net, word: u32) {
+        put_word(&mut self.row, 0, u64::MAX);
+        for input in 0..self.inputs {
+            let value = word_at(&self.words, self.place(word, input));
+            put_word(&mut self.row, input as usize + 1, value);
+        }
+        let mut position = self.inputs as usize + 1;
+        for fanins in net.all_fanins() {
+            let left = word_at(&self.row, fanins.left.position as usize) ^ turn(fanins.left.neg);
+            let right = word_at(&self.row, fanins.right.position as usize) ^ turn(fanins.right.neg);
+            put_word(&mut self.row, position, left & right);
+            position = position.saturating_add(1);
+        }
+    }
+
+    /// Notes the pairs that the simulated word tells apart, unless they were told apart before.
+    fn compare(&mut self, word: u32) {
+        for asked in &self.asked {
+            if at(&self.found, asked.node) == 0 {
+                let node = word_at(&self.row, asked.node as usize);
+                let target = word_at(&self.row, (asked.target / 2) as usize);
+                let apart = node ^ target ^ turn(asked.target & 1 == 1);
+                if apart != 0 {
+                    let pattern = word
+                        .saturating_mul(64)
+                        .saturating_add(apart.trailing_zeros());
+                    put(&mut self.found, asked.node, pattern.saturating_add(1));
+                }
+            }
+        }
+    }
+
+    /// The pattern that tells the pair of a position apart.
+    pub(crate) fn pattern(&self, position: u32) -> Option<u32> {
+        match at(&self.found, position) {
+            0 => None,
+            pattern => Some(pattern - 1),
+        }
+    }
+
+    /// Whether an input is true in a pattern.
+    pub(crate) fn is_true(&self, pattern: u32, input: u32) -> bool {
+        let word = word_at(&self.words, self.place(pattern / 64, input));
+        (word >> (pattern % 64)) & 1 == 1
+    }
+}
+
+/// All bits where the literal is negated.
+fn turn(neg: bool) -> u64 {
+    if neg { u64::MAX } else { 0 }
+}
+
+/// The word at a place; 0 outside the list.
+#[inline(always)]
+fn word_at(words: &[u64], place: usize) -> u64 {
+    match words.get(place) {
+        Some(word) => *word,
+        None => 0,
+    }
+}
+
+/// Writes a word at a place of the list.
+#[inline(always)]
+fn put_word(words: &mut [u64], place: usize, word: u64) {
+    if place < words.len() {
+        words[place] = word;
+    }
+}

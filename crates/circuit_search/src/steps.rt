@@ -1,0 +1,116 @@
+use crate::clauses::Name;
+use crate::engine::Engine;
+use crate::lessons::Hints;
+use crate::table::{at, count};
+use lits::{Clause, ClauseErr, Listed, Lit, Node, Ref, Step};
+use netlist::Net;
+use std::alloc::{AllocError, Global};
+
+impl Engine {
+    /// Numbers the lessons that two lists of hints lead to, in order. The others are left out: a merge may
+    /// have so many steps and no more.
+    pub(crate) fn reach(
+        &mut self,
+        alloc: Global,
+        first: Hints,
+        second: Hints,
+    ) -> Result<(), AllocError> {
+        let len = self.lessons.len();
+        self.lessons.order = vec![in alloc; 0; len as usize]?;
+        self.reach_from(first);
+        self.reach_from(second);
+        for lesson in (0..len).rev() {
+            if self.lessons.is_reached(lesson) {
+                let hints = self.lessons.span(lesson);
+                self.reach_from(hints);
+            }
+        }
+        self.lessons.number_reached();
+        Ok(())
+    }
+
+    /// Marks the lessons among the hints.
+    fn reach_from(&mut self, hints: Hints) {
+        for place in 0..hints.len {
+            let clause = at(self.lessons.hints(hints), place);
+            if let Some(Name::Lesson(lesson)) = self.clauses.name(clause) {
+                self.lessons.set_reached(lesson);
+            }
+        }
+    }
+
+    /// The steps of the lessons that were reached.
+    pub(crate) fn steps(&self, alloc: Global, net: &Net) -> Result<Vec<Step>, AllocError> {
+        let mut steps = Vec::new(alloc);
+        for lesson in 0..self.lessons.len() {
+            if self.lessons.is_reached(lesson) {
+                let lits = self.lits_of(alloc, net, self.lessons.clause(lesson))?;
+                let hints = self.lessons.span(lesson);
+                self.add_step(alloc, net, &lits, &[], hints, &mut steps)?;
+            }
+        }
+        Ok(steps)
+    }
+
+    /// Puts the step last that adds a clause, shown by these names and then by the hints. A clause with a
+    /// complementary pair, which is none, adds no step.
+    pub(crate) fn add_step(
+        &self,
+        alloc: Global,
+        net: &Net,
+        lits: &[Lit],
+        names: &[Ref],
+        hints: Hints,
+        steps: &mut Vec<Step>,
+    ) -> Result<(), AllocError> {
+        let clause = match Clause::of(alloc, lits) {
+            Ok(clause) => clause,
+            Err(ClauseErr::Tautology) => return Ok(()),
+            Err(ClauseErr::NoMemory) => return Err(AllocError),
+        };
+        let mut refs = Vec::with_capacity(alloc, names.len())?;
+        for name in names {
+            refs.push(*name)?;
+        }
+        for clause in self.lessons.hints(hints) {
+            refs.push(self.name_of(net, *clause))?;
+        }
+        let hints = Listed::of(refs);
+        steps.push(Step { clause, hints })?;
+        Ok(())
+    }
+
+    /// What a clause is called in the entry's steps.
+    fn name_of(&self, net: &Net, clause: u32) -> Ref {
+        match self.clauses.name(clause) {
+            Some(Name::Axiom(var, k)) => Ref::Axiom(self.node(net, var), k),
+            Some(Name::Entry(place, k)) => Ref::Entry(u64::from(place), k),
+            Some(Name::Lesson(lesson)) => Ref::Own(u64::from(self.lessons.number(lesson))),
+            // Nothing has this name, so the book refuses the entry.
+            None => Ref::Own(u64::MAX),
+        }
+    }
+
+    /// The literals of a clause.
+    fn lits_of(&self, alloc: Global, net: &Net, clause: u32) -> Result<Vec<Lit>, AllocError> {
+        let mut lits = Vec::new(alloc);
+        for code in self.clauses.get(clause) {
+            let node = self.node(net, *code / 2);
+            lits.push(Lit {
+                node,
+                neg: *code & 1 == 1,
+            })?;
+        }
+        Ok(lits)
+    }
+
+    /// The node of a variable.
+    fn node(&self, net: &Net, var: u32) -> Node {
+        let position = self.variables.position(var);
+        if position < net.positions() {
+            net.node(position)
+        } else {
+            Node::Const
+        }
+    }
+}

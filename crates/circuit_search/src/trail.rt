@@ -1,0 +1,141 @@
+use crate::table::{NONE, at, count, put};
+use std::alloc::{AllocError, Global};
+
+/// A literal's value.
+pub(crate) const FREE: u32 = 0;
+
+pub(crate) const TRUE: u32 = 1;
+
+pub(crate) const FALSE: u32 = 2;
+
+/// Where a level began, and up to where all gates were justified then.
+#[derive(Clone, Copy)]
+struct Start {
+    lits: u32,
+    justified: u32,
+}
+
+/// The values that were assumed, chosen or forced, in order.
+#[derive(Drop)]
+pub(crate) struct Trail {
+    /// For each code `FREE`, `TRUE` or `FALSE`.
+    values: Vec<u32>,
+    /// For each variable its level, if it has a value.
+    levels: Vec<u32>,
+    /// For each variable the clause that forced it; `NONE` where it was chosen.
+    reasons: Vec<u32>,
+    /// The codes that are true.
+    lits: Vec<u32>,
+    starts: Vec<Start>,
+    /// How many of the codes were propagated.
+    head: u32,
+    /// So many of the codes belong to no gate that is still to be justified.
+    pub(crate) justified: u32,
+}
+
+impl Trail {
+    /// An empty trail.
+    pub(crate) fn new(alloc: Global) -> Trail {
+        Trail {
+            values: Vec::new(alloc),
+            levels: Vec::new(alloc),
+            reasons: Vec::new(alloc),
+            lits: Vec::new(alloc),
+            starts: Vec::new(alloc),
+            head: 0,
+            justified: 0,
+        }
+    }
+
+    /// Forgets all.
+    pub(crate) fn clear(&mut self) {
+        self.values.clear();
+        self.levels.clear();
+        self.reasons.clear();
+        self.lits.clear();
+        self.starts.clear();
+        self.head = 0;
+        self.justified = 0;
+    }
+
+    /// Makes room for one more variable.
+    pub(crate) fn grow(&mut self) -> Result<(), AllocError> {
+        self.values.push(FREE)?;
+        self.values.push(FREE)?;
+        self.levels.push(0)?;
+        self.reasons.push(NONE)?;
+        Ok(())
+    }
+
+    /// The value of a code.
+    #[inline(always)]
+    pub(crate) fn value(&self, code: u32) -> u32 {
+        at(&self.values, code)
+    }
+
+    /// The level of a variable that has a value.
+    pub(crate) fn level_of(&self, var: u32) -> u32 {
+        at(&self.levels, var)
+    }
+
+    /// The clause that forced a variable.
+    pub(crate) fn reason(&self, var: u32) -> u32 {
+        at(&self.reasons, var)
+    }
+
+    /// The level that was begun last.
+    pub(crate) fn level(&self) -> u32 {
+        count(self.starts.len())
+    }
+
+    /// The codes that are true, in order.
+    pub(crate) fn lits(&self) -> &[u32] {
+        &self.lits
+    }
+
+    /// Makes a code true that is free.
+    pub(crate) fn assign(&mut self, code: u32, reason: u32) -> Result<(), AllocError> {
+        self.lits.push(code)?;
+        put(&mut self.values, code, TRUE);
+        put(&mut self.values, code ^ 1, FALSE);
+        let level = self.level();
+        put(&mut self.levels, code / 2, level);
+        put(&mut self.reasons, code / 2, reason);
+        Ok(())
+    }
+
+    /// Begins a level.
+    pub(crate) fn begin(&mut self) -> Result<(), AllocError> {
+        let start = Start {
+            lits: count(self.lits.len()),
+            justified: self.justified,
+        };
+        self.starts.push(start)?;
+        Ok(())
+    }
+
+    /// The next code that is to be propagated.
+    pub(crate) fn next(&mut self) -> Option<u32> {
+        let next = self.lits.get(self.head as usize).copied();
+        if next.is_some() {
+            self.head = self.head.saturating_add(1);
+        }
+        next
+    }
+
+    /// Gives the levels above this one up.
+    pub(crate) fn cut(&mut self, level: u32) {
+        let Some(start) = self.starts.get(level as usize).copied() else {
+            return;
+        };
+        for place in start.lits..count(self.lits.len()) {
+            let code = at(&self.lits, place);
+            put(&mut self.values, code, FREE);
+            put(&mut self.values, code ^ 1, FREE);
+        }
+        self.lits.truncate(start.lits as usize);
+        self.starts.truncate(level as usize);
+        self.head = start.lits;
+        self.justified = start.justified;
+    }
+}

@@ -1,0 +1,225 @@
+-- Unit propagation over the clauses of a few nodes: along the merges on the path to a root, and through an XOR.
+use Rattle.std.proofs.Common.{◌≡◌, ℕ, zero, suc, ◌+◌, Bool, true, false, not, ◌||◌, Option, Some, None, List, [], ◌∷◌, filter, length, refl, sym, ap, ◌∙◌}
+use Rattle.std.specs.Option.{option_map_or, IsSome}
+use Rattle.std.specs.List.{AllByRecursion}
+use Rattle.std.proofs.lemmas.Bool.{or_left, or_right}
+use Rattle.std.proofs.lemmas.Map.Views.{any-filter_same}
+use Rattle.lits.specs.Clause.{has, has_pair, firsts}
+use Rattle.lits.specs.Same.{same_node, same_lit, opposite}
+use Rattle.lits.specs.declared.node.Node.{Node}
+use Rattle.lits.specs.declared.literal.Lit.{Lit}
+use Rattle.lits.specs.declared.step.Ref.{Ref}
+use Rattle.lits.specs.declared.step.Ref.TheVariants.{Axiom, Entry as Shown}
+use Rattle.lits.specs.declared.step.Named.{Named}
+use Rattle.lits.specs.contracts.literal.LitLiteral.TheImpl.Laws as laws
+use Rattle.lits.proofs.Facts.{exact-node, has-firsts, eq-opposite}
+use Rattle.netlist.specs.Net.{AigPair}
+use Rattle.netlist.specs.Miter.{axioms_of, variables_of, variable_of, positive, negative, xor_clauses, kept}
+use Rattle.netlist.proofs.Facts.{flat_map-member}
+use Rattle.unit_prop.specs.Closure.{forces}
+use Rattle.unit_prop.specs.Log.{base_clauses}
+use Rattle.unit_prop.proofs.Facts.{lit_laws, all-true, all-at}
+use Rattle.lemma_book.specs.declared.entry.Entry.{Entry}
+use Rattle.lemma_book.specs.Entry.{Entries, merge_clauses}
+use Rattle.lemma_book.specs.Root.{MergeAt, merge_of, carried, follow, passed, passed_by, root_of, IsRoot}
+use Rattle.lemma_book.specs.Cone.{AreThere, named_from, named_clauses, clauses_on}
+use Rattle.lemma_book.specs.Book.{IsLegal}
+use Rattle.lemma_book.proofs.Facts.{merge-placed, placed-there, is_some-variable, apart-lits}
+use Rattle.cone_query.proofs.LogLemmas.{take-whole}
+
+self : (l : Lit) → same_lit l l ≡ true
+self = lit_laws.equivalence.refl
+
+twice : (l : Lit) → opposite (opposite l) ≡ l
+twice = laws.twice-law
+
+-- ---- clauses
+-- the set is closed under unit propagation by the clause
+abbrev pub Takes : (Lit → Bool) → List Lit → Type 0
+Takes p c = (l : Lit) → has same_lit c l ≡ true → forces same_lit opposite p c l ≡ true → p l ≡ true
+
+module _ (p : Lit → Bool) where
+  -- also where repeated literals are written
+  takes-firsts : (c : List Lit) → Takes p (firsts same_lit c) → Takes p c
+  takes-firsts c takes l inside all =
+      takes l (has-firsts lit_laws c l ∙ inside) (
+      all-true lit_laws (λ m. same_lit m l || p (opposite m)) (firsts same_lit c)
+      (λ m h. all-at lit_laws (λ k. same_lit k l || p (opposite k)) c m all (sym (has-firsts lit_laws c m) ∙ h))
+      )
+
+  -- of two literals, and of three
+  pub take-second : (x y : Lit) → Takes p (x ∷ y ∷ []) → p (opposite x) ≡ true → p y ≡ true
+  take-second x y takes e =
+      takes y (or_right (same_lit x y) _ (or_left _ false (self y)))
+      (rw (or_right (same_lit x y) (p (opposite x)) e, or_left (same_lit y y) (p (opposite y)) (self y)) refl)
+
+  take-first : (x y : Lit) → Takes p (x ∷ y ∷ []) → p (opposite y) ≡ true → p x ≡ true
+  take-first x y takes e =
+      takes x (or_left (same_lit x x) _ (self x))
+      (rw (or_left (same_lit x x) (p (opposite x)) (self x), or_right (same_lit y x) (p (opposite y)) e) refl)
+
+  take-third : (x y z : Lit) → Takes p (x ∷ y ∷ z ∷ []) → p (opposite x) ≡ true → p (opposite y) ≡ true → p z ≡ true
+  take-third x y z takes e f =
+      takes z (or_right (same_lit x z) _ (or_right (same_lit y z) _ (or_left _ false (self z))))
+      (rw (
+        or_right (same_lit x z) (p (opposite x)) e,
+        or_right (same_lit y z) (p (opposite y)) f,
+        or_left (same_lit z z) (p (opposite z)) (self z),
+      ) refl)
+
+  -- ---- the clauses that stay
+  kept-head : (c : List Lit) (cs : List (List Lit)) → has_pair same_lit opposite c ≡ false → AllByRecursion (Takes p) (kept (c ∷ cs)) → Takes p c
+  kept-head c cs stays all =
+      let both : AllByRecursion (Takes p) (firsts same_lit c ∷ kept cs) = rw stays at all in takes-firsts c both.0
+
+  kept-rest : (c : List Lit) (cs : List (List Lit)) → AllByRecursion (Takes p) (kept (c ∷ cs)) → AllByRecursion (Takes p) (kept cs)
+  kept-rest c cs all = go (has_pair same_lit opposite c) refl
+    where
+      go : (b : Bool) → has_pair same_lit opposite c ≡ b → AllByRecursion (Takes p) (kept cs)
+      go true e = rw e at all
+      go false e = let both : AllByRecursion (Takes p) (firsts same_lit c ∷ kept cs) = rw e at all in both.1
+
+  -- an XOR that is true: its outputs differ
+  module _ (x : Node) (a b : Lit) (far_a : same_node a.node x ≡ false) (far_b : same_node b.node x ≡ false) (apart : same_lit b (opposite a) ≡ false)
+      (all : AllByRecursion (Takes p) (kept (xor_clauses x a b))) (on : p (positive x) ≡ true) where
+    abbrev others : List (List Lit)
+    others = (positive x ∷ opposite a ∷ b ∷ []) ∷ (positive x ∷ a ∷ opposite b ∷ []) ∷ []
+
+    pub xor-other : p (opposite a) ≡ true → p b ≡ true
+    xor-other off =
+        take-third (negative x) a b (kept-head (negative x ∷ a ∷ b ∷ []) ((negative x ∷ opposite a ∷ opposite b ∷ []) ∷ others)
+        (rw (apart-lits a (positive x) far_a, apart-lits b (positive x) far_b, apart) refl) all) on off
+
+    pub xor-same : p a ≡ true → p (opposite b) ≡ true
+    xor-same h =
+        take-third (negative x) (opposite a) (opposite b) (kept-head (negative x ∷ opposite a ∷ opposite b ∷ []) others
+        (rw (apart-lits (opposite a) (positive x) far_a, apart-lits (opposite b) (positive x) far_b, flipped) refl)
+        (kept-rest (negative x ∷ a ∷ b ∷ []) ((negative x ∷ opposite a ∷ opposite b ∷ []) ∷ others) all)) on (ap p (twice a) ∙ h)
+      where
+        flipped : same_lit (opposite b) (opposite (opposite a)) ≡ false
+        flipped = ap (same_lit (opposite b)) (twice a) ∙ eq-flip
+          where
+            eq-flip : same_lit (opposite b) a ≡ false
+            eq-flip =
+                lit_laws.equivalence.symm (opposite b) a
+                ∙ eq-opposite lit_laws a b ∙ apart
+
+-- ---- over the clauses of some nodes
+-- the nodes have those of the literals
+abbrev pub Covers : List Node → List Lit → Type 0
+Covers nodes lits = AllByRecursion (λ l. has same_node nodes l.node ≡ true) lits
+
+module _ (net : AigPair) (es : List Entry) (nodes : List Node) (p : Lit → Bool)
+    (units : AllByRecursion (Takes p) (base_clauses (clauses_on net es nodes))) where
+  bare : (ms : List Named) → AllByRecursion (Takes p) (base_clauses ms) → AllByRecursion (λ m. Takes p m.clause) ms
+  bare [] all = tt
+  bare (m ∷ ms) all = (all.0, bare ms all.1)
+
+  plain : (name : ℕ → Ref) (cs : List (List Lit)) (k : ℕ) → AllByRecursion (λ m. Takes p m.clause) (named_from name k cs) → AllByRecursion (Takes p) cs
+  plain name [] k all = tt
+  plain name (c ∷ cs) k all = (all.0, plain name cs (k + 1) all.1)
+
+  module _ (n : Node) (inside : has same_node nodes n ≡ true) (there : has same_node (variables_of net) n ≡ true) where
+    at-node : AllByRecursion (λ m. Takes p m.clause) (named_clauses net es n)
+    at-node =
+        flat_map-member (λ m. Takes p m.clause) (named_clauses net es) (filter (has same_node nodes) (variables_of net))
+        (bare (clauses_on net es nodes) units) n
+        (any-filter_same (λ y. same_node y n) (has same_node nodes) true (λ k same. ap (has same_node nodes) (exact-node k n same) ∙ inside) (variables_of net) ∙ there)
+
+    -- an unmerged one has its axioms, a merged one the clauses of its merge
+    pub takes-axioms : IsRoot es n → AllByRecursion (Takes p) (axioms_of net n)
+    takes-axioms root = plain (Axiom n) (axioms_of net n) 0 (rw root at at-node)
+
+    takes-merge : (m : MergeAt) → merge_of es n ≡ Some m → AllByRecursion (Takes p) (merge_clauses n m.lit)
+    takes-merge m e = plain (Shown m.entry) (merge_clauses n m.lit) 0 (rw e at at-node)
+
+  -- a literal and its target are true together
+  module _ (l : Lit) (inside : has same_node nodes l.node ≡ true) (there : has same_node (variables_of net) l.node ≡ true) (m : MergeAt) (e : merge_of es l.node ≡ Some m) where
+    both : AllByRecursion (Takes p) (merge_clauses l.node m.lit)
+    both = takes-merge l.node inside there m e
+
+    down : p l ≡ true → p (carried l.neg m.lit) ≡ true
+    down h = go l.neg refl
+      where
+        go : (b : Bool) → l.neg ≡ b → p (carried b m.lit) ≡ true
+        go false f = take-second p (negative l.node) m.lit both.0 (ap (λ (x : Bool). p (record { node = l.node; neg = x })) (sym f) ∙ h)
+        go true f = take-second p (positive l.node) (opposite m.lit) both.1.0 (ap (λ (x : Bool). p (record { node = l.node; neg = x })) (sym f) ∙ h)
+
+    up : p (carried l.neg m.lit) ≡ true → p l ≡ true
+    up h = go l.neg refl
+      where
+        go : (b : Bool) → l.neg ≡ b → p l ≡ true
+        go false f =
+            ap (λ (x : Bool). p (record { node = l.node; neg = x })) f
+            ∙ take-first p (positive l.node) (opposite m.lit) both.1.0 (ap p (twice m.lit) ∙ (ap (λ (x : Bool). p (carried x m.lit)) (sym f) ∙ h))
+        go true f =
+            ap (λ (x : Bool). p (record { node = l.node; neg = x })) f
+            ∙ take-first p (negative l.node) m.lit both.0 (ap (λ (x : Bool). p (carried x m.lit)) (sym f) ∙ h)
+
+-- ---- along the path to a root
+-- the root of a negation is the negation of the root, and both paths pass the same nodes
+carried-opposite : (b : Bool) (t : Lit) → carried (not b) t ≡ opposite (carried b t)
+carried-opposite true t = sym (twice t)
+carried-opposite false t = refl
+
+follow-opposite : (k : ℕ) (es : List Entry) (l : Lit) → follow k es (opposite l) ≡ opposite (follow k es l)
+follow-opposite zero es l = refl
+follow-opposite (suc k) es l = go (merge_of es l.node) (λ t. follow-opposite k es t)
+  where
+    go : (o : Option MergeAt) → ((t : Lit) → follow k es (opposite t) ≡ opposite (follow k es t))
+        → option_map_or (λ m. follow k es (carried (not l.neg) m.lit)) o (opposite l) ≡ opposite (option_map_or (λ m. follow k es (carried l.neg m.lit)) o l)
+    go None rest = refl
+    go (Some m) rest = ap (follow k es) (carried-opposite l.neg m.lit) ∙ rest (carried l.neg m.lit)
+
+pub root-opposite : (es : List Entry) (l : Lit) → root_of es (opposite l) ≡ opposite (root_of es l)
+root-opposite es l = follow-opposite (length es) es l
+
+pub covers-opposite : (nodes : List Node) (k : ℕ) (es : List Entry) (l : Lit) → Covers nodes (passed k es l) → Covers nodes (passed k es (opposite l))
+covers-opposite nodes zero es l covers = tt
+covers-opposite nodes (suc k) es l covers = go (merge_of es l.node) refl (λ t. covers-opposite nodes k es t)
+  where
+    go : (o : Option MergeAt) → merge_of es l.node ≡ o → ((t : Lit) → Covers nodes (passed k es t) → Covers nodes (passed k es (opposite t)))
+        → Covers nodes (passed (suc k) es (opposite l))
+    go None e rest = rw e tt
+    go (Some m) e rest =
+        let all : Covers nodes (l ∷ passed k es (carried l.neg m.lit)) = rw e at covers in
+        rw (e, carried-opposite l.neg m.lit) (all.0, rest (carried l.neg m.lit) all.1)
+
+module _ (net : AigPair) (book : Entries) (legal : IsLegal net book) where
+  merged-there : (n : Node) (m : MergeAt) → merge_of book.entries n ≡ Some m → IsSome (variable_of net n)
+  merged-there n m e =
+      placed-there net n (merge-placed net book legal (length book.entries) n m (ap (λ (l : List Entry). merge_of l n) (take-whole book.entries) ∙ e)).0
+
+  -- what is passed has a variable
+  pub passed-there : (k : ℕ) (l : Lit) → AreThere net (passed k book.entries l)
+  passed-there zero l = tt
+  passed-there (suc k) l = go (merge_of book.entries l.node) refl (passed-there k)
+    where
+      go : (o : Option MergeAt) → merge_of book.entries l.node ≡ o → ((x : Lit) → AreThere net (passed k book.entries x))
+          → AreThere net (passed (suc k) book.entries l)
+      go None e rest = rw e tt
+      go (Some m) e rest = rw e (merged-there l.node m e, rest (carried l.neg m.lit))
+
+  -- a literal and what the merges on its path lead to are true together
+  module _ (nodes : List Node) (p : Lit → Bool) (units : AllByRecursion (Takes p) (base_clauses (clauses_on net book.entries nodes))) where
+    pub along : (k : ℕ) (l : Lit) → Covers nodes (passed k book.entries l)
+        → (p l ≡ true → p (follow k book.entries l) ≡ true) × (p (follow k book.entries l) ≡ true → p l ≡ true)
+    along zero l covers = (λ h. h, λ h. h)
+    along (suc k) l covers = go (merge_of book.entries l.node) refl (along k)
+      where
+        go : (o : Option MergeAt) → merge_of book.entries l.node ≡ o
+            → ((x : Lit) → Covers nodes (passed k book.entries x)
+            → (p x ≡ true → p (follow k book.entries x) ≡ true) × (p (follow k book.entries x) ≡ true → p x ≡ true))
+            → (p l ≡ true → p (follow (suc k) book.entries l) ≡ true) × (p (follow (suc k) book.entries l) ≡ true → p l ≡ true)
+        go None e rest = rw e (λ h. h, λ h. h)
+        go (Some m) e rest =
+            let all : Covers nodes (l ∷ passed k book.entries (carried l.neg m.lit)) = rw e at covers in
+            let there : has same_node (variables_of net) l.node ≡ true = sym (is_some-variable net l.node) ∙ merged-there l.node m e in
+            let next = rest (carried l.neg m.lit) all.1 in
+            rw e (λ h. next.0 (down net book.entries nodes p units l all.0 there m e h), λ h. up net book.entries nodes p units l all.0 there m e (next.1 h))
+
+    -- so two literals with one root are true together
+    pub together : (a b : Lit) → root_of book.entries a ≡ root_of book.entries b
+        → Covers nodes (passed_by book.entries a) → Covers nodes (passed_by book.entries b) → p a ≡ true → p b ≡ true
+    together a b same on_a on_b h =
+        (along (length book.entries) b on_b).1 (ap p (sym same) ∙ (along (length book.entries) a on_a).0 h)

@@ -1,0 +1,111 @@
+ghost use Rattle.std.specs.Prelude.{◌≡◌, [], ◌∷◌, map, IfOk, IfSome, IfNone};
+ghost use Rattle.lits.specs.Clause.{IsClause};
+ghost use Rattle.lits.specs.Same.{same_lit, opposite};
+ghost use Rattle.unit_prop.specs.HintScan.{IsNamed};
+ghost use Rattle.unit_prop.specs.Log.{base_clause, base_clauses};
+ghost use Rattle.unit_prop.specs.Step.{IsStep};
+ghost use Rattle.cone_query.specs.Answered.{IsOutput, SettlesOutput};
+ghost use Rattle.cone_query.specs.EqualRoots.{AreShown, HaveOtherRoots, IsWayTo, Shows};
+
+use crate::copies::unit;
+use lemma_book::{Book, Entry};
+use lits::{Clause, Listed, Lit, Literal, Named, Node, Ref, Step};
+use netlist::Net;
+use std::alloc::{AllocError, Global};
+use unit_prop::scan;
+
+/// The entry of an output whose two literals have one root; none exactly where their roots differ.
+///
+/// Where the sweep has merged what is equal, most outputs are such. No query is made: the clauses of the XOR
+/// and of the merges on the two paths show it, so the work is that of the paths, and not that of the cone.
+pub(crate) fn entry_of_equal_roots(
+    alloc: Global,
+    net: &Net,
+    seen: &Book,
+    j: u32,
+) -> Result<Option<Entry>, AllocError>
+    requires { IsOutput net.now seen.now j }
+    ensures equal { IfOk result (λ o. IfSome o (SettlesOutput net.now seen.now j)) }
+    ensures apart { IfOk result (λ o. IfNone o (HaveOtherRoots net.now seen.now.entries j)) }
+{
+    let differs = Lit {
+        node: Node::Xor(j),
+        neg: false,
+    };
+    let xor = match net.definition(differs.node) {
+        Some(definition) => definition,
+        None => unreachable!(),
+    };
+    let mut way = Vec::new(alloc);
+    way.push(differs)?;
+    let left = seen.root_by(xor.left, &mut way)?;
+    let right = seen.root_by(xor.right, &mut way)?;
+    if left != right {
+        return Ok(None);
+    }
+    let base = seen.clauses_on(alloc, net, seen.len(), &way)?;
+    let steps = steps_to(alloc, base, differs.not(), xor.left)?;
+    Ok(Some(Entry::Out {
+        output: j,
+        steps: Listed::of(steps),
+    }))
+}
+
+/// The steps that show the literal from the base: one where unit propagation does it at once, else two, of
+/// which the first shows that `half` is true otherwise.
+fn steps_to(alloc: Global, base: Vec<Named>, lit: Lit, half: Lit) -> Result<Vec<Step>, AllocError>
+    requires { IsWayTo base.items lit half }
+    ensures { IfOk result (λ v. AreShown base.items lit half v.items) }
+{
+    let clause = unit(alloc, lit)?;
+    match scan(alloc, &base, &clause)? {
+        Some(hints) => {
+            let hints = Listed::of(hints);
+            let mut steps = Vec::new(alloc);
+            steps.push(Step { clause, hints })?;
+            Ok(steps)
+        }
+        None => two_steps_to(alloc, base, lit, half),
+    }
+}
+
+/// The two steps: either literal is true, and so the first one is.
+fn two_steps_to(
+    alloc: Global,
+    base: Vec<Named>,
+    lit: Lit,
+    half: Lit,
+) -> Result<Vec<Step>, AllocError>
+    requires { IsWayTo base.items lit half }
+    ensures { IfOk result (λ v. AreShown base.items lit half v.items) }
+{
+    let first = step(alloc, &base, &[lit, half])?;
+    let mut base = base;
+    base.push(Named {
+        clause: first.clause.copy()?,
+        by: Ref::Own(0),
+    })?;
+    let second = step(alloc, &base, &[lit])?;
+    let mut steps = Vec::new(alloc);
+    steps.push(first)?;
+    steps.push(second)?;
+    Ok(steps)
+}
+
+/// The step that adds the clause, which unit propagation over the base shows.
+fn step(alloc: Global, base: &[Named], lits: &[Lit]) -> Result<Step, AllocError>
+    requires named { IsNamed base.now }
+    requires clause { IsClause same_lit opposite lits.now }
+    requires shown { Shows (base_clauses base.now) lits.now }
+    ensures { IfOk result (λ s.
+        (s.clause ≡ lits.now) × IsStep same_lit opposite (base_clause base.now) s.clause s.hints) }
+{
+    let clause = Clause::from_slice(alloc, lits)?;
+    match scan(alloc, base, &clause)? {
+        Some(hints) => Ok(Step {
+            clause,
+            hints: Listed::of(hints),
+        }),
+        None => unreachable!(),
+    }
+}
