@@ -68,12 +68,7 @@ fn run_check<D: Desk>(
 }
 
 /// Makes the check of two circuits that the program makes, and warns of what ends it without a verdict.
-fn run_self<D: Desk>(
-    alloc: Global,
-    desk: &mut D,
-    words: SelfWords,
-    kept: &mut Vec<Kept>,
-) -> Status
+fn run_self<D: Desk>(alloc: Global, desk: &mut D, words: SelfWords, kept: &mut Vec<Kept>) -> Status
     requires started { (D.state desk.old).started ≡ None }
     requires empty { kept.old.items ≡ [] }
     ensures { AnswersSelf (self_texts words) (D.state desk.old)

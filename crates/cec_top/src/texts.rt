@@ -133,7 +133,11 @@ fn digit_of(bit: bool) -> u8
 
 /// The lines that tell of two circuits that the program makes.
 #[tactic(auto, unfolding(crate::specs::Texts::workload_text))]
-pub(crate) fn workload_text(alloc: Global, words: SelfWords, net: &Net) -> Result<Vec<u8>, AllocError>
+pub(crate) fn workload_text(
+    alloc: Global,
+    words: SelfWords,
+    net: &Net,
+) -> Result<Vec<u8>, AllocError>
     ensures { IfOk result (λ v. v.items ≡ workload_text (self_texts words) net.now) }
 {
     let (a, b) = (net.circuit(Side::A), net.circuit(Side::B));
