@@ -18,6 +18,7 @@ import csv
 import math
 import re
 import resource
+import shutil
 import subprocess
 import sys
 import tempfile
@@ -28,6 +29,15 @@ from house import compiled, program
 
 LEAST = 0.01
 VERDICTS = {"EQUIVALENT": 20, "DIFFERENT": 10}
+PEERS = {"minisat": ["minisat", "-verb=0"], "cadical": ["cadical", "-q", "-n"]}
+
+
+def peers():
+    """The solvers that are there; a line says which is not."""
+    for name in PEERS:
+        if not shutil.which(name):
+            print(f"skipped: {name} is not there (Debian's package {name})")
+    return {name: command for name, command in PEERS.items() if shutil.which(name)}
 
 
 def seconds(command, limit):
@@ -73,7 +83,8 @@ def main():
     with open(words.folder / "manifest.tsv", newline="") as table:
         rows = [row for row in csv.DictReader(table, delimiter="\t") if row["class"] in words.classes]
     rows = [row for row in rows if words.only.search(row["name"])]
-    ratios, decided, wrong = {"minisat": [], "cadical": []}, 0, 0
+    there = peers()
+    ratios, decided, wrong = {name: [] for name in there}, 0, 0
     print(f"{'pair':32} {'verdict':10} {'cec':>7} {'minisat':>8} {'cadical':>8} {'lines':>8} {'a second':>9} proof")
     with tempfile.TemporaryDirectory() as place:
         prefix, reference = str(Path(place) / "p"), compiled(place)
@@ -84,8 +95,8 @@ def main():
             others, lines, said = {}, 0, "-"
             if run and Path(prefix + ".0.cnf").exists():
                 cnf, proof = prefix + ".0.cnf", prefix + ".0.lrat"
-                others["minisat"] = best(["minisat", "-verb=0", cnf], words.limit, words.rounds)
-                others["cadical"] = best(["cadical", "-q", "-n", cnf], words.limit, words.rounds)
+                for name, command in there.items():
+                    others[name] = best([*command, cnf], words.limit, words.rounds)
                 lines = sum(1 for _ in open(proof))
                 if verdict == "EQUIVALENT":
                     judged = subprocess.run([reference, cnf, proof], capture_output=True, check=False)

@@ -182,6 +182,9 @@ def lines(seen, kind='def'):
 def main(args):
     files = load()
     if args[:1] == ['--list']:
+        if args[1] not in files[HOME].defs:
+            print(f'{args[1]} is no definition of {HOME}')
+            return 1
         seen = reach(files, args[1])
         for kind, where, name in sorted(k for k in seen if seen[k]):
             print(f'{len(seen[(kind, where, name)]):4} {where} {name}')
