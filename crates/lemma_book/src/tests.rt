@@ -1,10 +1,9 @@
 ghost use Rattle.std.specs.Prelude.{◌≡◌, [], ◌∷◌, IfOk};
 ghost use Rattle.netlist.specs.Circuit.{IsCircuit};
 ghost use Rattle.lemma_book.specs.Book.{IsLegal};
-ghost use Rattle.lemma_book.specs.Good.{IsGood};
 
-use crate::{Book, Entry, Judgement, Offered};
-use lits::{Lit, Named, Node, Ref, Side};
+use crate::{Book, Entry};
+use lits::{Lit, Node, Side};
 use netlist::{And, Circuit, Net};
 use std::alloc::{AllocError, Global};
 use std::process::Abort;
@@ -432,12 +431,6 @@ fn longer_logs(rt: HostRuntime) -> Result<(), Fail> {
     offer_all(&rt, alloc, &net, &mut book, &LONGER_LOGS)
 }
 
-/// Whether these are the names of the clauses.
-fn are_named(clauses: &[Named], names: &[Ref]) -> bool {
-    let mut pairs = clauses.iter().zip(names);
-    clauses.len() == names.len() && pairs.all(|(named, name)| named.by == *name)
-}
-
 /// The book whose one entry merges b3 to a3, and the net.
 fn merged(rt: &impl Abort, alloc: Global) -> Result<(Net, Book), Fail>
     ensures { IfOk result (λ p. IsLegal p.0 p.1) }
@@ -458,24 +451,13 @@ const B3: Lit = Lit {
 #[test]
 fn book_readers(rt: HostRuntime) -> Result<(), Fail> {
     let alloc = rt.alloc();
-    let (net, book) = merged(&rt, alloc)?;
+    let (_, book) = merged(&rt, alloc)?;
     let a3 = Lit {
         node: A3,
         neg: false,
     };
     assert_eq!(rt; book.root(B3), a3);
     assert_eq!(rt; book.path(alloc, B3)?.as_slice(), [0].as_slice());
-    let names = [
-        Ref::Axiom(A3, 0),
-        Ref::Axiom(A3, 1),
-        Ref::Axiom(A3, 2),
-        Ref::Entry(0, 0),
-        Ref::Entry(0, 1),
-    ];
-    let is_there = net.cnf_number(B3).is_some();
-    assert!(rt; is_there);
-    let cone = book.cone(alloc, &net, 1, &[B3])?;
-    assert!(rt; are_named(cone.as_slice(), &names));
     Ok(())
 }
 
@@ -490,31 +472,5 @@ fn copy_of_a_book(rt: HostRuntime) -> Result<(), Fail> {
     );
     assert_eq!(rt; copy.root(B3), book.root(B3));
     assert!(rt; matches!(copy.entry(0), Some(Entry::Merge { .. })));
-    Ok(())
-}
-
-/// The merge of b3 to a3, once it is known to be good over the book.
-fn good_merge(alloc: Global, net: &Net, book: &Book) -> Result<Entry, Fail>
-    requires { IsLegal net.now book.now }
-    ensures { IfOk result (IsGood net.now book.now) }
-{
-    let (text, _) = OFFERS[2];
-    let entry = text::entry(alloc, text)?;
-    match book.judge(alloc, net, &entry)? {
-        Judgement::Good => Ok(entry),
-        _ => Err("a good entry".into()),
-    }
-}
-
-/// Appends an entry that was good over the empty book.
-#[test]
-fn append(rt: HostRuntime) -> Result<(), Fail> {
-    let alloc = rt.alloc();
-    let net = swapped_ands(alloc)?;
-    let mut book = Book::new(alloc, 1, 1);
-    let entry = good_merge(alloc, &net, &book)?;
-    let first = book.append(alloc, &net, 0, entry).map_err(|_| "no memory")?;
-    assert_eq!(rt; first, Offered::At(0));
-    assert_eq!(rt; book.len(), 1);
     Ok(())
 }
