@@ -25,5 +25,3 @@ mod marks;
 mod order;
 mod restarts;
 mod solver;
-#[cfg(test)]
-mod tests;

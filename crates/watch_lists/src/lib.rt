@@ -22,7 +22,5 @@ mod levels;
 mod lists;
 mod numbers;
 mod put;
-#[cfg(test)]
-mod tests;
 mod trail;
 mod visits;

@@ -1,8 +1,0 @@
-use Rattle.std.proofs.Common.{sym, ◌∙◌}
-use Rattle.solver_plain.proofs.Facts.{base-cons}
-use Rattle.solver_watch.proofs.tests.+is_base.Goals as goal
-
-pub returns : goal.returns
-returns t c =
-    base-cons c.is_base.result c.args.base.now c.in-Some.first.now c.in-Some.rest.now c.in-Some.ensures.cases.0
-    (sym c.is_own.ensures ∙ c.if-is_own.false) (sym c.is_named.ensures ∙ c.if-is_named.false) c.is_base.ensures

@@ -1,5 +1,0 @@
-use Rattle.std.proofs.Common.{length}
-use Rattle.solver_watch.proofs.tests.+is_base.Given as goal
-
-abbrev pub decreases-is_base : goal.decreases-is_base
-decreases-is_base l = length l.base.now
