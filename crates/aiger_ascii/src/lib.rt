@@ -13,5 +13,3 @@ mod reader;
 
 pub use reader::read;
 
-#[cfg(test)]
-mod tests;

@@ -37,5 +37,3 @@ fn is_form(bytes: &[u8], letter: u8) -> bool
     }
 }
 
-#[cfg(test)]
-mod tests;

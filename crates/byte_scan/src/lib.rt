@@ -23,5 +23,3 @@ pub use line::{literal_line, number, number_line, space, used};
 pub use scan::{NUMBER_LIMIT, Scan};
 pub use symbols::tail;
 
-#[cfg(test)]
-mod tests;

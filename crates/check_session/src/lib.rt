@@ -22,6 +22,4 @@ mod patterns;
 mod rounds;
 mod session;
 mod settling;
-#[cfg(test)]
-mod tests;
 mod verdict;

@@ -32,8 +32,6 @@ mod scratch;
 mod search;
 mod steps;
 mod table;
-#[cfg(test)]
-mod tests;
 mod trail;
 mod variables;
 mod watches;

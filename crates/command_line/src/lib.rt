@@ -20,5 +20,3 @@ mod laws;
 mod matches;
 mod reading;
 mod table;
-#[cfg(test)]
-mod tests;

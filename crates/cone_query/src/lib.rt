@@ -19,5 +19,3 @@ mod equal_roots;
 mod input;
 mod output_query;
 mod pair_query;
-#[cfg(test)]
-mod tests;

@@ -22,7 +22,5 @@ mod cnf;
 mod error;
 mod header;
 mod laws;
-#[cfg(test)]
-mod tests;
 mod words;
 mod writing;

@@ -18,7 +18,5 @@ mod lines;
 mod reading;
 mod status;
 mod stop;
-#[cfg(test)]
-mod tests;
 mod warning;
 mod writing;

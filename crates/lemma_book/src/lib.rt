@@ -33,7 +33,5 @@ mod shape;
 mod shelf;
 mod sources;
 mod steps;
-#[cfg(test)]
-mod tests;
 mod turn;
 mod walk;

@@ -28,5 +28,3 @@ mod literal;
 mod literal_set;
 mod node;
 mod step;
-#[cfg(test)]
-mod tests;

@@ -18,6 +18,4 @@ mod checking;
 mod judging;
 mod laws;
 mod live;
-#[cfg(test)]
-mod tests;
 mod verdict;

@@ -12,6 +12,4 @@ pub use command::run;
 mod command;
 mod judging;
 mod reading;
-#[cfg(test)]
-mod tests;
 mod texts;

@@ -26,6 +26,4 @@ mod laws;
 mod parts;
 mod reading;
 mod step;
-#[cfg(test)]
-mod tests;
 mod writing;

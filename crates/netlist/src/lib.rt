@@ -30,7 +30,5 @@ mod net;
 mod pair;
 mod short;
 mod starts;
-#[cfg(test)]
-mod tests;
 mod unlike;
 mod variable_table;

@@ -27,7 +27,5 @@ mod logs;
 mod proof_text;
 mod shown;
 mod stitch_err;
-#[cfg(test)]
-mod tests;
 mod write_derivation;
 mod write_refutation;

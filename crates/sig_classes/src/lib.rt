@@ -19,5 +19,3 @@ mod chains;
 mod classes;
 mod first;
 pub mod laws;
-#[cfg(test)]
-mod tests;

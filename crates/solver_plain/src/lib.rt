@@ -19,5 +19,3 @@ mod literals;
 mod scan;
 mod search;
 mod solver;
-#[cfg(test)]
-mod tests;

@@ -16,7 +16,5 @@ mod fold;
 mod merge;
 mod pair;
 mod pass;
-#[cfg(test)]
-mod tests;
 mod visit;
 mod ways;

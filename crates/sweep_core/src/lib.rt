@@ -14,5 +14,3 @@ pub use state::State;
 
 mod event;
 mod state;
-#[cfg(test)]
-mod tests;

@@ -27,6 +27,4 @@ mod propagation;
 mod refuter;
 mod step_check;
 mod step_fault;
-#[cfg(test)]
-mod tests;
 mod why;

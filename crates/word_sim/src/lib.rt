@@ -17,6 +17,4 @@ mod draws;
 mod pool;
 mod rows;
 mod sigs;
-#[cfg(test)]
-mod tests;
 mod words;

@@ -21,7 +21,5 @@ mod design;
 mod kind;
 mod laws;
 mod parity;
-#[cfg(test)]
-mod tests;
 mod text;
 mod workload;

@@ -1,0 +1,476 @@
+ghost use Rattle.std.specs.Prelude.{◌≡◌, [], ◌∷◌, IfOk};
+ghost use Rattle.netlist.specs.Circuit.{IsCircuit};
+ghost use Rattle.lemma_book.specs.Book.{IsLegal};
+
+use lemma_book::{Book, Entry};
+use lits::{Lit, Node, Side};
+use netlist::{And, Circuit, Net};
+use std::alloc::{AllocError, Global};
+use std::process::Abort;
+use std::test::Fail;
+
+mod text;
+
+fn and(var: u32, left: u32, right: u32) -> And
+    ensures { result ≡ record { var = var; left = left; right = right } }
+{
+    And { var, left, right }
+}
+
+/// A circuit of two inputs with one output.
+fn circuit(alloc: Global, gates: &[And], output: u32) -> Result<Circuit, AllocError>
+    requires { IsCircuit (record { inputs = 1 ∷ 2 ∷ []; gates = gates.now; outputs = output ∷ [] }) }
+{
+    Circuit::of(
+        alloc,
+        Vec::from_slice(alloc, &[1, 2])?,
+        Vec::from_slice(alloc, gates)?,
+        Vec::from_slice(alloc, &[output])?,
+    )
+}
+
+/// Two ANDs of two inputs, a3 and b3, whose fanins stand in the other order.
+fn swapped_ands(alloc: Global) -> Result<Net, Fail> {
+    let a = circuit(alloc, &[and(3, 2, 4)], 6)?;
+    let b = circuit(alloc, &[and(3, 4, 2)], 6)?;
+    Ok(Net::of(alloc, a, b).map_err(|_| "a net")?)
+}
+
+/// Two XORs by other gates, of which a5 is the negation of b5.
+fn two_xors(alloc: Global) -> Result<Net, Fail> {
+    let a = circuit(alloc, &[and(3, 2, 5), and(4, 3, 4), and(5, 7, 9)], 11)?;
+    let b = circuit(alloc, &[and(3, 2, 4), and(4, 3, 5), and(5, 7, 9)], 10)?;
+    Ok(Net::of(alloc, a, b).map_err(|_| "a net")?)
+}
+
+/// An entry, as `text` reads it, and the answer to it.
+type Row<'a> = (&'a str, &'a str);
+
+/// Offers the entry to the book.
+fn offer(
+    rt: &impl Abort,
+    alloc: Global,
+    net: &Net,
+    book: &mut Book,
+    row: Row<'_>,
+) -> Result<(), Fail>
+    requires { IsLegal net.now book.old }
+    ensures { IsLegal net.now book.new }
+{
+    let (text, expected) = row;
+    let entry = text::entry(alloc, text)?;
+    let answer = book
+        .offer(alloc, net, entry)
+        .map_err(|(_, refused)| refused);
+    let answer = format!(in alloc; "{answer:?}")?;
+    assert_eq!(rt; answer.as_str(), expected, "{text}");
+    Ok(())
+}
+
+/// Offers the entries to one book, in order.
+fn offer_all(
+    rt: &impl Abort,
+    alloc: Global,
+    net: &Net,
+    book: &mut Book,
+    rows: &[Row<'_>],
+) -> Result<(), Fail>
+    requires { IsLegal net.now book.old }
+    ensures { IsLegal net.now book.new }
+{
+    for row in rows {
+        offer(rt, alloc, net, book, *row)?;
+    }
+    Ok(())
+}
+
+/// A merge without a hint, with node and target exchanged, whole, and once more.
+const OFFERS: [Row<'static>; 4] = [
+    (
+        "merge b3 a3: -b3 a3 by b3.1 a3.2; b3 -a3 by a3.0 a3.1 b3.2",
+        "Err(Bad(Step(0, BadStep { hint: 0, why: NotFalse })))",
+    ),
+    (
+        "merge a3 b3: -b3 a3 by b3.0 b3.1 a3.2; b3 -a3 by a3.0 a3.1 b3.2",
+        "Err(Bad(NotEarlier))",
+    ),
+    (
+        "merge b3 a3: -b3 a3 by b3.0 b3.1 a3.2; b3 -a3 by a3.0 a3.1 b3.2",
+        "Ok(At(0))",
+    ),
+    (
+        "merge b3 a3: -b3 a3 by b3.0 b3.1 a3.2; b3 -a3 by a3.0 a3.1 b3.2",
+        "Ok(Already(0))",
+    ),
+];
+
+#[test]
+fn offers(rt: HostRuntime) -> Result<(), Fail> {
+    let alloc = rt.alloc();
+    let net = swapped_ands(alloc)?;
+    let mut book = Book::new(alloc, 1, 1);
+    offer_all(&rt, alloc, &net, &mut book, &OFFERS)
+}
+
+/// Each cause that is found without looking at steps.
+const NAMES_AND_SIZES: [Row<'static>; 27] = [
+    // A gate that isn't there; an input; an XOR, which has no position.
+    (
+        "merge b9 a3: -b3 a3 by b3.0 b3.1 a3.2; b3 -a3 by a3.0 a3.1 b3.2",
+        "Err(Bad(NoNode))",
+    ),
+    (
+        "merge b3 i2: -b3 a3 by b3.0 b3.1 a3.2; b3 -a3 by a3.0 a3.1 b3.2",
+        "Err(Bad(NoNode))",
+    ),
+    (
+        "merge d0 a3: -b3 a3 by b3.0 b3.1 a3.2; b3 -a3 by a3.0 a3.1 b3.2",
+        "Err(Bad(NoNode))",
+    ),
+    ("apart a3 d0: 10", "Err(Bad(NoNode))"),
+    ("spent b9 a3 0: -b3 a3 by b3.1", "Err(Bad(NoNode))"),
+    // An output that isn't there.
+    ("out 1: -d0 by d0.0", "Err(Bad(NoNode))"),
+    ("outapart 1: 10", "Err(Bad(NoNode))"),
+    ("outspent 1 0: -d0 by d0.0", "Err(Bad(NoNode))"),
+    // A literal of a step.
+    (
+        "merge b3 a3: -b3 i1 i7 by b3.0; -b3 a3 by b3.0 b3.1 a3.2; b3 -a3 by a3.0 a3.1 b3.2",
+        "Err(Bad(NoNode))",
+    ),
+    ("spent b3 a3 0: -b3 i7 by b3.0", "Err(Bad(NoNode))"),
+    ("out 0: -d1 by d0.0; -d0 by d0.0", "Err(Bad(NoNode))"),
+    // Target that isn't earlier, by all else good.
+    (
+        "merge a3 b3: -a3 b3 by a3.0 a3.1 b3.2; a3 -b3 by b3.0 b3.1 a3.2",
+        "Err(Bad(NotEarlier))",
+    ),
+    ("apart i0 a3: 10", "Err(Bad(NotEarlier))"),
+    // Equal values; an input of another length.
+    ("apart a3 i0: 11", "Err(NotApart)"),
+    ("apart a3 -i0: 10", "Err(NotApart)"),
+    ("apart a3 i0: 1", "Err(NotApart)"),
+    ("apart a3 i0: 100", "Err(NotApart)"),
+    ("outapart 0: 10", "Err(NotApart)"),
+    ("outapart 0: ", "Err(NotApart)"),
+    // Last clauses.
+    ("merge b3 a3: -b3 a3 by b3.0 b3.1 a3.2", "Err(Bad(Shape))"),
+    (
+        "merge b3 a3: b3 -a3 by a3.0 a3.1 b3.2; -b3 a3 by b3.0 b3.1 a3.2",
+        "Err(Bad(Shape))",
+    ),
+    (
+        "merge b3 -a3: -b3 a3 by b3.0 b3.1 a3.2; b3 -a3 by a3.0 a3.1 b3.2",
+        "Err(Bad(Shape))",
+    ),
+    (
+        "merge b3 a3: -b3 a3 by b3.0 b3.1 a3.2; b3 -a3 by a3.0 a3.1 b3.2; -b3 a3 by b3.0 b3.1 a3.2",
+        "Err(Bad(Shape))",
+    ),
+    ("out 0: -d0 a3 by d0.0", "Err(Bad(Shape))"),
+    // Counts.
+    (
+        "merge b3 a3: -b3 i1 by b3.0; -b3 i0 by b3.1; -b3 a3 by b3.0 b3.1 a3.2; b3 -a3 by a3.0 a3.1 b3.2",
+        "Err(Bad(Count))",
+    ),
+    ("spent b3 a3 0: ", "Err(Bad(Count))"),
+    ("outspent 0 0: ", "Err(Bad(Count))"),
+];
+
+#[test]
+fn faults_of_names_and_sizes(rt: HostRuntime) -> Result<(), Fail> {
+    let alloc = rt.alloc();
+    let net = swapped_ands(alloc)?;
+    let mut book = Book::new(alloc, 1, 1);
+    offer_all(&rt, alloc, &net, &mut book, &NAMES_AND_SIZES)
+}
+
+/// Each cause that is found in steps.
+const STEPS: [Row<'static>; 15] = [
+    // Hints that are no clauses: an axiom, one of an XOR, an entry's, the step's own, a later step's.
+    (
+        "merge b3 a3: -b3 a3 by b3.3; b3 -a3 by a3.0 a3.1 b3.2",
+        "Err(Bad(Step(0, BadStep { hint: 1, why: NoClause })))",
+    ),
+    (
+        "merge b3 a3: -b3 a3 by b3.0 d0.0; b3 -a3 by a3.0 a3.1 b3.2",
+        "Err(Bad(Step(0, BadStep { hint: 2, why: NoClause })))",
+    ),
+    (
+        "merge b3 a3: -b3 a3 by e0.0; b3 -a3 by a3.0 a3.1 b3.2",
+        "Err(Bad(Step(0, BadStep { hint: 1, why: NoClause })))",
+    ),
+    (
+        "merge b3 a3: -b3 a3 by s0; b3 -a3 by a3.0 a3.1 b3.2",
+        "Err(Bad(Step(0, BadStep { hint: 1, why: NoClause })))",
+    ),
+    (
+        "merge b3 a3: -b3 a3 by s1; b3 -a3 by a3.0 a3.1 b3.2",
+        "Err(Bad(Step(0, BadStep { hint: 1, why: NoClause })))",
+    ),
+    // The other causes.
+    (
+        "merge b3 a3: -b3 a3 by b3.0 b3.1 a3.2 a3.0; b3 -a3 by a3.0 a3.1 b3.2",
+        "Err(Bad(Step(0, BadStep { hint: 4, why: AfterFalse })))",
+    ),
+    (
+        "merge b3 a3: -b3 a3 by b3.0 b3.1 a3.2; b3 -a3 by b3.0",
+        "Err(Bad(Step(1, BadStep { hint: 1, why: Satisfied })))",
+    ),
+    (
+        "merge b3 a3: -b3 a3 by b3.0 b3.1 a3.2; b3 -a3 by a3.0 a3.0 b3.2",
+        "Err(Bad(Step(1, BadStep { hint: 2, why: Satisfied })))",
+    ),
+    (
+        "merge b3 a3: -b3 a3 by a3.2 b3.0 b3.1; b3 -a3 by a3.0 a3.1 b3.2",
+        "Err(Bad(Step(0, BadStep { hint: 1, why: TwoFree })))",
+    ),
+    (
+        "merge b3 a3: -b3 a3 by; b3 -a3 by a3.0 a3.1 b3.2",
+        "Err(Bad(Step(0, BadStep { hint: 0, why: NotFalse })))",
+    ),
+    (
+        "merge b3 a3: -b3 a3 by b3.0 b3.1 a3.2; b3 -a3 by a3.0 a3.1",
+        "Err(Bad(Step(1, BadStep { hint: 0, why: NotFalse })))",
+    ),
+    (
+        "out 0: -d0 by d0.0",
+        "Err(Bad(Step(0, BadStep { hint: 1, why: TwoFree })))",
+    ),
+    (
+        "out 0: -d0 a3 by d0.0; -d0 by s0",
+        "Err(Bad(Step(0, BadStep { hint: 0, why: NotFalse })))",
+    ),
+    // An axiom is nothing new.
+    ("spent b3 a3 0: -b3 i1 by b3.0", "Err(Bad(NotNew(0)))"),
+    ("outspent 0 0: -b3 i1 by b3.0", "Err(Bad(NotNew(0)))"),
+];
+
+#[test]
+fn faults_of_steps(rt: HostRuntime) -> Result<(), Fail> {
+    let alloc = rt.alloc();
+    let net = swapped_ands(alloc)?;
+    let mut book = Book::new(alloc, 1, 1);
+    offer_all(&rt, alloc, &net, &mut book, &STEPS)
+}
+
+/// Two causes stand, and the earlier is told.
+const PAIRS: [Row<'static>; 16] = [
+    // Name and place in order; name and last clauses.
+    (
+        "merge a3 b9: -b3 a3 by b3.0 b3.1 a3.2; b3 -a3 by a3.0 a3.1 b3.2",
+        "Err(Bad(NoNode))",
+    ),
+    ("merge b9 a3: ", "Err(Bad(NoNode))"),
+    ("outapart 1: 11", "Err(Bad(NoNode))"),
+    // Place in order, then values, last clauses, count, or entries that were seen.
+    ("apart a3 a3: 10", "Err(Bad(NotEarlier))"),
+    ("apart a3 b3: 1", "Err(Bad(NotEarlier))"),
+    ("merge a3 b3: ", "Err(Bad(NotEarlier))"),
+    ("spent a3 b3 0: ", "Err(Bad(NotEarlier))"),
+    ("spent a3 b3 7: -b3 i1 by b3.0", "Err(Bad(NotEarlier))"),
+    // Last clauses, then count or a step.
+    (
+        "merge b3 a3: -b3 i1 by b3.0; -b3 i0 by b3.1; -b3 i1 by b3.0; -b3 i1 by b3.0",
+        "Err(Bad(Shape))",
+    ),
+    ("merge b3 a3: -b3 a3 by a3.2", "Err(Bad(Shape))"),
+    // Count, then entries that were seen or a step.
+    ("spent b3 a3 7: ", "Err(Bad(Count))"),
+    (
+        "merge b3 a3: -b3 i1 by; -b3 i0 by b3.1; -b3 a3 by b3.0 b3.1 a3.2; b3 -a3 by a3.0 a3.1 b3.2",
+        "Err(Bad(Count))",
+    ),
+    // Entries that were seen, then a step or a clause that isn't new.
+    ("spent b3 a3 7: -b3 i1 by", "Err(Bad(Seen))"),
+    ("outspent 0 7: -b3 i1 by b3.0", "Err(Bad(Seen))"),
+    // A step, then a clause that isn't new; an earlier step, then a later.
+    (
+        "spent b3 a3 0: -b3 i1 by",
+        "Err(Bad(Step(0, BadStep { hint: 0, why: NotFalse })))",
+    ),
+    (
+        "merge b3 a3: -b3 a3 by; b3 -a3 by",
+        "Err(Bad(Step(0, BadStep { hint: 0, why: NotFalse })))",
+    ),
+];
+
+#[test]
+fn earlier_of_two_faults(rt: HostRuntime) -> Result<(), Fail> {
+    let alloc = rt.alloc();
+    let net = swapped_ands(alloc)?;
+    let mut book = Book::new(alloc, 1, 1);
+    offer_all(&rt, alloc, &net, &mut book, &PAIRS)
+}
+
+/// A merge, its output, and what comes after them.
+const SETTLED: [Row<'static>; 14] = [
+    (
+        "merge b3 a3: -b3 a3 by b3.0 b3.1 a3.2; b3 -a3 by a3.0 a3.1 b3.2",
+        "Ok(At(0))",
+    ),
+    (
+        "out 0: -d0 a3 by d0.0 e0.0; -d0 by s0 d0.1 e0.1",
+        "Ok(At(1))",
+    ),
+    // What is settled, whatever else is wrong.
+    ("merge b3 i0: ", "Ok(Already(0))"),
+    ("merge b3 b3: ", "Ok(Already(0))"),
+    ("out 0: ", "Ok(Already(1))"),
+    ("outapart 0: 11", "Ok(Already(1))"),
+    ("outspent 0 9: ", "Ok(Already(1))"),
+    // But not what isn't there.
+    ("merge b3 i9: ", "Err(Bad(NoNode))"),
+    // No Apart is settled.
+    ("apart a3 i0: 10", "Ok(At(2))"),
+    ("apart a3 i0: 10", "Ok(At(3))"),
+    ("apart b3 i0: 10", "Ok(At(4))"),
+    // An Out's unit, which no step may cite, and clauses that an Apart and a Merge don't have.
+    (
+        "merge a3 i0: -a3 i0 by e1.0; a3 -i0 by a3.2",
+        "Err(Bad(Step(0, BadStep { hint: 1, why: NoClause })))",
+    ),
+    (
+        "merge a3 i0: -a3 i0 by e2.0; a3 -i0 by a3.2",
+        "Err(Bad(Step(0, BadStep { hint: 1, why: NoClause })))",
+    ),
+    (
+        "merge a3 i0: -a3 i0 by e0.2; a3 -i0 by a3.2",
+        "Err(Bad(Step(0, BadStep { hint: 1, why: NoClause })))",
+    ),
+];
+
+#[test]
+fn settled_entries(rt: HostRuntime) -> Result<(), Fail> {
+    let alloc = rt.alloc();
+    let net = swapped_ands(alloc)?;
+    let mut book = Book::new(alloc, 1, 1);
+    offer_all(&rt, alloc, &net, &mut book, &SETTLED)
+}
+
+/// Logs of one clause.
+const LOGS: [Row<'static>; 10] = [
+    // Counts, entries that were seen, and what is to be earlier, by all else good.
+    (
+        "spent a5 -b5 0: -b5 -a5 i0 by b5.1 b4.2 a5.1 a4.2",
+        "Err(Bad(NotEarlier))",
+    ),
+    (
+        "spent b5 -a5 0: -b5 -a5 i0 by b5.1 b4.2 a5.1 a4.2; -b5 -a5 by s0 b5.0 b3.2 a5.0 a3.2",
+        "Err(Bad(Count))",
+    ),
+    (
+        "spent b5 -a5 1: -b5 -a5 i0 by b5.1 b4.2 a5.1 a4.2",
+        "Err(Bad(Seen))",
+    ),
+    (
+        "outspent 0 1: -d0 a5 i0 by d0.1 b3.0 b5.2 b4.1 a4.1 a5.2 a3.0",
+        "Err(Bad(Seen))",
+    ),
+    // A hint too few, and clauses that aren't new.
+    (
+        "spent b5 -a5 0: -b5 -a5 i0 by b5.1 b4.2 a5.1",
+        "Err(Bad(Step(0, BadStep { hint: 0, why: NotFalse })))",
+    ),
+    ("spent b5 -a5 0: -b5 -b3 by b5.0", "Err(Bad(NotNew(0)))"),
+    ("outspent 0 0: -b5 -b3 by b5.0", "Err(Bad(NotNew(0)))"),
+    // Good logs.
+    (
+        "spent b5 -a5 0: -b5 -a5 i0 by b5.1 b4.2 a5.1 a4.2",
+        "Ok(At(0))",
+    ),
+    (
+        "outspent 0 1: -d0 a5 i0 by d0.1 b3.0 b5.2 b4.1 a4.1 a5.2 a3.0",
+        "Ok(At(1))",
+    ),
+    (
+        "outspent 0 1: -d0 a5 i0 by d0.1 b3.0 b5.2 b4.1 a4.1 a5.2 a3.0",
+        "Ok(Already(1))",
+    ),
+];
+
+#[test]
+fn logs_of_queries(rt: HostRuntime) -> Result<(), Fail> {
+    let alloc = rt.alloc();
+    let net = two_xors(alloc)?;
+    let mut book = Book::new(alloc, 1, 1);
+    offer_all(&rt, alloc, &net, &mut book, &LOGS)
+}
+
+/// Logs of two clauses, and a merge by two learned clauses.
+const LONGER_LOGS: [Row<'static>; 4] = [
+    // The log's second clause is the first once more.
+    (
+        "spent b5 -a5 0: -b5 -a5 i0 by b5.1 b4.2 a5.1 a4.2; -b5 -a5 i0 by b5.1 b4.2 a5.1 a4.2",
+        "Err(Bad(NotNew(1)))",
+    ),
+    (
+        "spent b5 -a5 0: -b5 -a5 i0 by b5.1 b4.2 a5.1 a4.2; -b5 -a5 by s0 b5.0 b3.2 a5.0 a3.2",
+        "Ok(At(0))",
+    ),
+    // A step cites those before it.
+    (
+        "merge b5 -a5: b5 a5 -i0 by b4.0 b5.2 b3.1 a3.1 a5.2 a4.0; \
+            -b5 -a5 i0 by b5.1 b4.2 a5.1 a4.2; -b5 -a5 by s0 b5.0 b3.2 a5.0 a3.2; \
+            b5 a5 by s1 b3.0 b5.2 b4.1 a4.1 a5.2 a3.0",
+        "Err(Bad(Step(2, BadStep { hint: 1, why: Satisfied })))",
+    ),
+    (
+        "merge b5 -a5: -b5 -a5 i0 by b5.1 b4.2 a5.1 a4.2; \
+            b5 a5 -i0 by b4.0 b5.2 b3.1 a3.1 a5.2 a4.0; -b5 -a5 by s0 b5.0 b3.2 a5.0 a3.2; \
+            b5 a5 by s1 b3.0 b5.2 b4.1 a4.1 a5.2 a3.0",
+        "Ok(At(1))",
+    ),
+];
+
+#[test]
+fn longer_logs(rt: HostRuntime) -> Result<(), Fail> {
+    let alloc = rt.alloc();
+    let net = two_xors(alloc)?;
+    let mut book = Book::new(alloc, 2, 2);
+    offer_all(&rt, alloc, &net, &mut book, &LONGER_LOGS)
+}
+
+/// The book whose one entry merges b3 to a3, and the net.
+fn merged(rt: &impl Abort, alloc: Global) -> Result<(Net, Book), Fail>
+    ensures { IfOk result (λ p. IsLegal p.0 p.1) }
+{
+    let net = swapped_ands(alloc)?;
+    let mut book = Book::new(alloc, 1, 2);
+    offer_all(rt, alloc, &net, &mut book, &OFFERS)?;
+    Ok((net, book))
+}
+
+const A3: Node = Node::Gate(Side::A, 3);
+
+const B3: Lit = Lit {
+    node: Node::Gate(Side::B, 3),
+    neg: false,
+};
+
+#[test]
+fn book_readers(rt: HostRuntime) -> Result<(), Fail> {
+    let alloc = rt.alloc();
+    let (_, book) = merged(&rt, alloc)?;
+    let a3 = Lit {
+        node: A3,
+        neg: false,
+    };
+    assert_eq!(rt; book.root(B3), a3);
+    assert_eq!(rt; book.path(alloc, B3)?.as_slice(), [0].as_slice());
+    Ok(())
+}
+
+#[test]
+fn copy_of_a_book(rt: HostRuntime) -> Result<(), Fail> {
+    let alloc = rt.alloc();
+    let (_, book) = merged(&rt, alloc)?;
+    let copy = book.copy(alloc)?;
+    assert_eq!(rt;
+        (copy.len(), copy.sweep_budget(), copy.out_budget()),
+        (1, 1, 2)
+    );
+    assert_eq!(rt; copy.root(B3), book.root(B3));
+    assert!(rt; matches!(copy.entry(0), Some(Entry::Merge { .. })));
+    Ok(())
+}

@@ -1,0 +1,169 @@
+//! Entries as a line of text: what they say of what, a colon, and the steps, or the input's digits.
+//!
+//! Nodes are `t`, the constant true, `i0`, an input, `a3` or `b3`, a gate, and `d0`, whether the outputs
+//! differ; a literal has a `-` where it is negated. A step is its clause, the word `by`, and the names of its
+//! hints: `a3.2` is an axiom, `e0.1` a clause of an entry, `s0` an own step. Numbers have one digit.
+
+use lemma_book::Entry;
+use lits::{Clause, Listed, Lit, Node, Ref, Side, Step};
+use std::alloc::Global;
+use std::test::Fail;
+
+/// The entry of a line.
+pub(crate) fn entry(alloc: Global, line: &str) -> Result<Entry, Fail> {
+    let (head, body) = line.split_once(':').ok_or("a colon is missing")?;
+    let words: Vec<&str> = head.split_whitespace().collect(alloc)?;
+    match words.as_slice() {
+        [kind, output] => of_output(alloc, kind, u32::from(number(output)), "", body),
+        ["outspent", output, seen] => {
+            of_output(alloc, "outspent", u32::from(number(output)), seen, body)
+        }
+        [kind, node, target] => of_pair(alloc, kind, lit(node)?.node, lit(target)?, "", body),
+        [kind, node, target, seen] => of_pair(
+            alloc,
+            kind,
+            lit(node)?.node,
+            lit(target)?,
+            seen,
+            body,
+        ),
+        _ => Err("another number of words".into()),
+    }
+}
+
+/// An entry about a node and a literal.
+fn of_pair(
+    alloc: Global,
+    kind: &str,
+    node: Node,
+    lit: Lit,
+    seen: &str,
+    body: &str,
+) -> Result<Entry, Fail> {
+    Ok(match kind {
+        "merge" => Entry::Merge {
+            node,
+            lit,
+            steps: steps(alloc, body)?,
+        },
+        "apart" => Entry::Apart {
+            node,
+            lit,
+            input: input(alloc, body)?,
+        },
+        _ => Entry::Spent {
+            node,
+            lit,
+            seen: u64::from(number(seen)),
+            log: steps(alloc, body)?,
+        },
+    })
+}
+
+/// An entry about an output.
+fn of_output(
+    alloc: Global,
+    kind: &str,
+    output: u32,
+    seen: &str,
+    body: &str,
+) -> Result<Entry, Fail> {
+    Ok(match kind {
+        "out" => Entry::Out {
+            output,
+            steps: steps(alloc, body)?,
+        },
+        "outapart" => Entry::OutApart {
+            output,
+            input: input(alloc, body)?,
+        },
+        _ => Entry::OutSpent {
+            output,
+            seen: u64::from(number(seen)),
+            log: steps(alloc, body)?,
+        },
+    })
+}
+
+fn input(alloc: Global, text: &str) -> Result<Listed<bool>, Fail> {
+    let mut values = Vec::new(alloc);
+    for byte in text.trim().bytes() {
+        values.push(byte == b'1')?;
+    }
+    Ok(Listed::of(values))
+}
+
+fn steps(alloc: Global, text: &str) -> Result<Listed<Step>, Fail> {
+    let mut steps = Vec::new(alloc);
+    for part in text.split(';') {
+        if let Some((clause, hints)) = part.split_once(" by") {
+            steps.push(step(alloc, clause, hints)?)?;
+        }
+    }
+    Ok(Listed::of(steps))
+}
+
+fn step(alloc: Global, clause: &str, hints: &str) -> Result<Step, Fail> {
+    let mut lits = Vec::new(alloc);
+    for word in clause.split_whitespace() {
+        lits.push(lit(word)?)?;
+    }
+    let clause = Clause::of(alloc, lits.as_slice()).map_err(|_| "a clause")?;
+    let mut names = Vec::new(alloc);
+    for word in hints.split_whitespace() {
+        names.push(name(word)?)?;
+    }
+    Ok(Step {
+        clause,
+        hints: Listed::of(names),
+    })
+}
+
+fn lit(word: &str) -> Result<Lit, Fail> {
+    match word.strip_prefix('-') {
+        Some(node_word) => Ok(Lit {
+            node: node(node_word)?,
+            neg: true,
+        }),
+        None => Ok(Lit {
+            node: node(word)?,
+            neg: false,
+        }),
+    }
+}
+
+fn node(word: &str) -> Result<Node, Fail> {
+    match word.as_bytes() {
+        [b't'] => Ok(Node::Const),
+        [b'i', k] => Ok(Node::Input(u32::from(digit(*k)))),
+        [b'a', k] => Ok(Node::Gate(Side::A, u32::from(digit(*k)))),
+        [b'b', k] => Ok(Node::Gate(Side::B, u32::from(digit(*k)))),
+        [b'd', k] => Ok(Node::Xor(u32::from(digit(*k)))),
+        _ => Err("no node".into()),
+    }
+}
+
+fn name(word: &str) -> Result<Ref, Fail> {
+    match word.as_bytes() {
+        [b's', k] => Ok(Ref::Own(u64::from(digit(*k)))),
+        [b'e', i, b'.', k] => Ok(Ref::Entry(u64::from(digit(*i)), digit(*k))),
+        _ => of_axiom(word),
+    }
+}
+
+fn of_axiom(word: &str) -> Result<Ref, Fail> {
+    let (node_word, k) = word.split_once('.').ok_or("no hint")?;
+    Ok(Ref::Axiom(node(node_word)?, number(k)))
+}
+
+/// The value of a digit.
+fn number(word: &str) -> u8 {
+    match word.as_bytes() {
+        [k] => digit(*k),
+        _ => 99,
+    }
+}
+
+fn digit(byte: u8) -> u8 {
+    byte.saturating_sub(b'0')
+}

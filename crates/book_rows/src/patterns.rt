@@ -1,0 +1,98 @@
+ghost use Rattle.std.specs.Prelude.{◌≡◌, [], ◌∷◌, length};
+ghost use Rattle.std.specs.Bool.{OnTrue};
+ghost use Rattle.netlist.specs.Circuit.{IsCircuit};
+
+use lits::Side;
+use netlist::{And, Circuit, Net};
+use std::alloc::{AllocError, Global};
+use std::test::Fail;
+use word_sim::{Pool, fill, signatures};
+
+/// A pool of one seeded word; a pattern that is added opens the next word.
+#[test]
+fn seeded_pool(rt: HostRuntime) -> Result<(), Fail> {
+    let mut pool = Pool::seeded(rt.alloc(), 7, 1, 2)?;
+    assert_eq!(rt; (pool.inputs(), pool.patterns(), pool.words()), (2, 64, 1));
+    pool.add(&[true, false])?;
+    assert_eq!(rt; (pool.patterns(), pool.words()), (65, 2));
+    Ok(())
+}
+
+/// A circuit of two inputs whose output is a gate.
+fn and(alloc: Global, left: u32, right: u32) -> Result<Circuit, AllocError>
+    requires { IsCircuit (record {
+      inputs = 1 ∷ 2 ∷ [];
+      gates = record { var = 3; left = left; right = right } ∷ [];
+      outputs = 6 ∷ [];
+    }) }
+{
+    let gate = And {
+        var: 3,
+        left,
+        right,
+    };
+    Circuit::of(
+        alloc,
+        Vec::from_slice(alloc, &[1, 2])?,
+        Vec::from_slice(alloc, &[gate])?,
+        Vec::from_slice(alloc, &[6])?,
+    )
+}
+
+/// Whether a pattern has a truth value for each input.
+fn fits(net: &Net, pool: &Pool) -> bool
+    ensures { OnTrue result (pool.now.inputs ≡ length net.now.a.inputs) }
+{
+    pool.inputs() as usize == net.circuit(Side::A).inputs().len()
+}
+
+/// One seeded word, and as pattern 64 the input 10.
+fn pool(alloc: Global) -> Result<Pool, AllocError> {
+    let mut pool = Pool::seeded(alloc, 7, 1, 2)?;
+    pool.add(&[true, false])?;
+    Ok(pool)
+}
+
+/// The words of the inputs are those of tools/draws.py, the others what C's operators make of them.
+#[test]
+fn rows_of_swapped_ands(rt: HostRuntime) -> Result<(), Fail> {
+    let alloc = rt.alloc();
+    let net = Net::of(alloc, and(alloc, 2, 4)?, and(alloc, 4, 2)?).map_err(|_| "a net")?;
+    let pool = pool(alloc)?;
+    assert!(rt; fits(&net, &pool));
+    let sigs = signatures(alloc, &net, &pool)?;
+    assert_eq!(rt; sigs.patterns(), 65);
+    assert!(rt; net.positions() >= 5);
+    assert_eq!(rt; sigs.row(0), [u64::MAX, 1].as_slice());
+    assert_eq!(rt; sigs.row(1), [0x0021_3964_d113_e80f, 1].as_slice());
+    assert_eq!(rt; sigs.row(2), [0x3b38_6b74_5518_224d, 0].as_slice());
+    assert_eq!(rt; sigs.row(3), [0x0020_2964_5110_200d, 0].as_slice());
+    assert_eq!(rt; sigs.row(4), [0x0020_2964_5110_200d, 0].as_slice());
+    Ok(())
+}
+
+/// Rows of gates over complements and over the constant, in one buffer; the bits behind pattern 64 are
+/// cleared.
+#[test]
+fn rows_of_complements(rt: HostRuntime) -> Result<(), Fail> {
+    let alloc = rt.alloc();
+    let net = Net::of(alloc, and(alloc, 3, 5)?, and(alloc, 1, 5)?).map_err(|_| "a net")?;
+    let pool = pool(alloc)?;
+    assert!(rt; fits(&net, &pool));
+    let mut rows = vec![in alloc; 7; net.positions() as usize * pool.words() as usize]?;
+    fill(&net, &pool, rows.as_mut_slice());
+    let expected = [
+        u64::MAX,
+        1,
+        0x0021_3964_d113_e80f,
+        1,
+        0x3b38_6b74_5518_224d,
+        0,
+        0xc4c6_848b_2ae4_15b0,
+        0,
+        0xc4c7_948b_aae7_ddb2,
+        1,
+    ];
+    assert_eq!(rt; rows.as_slice(), expected.as_slice());
+    Ok(())
+}

@@ -1,0 +1,18 @@
+//! Tests of the crates of the sweep, from outside: each public call once and worked cases. It has no code
+//! of its own.
+//!
+//! The tests of a crate stand here and not in it, since a crate with tests is proved twice. Modules:
+//! `structure` is of `strash_pass`, `searches` of `circuit_search`, `queries` of `cone_query`, `stitching`
+//! of `proof_stitch`, `sessions` of `check_session`.
+#![tactic(auto)]
+
+#[cfg(test)]
+mod queries;
+#[cfg(test)]
+mod searches;
+#[cfg(test)]
+mod sessions;
+#[cfg(test)]
+mod stitching;
+#[cfg(test)]
+mod structure;

@@ -1,0 +1,181 @@
+ghost use Rattle.std.specs.Prelude.{◌≡◌, ◌≤◌, [], ◌∷◌};
+ghost use Rattle.std.specs.Bool.{OnTrue};
+ghost use Rattle.netlist.specs.Circuit.{IsCircuit};
+ghost use Rattle.lemma_book.specs.Book.{IsLegal};
+ghost use Rattle.lemma_book.specs.Good.{IsEarlier};
+ghost use Rattle.cone_query.specs.Query.{IsGate};
+
+use cone_query::{output, pair};
+use lemma_book::{Book, Entry, Task};
+use lits::{Clause, Listed, Lit, Literal, Node, Ref, Side, Step};
+use netlist::{And, Circuit, Net};
+use solver_plain::PlainSolver;
+use std::alloc::{AllocError, Global};
+use std::process::Abort;
+use std::test::Fail;
+
+fn circuit(alloc: Global, gates: &[And], output: u32) -> Result<Circuit, AllocError>
+    requires { IsCircuit (record { inputs = 1 ∷ 2 ∷ []; gates = gates.now; outputs = output ∷ [] }) }
+{
+    let inputs = Vec::from_slice(alloc, &[1, 2])?;
+    let gates = Vec::from_slice(alloc, gates)?;
+    Circuit::of(alloc, inputs, gates, Vec::from_slice(alloc, &[output])?)
+}
+
+fn and(var: u32, left: u32, right: u32) -> And
+    ensures { result ≡ record { var = var; left = left; right = right } }
+{
+    And { var, left, right }
+}
+
+/// The AND of two inputs on both sides, with the fanins swapped.
+fn swapped_and(alloc: Global) -> Result<Net, Fail> {
+    let a = circuit(alloc, &[and(3, 2, 4)], 6)?;
+    let b = circuit(alloc, &[and(3, 4, 2)], 6)?;
+    Ok(Net::of(alloc, a, b).map_err(|_| "a net")?)
+}
+
+/// The XOR of two inputs on both sides, by other gates.
+fn two_xors(alloc: Global) -> Result<Net, Fail> {
+    let a = circuit(alloc, &[and(3, 2, 5), and(4, 3, 4), and(5, 7, 9)], 11)?;
+    let b = circuit(alloc, &[and(3, 2, 4), and(4, 3, 5), and(5, 7, 9)], 10)?;
+    Ok(Net::of(alloc, a, b).map_err(|_| "a net")?)
+}
+
+fn plus(node: Node) -> Lit {
+    Lit { node, neg: false }
+}
+
+const A3: Node = Node::Gate(Side::A, 3);
+
+const B3: Node = Node::Gate(Side::B, 3);
+
+/// Whether the literal's node is earlier than the task's.
+fn is_earlier(net: &Net, task: &Task) -> bool
+    ensures { OnTrue result (IsEarlier net.now task.now.node task.now.lit) }
+{
+    match (net.position(task.lit.node), net.position(task.node)) {
+        (Some(first), Some(second)) => first < second,
+        _ => false,
+    }
+}
+
+/// The answer about a pair over an empty book.
+fn answer_of_pair(
+    rt: &impl Abort,
+    alloc: Global,
+    net: &Net,
+    task: &Task,
+    budget: u64,
+) -> Result<Entry, Fail>
+    requires gate { IsGate task.now.node }
+    requires budget { (1 ≤ budget) × (budget ≤ 1000000000) }
+{
+    assert!(rt; is_earlier(net, task));
+    let seen = Book::new(alloc, budget, 1);
+    Ok(pair(alloc, net, &seen, task, &mut PlainSolver::new(alloc))?)
+}
+
+/// The answer about output 0.
+fn answer_of_output(rt: &impl Abort, alloc: Global, net: &Net, seen: &Book) -> Result<Entry, Fail>
+    requires { IsLegal net.now seen.now }
+{
+    assert!(rt; net.outputs() > 0);
+    assert!(rt; seen.about(0).is_none());
+    Ok(output(alloc, net, seen, 0, &mut PlainSolver::new(alloc))?)
+}
+
+#[test]
+fn pair_merge(rt: HostRuntime) -> Result<(), Fail> {
+    let net = two_xors(rt.alloc())?;
+    let task = Task {
+        node: Node::Gate(Side::B, 5),
+        lit: plus(Node::Gate(Side::A, 5)).not(),
+    };
+    let entry = answer_of_pair(&rt, rt.alloc(), &net, &task, 100_000)?;
+    let Entry::Merge { node, lit, .. } = entry else {
+        return Err("no merge".into());
+    };
+    assert_eq!(rt; node, task.node);
+    assert_eq!(rt; lit, task.lit);
+    Ok(())
+}
+
+/// The AND of both inputs is the first one but where the second is false.
+#[test]
+fn pair_apart(rt: HostRuntime) -> Result<(), Fail> {
+    let net = swapped_and(rt.alloc())?;
+    let task = Task {
+        node: A3,
+        lit: plus(Node::Input(0)),
+    };
+    let entry = answer_of_pair(&rt, rt.alloc(), &net, &task, 1000)?;
+    let Entry::Apart { input, .. } = entry else {
+        return Err("no input".into());
+    };
+    assert_eq!(rt; input.as_slice(), [true, false].as_slice());
+    Ok(())
+}
+
+#[test]
+fn output_query(rt: HostRuntime) -> Result<(), Fail> {
+    let alloc = rt.alloc();
+    let net = two_xors(alloc)?;
+    let entry = answer_of_output(&rt, alloc, &net, &Book::new(alloc, 1, 1))?;
+    let Entry::OutSpent { seen, log, .. } = entry else {
+        return Err("not spent".into());
+    };
+    assert_eq!(rt; seen, 0);
+    assert_eq!(rt; log.as_slice().len(), 1);
+    let entry = answer_of_output(&rt, alloc, &net, &Book::new(alloc, 1, 100_000))?;
+    assert!(rt; matches!(entry, Entry::Out { output: 0, .. }));
+    Ok(())
+}
+
+fn step(alloc: Global, lits: &[Lit], hints: &[Ref]) -> Result<Step, Fail> {
+    let clause = Clause::of(alloc, lits).map_err(|_| "a clause")?;
+    let hints = Listed::of(Vec::from_slice(alloc, hints)?);
+    Ok(Step { clause, hints })
+}
+
+/// The merge of the two swapped ANDs.
+fn merge(alloc: Global) -> Result<Entry, Fail> {
+    let (a, b) = (plus(A3), plus(B3));
+    let axiom = Ref::Axiom;
+    let mut steps = Vec::new(alloc);
+    let hints = [axiom(B3, 0), axiom(B3, 1), axiom(A3, 2)];
+    steps.push(step(alloc, &[b.not(), a], &hints)?)?;
+    let hints = [axiom(A3, 0), axiom(A3, 1), axiom(B3, 2)];
+    steps.push(step(alloc, &[b, a.not()], &hints)?)?;
+    Ok(Entry::Merge {
+        node: B3,
+        lit: a,
+        steps: Listed::of(steps),
+    })
+}
+
+/// Two steps over the merge and the XOR: by the merge's first clause a false output of A makes that of B
+/// false, and by its second a true one makes it true, so where the XOR is true neither can be.
+#[test]
+fn output_of_equal_roots(rt: HostRuntime) -> Result<(), Fail> {
+    let alloc = rt.alloc();
+    let net = swapped_and(alloc)?;
+    let mut seen = Book::new(alloc, 1, 1);
+    assert!(rt; seen.offer(alloc, &net, merge(alloc)?).is_ok());
+    let entry = answer_of_output(&rt, alloc, &net, &seen)?;
+    let Entry::Out { steps, .. } = entry else {
+        return Err("not out".into());
+    };
+    let [first, second] = steps.as_slice() else {
+        return Err("not two steps".into());
+    };
+    let xor = Node::Xor(0);
+    let equal = plus(xor).not();
+    let hints = [Ref::Entry(0, 0), Ref::Axiom(xor, 0)];
+    assert_eq!(rt; first.clause.lits(), [equal, plus(A3)].as_slice());
+    assert_eq!(rt; first.hints.as_slice(), hints.as_slice());
+    let hints = [Ref::Own(0), Ref::Entry(0, 1), Ref::Axiom(xor, 1)];
+    assert_eq!(rt; second.clause.lits(), [equal].as_slice());
+    assert_eq!(rt; second.hints.as_slice(), hints.as_slice());
+    Ok(())
+}

@@ -1,0 +1,173 @@
+ghost use Rattle.std.specs.Prelude.{◌≡◌};
+ghost use Rattle.netlist.specs.Circuit.{IsCircuit};
+ghost use Rattle.check_session.specs.Check.{AreInRange};
+
+use check_session::{Options, Session, Verdict};
+use lemma_book::Entry;
+use lits::{Lit, Node, Side};
+use netlist::{And, Circuit, Unlike};
+use std::alloc::{AllocError, Global};
+use std::test::Fail;
+
+fn circuit(
+    alloc: Global,
+    inputs: &[u32],
+    gates: &[And],
+    outputs: &[u32],
+) -> Result<Circuit, AllocError>
+    requires { IsCircuit (record { inputs = inputs.now; gates = gates.now; outputs = outputs.now }) }
+{
+    Circuit::of(
+        alloc,
+        Vec::from_slice(alloc, inputs)?,
+        Vec::from_slice(alloc, gates)?,
+        Vec::from_slice(alloc, outputs)?,
+    )
+}
+
+fn and(var: u32, left: u32, right: u32) -> And
+    ensures { result ≡ record { var = var; left = left; right = right } }
+{
+    And { var, left, right }
+}
+
+/// The AND of two inputs.
+fn one_and(alloc: Global) -> Result<Circuit, AllocError> {
+    circuit(alloc, &[1, 2], &[and(3, 2, 4)], &[6])
+}
+
+/// The numbers that the program goes by where it isn't told others.
+const DEFAULTS: Options = Options {
+    seed: 1,
+    words: 4,
+    sweep_budget: 100,
+    out_budget: 100_000,
+};
+
+/// A session of the circuits after its check, and the verdict.
+fn checked(
+    alloc: Global,
+    a: Circuit,
+    b: Circuit,
+    options: Options,
+) -> Result<(Session, Verdict), Fail>
+    requires { AreInRange options }
+{
+    let mut session = Session::open(alloc, a, b, options).map_err(|_| "a session")?;
+    let verdict = session.check(alloc)?;
+    Ok((session, verdict))
+}
+
+#[test]
+fn unlike_circuits(rt: HostRuntime) -> Result<(), Fail> {
+    let alloc = rt.alloc();
+    let b = circuit(alloc, &[1, 2, 3], &[], &[6])?;
+    let refused = Session::open(alloc, one_and(alloc)?, b, DEFAULTS);
+    assert!(rt; matches!(refused, Err(Unlike::Inputs(2, 3))));
+    Ok(())
+}
+
+/// The structural pass merges the one gate, and the output needs no search.
+#[test]
+fn equal_by_structure(rt: HostRuntime) -> Result<(), Fail> {
+    let alloc = rt.alloc();
+    let b = circuit(alloc, &[1, 2], &[and(3, 4, 2)], &[6])?;
+    let (session, verdict) = checked(alloc, one_and(alloc)?, b, DEFAULTS)?;
+    assert!(rt; matches!(verdict, Verdict::Equivalent));
+    let book = session.into_book();
+    assert_eq!(rt; book.len(), 2);
+    assert!(rt; matches!(book.entry(0), Some(Entry::Merge { .. })));
+    assert!(rt; matches!(book.about(0), Some(Entry::Out { .. })));
+    Ok(())
+}
+
+/// A pattern tells the output apart, and only x = y = 1 can.
+#[test]
+fn different_by_a_pattern(rt: HostRuntime) -> Result<(), Fail> {
+    let alloc = rt.alloc();
+    let b = circuit(alloc, &[1, 2], &[], &[0])?;
+    let (session, verdict) = checked(alloc, one_and(alloc)?, b, DEFAULTS)?;
+    let Verdict::Different { output, input } = verdict else {
+        return Err("another verdict".into());
+    };
+    assert_eq!(rt; output, 0);
+    assert_eq!(rt; input.as_slice(), [true, true].as_slice());
+    let book = session.into_book();
+    assert_eq!(rt; book.len(), 1);
+    assert!(rt; matches!(book.about(0), Some(Entry::OutApart { .. })));
+    Ok(())
+}
+
+/// The XOR of two inputs, in two ways.
+fn first_xor(alloc: Global) -> Result<Circuit, AllocError> {
+    circuit(
+        alloc,
+        &[1, 2],
+        &[and(3, 2, 5), and(4, 3, 4), and(5, 7, 9)],
+        &[11],
+    )
+}
+
+fn second_xor(alloc: Global) -> Result<Circuit, AllocError> {
+    circuit(
+        alloc,
+        &[1, 2],
+        &[and(3, 2, 4), and(4, 3, 5), and(5, 7, 9)],
+        &[10],
+    )
+}
+
+/// No gate is a twin of another; a round merges the last one to the complement of A's.
+#[test]
+fn equal_by_a_round(rt: HostRuntime) -> Result<(), Fail> {
+    let alloc = rt.alloc();
+    let (session, verdict) = checked(alloc, first_xor(alloc)?, second_xor(alloc)?, DEFAULTS)?;
+    assert!(rt; matches!(verdict, Verdict::Equivalent));
+    let lit = |side: Side, neg: bool| Lit {
+        node: Node::Gate(side, 5),
+        neg,
+    };
+    assert_eq!(rt;
+        session.book().root(lit(Side::B, false)),
+        lit(Side::A, true)
+    );
+    Ok(())
+}
+
+/// A pair whose budget of one clause is spent leaves the output to its own query, which has enough.
+#[test]
+fn equal_by_its_output(rt: HostRuntime) -> Result<(), Fail> {
+    let alloc = rt.alloc();
+    let options = Options {
+        seed: 1,
+        words: 4,
+        sweep_budget: 1,
+        out_budget: 100_000,
+    };
+    let (session, verdict) = checked(alloc, first_xor(alloc)?, second_xor(alloc)?, options)?;
+    assert!(rt; matches!(verdict, Verdict::Equivalent));
+    assert!(rt; matches!(session.book().about(0), Some(Entry::Out { .. })));
+    Ok(())
+}
+
+/// With a budget of one clause for the output too it stays open.
+#[test]
+fn undecided_within_budgets(rt: HostRuntime) -> Result<(), Fail> {
+    let alloc = rt.alloc();
+    let options = Options {
+        seed: 1,
+        words: 4,
+        sweep_budget: 1,
+        out_budget: 1,
+    };
+    let (session, verdict) = checked(alloc, first_xor(alloc)?, second_xor(alloc)?, options)?;
+    let Verdict::Undecided { outputs } = verdict else {
+        return Err("another verdict".into());
+    };
+    assert_eq!(rt; outputs.as_slice(), [0].as_slice());
+    let Some(Entry::OutSpent { log, .. }) = session.book().about(0) else {
+        return Err("no log".into());
+    };
+    assert_eq!(rt; log.len(), 1);
+    Ok(())
+}

@@ -1,0 +1,139 @@
+ghost use Rattle.std.specs.Prelude.{◌≡◌};
+ghost use Rattle.netlist.specs.Circuit.{IsCircuit};
+
+use lemma_book::{Book, Entry};
+use lits::{Lit, Literal, Node, Side};
+use netlist::{And, Circuit, Net};
+use std::alloc::{AllocError, Global};
+use std::test::Fail;
+use strash_pass::run;
+
+fn circuit(
+    alloc: Global,
+    inputs: &[u32],
+    gates: &[And],
+    outputs: &[u32],
+) -> Result<Circuit, AllocError>
+    requires { IsCircuit (record { inputs = inputs.now; gates = gates.now; outputs = outputs.now }) }
+{
+    Circuit::of(
+        alloc,
+        Vec::from_slice(alloc, inputs)?,
+        Vec::from_slice(alloc, gates)?,
+        Vec::from_slice(alloc, outputs)?,
+    )
+}
+
+fn and(var: u32, left: u32, right: u32) -> And
+    ensures { result ≡ record { var = var; left = left; right = right } }
+{
+    And { var, left, right }
+}
+
+/// The net of the circuits, and its book after the pass, which merges so many gates.
+fn passed(alloc: Global, a: Circuit, b: Circuit, merges: u64) -> Result<Book, Fail> {
+    let net = Net::of(alloc, a, b).map_err(|_| "a net")?;
+    let mut book = Book::new(alloc, 100, 100_000);
+    let count = run(alloc, &net, &mut book)?;
+    if count != merges || book.len() != merges {
+        return Err("another count of merges".into());
+    }
+    Ok(book)
+}
+
+const X: Lit = Lit {
+    node: Node::Input(0),
+    neg: false,
+};
+
+const Y: Lit = Lit {
+    node: Node::Input(1),
+    neg: false,
+};
+
+const YES: Lit = Lit {
+    node: Node::Const,
+    neg: false,
+};
+
+/// The literal of a gate.
+fn gate(side: Side, var: u32) -> Lit {
+    Lit {
+        node: Node::Gate(side, var),
+        neg: false,
+    }
+}
+
+#[test]
+fn strash_of_swapped_ands(rt: HostRuntime) -> Result<(), Fail> {
+    let alloc = rt.alloc();
+    let a = circuit(alloc, &[1, 2], &[and(3, 2, 4)], &[6])?;
+    let b = circuit(alloc, &[1, 2], &[and(3, 4, 2)], &[6])?;
+    let book = passed(alloc, a, b, 1)?;
+    assert_eq!(rt; book.root(gate(Side::B, 3)), gate(Side::A, 3));
+    let Some(Entry::Merge { steps, .. }) = book.entry(0) else {
+        return Err("no merge".into());
+    };
+    assert_eq!(rt; steps.len(), 2);
+    Ok(())
+}
+
+/// Two XORs by other gates: no gate has a twin.
+#[test]
+fn strash_of_two_xors(rt: HostRuntime) -> Result<(), Fail> {
+    let alloc = rt.alloc();
+    let a = circuit(
+        alloc,
+        &[1, 2],
+        &[and(3, 2, 5), and(4, 3, 4), and(5, 7, 9)],
+        &[11],
+    )?;
+    let b = circuit(
+        alloc,
+        &[1, 2],
+        &[and(3, 2, 4), and(4, 3, 5), and(5, 7, 9)],
+        &[10],
+    )?;
+    let book = passed(alloc, a, b, 0)?;
+    assert_eq!(rt; book.root(gate(Side::B, 5)), gate(Side::B, 5));
+    Ok(())
+}
+
+/// Gates that merge, by what they are merged to: an AND of one literal twice, of a literal and its
+/// negation, of an input and true, of true and an input, of false and an input, of an input and false.
+#[test]
+fn folded_gates(rt: HostRuntime) -> Result<(), Fail> {
+    let alloc = rt.alloc();
+    let a = circuit(
+        alloc,
+        &[1],
+        &[and(2, 2, 2), and(3, 2, 3), and(4, 1, 2)],
+        &[4, 6],
+    )?;
+    let b = circuit(
+        alloc,
+        &[1],
+        &[and(2, 3, 1), and(3, 0, 2), and(4, 2, 0)],
+        &[5, 6],
+    )?;
+    let book = passed(alloc, a, b, 6)?;
+    assert_eq!(rt; book.root(gate(Side::A, 2)), X);
+    assert_eq!(rt; book.root(gate(Side::A, 3)), YES.not());
+    assert_eq!(rt; book.root(gate(Side::A, 4)), X);
+    assert_eq!(rt; book.root(gate(Side::B, 2)), X.not());
+    assert_eq!(rt; book.root(gate(Side::B, 3)), YES.not());
+    assert_eq!(rt; book.root(gate(Side::B, 4)), YES.not());
+    Ok(())
+}
+
+/// A gate whose fanins are merged is seen by their roots: B's second gate is a twin of A's by way of
+/// its first.
+#[test]
+fn twins_by_their_roots(rt: HostRuntime) -> Result<(), Fail> {
+    let alloc = rt.alloc();
+    let a = circuit(alloc, &[1, 2], &[and(3, 2, 4), and(4, 7, 2)], &[8])?;
+    let b = circuit(alloc, &[1, 2], &[and(3, 4, 2), and(4, 2, 7)], &[8])?;
+    let book = passed(alloc, a, b, 2)?;
+    assert_eq!(rt; book.root(gate(Side::B, 4).not()), gate(Side::A, 4).not());
+    Ok(())
+}

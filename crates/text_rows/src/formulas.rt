@@ -1,0 +1,208 @@
+use desk_port::{Desk, MemDesk};
+use dimacs_text::{Cnf, CnfErr, print, read};
+use lits::{Clause, Dim};
+use std::alloc::Global;
+use std::collections::BTreeMap;
+use std::process::Abort;
+use std::test::Fail;
+
+#[test]
+fn dimacs_print(rt: HostRuntime) -> Result<(), Fail> {
+    let alloc = rt.alloc();
+    let one = Clause::of(alloc, &[Dim::new(1, false)]).map_err(|_| "a clause")?;
+    let none = Clause::of(alloc, &[]).map_err(|_| "a clause")?;
+    let clauses = vec![in alloc; one, none]?;
+    let mut desk = MemDesk::new(alloc, BTreeMap::new(alloc), Vec::new(alloc))?;
+    desk.start("cnf").map_err(|_| "started")?;
+    print(alloc, &mut desk, 1, clauses.as_slice()).map_err(|_| "written")?;
+    desk.close().map_err(|_| "closed")?;
+    assert_eq!(rt; desk.file("cnf"), Some(b"p cnf 1 2\n1 0\n0\n".as_slice()));
+    Ok(())
+}
+
+/// The clauses as numbers, with 0 behind each.
+fn numbers(alloc: Global, cnf: &Cnf) -> Result<Vec<i64>, Fail> {
+    let mut numbers = Vec::new(alloc);
+    for clause in cnf.clauses.as_slice() {
+        for literal in clause.as_slice() {
+            let var = i64::from(literal.var());
+            numbers.push(if literal.is_negated() { -var } else { var })?;
+        }
+        numbers.push(0)?;
+    }
+    Ok(numbers)
+}
+
+/// Reads a text, and compares its variables and clauses.
+fn check_read(
+    rt: &impl Abort,
+    alloc: Global,
+    text: &[u8],
+    variables: u32,
+    clauses: &[i64],
+) -> Result<(), Fail> {
+    let cnf = read(alloc, text).map_err(|_| "a formula")?;
+    assert_eq!(rt; cnf.variables, variables);
+    assert_eq!(rt; numbers(alloc, &cnf)?.as_slice(), clauses);
+    Ok(())
+}
+
+/// Reads each text, and compares its fault.
+fn check_faults(rt: &impl Abort, alloc: Global, rows: &[(&[u8], CnfErr)]) {
+    for (i, (text, fault)) in rows.iter().enumerate() {
+        match read(alloc, *text) {
+            Err(found) => assert_eq!(rt; found, *fault, "row {i}"),
+            Ok(_) => assert!(rt; false, "row {i} is read"),
+        }
+    }
+}
+
+#[test]
+fn dimacs_read(rt: HostRuntime) -> Result<(), Fail> {
+    let alloc = rt.alloc();
+    let text = b"p cnf 6 12\n1 0\n-4 2 0\n-4 3 0\n4 -2 -3 0\n-5 3 0\n-5 2 0\n5 -3 -2 0\n\
+        -6 4 5 0\n-6 -4 -5 0\n6 -4 5 0\n6 4 -5 0\n6 0\n";
+    let clauses = [
+        1, 0, -4, 2, 0, -4, 3, 0, 4, -2, -3, 0, -5, 3, 0, -5, 2, 0, 5, -3, -2, 0, -6, 4, 5, 0, -6,
+        -4, -5, 0, 6, -4, 5, 0, 6, 4, -5, 0, 6, 0,
+    ];
+    check_read(&rt, alloc, text, 6, &clauses)?;
+    let rows: [(&[u8], CnfErr); 3] = [
+        (b"p cnf 1 1\n2 0\n", CnfErr::Var(2)),
+        (b"p cnf 1 2\n1 0\n", CnfErr::Count(2, 1)),
+        (b"p cnf 1 1\n1", CnfErr::Truncated(11)),
+    ];
+    check_faults(&rt, alloc, rows.as_slice());
+    Ok(())
+}
+
+#[test]
+fn words_and_comments(rt: HostRuntime) -> Result<(), Fail> {
+    let alloc = rt.alloc();
+    check_read(&rt, alloc, b"p cnf 0 0", 0, &[])?;
+    check_read(&rt, alloc, b"p cnf 0 1\n0\n", 0, &[0])?;
+    check_read(&rt, alloc, b"p cnf 007 01\n-007 00\n", 7, &[-7, 0])?;
+    check_read(
+        &rt,
+        alloc,
+        b"p cnf 2147483647 1 -2147483647 0",
+        2_147_483_647,
+        &[-2_147_483_647, 0],
+    )?;
+
+    // Comments stand between any two lines, and a clause may span lines.
+    let text = b"c p cnf 9 9\n p\r\nc between\n\tcnf\t3\nc\n 2\n1\nc 7 0\n-2\r\n0\n\n 3\t0\r\nc";
+    check_read(&rt, alloc, text, 3, &[1, -2, 0, 3, 0])?;
+
+    // A repeated literal counts once, and one may stand beside its negation.
+    let text = b"p cnf 2 2\n1 -2 1 -2 2 0 2 2 2 0\n";
+    check_read(&rt, alloc, text, 2, &[1, -2, 2, 0, 2, 0])
+}
+
+#[test]
+fn wide_clause(rt: HostRuntime) -> Result<(), Fail> {
+    let alloc = rt.alloc();
+    let mut text = Vec::from_slice(alloc, b"p cnf 50 1\n")?;
+    let mut clause = Vec::new(alloc);
+    for var in 1..=50i64 {
+        text.extend_from_slice(format!(in alloc; "{var} {var} -1\n")?.as_bytes())?;
+        clause.push(var)?;
+        if var == 1 {
+            clause.push(-1)?;
+        }
+    }
+    text.extend_from_slice(b"0\n")?;
+    clause.push(0)?;
+    check_read(&rt, alloc, text.as_slice(), 50, clause.as_slice())
+}
+
+#[test]
+fn bad_headers(rt: HostRuntime) {
+    let texts: [&[u8]; 17] = [
+        b"",
+        b"c only a comment\n",
+        b"p",
+        b"p cnf\n",
+        b"p cnf 1\n",
+        b"p cnf 1\nc 1\n",
+        b"p cnf 2147483648 0\n",
+        b"p cnf 0 2147483648\n",
+        b"p cnf 100000000000000000000 0\n",
+        b"p cnf -1 0\n",
+        b"p cnf +1 0\n",
+        b"p cnf 1 -0\n",
+        b"p cnf 1 x\n",
+        b"p dnf 1 0\n",
+        b"pcnf 1 0\n",
+        b"1 0\np cnf 1 1\n",
+        // This `cnf` begins a comment.
+        b"p\ncnf 1 0\n",
+    ];
+    for (i, text) in texts.iter().enumerate() {
+        let found = read(rt.alloc(), *text);
+        assert!(rt; matches!(found, Err(CnfErr::BadHeader)), "row {i}");
+    }
+}
+
+#[test]
+fn bad_numbers(rt: HostRuntime) {
+    let rows: [(&[u8], CnfErr); 12] = [
+        (b"p cnf 1 1\n-0 0\n", CnfErr::BadNumber(10)),
+        (b"p cnf 1 1\n1 -00\n", CnfErr::BadNumber(12)),
+        (b"p cnf 1 1\n1 +1 0\n", CnfErr::BadNumber(12)),
+        (b"p cnf 1 1\n1\n- 1 0\n", CnfErr::BadNumber(12)),
+        (b"p cnf 1 1\n--1 0\n", CnfErr::BadNumber(10)),
+        (b"p cnf 1 1\n1-1 0\n", CnfErr::BadNumber(10)),
+        (b"p cnf 1 1\n1 0x\n", CnfErr::BadNumber(12)),
+        (b"p cnf 1 1\n1 0\n%\n0\n", CnfErr::BadNumber(14)),
+        (b"p cnf 1 1 1\x0b0\n", CnfErr::BadNumber(10)),
+        (b"c\np cnf 1 1\r\n\t 1 0 x", CnfErr::BadNumber(19)),
+        // Only at the front of a line does `c` begin a comment.
+        (b"p cnf 1 1\n1 c 0\n", CnfErr::BadNumber(12)),
+        (b"p cnf 1 1\n1\n c\n0\n", CnfErr::BadNumber(13)),
+    ];
+    check_faults(&rt, rt.alloc(), rows.as_slice());
+}
+
+#[test]
+fn later_faults(rt: HostRuntime) {
+    let rows: [(&[u8], CnfErr); 14] = [
+        (b"p cnf 0 1\n1 0\n", CnfErr::Var(1)),
+        (b"p cnf 3 1\n3 -4 0\n", CnfErr::Var(4)),
+        (
+            b"p cnf 2147483647 1\n2147483648 0\n",
+            CnfErr::Var(2_147_483_648),
+        ),
+        (
+            b"p cnf 3 1\n-99999999999999999999 0\n",
+            CnfErr::Var(1_000_000_000_000_000_000),
+        ),
+        (b"p cnf 1 1\n1 0 1\n", CnfErr::Truncated(16)),
+        (b"p cnf 1 1\n1\nc 0\n", CnfErr::Truncated(16)),
+        (b"p cnf 1 0\n1 0\n", CnfErr::Count(0, 1)),
+        (b"p cnf 1 1 ", CnfErr::Count(1, 0)),
+        (b"p cnf 1 3\n1 0 0\n", CnfErr::Count(3, 2)),
+        // The first word that is wrong counts, then the end, and then the number of clauses.
+        (b"p cnf 1 9\n2 x\n", CnfErr::Var(2)),
+        (b"p cnf 1 9\nx 2\n", CnfErr::BadNumber(10)),
+        (b"p cnf 1 9\n1 0 1 x", CnfErr::BadNumber(16)),
+        (b"p cnf 1 9\n1 0 1", CnfErr::Truncated(15)),
+        (b"p cnf 1 0\n1 0 2 0\n", CnfErr::Var(2)),
+    ];
+    check_faults(&rt, rt.alloc(), rows.as_slice());
+}
+
+#[test]
+fn fault_texts(rt: HostRuntime) -> Result<(), Fail> {
+    for (fault, text) in [
+        (CnfErr::BadHeader, "bad header"),
+        (CnfErr::BadNumber(10), "bad number at byte 10"),
+        (CnfErr::Var(7), "variable of 7 is too large"),
+        (CnfErr::Count(2, 1), "2 clauses announced, 1 found"),
+        (CnfErr::Truncated(11), "ends too early at byte 11"),
+        (CnfErr::NoMemory, "out of memory"),
+    ] {
+        assert_eq!(rt; fault.to_string(rt.alloc())?.as_str(), text);
+    }
+    Ok(())
+}

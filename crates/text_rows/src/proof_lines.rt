@@ -1,0 +1,168 @@
+use lits::{Dim, Listed};
+use lrat_text::{Line, LratErr, LratStep, push_line, read};
+use std::alloc::Global;
+use std::process::Abort;
+use std::test::Fail;
+
+/// The steps written again, each with the last addition's id before it.
+fn written(alloc: Global, lines: &[Line]) -> Result<Vec<u8>, Fail> {
+    let mut text = Vec::new(alloc);
+    let mut last = 0;
+    for line in lines {
+        push_line(&mut text, last, &line.step)?;
+        if let LratStep::Add { id, .. } = &line.step {
+            last = *id;
+        }
+    }
+    Ok(text)
+}
+
+/// Reads a text and compares its steps with the text that they are written by, and the numbers of its lines.
+fn check_read(
+    rt: &impl Abort,
+    alloc: Global,
+    text: &[u8],
+    again: &[u8],
+    numbers: &[u64],
+) -> Result<(), Fail> {
+    let lines = read(alloc, text, 12).map_err(|_| "a proof text")?;
+    let found = lines.iter().map(|line| line.at).collect::<Vec<u64>>(alloc)?;
+    assert_eq!(rt; found.as_slice(), numbers);
+    assert_eq!(rt; written(alloc, lines.as_slice())?.as_slice(), again);
+    Ok(())
+}
+
+#[test]
+fn lrat_line(rt: HostRuntime) -> Result<(), Fail> {
+    let alloc = rt.alloc();
+    let step = LratStep::Add {
+        id: 3,
+        clause: Listed::of(Vec::new(alloc)),
+        hints: Listed::of(vec![in alloc; 2]?),
+    };
+    let mut text = Vec::new(alloc);
+    push_line(&mut text, 0, &step)?;
+    assert_eq!(rt; text.as_slice(), b"3 0 2 0\n".as_slice());
+    let lines = read(alloc, text.as_slice(), 2).map_err(|_| "a proof text")?;
+    assert_eq!(rt; lines.len(), 1);
+    assert_eq!(rt;
+        written(alloc, lines.as_slice())?.as_slice(),
+        text.as_slice()
+    );
+    assert!(rt; matches!(read(alloc, text.as_slice(), 3), Err(LratErr::Order(1))));
+    Ok(())
+}
+
+#[test]
+fn written_steps(rt: HostRuntime) -> Result<(), Fail> {
+    let alloc = rt.alloc();
+    let add = LratStep::Add {
+        id: 999_999_999_999_999_999,
+        clause: Listed::of(vec![in alloc; Dim::new(2_147_483_647, true), Dim::new(1, false)]?),
+        hints: Listed::of(vec![in alloc; 7, 12]?),
+    };
+    let del = LratStep::Del {
+        ids: Listed::of(vec![in alloc; 3, 99]?),
+    };
+    let mut text = Vec::from_slice(alloc, b"kept ")?;
+    push_line(&mut text, 5, &add)?;
+    push_line(&mut text, 13, &del)?;
+    let want = b"kept 999999999999999999 -2147483647 1 0 7 12 0\n13 d 3 99 0\n";
+    assert_eq!(rt; text.as_slice(), want.as_slice());
+    Ok(())
+}
+
+#[test]
+fn read_texts(rt: HostRuntime) -> Result<(), Fail> {
+    let alloc = rt.alloc();
+    let proof = b"13 -4 5 0 2 3 7 0\n13 d 99 0\n14 4 -5 0 5 6 4 0\n17 0 16 12 0\n";
+    check_read(&rt, alloc, proof, proof, &[1, 2, 3, 4])?;
+    check_read(&rt, alloc, b"", b"", &[])?;
+
+    // Lines without words count, spaces may be many, and the last LF may be missing.
+    let spaced = b"\n  \n 013  -4 5 00 2  0 \n\n14 d 0";
+    check_read(&rt, alloc, spaced, b"13 -4 5 0 2 0\n13 d 0\n", &[3, 5])?;
+
+    // A deletion's first number isn't judged, and a literal is bound by its size alone.
+    let wide = b"-1000000000000000000000 d 999999999999999999 0\n13 -2147483647 0 0\n";
+    let again = b"0 d 999999999999999999 0\n13 -2147483647 0 0\n";
+    check_read(&rt, alloc, wide, again, &[1, 2])
+}
+
+/// Reads each text, for a formula of 12 clauses, and compares its fault.
+fn check_faults(rt: &impl Abort, alloc: Global, rows: &[(&[u8], LratErr)]) {
+    for (i, (text, fault)) in rows.iter().enumerate() {
+        match read(alloc, *text, 12) {
+            Err(found) => assert_eq!(rt; found, *fault, "row {i}"),
+            Ok(_) => assert!(rt; false, "row {i} is read"),
+        }
+    }
+}
+
+#[test]
+fn words_that_are_no_numbers(rt: HostRuntime) {
+    let rows: [(&[u8], LratErr); 11] = [
+        (b"13 -0 0 1 0\n", LratErr::BadNumber(1)),
+        (b"13 1 0 1 0\n\nx 0 1 0\n", LratErr::BadNumber(3)),
+        (b"13 1 0 1 0\r\n", LratErr::BadNumber(1)),
+        (b"13\t0 1 0\n", LratErr::BadNumber(1)),
+        (b"13 + 0 1 0\n", LratErr::BadNumber(1)),
+        (b"13 1 0 - 0\n", LratErr::BadNumber(1)),
+        (b"13 1d 0 1 0\n", LratErr::BadNumber(1)),
+        (b"d 13 0\n", LratErr::BadNumber(1)),
+        (b"13 1 d 0\n", LratErr::BadNumber(1)),
+        (b"x d 1 0\n", LratErr::BadNumber(1)),
+        (b"-00 d 1 0\n", LratErr::BadNumber(1)),
+    ];
+    check_faults(&rt, rt.alloc(), rows.as_slice());
+}
+
+#[test]
+fn numbers_out_of_place(rt: HostRuntime) {
+    let rows: [(&[u8], LratErr); 11] = [
+        (b"0 1 0 1 0\n", LratErr::BadNumber(1)),
+        (b"-13 1 0 1 0\n", LratErr::BadNumber(1)),
+        (b"1000000000000000000 1 0 1 0\n", LratErr::BadNumber(1)),
+        (b"13 2147483648 0 1 0\n", LratErr::BadNumber(1)),
+        (b"13 -2147483648 0 1 0\n", LratErr::BadNumber(1)),
+        (b"13 1 0 1000000000000000000 0\n", LratErr::BadNumber(1)),
+        (b"13 1 0 -1000000000000000000 0\n", LratErr::BadNumber(1)),
+        (b"13 1 0 1 0 0\n", LratErr::BadNumber(1)),
+        (b"13 d -1 0\n", LratErr::BadNumber(1)),
+        (b"13 d 1000000000000000000 0\n", LratErr::BadNumber(1)),
+        (b"13 d 1 0 2\n", LratErr::BadNumber(1)),
+    ];
+    check_faults(&rt, rt.alloc(), rows.as_slice());
+}
+
+#[test]
+fn faults_of_whole_lines(rt: HostRuntime) {
+    let rows: [(&[u8], LratErr); 10] = [
+        // A missing 0 is judged before the id and the hints.
+        (b"13\n", LratErr::Truncated(1)),
+        (b"12 1\n", LratErr::Truncated(1)),
+        (b"12 1 0 -1", LratErr::Truncated(1)),
+        (b"13 d 1\n", LratErr::Truncated(1)),
+        (b"13 d", LratErr::Truncated(1)),
+        (b"12 1 0 -1 0\n", LratErr::Order(1)),
+        (b"13 1 0 1 0\n13 2 0 1 0\n", LratErr::Order(2)),
+        (b"14 1 0 1 0\n14 d 14 0\n13 2 0 1 0\n", LratErr::Order(3)),
+        (b"13 -4 5 0 -2 3 7 0\n", LratErr::Rat(1)),
+        (b"13 1 0 1 0\n14 2 0 1 -1 0\n", LratErr::Rat(2)),
+    ];
+    check_faults(&rt, rt.alloc(), rows.as_slice());
+}
+
+#[test]
+fn error_texts(rt: HostRuntime) -> Result<(), Fail> {
+    for (fault, text) in [
+        (LratErr::BadNumber(1), "line 1: bad number"),
+        (LratErr::Truncated(20), "line 20: ends too early"),
+        (LratErr::Order(3), "line 3: id out of order"),
+        (LratErr::Rat(4), "line 4: negative hint"),
+        (LratErr::NoMemory, "out of memory"),
+    ] {
+        assert_eq!(rt; fault.to_string(rt.alloc())?.as_str(), text);
+    }
+    Ok(())
+}

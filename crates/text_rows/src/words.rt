@@ -1,0 +1,334 @@
+use command_line::{Asked, Refusal, read};
+use std::alloc::Global;
+use std::process::Abort;
+use std::test::Fail;
+use workload_gen::Kind;
+
+const PROGRAM_HELP: &str = "help: \
+Decide whether circuits compute the same, and leave a proof that others can check
+
+Usage: cec <COMMAND>
+
+Commands:
+  check  Decide whether two circuits compute the same outputs
+  lrat   Check a proof that a formula has no model
+  self   Decide whether two circuits agree that the program makes, in two architectures
+
+Options:
+  -h, --help  Print help
+
+Status:
+  0  EQUIVALENT or VERIFIED was said, or help
+  1  DIFFERENT or REFUSED was said
+  2  UNDECIDED was said
+  3  the words are not as above
+  4  a file is not of its format, or the circuits are not alike
+  5  a file cannot be read
+  6  a file cannot be written, or an answer cannot be said
+  7  memory was refused
+";
+
+const CHECK_HELP: &str = "help: \
+Decide whether two circuits compute the same outputs
+
+Usage: cec check [OPTIONS] <A> <B>
+
+Arguments:
+  <A>  A combinational circuit, as an AIGER file
+  <B>  Another one, with as many inputs and outputs
+
+Options:
+      --out <PREFIX>      Leave the question and its proof in files whose names begin with PREFIX
+      --seed <N>          Draw the first patterns from N, from 0 to 18446744073709551615 [default: 1]
+      --words <N>         Draw 64 times N first patterns, N from 1 to 64 [default: 4]
+      --sweep-budget <N>  Give up on a pair of nodes after N learned clauses, \
+      from 1 to 1000000000 [default: 100]
+      --budget <N>        Give up on an output after N learned clauses, from 1 to 1000000000 [default: 100000]
+  -h, --help              Print help
+
+Says, and ends with the status before it:
+  0  EQUIVALENT
+  1  DIFFERENT, with an output and inputs on which it differs
+  2  UNDECIDED, with the outputs that are left open
+Other statuses tell of a fault: see cec --help.
+
+Files, with --out:
+  PREFIX.0.cnf   the miter of the circuits, which has a model exactly if they differ (DIMACS)
+  PREFIX.0.lrat  the proof that it has none, or as much of it as was found (LRAT)
+";
+
+const LRAT_HELP: &str = "help: \
+Check a proof that a formula has no model
+
+Usage: cec lrat <CNF> <PROOF>
+
+Arguments:
+  <CNF>    The formula, as a DIMACS file
+  <PROOF>  The proof, as an LRAT file
+
+Options:
+  -h, --help  Print help
+
+Says, and ends with the status before it:
+  0  VERIFIED
+  1  REFUSED, with the first line that does not follow, or for want of an empty clause
+Other statuses tell of a fault: see cec --help.
+";
+
+const SELF_HELP: &str = "help: \
+Decide whether two circuits agree that the program makes, in two architectures
+
+Usage: cec self <KIND> <N>
+
+Arguments:
+  <KIND>  What they compute: adder, parity or comparator
+  <N>     Of how many bits, from 1 to 4096
+
+Options:
+  -h, --help  Print help
+
+Says three lines, and then what check says of the circuits without an option, with its status:
+  kind KIND n N
+  gates A B      how many gates either circuit has
+  outputs N      how many outputs both have
+Reads no file and leaves none.
+";
+
+const NO_COMMAND: &str = "usage: \
+error: 'cec' requires a subcommand but one was not provided
+  [subcommands: check, lrat, self]
+
+Usage: cec <COMMAND>
+
+For more information, try '--help'.
+";
+
+const NO_KIND: &str = "usage: \
+error: invalid value 'help' for '<KIND>'
+  [possible values: adder, parity, comparator]
+
+For more information, try '--help'.
+";
+
+const NO_HELP: &str = "usage: cec: no command help\n";
+
+/// Words, and what they are told.
+const TAKEN: [(&str, &str); 20] = [
+    (
+        "cec check x y",
+        "x and y, to nowhere, by 1, 4, 100 and 100000",
+    ),
+    (
+        "cec check x y --out p",
+        "x and y, to p, by 1, 4, 100 and 100000",
+    ),
+    (
+        "cec check x y --budget 7",
+        "x and y, to nowhere, by 1, 4, 100 and 7",
+    ),
+    (
+        "cec check x y --budget 7 --out p",
+        "x and y, to p, by 1, 4, 100 and 7",
+    ),
+    (
+        "cec check --out p --budget 7 x y",
+        "x and y, to p, by 1, 4, 100 and 7",
+    ),
+    (
+        "cec check x --budget=7 y --out=p",
+        "x and y, to p, by 1, 4, 100 and 7",
+    ),
+    (
+        "cec check x y --budget 1",
+        "x and y, to nowhere, by 1, 4, 100 and 1",
+    ),
+    (
+        "cec check x y --budget 1000000000",
+        "x and y, to nowhere, by 1, 4, 100 and 1000000000",
+    ),
+    (
+        "cec check x y --budget +007",
+        "x and y, to nowhere, by 1, 4, 100 and 7",
+    ),
+    (
+        "cec check help check",
+        "help and check, to nowhere, by 1, 4, 100 and 100000",
+    ),
+    (
+        "cec check -- -x --out",
+        "-x and --out, to nowhere, by 1, 4, 100 and 100000",
+    ),
+    (
+        "cec check x y --seed 0 --words 1 --sweep-budget 1",
+        "x and y, to nowhere, by 0, 1, 1 and 100000",
+    ),
+    (
+        "cec check x y --words 64 --seed 18446744073709551615",
+        "x and y, to nowhere, by 18446744073709551615, 64, 100 and 100000",
+    ),
+    (
+        "cec check x y --sweep-budget 1000000000",
+        "x and y, to nowhere, by 1, 4, 1000000000 and 100000",
+    ),
+    (
+        "cec check x y --seed=7 --budget 8",
+        "x and y, to nowhere, by 7, 4, 100 and 8",
+    ),
+    (
+        "cec check --sweep-budget 5 x --words 6 y --out p",
+        "x and y, to p, by 1, 6, 5 and 100000",
+    ),
+    ("cec lrat f p", "p of f"),
+    ("cec self adder 1", "an adder of 1"),
+    ("cec self parity 4096", "a parity of 4096"),
+    ("cec self comparator +08", "a comparator of 8"),
+];
+
+/// Words, and how the text of their refusal begins.
+const REFUSED: [(&str, &str); 21] = [
+    (
+        "cec check x y --budget 0",
+        "invalid value '0' for '--budget <N>': 0 is not in 1..=1000000000\n",
+    ),
+    (
+        "cec check x y --budget 1000000001",
+        "invalid value '1000000001' for '--budget <N>': 1000000001 is not in 1..=1000000000\n",
+    ),
+    (
+        "cec check x y --budget x",
+        "invalid value 'x' for '--budget <N>': invalid digit found in string\n",
+    ),
+    (
+        "cec check x y --budget -1",
+        "unexpected argument '-1' found\n",
+    ),
+    (
+        "cec check x y --budget 7 --budget 7",
+        "the argument '--budget <N>' cannot be used multiple times\n",
+    ),
+    (
+        "cec check x y --out",
+        "a value is required for '--out <PREFIX>' but none was supplied\n",
+    ),
+    (
+        "cec check x",
+        "the following required arguments were not provided:\n  <B>\n",
+    ),
+    (
+        "cec lrat",
+        "the following required arguments were not provided:\n  <CNF>\n  <PROOF>\n",
+    ),
+    ("cec check x y z", "unexpected argument 'z' found\n"),
+    (
+        "cec check x y --words 0",
+        "invalid value '0' for '--words <N>': 0 is not in 1..=64\n",
+    ),
+    (
+        "cec check x y --words 65",
+        "invalid value '65' for '--words <N>': 65 is not in 1..=64\n",
+    ),
+    (
+        "cec check x y --sweep-budget 0",
+        "invalid value '0' for '--sweep-budget <N>': 0 is not in 1..=1000000000\n",
+    ),
+    (
+        "cec check x y --sweep-budget 1000000001",
+        "invalid value '1000000001' for '--sweep-budget <N>': 1000000001 is not in 1..=1000000000\n",
+    ),
+    (
+        "cec check x y --seed 18446744073709551616",
+        "invalid value '18446744073709551616' for '--seed <N>': number too large to fit in target type\n",
+    ),
+    (
+        "cec check x y --seed -1",
+        "unexpected argument '-1' found\n",
+    ),
+    (
+        "cec check x y --workers 4",
+        "unexpected argument '--workers' found\n",
+    ),
+    ("cec --version", "unexpected argument '--version' found\n"),
+    (
+        "cec self adders 4",
+        "invalid value 'adders' for '<KIND>'\n  [possible values: adder, parity, comparator]\n",
+    ),
+    (
+        "cec self adder 0",
+        "invalid value '0' for '<N>': 0 is not in 1..=4096\n",
+    ),
+    (
+        "cec self adder 4097",
+        "invalid value '4097' for '<N>': 4097 is not in 1..=4096\n",
+    ),
+    (
+        "cec self parity",
+        "the following required arguments were not provided:\n  <N>\n",
+    ),
+];
+
+/// What `read` answers to the words of a line: the request, or the text of the refusal with its kind before
+/// it.
+fn told(alloc: Global, line: &str) -> Result<String, Fail> {
+    let mut words = Vec::new(alloc);
+    for word in line.split(' ') {
+        words.push(String::from_str(alloc, word)?)?;
+    }
+    let text = match read(alloc, words.as_slice()) {
+        Ok(Asked::Check(check)) => {
+            let out = check.out.unwrap_or("nowhere");
+            format!(in alloc;
+                "{} and {}, to {out}, by {}, {}, {} and {}",
+                check.a, check.b, check.seed, check.words, check.sweep_budget, check.budget
+            )?
+        }
+        Ok(Asked::Lrat(lrat)) => format!(in alloc; "{} of {}", lrat.proof, lrat.cnf)?,
+        Ok(Asked::SelfCheck(own)) => match own.kind {
+            Kind::Adder => format!(in alloc; "an adder of {}", own.n)?,
+            Kind::Parity => format!(in alloc; "a parity of {}", own.n)?,
+            Kind::Comparator => format!(in alloc; "a comparator of {}", own.n)?,
+        },
+        Err(Refusal::Help(text)) => format!(in alloc; "help: {text}")?,
+        Err(Refusal::Usage(text)) => format!(in alloc; "usage: {text}")?,
+        Err(Refusal::NoMemory) => return Err(Fail::from("out of memory")),
+    };
+    Ok(text)
+}
+
+fn check_told(rt: &impl Abort, alloc: Global, line: &str, expected: &str) -> Result<(), Fail> {
+    let text = told(alloc, line)?;
+    assert!(rt; text.as_str() == expected, "{line}: {text}");
+    Ok(())
+}
+
+#[test]
+fn help_and_usage_texts(rt: HostRuntime) -> Result<(), Fail> {
+    let alloc = rt.alloc();
+    check_told(&rt, alloc, "cec --help", PROGRAM_HELP)?;
+    check_told(&rt, alloc, "cec -h", PROGRAM_HELP)?;
+    check_told(&rt, alloc, "cec check --help", CHECK_HELP)?;
+    check_told(&rt, alloc, "cec check x y -h", CHECK_HELP)?;
+    check_told(&rt, alloc, "cec lrat --help", LRAT_HELP)?;
+    check_told(&rt, alloc, "cec self --help", SELF_HELP)?;
+    check_told(&rt, alloc, "cec", NO_COMMAND)?;
+    check_told(&rt, alloc, "cec self help 1", NO_KIND)?;
+    check_told(&rt, alloc, "cec help", NO_HELP)?;
+    check_told(&rt, alloc, "cec help check", NO_HELP)
+}
+
+#[test]
+fn taken_words(rt: HostRuntime) -> Result<(), Fail> {
+    for (line, expected) in TAKEN {
+        check_told(&rt, rt.alloc(), line, expected)?;
+    }
+    Ok(())
+}
+
+#[test]
+fn refused_words(rt: HostRuntime) -> Result<(), Fail> {
+    for (line, expected) in REFUSED {
+        let text = told(rt.alloc(), line)?;
+        let cause = text.as_str().strip_prefix("usage: error: ").unwrap_or("");
+        assert!(rt; cause.starts_with(expected), "{line}: {text}");
+    }
+    Ok(())
+}
