@@ -37,3 +37,5 @@ pub use Rattle.unit_prop.proofs.AssignmentLemmas.{step-more}
 
 -- each clause of the list is the one of its name: such a base has no other clause under a name, and names each of its own
 pub use Rattle.unit_prop.proofs.NameLemmas.{AreNamed, base_clause-is, named-all}
+-- a clause in front whose name no other has
+pub use Rattle.unit_prop.proofs.NameLemmas.{named-cons}

@@ -12,8 +12,8 @@ use Rattle.sweep_core.specs.declared.event.Reply.{Reply}
 use Rattle.sweep_core.specs.declared.event.Reply.TheVariants.{Task, Known, Offered}
 use Rattle.sweep_core.specs.Event.{Core, IsEvent}
 use Rattle.sweep_core.specs.Run.{MayRun}
-use Rattle.sweep_core.proofs.KeepLemmas.{event-workers}
-use Rattle.sweep_core.proofs.tests.core_events.Goals as goal
+use Rattle.sweep_core.proofs.Facts.{event-workers}
+use Rattle.book_rows.proofs.machine.core_events.Goals as goal
 
 after-draw : (tasks w : ℕ) (old new : Machine) (r : Reply) → IsEvent tasks (Draw w) old new r
     → new ≡ record { book = old.book; next = old.next + 1; known = old.known }

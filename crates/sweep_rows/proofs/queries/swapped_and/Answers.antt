@@ -1,6 +1,6 @@
 -- The parts make circuits.
 use Rattle.std.proofs.Common.{refl, arith}
-use Rattle.cone_query.proofs.tests.swapped_and.Goals as goal
+use Rattle.sweep_rows.proofs.queries.swapped_and.Goals as goal
 
 pub circuit-requires : goal.circuit-requires
 circuit-requires c = rw c.and.ensures (record {

@@ -1,6 +1,6 @@
 -- The parts make circuits.
 use Rattle.std.proofs.Common.{refl, arith}
-use Rattle.cone_query.proofs.tests.two_xors.Goals as goal
+use Rattle.sweep_rows.proofs.queries.two_xors.Goals as goal
 
 pub circuit-requires : goal.circuit-requires
 circuit-requires c = rw (c.and.ensures, c.and-2.ensures, c.and-3.ensures) (record {
