@@ -10,10 +10,13 @@ use std::io::{self, ErrorKind};
 use std::process::ExitCode;
 use std::rt::Env;
 
+/// The arguments, the program's name first.
 fn words(rt: &(impl Env + AllocGlobal)) -> io::Result<Vec<String>> {
     Ok(env::args(rt)?.collect(rt.alloc())?)
 }
 
+/// Runs the program over the real world and ends with its status. It is as short as can be, since no
+/// contract says anything of it.
 fn main(rt: HostRuntime) -> ExitCode {
     let words = match words(&rt) {
         Ok(words) => words,

@@ -10,6 +10,7 @@ use os_desk::OsDesk;
 use showing::{EXAMPLES, show};
 use std::process::ExitCode;
 
+/// Runs all examples; fails where one can't be shown.
 fn main(rt: HostRuntime) -> ExitCode {
     for example in EXAMPLES {
         let mut desk = OsDesk::new(rt.alloc(), &rt, rt.stdout(), rt.stdout());

@@ -57,6 +57,8 @@ pub(crate) fn choose(trail: &Trail, order: &mut Order) -> Option<u32>
     first_free(trail)
 }
 
+/// What the order hands out next, where it is free. The order may hold variables that have a value, and
+/// nothing is claimed of what it hands out.
 fn popped(trail: &Trail, order: &mut Order) -> Option<u32>
     ensures { IfSome result (IsOpenCode trail.now) }
 {
