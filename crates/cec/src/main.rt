@@ -1,5 +1,9 @@
 //! The program `cec`: all that it does is `cec_top::run`, here over real files, standard output and standard
 //! error.
+//!
+//! What a status promises is that crate's contract, and `specs/Headline.antt` there the page to begin with.
+//! No contract says that `main` hands it the arguments and ends with its status: `main` is short enough to be
+//! read, and the gate runs it once on real files.
 #![tactic(auto)]
 
 use cec_top::{Status, run};

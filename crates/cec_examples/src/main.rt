@@ -1,7 +1,8 @@
 //! The commands of `data/README.md`, run one after the other over real files, each with what it prints and
 //! its status: the gate compares this with what the page says.
 //!
-//! Both streams go to standard output, in the order in which the program writes them.
+//! Both streams go to standard output, in the order in which the program writes them. The crate has no
+//! contract: a run that prints what the page says is all that it is for. Begin to read at `showing.rt`.
 #![tactic(auto)]
 
 mod showing;

@@ -19,6 +19,9 @@ pub(crate) enum Assumption {
 }
 
 /// The first of the target's negations that isn't true yet.
+///
+/// They are assumptions as in MiniSat (Eén and Sörensson 2003), each at a level of its own, so that what is
+/// learned follows from the base alone and serves later targets.
 pub(crate) fn next_assumption(trail: &Trail, target: &Clause<Lit>) -> Assumption
     requires numbered { AreNumbered trail.now target.now }
     requires chosen { AllByRecursion (IsChosen target.now trail.now.last) trail.now.puts }
