@@ -2,7 +2,11 @@
 //! Format, 2007, and AIGER 1.9).
 //!
 //! `read` chooses by the first four bytes between the readers of `aiger_ascii` and `aiger_binary`, and
-//! answers the circuit that the bytes spell, or their first fault; `specs/File.antt` says which those are.
+//! answers the circuit that the bytes spell, or their first fault, and nothing else but want of memory.
+//! Bytes of neither form are a bad header.
+//!
+//! Definitions: `specs/File.antt` (which bytes spell which circuit) stands on those of the two readers.
+//! Begin to read at `lib.rt`: `read` is all that the crate does.
 #![tactic(auto)]
 
 ghost use Rattle.std.specs.Prelude.{◌≡◌};

@@ -5,6 +5,8 @@
 //! in AIGER's order have; both stand on `specs/Lines.antt`. The laws say that each text spells the circuit
 //! that it is written from, and so both texts of one circuit are read as that circuit; a reader whose
 //! definition and code are wrong alike on such a file is refuted.
+//!
+//! Nothing here runs: writing is `workload_gen`'s. Begin to read at `specs/AsciiText.antt`, then `laws.rt`.
 #![tactic(auto)]
 
 mod laws;

@@ -1,12 +1,15 @@
-//! Scanning the bytes of a text: the next byte, number or line, and the header line that both AIGER
-//! formats share (A. Biere, The AIGER And-Inverter Graph Format, 2007, and AIGER 1.9).
+//! Scanning the bytes of a text: the next byte, number or line, and what both forms of AIGER share, which
+//! are the header line, lines of literals and the tail behind the gates (A. Biere, The AIGER And-Inverter
+//! Graph Format, 2007, and AIGER 1.9).
 //!
-//! Contracts see a scan as its bytes and how many of them lie behind (`specs/Scanning.antt`), and each
-//! call says exactly what it gives and where the scan then stands. `header` answers what the line
-//! spells, or its first fault in the order of `specs/HeaderLine.antt`. No call takes memory.
+//! Contracts see a scan as its bytes and how many of them lie behind (`specs/Scanning.antt`), and each call
+//! says exactly what it gives and where the scan then stands. `header` answers what the line spells, or its
+//! first fault in the order of `specs/HeaderLine.antt`. `specs/Reading.antt` has the form of a reader's
+//! contract, `Gives`, with the lines of literals and the tail; `specs/Faults.antt` how faults are put in
+//! order. No call takes memory.
 //!
-//! `AigerErr` is the error of the AIGER readers. No clause says what its `Display` writes: a test
-//! shows the texts.
+//! `AigerErr` is the error of the AIGER readers. No clause says what its `Display` writes: a test shows the
+//! texts. Begin to read at `scan.rt`, then `header_line.rt`, `line.rt`, `symbols.rt`.
 #![tactic(auto)]
 
 mod counts;

@@ -33,6 +33,8 @@ fn is_symbol(line: &[u8], inputs: u32, outputs: u32) -> bool
     }
 }
 
+/// Whether the text behind the letter is the place of an input or output that is there, and then a space:
+/// the name may be any bytes.
 fn is_named(text: &[u8], count: u32) -> bool
     ensures { result ≡ is_named count text.now }
 {

@@ -1,5 +1,9 @@
 //! The program `cec`: all that it does is `cec_top::run`, here over real files, standard output and standard
 //! error.
+//!
+//! What a status promises is that crate's contract, and `specs/Headline.antt` there the page to begin with.
+//! No contract says that `main` hands it the arguments and ends with its status: `main` is short enough to be
+//! read, and the gate runs it once on real files.
 #![tactic(auto)]
 
 use cec_top::{Status, run};
@@ -10,10 +14,13 @@ use std::io::{self, ErrorKind};
 use std::process::ExitCode;
 use std::rt::Env;
 
+/// The arguments, the program's name first.
 fn words(rt: &(impl Env + AllocGlobal)) -> io::Result<Vec<String>> {
     Ok(env::args(rt)?.collect(rt.alloc())?)
 }
 
+/// Runs the program over the real world and ends with its status. It is as short as can be, since no
+/// contract says anything of it.
 fn main(rt: HostRuntime) -> ExitCode {
     let words = match words(&rt) {
         Ok(words) => words,

@@ -1,7 +1,8 @@
 //! The commands of `data/README.md`, run one after the other over real files, each with what it prints and
 //! its status: the gate compares this with what the page says.
 //!
-//! Both streams go to standard output, in the order in which the program writes them.
+//! Both streams go to standard output, in the order in which the program writes them. The crate has no
+//! contract: a run that prints what the page says is all that it is for. Begin to read at `showing.rt`.
 #![tactic(auto)]
 
 mod showing;
@@ -10,6 +11,7 @@ use os_desk::OsDesk;
 use showing::{EXAMPLES, show};
 use std::process::ExitCode;
 
+/// Runs all examples; fails where one can't be shown.
 fn main(rt: HostRuntime) -> ExitCode {
     for example in EXAMPLES {
         let mut desk = OsDesk::new(rt.alloc(), &rt, rt.stdout(), rt.stdout());

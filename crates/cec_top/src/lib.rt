@@ -1,10 +1,16 @@
 //! Everything that the program does, over a desk that stands for files and streams.
 //!
-//! `run` reads two circuits, checks them, writes the CNF of their miter beside a proof and says the
-//! verdict; or it makes two circuits itself and checks those; or it checks such a proof. What each
-//! verdict promises is on one page, `specs/Headline.antt`, and `laws::verdicts` shows it from the
-//! contract of `run`, which says what each status means: `specs/Answers.antt`. Begin to read at
-//! `program.rt`.
+//! `run` reads two circuits, checks them, writes the CNF of their miter beside a proof and says the verdict;
+//! or it makes two circuits itself and checks those; or it checks such a proof. What each verdict promises
+//! is on one page, `specs/Headline.antt`, and `laws::verdicts` shows it from the contract of `run`, which
+//! says what each status means: `specs/Answers.antt`. When a run has to come to a verdict is in
+//! `specs/Complete.antt`, and `laws::completeness` shows it.
+//!
+//! Definitions on which the answers stand: `specs/Check.antt` (one check, from what it found to its files
+//! and its verdict), `specs/SelfCheck.antt` (that of two circuits that the program makes),
+//! `specs/Names.antt` (of the files that are left), `specs/Texts.antt` (what is said), `specs/Lines.antt`
+//! (what is warned of circuits and their files); `specs/Steps.antt` is for the crate's own functions. Begin
+//! to read at `program.rt`, then `checking.rt`.
 #![tactic(auto)]
 
 pub use endings::Status;

@@ -43,6 +43,7 @@ pub(crate) fn unlike_fault(alloc: Global, fault: Unlike) -> Result<String, Alloc
     }
 }
 
+/// One line for both numbers that a pair must have in common.
 fn differing(alloc: Global, what: &str, a: u32, b: u32) -> Result<String, AllocError>
     ensures { IfOk result
         (λ s. string_bytes s ≡ what.now ++ decimal a ++ codes " and " ++ decimal b ++ codes " differ") }

@@ -91,6 +91,8 @@ fn answer_refusal<D: Desk>(desk: &mut D, refusal: &Refusal) -> Status
     }
 }
 
+/// Says the text of help. This is an answer like a verdict, so it goes to standard output and its status is
+/// 0.
 fn say_help<D: Desk>(desk: &mut D, text: &str) -> Status
     ensures { SaysHelp text.now (D.state desk.old) (D.state desk.new) result }
 {

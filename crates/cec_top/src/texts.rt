@@ -80,6 +80,7 @@ fn open_text_with(alloc: Global, spans: &[Span]) -> Result<Vec<u8>, AllocError>
     Ok(text)
 }
 
+/// Appends the line of an output that is left open, where no proof is left.
 #[tactic(auto, unfolding(crate::specs::Texts::output_line))]
 fn push_output(text: &mut Vec<u8>, output: u32) -> Result<(), AllocError>
     ensures { OnOk result (text.new.items ≡ text.old.items ++ output_line output) }
@@ -90,6 +91,7 @@ fn push_output(text: &mut Vec<u8>, output: u32) -> Result<(), AllocError>
     Ok(())
 }
 
+/// Appends the line of an output that is left open, with the lines of the proof that are its log.
 #[tactic(auto, unfolding(crate::specs::Texts::span_line))]
 fn push_span(text: &mut Vec<u8>, span: Span) -> Result<(), AllocError>
     ensures { OnOk result (text.new.items ≡ text.old.items ++ span_line span) }
@@ -116,6 +118,7 @@ fn push_input(text: &mut Vec<u8>, input: &[bool]) -> Result<(), AllocError>
     push_digits(text, input)
 }
 
+/// Appends an input as digits, input 0 first.
 fn push_digits(text: &mut Vec<u8>, input: &[bool]) -> Result<(), AllocError>
     ensures { OnOk result (text.new.items ≡ text.old.items ++ map digit_of input.now) }
 {

@@ -1,5 +1,5 @@
--- A check that has its verdict: its book is legal, under the budgets that were asked for, and shows the verdict; and the
--- book is swept.
+-- A check that has its verdict: its book is legal, under the budgets that were asked for, and shows the verdict; and where
+-- no output is known to differ the book is swept.
 use Rattle.std.specs.Prelude.{◌≡◌, ℕ, ◌≤◌, ◌^◌, ⊤, List, [], length}
 use Rattle.netlist.specs.Net.{AigPair}
 use Rattle.netlist.specs.Miter.{variables_of}

@@ -20,6 +20,8 @@ impl Draft {
         Ok(levels)
     }
 
+    /// Climbs to each gate in the file's order, so that the gate that is named is the first of the file that
+    /// is on a cycle or above one.
     fn climb_all(&self, alloc: Global, levels: &mut [u32]) -> Result<(), AigerErr>
         requires defined { AreDefined self.now }
         requires levels { AreLevels self.now levels.old }

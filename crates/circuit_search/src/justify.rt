@@ -5,6 +5,8 @@ use crate::trail::{FALSE, FREE};
 impl Engine {
     /// The code that is to be chosen next: it makes a fanin of the first gate false that is false without a
     /// false fanin. Where there is no such gate all values follow from those of the inputs.
+    ///
+    /// Such gates are the frontier that a test generator justifies (Goel 1981).
     pub(crate) fn open_fanin(&mut self) -> Option<u32> {
         for place in self.trail.justified..count(self.trail.lits().len()) {
             self.trail.justified = place;
@@ -36,6 +38,8 @@ impl Engine {
     }
 
     /// The code of which the node lies lower.
+    ///
+    /// One false fanin is enough, and the one that is nearer to the inputs is the easier choice (Goel 1981).
     fn lower(&self, left: u32, right: u32) -> u32 {
         let left_depth = self.merges.depth(self.variables.position(left / 2));
         let right_depth = self.merges.depth(self.variables.position(right / 2));

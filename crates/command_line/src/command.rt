@@ -24,6 +24,7 @@ pub(crate) fn cec_command<'a>(alloc: Global) -> Result<Command<'a>, AllocError>
     Ok(cec)
 }
 
+/// The command of a row, for `clap`.
 fn command_of<'a>(alloc: Global, row: &CommandRow) -> Result<Command<'a>, AllocError>
     ensures app { IfOk result (λ c. app_of c ≡ leaf_in row.now) }
     ensures local { IfOk result (λ c. (fields_of c).has_globals ≡ false) }
@@ -37,6 +38,8 @@ fn command_of<'a>(alloc: Global, row: &CommandRow) -> Result<Command<'a>, AllocE
     Ok(command)
 }
 
+/// The argument or option of a row, for `clap`. The range of a number is `clap`'s to judge, so that a number
+/// out of it is refused with `clap`'s own words.
 fn argument_of<'a>(alloc: Global, row: &ArgumentRow) -> Arg<'a>
     ensures rule { rule_of result ≡ rule_in row.now }
     ensures local { result.global ≡ false }

@@ -39,6 +39,7 @@ fn asked_by<'a>(name: &str, matches: &ArgMatches<'a>) -> Result<Asked<'a>, &'a s
     unreachable!()
 }
 
+/// The words of a check, by the names that the table has for them.
 fn check_words<'a>(matches: &ArgMatches<'a>) -> CheckWords<'a>
     requires { is_some (check_in (rows_of (found_of matches.now))) ≡ true }
     ensures { check_in (rows_of (found_of matches.now)) ≡ Some (Requested (CheckIt (check_texts result))) }
@@ -54,6 +55,7 @@ fn check_words<'a>(matches: &ArgMatches<'a>) -> CheckWords<'a>
     }
 }
 
+/// The words of a proof's check.
 fn lrat_words<'a>(matches: &ArgMatches<'a>) -> LratWords<'a>
     requires { is_some (lrat_in (rows_of (found_of matches.now))) ≡ true }
     ensures { lrat_in (rows_of (found_of matches.now)) ≡ Some (Requested (LratIt (lrat_texts result))) }

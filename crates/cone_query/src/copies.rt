@@ -35,6 +35,7 @@ pub(crate) fn one_more(
     Ok(Listed::of(steps))
 }
 
+/// A copy of a step: the solver keeps its log for the next query, and the entry has to own its steps.
 fn copy_of(alloc: Global, step: &Step) -> Result<Step, AllocError>
     ensures { IfOk result (λ s. s ≡ step.now) }
 {

@@ -146,6 +146,7 @@ impl Desk for MemDesk {
 
     ghost started_is_there = { started_is_there };
 
+    /// The name is noted before the call is counted, so that want of memory leaves the desk as it was.
     fn read(&mut self, alloc: Global, name: &str, limit: u64) -> Result<Vec<u8>, ReadErr>
         ensures answer { Reads (state_of self.old) (state_of self.new) name.now limit result }
         ensures counts { NoCountFalls (state_of self.old) (state_of self.new) }
@@ -198,6 +199,7 @@ impl Desk for MemDesk {
         Ok(())
     }
 
+    /// The file is closed also where this fails, as with real files.
     fn close(&mut self) -> Result<(), PutErr>
         requires { IsSome (state_of self.old).started }
         ensures answer { Closes (state_of self.old) (state_of self.new) result }

@@ -109,6 +109,7 @@ impl<'a> Iterator for Words<'a> {
 
     ghost remaining = { item_count words_left };
 
+    /// The next word, from a later line where this one is used up: clauses may run over lines.
     fn next(&mut self) -> Option<Word<'a>> {
         loop {
             if let Some(word) = self.next_in_line() {

@@ -37,6 +37,8 @@ fn text(alloc: Global, variables: u32, clauses: &[Clause<Dim>]) -> Result<Vec<u8
     Ok(text)
 }
 
+/// Appends the header line. It has the number of variables, not the greatest that occurs, so that each
+/// variable of a miter stands for a node also where no clause has it.
 #[tactic(auto, unfolding(crate::specs::CnfText::header_text))]
 fn push_header(text: &mut Vec<u8>, variables: u32, count: usize) -> Result<(), AllocError>
     ensures { OnOk result (text.new.items ≡ text.old.items ++ header_text variables count) }

@@ -16,6 +16,8 @@ use netlist::{Net, laws};
 use std::alloc::{AllocError, Global};
 
 /// The cone of the literals' nodes over the first `seen` entries of a book.
+///
+/// A merged node stands for its target there, so cones shrink while a sweep goes on.
 pub fn cone_over(
     alloc: Global,
     net: &Net,

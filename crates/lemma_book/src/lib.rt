@@ -1,17 +1,19 @@
-//! The lemma book: what was found out about nodes and outputs of a pair of circuits, each entry
-//! checkable on its own.
+//! The lemma book: what was found out about nodes and outputs of a pair of circuits, each entry checkable on
+//! its own.
 //!
-//! A `Merge` shows by proof steps that a node has the value of an earlier literal, an `Apart` has an
-//! input on which they differ, and a `Spent` has the log of a solver that spent its whole budget;
-//! `Out`, `OutApart` and `OutSpent` say the same of an output. Later entries may cite the clauses of
-//! earlier merges. `Book::judge` decides whether an entry is good over a book, `Book::offer` takes it
-//! where it is, and `Book::append` takes one that is known to be good. In a legal book a merge's node
-//! and target have one value on every input, and so have an `Out`'s outputs (`laws`).
+//! A `Merge` shows by proof steps that a node has the value of an earlier literal, an `Apart` has an input
+//! on which they differ, and a `Spent` has the log of a solver that spent its whole budget; `Out`,
+//! `OutApart` and `OutSpent` say the same of an output. Later entries may cite the clauses of earlier
+//! merges. `Book::judge` decides whether an entry is good over a book, `Book::offer` takes it where it is,
+//! and `Book::append` takes one that is known to be good. In a legal book a merge's node and target have one
+//! value on every input, and so have an `Out`'s outputs (`laws`).
 //!
 //! Definitions: `specs/Entry.antt` (entries and their subjects), `specs/Root.antt` (roots),
-//! `specs/Cone.antt` (cones), `specs/Good.antt` (good entry), `specs/Fault.antt` (first cause of a
-//! refusal), `specs/Book.antt` (legal book), `specs/Machine.antt` (many workers at one book). Begin to
-//! read at `entry.rt`.
+//! `specs/Cone.antt` (cones), `specs/Good.antt` (good entry), `specs/Fault.antt` (first cause of a refusal),
+//! `specs/Book.antt` (legal book), `specs/Agreement.antt` (what entries say of all inputs),
+//! `specs/Machine.antt` (many workers at one book). For the crate's own functions: `specs/Judging.antt`,
+//! `specs/Walk.antt` (through a cone), `specs/Shelf.antt` (the index of entries). Begin to read at
+//! `entry.rt`, then `book.rt`, `judge.rt`.
 #![tactic(auto)]
 
 pub use book::Book;

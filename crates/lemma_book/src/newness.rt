@@ -14,6 +14,9 @@ use std::alloc::{AllocError, Global};
 use unit_prop::{Closure, close_under};
 
 /// The first of the log's clauses that isn't new over the cone and the clauses before it.
+///
+/// A log without this could be padded with clauses that unit propagation has already, and its length would
+/// say nothing of the work that was done.
 pub(crate) fn first_stale(
     alloc: Global,
     cone: &[Named],
@@ -106,6 +109,8 @@ fn is_new(alloc: Global, clauses: &[Clause<Lit>], clause: &[Lit]) -> Result<bool
 }
 
 /// Whether the variable of each literal is in some of the clauses.
+///
+/// Else a log could say one clause again and again, each time with another variable that no clause has.
 fn all_occur(clauses: &[Clause<Lit>], lits: &[Lit]) -> bool
     ensures { result ≡ list_all (occurs same_lit opposite clauses.now) lits.now }
 {

@@ -53,6 +53,7 @@ fn are_numbered(net: &Net, lits: &[Lit]) -> bool
     lits.iter().all(|lit| is_numbered(net, *lit))
 }
 
+/// Whether the miter has the literal's node: a step may speak of no other, since a proof could not write it.
 fn is_numbered(net: &Net, lit: Lit) -> bool
     ensures { result ≡ is_some (variable_of net.now lit.node) }
 {

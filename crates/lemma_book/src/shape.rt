@@ -22,6 +22,8 @@ pub(crate) fn has_shape(entry: &Entry) -> bool
     }
 }
 
+/// Whether the last two steps are the two halves of node and literal being equal, in the order in which a
+/// later entry cites them.
 fn ends_in_merge(node: Node, lit: Lit, steps: &[Step]) -> bool
     ensures { Tells (EndsIn (merge_clauses node lit) steps.now) result }
 {
@@ -36,6 +38,7 @@ fn ends_in_merge(node: Node, lit: Lit, steps: &[Step]) -> bool
     }
 }
 
+/// Whether the last step says that the output's XOR is false.
 fn ends_in_equal(output: u32, steps: &[Step]) -> bool
     ensures { Tells (EndsIn (equal_clause output ∷ []) steps.now) result }
 {

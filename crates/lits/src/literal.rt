@@ -68,6 +68,7 @@ impl Literal for Lit {
     }
 }
 
+/// A number of the node's own, for hashing: what is left modulo 5 tells the kinds of nodes apart.
 fn code_of_node(node: Node) -> u64
     ensures value { result ≡ code_of_node node }
     ensures small { result < 2 ^ 35 }

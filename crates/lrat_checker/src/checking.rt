@@ -41,6 +41,7 @@ pub fn check(alloc: Global, cnf: &Cnf, lines: &[Line]) -> Result<Verdict, AllocE
     })
 }
 
+/// Whether the step adds the empty clause, with which a refutation ends.
 fn adds_empty(step: &LratStep) -> bool
     ensures { result ≡ adds_empty step.now }
 {

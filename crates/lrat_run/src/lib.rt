@@ -5,6 +5,8 @@
 //! begins. Which files are read, and what is found in them, is in `specs/Files.antt`; the lines of verdicts
 //! and the texts of faults are in `specs/Texts.antt`. How a command is stopped and ends is that of every
 //! command: `endings`.
+//!
+//! Begin to read at `command.rt`, then, as data flows: `reading.rt`, `judging.rt`, `texts.rt`.
 #![tactic(auto)]
 
 pub use command::run;

@@ -55,6 +55,8 @@ fn addition(alloc: Global, at: u64, last: u64, id: Number, rest: &[u8]) -> Resul
     addition_of(at, last, id.size, parts)
 }
 
+/// The addition in a line's parts, or its first fault: a line without an end, then an id that doesn't rise,
+/// then a negative hint, which is one of a RAT step.
 fn addition_of(at: u64, last: u64, id: u64, parts: Parts) -> Result<LratStep, LratErr>
     ensures { result ≡ addition_of at last id parts }
 {
@@ -85,6 +87,7 @@ fn deletion(alloc: Global, at: u64, rest: &[u8]) -> Result<LratStep, LratErr>
     deletion_of(at, parts)
 }
 
+/// The deletion in a line's parts, or its first fault. RAT has no part in it: a negative id is no number.
 fn deletion_of(at: u64, parts: Parts) -> Result<LratStep, LratErr>
     ensures { result ≡ deletion_of at parts }
 {

@@ -26,6 +26,7 @@ pub fn push_line(buf: &mut Vec<u8>, last: u64, step: &LratStep) -> Result<(), Al
     written
 }
 
+/// Appends the line. Where memory is refused a first part of it may stand, which the caller takes back.
 fn append_line(buf: &mut Vec<u8>, last: u64, step: &LratStep) -> Result<(), AllocError>
     ensures ok { OnOk result (buf.new.items ≡ buf.old.items ++ line_text last step.now) }
     ensures err { OnErr result (Begins buf.old.items buf.new.items) }

@@ -60,7 +60,7 @@ impl Axioms {
         axioms
     }
 
-    /// The gate is the AND of its fanins.
+    /// The gate is the AND of its fanins (Tseitin 1968).
     pub(crate) fn of_gate(gate: Definition) -> Axioms
         requires { IsApart gate }
         ensures { result ≡ kept (gate_clauses gate) }
@@ -73,7 +73,7 @@ impl Axioms {
         axioms
     }
 
-    /// The XOR is true where its two literals differ.
+    /// The XOR is true where its two literals differ (Tseitin 1968).
     pub(crate) fn of_xor(xor: Definition) -> Axioms
         requires { IsApart xor }
         ensures { result ≡ kept (xor_clauses xor.node xor.left xor.right) }

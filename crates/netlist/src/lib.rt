@@ -1,14 +1,15 @@
 //! Circuits, pairs of circuits, and the miter that asks whether a pair differs.
 //!
-//! A `Circuit` is an and-inverter graph as AIGER has it (Biere 2007; version 1.9, 2011): input variables, AND
-//! gates in order, output literals. A `Net` is two circuits over the same inputs, whose nodes, positions,
-//! literals and clauses its readers answer exactly, each look-up in constant time. `Net::miter` gives the
-//! clauses (Tseitin 1968) that are satisfiable exactly if the two circuits differ on some input (`laws`).
+//! A `Circuit` is an and-inverter graph as AIGER has it (Biere 2007; version 1.9, 2011): input variables,
+//! AND gates in order, output literals. A `Net` is two circuits over the same inputs, whose nodes,
+//! positions, literals and clauses its readers answer exactly. `Net::miter` gives the clauses (Tseitin 1968)
+//! that are satisfiable exactly if the two circuits differ on some input (`laws`).
 //!
 //! Definitions: `specs/Circuit.antt` (circuits and the values of their literals), `specs/Net.antt` (nodes,
 //! positions, values, what it means to agree), `specs/Miter.antt` (clauses and their numbers),
-//! `specs/Unlike.antt` (why two circuits are no net); the other files of `specs/` say what single types of
-//! the code keep. Begin to read at `gate.rt`: a `VariableTable` finds the variables of a `Circuit`; a
+//! `specs/Unlike.antt` (why two circuits are no net). The others say what single types of the code keep:
+//! `specs/VariableTable.antt`, `Source.antt`, `Place.antt`, `Pair.antt`, `Short.antt`, `Starts.antt`,
+//! `Numbered.antt`. Begin to read at `gate.rt`: a `VariableTable` finds the variables of a `Circuit`; a
 //! `CircuitPair` makes nodes of two circuits and `Axioms` of their clauses; `ClauseStarts` number the
 //! clauses; all this is behind a `Net`.
 #![tactic(auto)]

@@ -61,6 +61,8 @@ fn numbered(alloc: Global, pair: &CircuitPair, lits: &[Lit]) -> Result<Clause<Di
 }
 
 /// The clause of all XORs, in order.
+///
+/// It asks for an output that differs (Brand 1993).
 fn some_xor(alloc: Global, pair: &CircuitPair) -> Result<Clause<Dim>, AllocError>
     ensures { IfOk result (λ c. c ≡ map (numbered pair.now) (map positive (xors_of pair.now))) }
 {

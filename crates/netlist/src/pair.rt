@@ -356,6 +356,7 @@ impl CircuitPair {
     }
 }
 
+/// The XOR of an output's two literals, where there are both.
 fn difference(j: u32, a: Option<Lit>, b: Option<Lit>) -> Option<Definition>
     ensures { result ≡ difference j a b }
 {

@@ -69,6 +69,7 @@ impl<R: Files, O: Write, E: Write> Desk for OsDesk<R, O, E> {
         answer
     }
 
+    /// The name is kept before the file is made: where memory is refused no file has changed.
     fn start(&mut self, name: &str) -> Result<(), PutErr> {
         let name = String::from_str(self.alloc, name)?;
         match fs::create(&self.files, name.as_str()) {

@@ -31,6 +31,7 @@ pub fn addition(
     })
 }
 
+/// The literals as numbers of the miter.
 fn numbers(alloc: Global, net: &Net, lits: &[Lit]) -> Result<Vec<Dim>, AllocError>
     requires { All (λ l. IsSome (cnf_number_of net.now l)) lits.now }
     ensures { IfOk result (λ v. v.items ≡ map (numbered net.now) lits.now) }
@@ -49,6 +50,7 @@ fn number(net: &Net, lit: Lit) -> Dim
     net.cnf_number(lit).unwrap()
 }
 
+/// The hints as ids. Each was checked when its entry came into the book, so none is without an id.
 fn ids(
     alloc: Global,
     net: &Net,

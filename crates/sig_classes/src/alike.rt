@@ -56,6 +56,9 @@ pub fn is_alike(a: &[u64], b: &[u64], count: u64) -> bool
 }
 
 /// One step of a hash.
+///
+/// It multiplies by 2 to the 64 over the golden ratio (Knuth, The Art of Computer Programming 6.4), and lets
+/// the upper bits count for the next word.
 fn mixed(hash: u64, word: u64) -> u64
     ensures { result ≡ mixed hash word }
 {

@@ -92,6 +92,8 @@ pub fn lit_between(net: &Net, sigs: &Sigs, leader: u32, position: u32) -> Lit
     }
 }
 
+/// Whether the node may be merged. The constant and inputs are what gates are merged to, and an XOR is asked
+/// about as an output.
 fn is_gate(node: Node) -> bool
     ensures { result ≡ is_gate node }
 {

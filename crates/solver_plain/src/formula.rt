@@ -139,6 +139,8 @@ fn value_in(set: &LiteralSet<Lit>, lit: Lit) -> Lit
     if set.has(lit) { lit } else { lit.not() }
 }
 
+/// The first clause that does something. The base goes before the log, so that hints don't lean on learned
+/// clauses where the base alone would do.
 fn next_hint(base: &[Named], log: &[Step], set: &LiteralSet<Lit>) -> Option<Hint>
     requires { IsBase base.now }
     ensures hint { IfSome result (IsHint (with_own (base_clause base.now) log.now) set.now) }

@@ -19,6 +19,9 @@ pub(crate) enum Assumption {
 }
 
 /// The first of the target's negations that isn't true yet.
+///
+/// They are assumptions as in MiniSat (Eén and Sörensson 2003), each at a level of its own, so that what is
+/// learned follows from the base alone and serves later targets.
 pub(crate) fn next_assumption(trail: &Trail, target: &Clause<Lit>) -> Assumption
     requires numbered { AreNumbered trail.now target.now }
     requires chosen { AllByRecursion (IsChosen target.now trail.now.last) trail.now.puts }
@@ -57,6 +60,8 @@ pub(crate) fn choose(trail: &Trail, order: &mut Order) -> Option<u32>
     first_free(trail)
 }
 
+/// What the order hands out next, where it is free. The order may hold variables that have a value, and
+/// nothing is claimed of what it hands out.
 fn popped(trail: &Trail, order: &mut Order) -> Option<u32>
     ensures { IfSome result (IsOpenCode trail.now) }
 {

@@ -23,6 +23,10 @@ pub(crate) struct Lesson {
 }
 
 /// The clause of a conflict's first unique implication point, and the second highest level of its literals.
+///
+/// Of all clauses that a conflict teaches this one has a single literal of the last level by the fewest
+/// steps back, and so it forces that literal after going back (Moskewicz, Madigan, Zhao, Zhang and Malik
+/// 2001).
 pub(crate) fn analyse(
     alloc: Global,
     formula: &Formula,

@@ -111,6 +111,8 @@ impl Order {
         self.step /= DECAY;
     }
 
+    /// Makes all activities smaller alike, so that no sum runs out of the range of floating point; their
+    /// order stays (MiniSat).
     fn rescale(&mut self) {
         for activity in self.activity.iter_mut() {
             *activity /= LARGE;
@@ -144,6 +146,8 @@ impl Order {
         }
     }
 
+    /// Swaps two places of the heap. Nothing happens where one isn't there: no contract keeps the heap, so
+    /// each look-up allows for it.
     fn swap(&mut self, first: usize, second: usize) {
         if first >= self.heap.len() || second >= self.heap.len() {
             return;
@@ -156,6 +160,7 @@ impl Order {
         self.set_place(one, second);
     }
 
+    /// Lets the variable at a place rise in the heap, until none above it has less activity.
     fn sift_up(&mut self, place: usize) {
         let mut at = place;
         while at > 0 {

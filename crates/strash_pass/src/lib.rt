@@ -1,13 +1,16 @@
 //! The structural pass: gates that the structure alone shows to be equal are merged, before any query.
 //!
 //! Gate by gate in the order of positions, the roots of the two fanins are looked at. A gate that they
-//! decide is merged to a constant or to one of them; else it is merged to the earliest gate over the
-//! same two roots. Each merge has two proof steps with a handful of hints, found among the clauses of
-//! the two gates and the merges that their fanins went through, so a circuit of any depth against
-//! itself gets a proof of its own size.
+//! decide is merged to a constant or to one of them; else it is merged to an earlier gate over the same two
+//! roots. A merge's proof steps take their few hints from the clauses of the two gates and from the merges
+//! that their fanins went through, and no solver is asked.
 //!
-//! Definitions: `specs/Strash.antt` (what is left to merge), `specs/Pass.antt` (what the pass keeps).
-//! Begin to read at `pass.rt`, then `visit.rt`.
+//! `run` promises that it adds merges alone, that a legal book stays legal, and that afterwards no unmerged
+//! gate folds or has an earlier unmerged gate over the same roots. Which of several equal gates a gate is
+//! merged to is left open.
+//!
+//! Definitions: `specs/Strash.antt` (what is left to merge), `specs/Pass.antt` (what the pass keeps). Begin
+//! to read at `pass.rt`, then `visit.rt`.
 #![tactic(auto)]
 
 pub use pass::run;

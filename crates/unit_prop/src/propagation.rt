@@ -84,6 +84,7 @@ fn scan<L: Literal>(clauses: &[Clause<L>], set: &LiteralSet<L>) -> Found<L>
     Found::Nothing
 }
 
+/// What the clause asks for. A literal that is true already is nothing new, or the closure would not end.
 fn ask<L: Literal>(clause: &[L], set: &LiteralSet<L>) -> Found<L>
     ensures { AsksFor L.PartialEq.eq L.Literal.opposite set.now clause.now result }
 {

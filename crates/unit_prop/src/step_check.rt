@@ -137,6 +137,7 @@ fn fault_of_more<L: Literal>(set: &LiteralSet<L>, clause: &[L]) -> Why
     }
 }
 
+/// Whether the set makes the clause true. As a hint it would show nothing, so strict checkers refuse it.
 fn has_true<L: Literal>(set: &LiteralSet<L>, clause: &[L]) -> bool
     ensures { result ≡ is_satisfied L.PartialEq.eq set.now clause.now }
 {
@@ -176,6 +177,7 @@ fn open_from<L: Literal>(set: &LiteralSet<L>, first: L, rest: &[L]) -> OpenPart<
     }
 }
 
+/// Whether a second literal is open. A clause may have the first one again, and that is no second.
 fn has_other_open<L: Literal>(set: &LiteralSet<L>, first: L, rest: &[L]) -> bool
     ensures { result ≡ list_any
         (λ l. not (L.PartialEq.eq first l)

@@ -52,6 +52,8 @@ impl Engine {
     }
 
     /// The two literals of the clause that aren't false for longest.
+    ///
+    /// Where levels are given up these are free again no later than any other, so the watches may stay.
     fn best(&self, clause: &[u32]) -> Option<Pair>
         requires engine { IsEngine self.now }
         requires within { (l : ℕ) → has nat_eq clause.now l ≡ true → l < length self.now.truth.items }

@@ -52,6 +52,8 @@ impl Flat {
         self.spans.len()
     }
 
+    /// The codes of a clause. All clauses stand in one list, since a list of lists would follow a pointer at
+    /// each clause that propagation visits.
     pub(crate) fn get(&self, at: u32) -> &[u32]
         requires { at < length self.now }
         ensures { result.now ≡ codes_at self.now at }

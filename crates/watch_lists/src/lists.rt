@@ -71,6 +71,7 @@ impl Lists {
         Ok(())
     }
 
+    /// Takes a watch away, and the last one comes to its place: the order of watches is free.
     pub(crate) fn drop_at(&mut self, lit: u32, at: usize)
         requires lit { lit < length self.old }
         requires at { at < length (list_at self.old lit) }

@@ -58,6 +58,7 @@ impl Engine {
         self.visit_clause(lit, at, watch.clause)
     }
 
+    /// Visits the clause of a watch. Where the clause doesn't watch the literal any more the watch goes.
     fn visit_clause(&mut self, lit: u32, at: usize, clause: u32) -> Result<Visit, AllocError>
         requires turn { IsTurn self.old lit at }
         requires at { at < length (list_at self.old.lists lit) }
@@ -75,6 +76,8 @@ impl Engine {
         }
     }
 
+    /// Visits a clause by its other watched literal: where that is true the clause is, and nothing is looked
+    /// for (Moskewicz, Madigan, Zhao, Zhang and Malik 2001).
     fn visit_pair(
         &mut self,
         lit: u32,

@@ -8,6 +8,9 @@ use rand_pcg::Lcg128Xsl64;
 use std::alloc::{AllocError, Global};
 
 /// The first words that the generator draws from a seed.
+///
+/// It is a permuted congruential generator (O'Neill 2014), whose words the definition computes: a seed gives
+/// the same patterns on each machine.
 pub(crate) fn draws(alloc: Global, seed: u64, count: usize) -> Result<Vec<u64>, AllocError>
     ensures { IfOk result (λ v. v.items ≡ map (draw seed) (range_with_len 0 count)) }
 {

@@ -1,12 +1,12 @@
 //! Simulation of a pair of circuits on many input patterns at once, 64 to a machine word.
 //!
-//! A `Pool` holds the patterns: first those that are drawn from a seed, then those that are added.
-//! `fill` gives each node a row of words whose bits are the node's values on the patterns, gate by gate
-//! in the order of positions, and `signatures` keeps these rows. Nodes with different rows differ;
-//! nodes with equal rows may be equal (Kuehlmann 2002, Mishchenko et al. 2005).
+//! A `Pool` holds the patterns: first those that are drawn from a seed, then those that are added. `fill`
+//! gives each node a row of words whose bits are the node's values on the patterns, gate by gate in the
+//! order of positions, and `signatures` keeps these rows. Nodes with different rows differ; nodes with equal
+//! rows may be equal (Kuehlmann 2002, Mishchenko et al. 2005).
 //!
-//! Definitions: `specs/Patterns.antt` (what a pool holds, what is drawn), `specs/Rows.antt` (a node's
-//! row). Begin to read at `pool.rt`.
+//! Definitions: `specs/Patterns.antt` (what a pool holds, what is drawn), `specs/Rows.antt` (a node's row);
+//! `specs/Storage.antt` says how a pool keeps its patterns. Begin to read at `pool.rt`, then `rows.rt`.
 #![tactic(auto)]
 
 pub use pool::Pool;

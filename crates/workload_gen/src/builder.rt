@@ -58,6 +58,7 @@ impl Builder {
         Ok(2 * var)
     }
 
+    /// The OR, by De Morgan: AIGER has AND gates alone.
     #[tactic(auto, unfolding(crate::specs::Gates::or_gate))]
     pub(crate) fn or(&mut self, x: u32, y: u32) -> Result<u32, AllocError>
         requires x { var_of x < next self.old }
@@ -71,6 +72,8 @@ impl Builder {
         Ok(not(self.and(not(x), not(y))?))
     }
 
+    /// The XOR, by three gates. Nothing is folded or shared, so that the two architectures stay apart in
+    /// structure.
     #[tactic(auto, unfolding(crate::specs::Gates::xor_gate))]
     pub(crate) fn xor(&mut self, x: u32, y: u32) -> Result<u32, AllocError>
         requires x { var_of x < next self.old }

@@ -94,6 +94,7 @@ fn push_gate(text: &mut Vec<u8>, gate: And) -> Result<(), AllocError>
     push_delta(text, gate.left - gate.right)
 }
 
+/// Appends a difference of literals in the binary form's groups of 7 bits; 32 bits take at most five.
 #[tactic(auto, unfolding(aiger_text::specs::BinaryText::delta_text))]
 fn push_delta(text: &mut Vec<u8>, delta: u32) -> Result<(), AllocError>
     ensures { OnOk result (text.new.items ≡ text.old.items ++ delta_text delta) }

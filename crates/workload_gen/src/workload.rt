@@ -30,6 +30,7 @@ pub fn make(alloc: Global, kind: Kind, n: u32) -> Result<(Vec<u8>, Vec<u8>), All
     Ok((first, second))
 }
 
+/// The architecture that goes from the lowest bit up, one after the other.
 #[tactic(auto, unfolding(crate::specs::Workload::first_circuit))]
 fn first_design(alloc: Global, kind: Kind, n: u32) -> Result<Design, AllocError>
     requires { (1 ≤ n) × (n ≤ MOST_BITS) }
@@ -42,6 +43,7 @@ fn first_design(alloc: Global, kind: Kind, n: u32) -> Result<Design, AllocError>
     }
 }
 
+/// The other one: blocks that are made for either carry, a tree, or from the highest bit down.
 #[tactic(auto, unfolding(crate::specs::Workload::second_circuit))]
 fn second_design(alloc: Global, kind: Kind, n: u32) -> Result<Design, AllocError>
     requires { (1 ≤ n) × (n ≤ MOST_BITS) }
