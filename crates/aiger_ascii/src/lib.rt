@@ -12,4 +12,3 @@ mod lines;
 mod reader;
 
 pub use reader::read;
-

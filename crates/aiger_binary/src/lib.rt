@@ -12,4 +12,3 @@ mod gates;
 mod reader;
 
 pub use reader::read;
-

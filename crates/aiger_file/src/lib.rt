@@ -40,4 +40,3 @@ fn is_form(bytes: &[u8], letter: u8) -> bool
         _ => false,
     }
 }
-

@@ -25,4 +25,3 @@ pub use header_line::{VARIABLE_LIMIT, header};
 pub use line::{literal_line, number, number_line, space, used};
 pub use scan::{NUMBER_LIMIT, Scan};
 pub use symbols::tail;
-
