@@ -2,12 +2,19 @@
 //! with answers that come from outside, and small formulas. It has no code of its own.
 //!
 //! The tests of a crate stand here and not in it, since a crate with tests is proved twice. Modules:
-//! `literals` is of `lits`, `steps` of `unit_prop`, `plain_solver` of `solver_plain`.
+//! `literals` is of `lits`, `steps` of `unit_prop`, `trail` of `watch_lists`, `plain_solver` of `solver_plain`,
+//! `learning_solver` of `solver_watch`; `solving` is what both solvers' tests share.
 #![tactic(auto)]
 
+#[cfg(test)]
+mod learning_solver;
 #[cfg(test)]
 mod literals;
 #[cfg(test)]
 mod plain_solver;
 #[cfg(test)]
+mod solving;
+#[cfg(test)]
 mod steps;
+#[cfg(test)]
+mod trail;

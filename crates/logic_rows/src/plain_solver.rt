@@ -1,229 +1,11 @@
-ghost use Rattle.std.specs.Prelude.{◌≡◌, ◌||◌, true, IfOk};
-ghost use Rattle.std.specs.Bool.{OnTrue};
-ghost use Rattle.std.specs.List.{list_any};
-ghost use Rattle.lits.specs.Clause.{has};
-ghost use Rattle.unit_prop.specs.Log.{IsBase, is_own, same_name};
-ghost use Rattle.lits.specs.Same.{same_lit, opposite};
-ghost use Rattle.unit_prop.specs.Refuter.{IsOver};
-
-use lits::{Clause, ClauseErr, Lit, Literal, Named, Node, Ref, Side, Step};
+use crate::solving::{
+    DRAWN, ROWS, X, Y, check, clause, clause_of, cone_of_xor, drawn_base, has_answer, is_base,
+    is_over, parity_chains, plus, put, put_and, solved,
+};
+use lits::{Literal, Node, Ref, Side};
 use solver_plain::PlainSolver;
-use std::alloc::Global;
-use std::process::Abort;
 use std::test::Fail;
-use unit_prop::{Closure, Refuted, Refuter, StepCheck, close_under};
-
-fn plus(node: Node) -> Lit {
-    Lit { node, neg: false }
-}
-
-fn clause_of(alloc: Global, lits: &[Lit]) -> Result<Clause<Lit>, Fail> {
-    Ok(Clause::of(alloc, lits).map_err(|_| "a clause")?)
-}
-
-/// The clause of numbered inputs, negated where the number is.
-fn clause(alloc: Global, numbers: &[i32]) -> Result<Clause<Lit>, Fail> {
-    let mut lits = Vec::new(alloc);
-    for number in numbers {
-        let node = Node::Input(number.unsigned_abs());
-        let neg = *number < 0;
-        lits.push(Lit { node, neg })?;
-    }
-    clause_of(alloc, lits.as_slice())
-}
-
-/// Puts a clause last, with its place as its name.
-fn put(base: &mut Vec<Named>, clause: Clause<Lit>) -> Result<(), Fail> {
-    let by = Ref::Entry(base.len() as u64, 0);
-    base.push(Named { clause, by })?;
-    Ok(())
-}
-
-/// Puts the clauses of a gate, the AND of two literals.
-fn put_and(
-    alloc: Global,
-    base: &mut Vec<Named>,
-    gate: Node,
-    left: Lit,
-    right: Lit,
-) -> Result<(), Fail> {
-    let on = plus(gate);
-    put(base, clause_of(alloc, &[on.not(), left])?)?;
-    put(base, clause_of(alloc, &[on.not(), right])?)?;
-    put(base, clause_of(alloc, &[on, left.not(), right.not()])?)
-}
-
-/// Puts the clauses of a node that is the XOR of two literals.
-fn put_xor(alloc: Global, base: &mut Vec<Named>, node: Node, a: Lit, b: Lit) -> Result<(), Fail> {
-    let on = plus(node);
-    put(base, clause_of(alloc, &[on.not(), a, b])?)?;
-    put(base, clause_of(alloc, &[on.not(), a.not(), b.not()])?)?;
-    put(base, clause_of(alloc, &[on, a.not(), b])?)?;
-    put(base, clause_of(alloc, &[on, a, b.not()])?)
-}
-
-/// Whether the names differ and none is that of an own step.
-fn is_base(base: &[Named]) -> bool
-    ensures { OnTrue result (IsBase base.now) }
-{
-    let Some((first, rest)) = base.split_first() else {
-        return true;
-    };
-    if is_own(first.by) {
-        return false;
-    }
-    if is_named(rest, first.by) {
-        return false;
-    }
-    is_base(rest)
-}
-
-fn is_own(name: Ref) -> bool
-    ensures { result ≡ is_own name }
-{
-    matches!(name, Ref::Own(_))
-}
-
-fn is_named(base: &[Named], name: Ref) -> bool
-    ensures { result ≡ list_any (λ n. same_name n.by name) base.now }
-{
-    base.iter().any(|named| named.by == name)
-}
-
-/// Whether each literal's variable is in the base.
-fn is_over(base: &[Named], lits: &[Lit]) -> bool
-    ensures { OnTrue result (IsOver base.now lits.now) }
-{
-    let Some((first, rest)) = lits.split_first() else {
-        return true;
-    };
-    if !mentions(base, *first) {
-        return false;
-    }
-    is_over(base, rest)
-}
-
-fn mentions(base: &[Named], lit: Lit) -> bool
-    ensures { result ≡ list_any
-        (λ n. has same_lit n.clause lit || has same_lit n.clause (opposite lit)) base.now }
-{
-    base.iter().any(|named| named.clause.has(lit) || named.clause.has(lit.not()))
-}
-
-fn clause_named<'a>(base: &'a [Named], log: &'a [Step], name: Ref) -> Option<&'a Clause<Lit>> {
-    match name {
-        Ref::Own(k) => log.get(usize::try_from(k).ok()?).map(|step| &step.clause),
-        _ => base
-            .iter()
-            .find(|named| named.by == name)
-            .map(|named| &named.clause),
-    }
-}
-
-fn is_step(
-    alloc: Global,
-    base: &[Named],
-    log: &[Step],
-    clause: &Clause<Lit>,
-    hints: &[Ref],
-) -> Result<bool, Fail> {
-    let mut check = StepCheck::new(alloc);
-    check.begin(clause.lits()).map_err(|_| "begin")?;
-    for name in hints {
-        let hint = clause_named(base, log, *name).ok_or("no clause")?;
-        check.hint(hint.lits()).map_err(|_| "hint")?;
-    }
-    Ok(check.end().is_ok())
-}
-
-/// Whether propagation from the negations of all literals but the last lacks the last.
-fn is_new(alloc: Global, base: &[Named], log: &[Step], clause: &Clause<Lit>) -> Result<bool, Fail> {
-    let mut clauses = Vec::new(alloc);
-    for named in base {
-        clauses.push(named.clause.copy()?)?;
-    }
-    for step in log {
-        clauses.push(step.clause.copy()?)?;
-    }
-    let (last, others) = clause.lits().split_last().ok_or("an empty clause")?;
-    let mut given = Vec::new(alloc);
-    for lit in others {
-        given.push(lit.not())?;
-    }
-    match close_under(alloc, clauses.as_slice(), given.as_slice())? {
-        Closure::Clash => Ok(false),
-        Closure::Free(found) => Ok(!found.as_slice().contains(last)),
-    }
-}
-
-/// Checks a solver's answer and log outside of it.
-fn check(
-    rt: &impl Abort,
-    alloc: Global,
-    base: &[Named],
-    log: &[Step],
-    target: &Clause<Lit>,
-    answer: &Refuted,
-) -> Result<(), Fail> {
-    match answer {
-        Refuted::Yes(hints) => {
-            assert!(rt; is_step(alloc, base, log, target, hints.as_slice())?);
-        }
-        Refuted::No(model) => {
-            for named in base {
-                assert!(rt; named.clause.holds(model.as_slice()));
-            }
-            assert!(rt; !target.holds(model.as_slice()));
-        }
-        Refuted::Spent => {}
-    }
-    for (place, step) in log.iter().enumerate() {
-        let before = &log[..place];
-        assert!(rt; is_step(alloc, base, before, &step.clause, step.hints.as_slice())?);
-        assert!(rt; is_new(alloc, base, before, &step.clause)?);
-    }
-    Ok(())
-}
-
-/// A solver of the base after the query of the target, its answer, which is checked, and the units
-/// that are left.
-fn solved(
-    rt: &impl Abort,
-    alloc: Global,
-    base: &[Named],
-    target: &Clause<Lit>,
-    budget: u64,
-) -> Result<(PlainSolver, Refuted, u64), Fail>
-    ensures { IfOk result (λ r. (r.0.base ≡ base.now) × (r.0.ready ≡ true)) }
-{
-    assert!(rt; is_base(base));
-    assert!(rt; is_over(base, target.lits()));
-    assert!(rt; budget >= 1);
-    let mut solver = PlainSolver::new(alloc);
-    solver.start(alloc, base)?;
-    let mut left = budget;
-    let answer = solver.refute(alloc, target, &mut left)?;
-    check(rt, alloc, base, solver.log(), target, &answer)?;
-    Ok((solver, answer, left))
-}
-
-fn has_answer(answer: &Refuted, implied: bool) -> bool {
-    match answer {
-        Refuted::Yes(_) => implied,
-        Refuted::No(_) => !implied,
-        Refuted::Spent => false,
-    }
-}
-
-const X: Lit = Lit {
-    node: Node::Input(0),
-    neg: false,
-};
-
-const Y: Lit = Lit {
-    node: Node::Input(1),
-    neg: false,
-};
+use unit_prop::{Refuted, Refuter};
 
 #[test]
 fn refuter_yes(rt: HostRuntime) -> Result<(), Fail> {
@@ -234,7 +16,8 @@ fn refuter_yes(rt: HostRuntime) -> Result<(), Fail> {
     put_and(alloc, &mut base, a, X, Y)?;
     put_and(alloc, &mut base, b, Y, X)?;
     let target = clause_of(alloc, &[plus(b).not(), plus(a)])?;
-    let (solver, answer, left) = solved(&rt, alloc, base.as_slice(), &target, 100)?;
+    let mut solver = PlainSolver::new(alloc);
+    let (answer, left) = solved(&rt, alloc, &mut solver, base.as_slice(), &target, 100)?;
     assert!(rt; has_answer(&answer, true));
     assert_eq!(rt; left, 100);
     assert!(rt; solver.log().is_empty());
@@ -248,7 +31,8 @@ fn refuter_no(rt: HostRuntime) -> Result<(), Fail> {
     let mut base = Vec::new(alloc);
     put_and(alloc, &mut base, a, X, Y)?;
     let target = clause_of(alloc, &[plus(a).not()])?;
-    let (solver, answer, left) = solved(&rt, alloc, base.as_slice(), &target, 100)?;
+    let mut solver = PlainSolver::new(alloc);
+    let (answer, left) = solved(&rt, alloc, &mut solver, base.as_slice(), &target, 100)?;
     let Refuted::No(model) = answer else {
         return Err("no model".into());
     };
@@ -258,29 +42,14 @@ fn refuter_no(rt: HostRuntime) -> Result<(), Fail> {
     Ok(())
 }
 
-/// The cone of the one output of two circuits, each an XOR of two inputs by other gates.
-fn cone_of_xor(alloc: Global) -> Result<Vec<Named>, Fail> {
-    let gate = |side: Side, variable: u32| Node::Gate(side, variable);
-    let mut base = Vec::new(alloc);
-    let (a3, a4, a5) = (gate(Side::A, 3), gate(Side::A, 4), gate(Side::A, 5));
-    put_and(alloc, &mut base, a3, X, Y.not())?;
-    put_and(alloc, &mut base, a4, X.not(), Y)?;
-    put_and(alloc, &mut base, a5, plus(a3).not(), plus(a4).not())?;
-    let (b3, b4, b5) = (gate(Side::B, 3), gate(Side::B, 4), gate(Side::B, 5));
-    put_and(alloc, &mut base, b3, X, Y)?;
-    put_and(alloc, &mut base, b4, X.not(), Y.not())?;
-    put_and(alloc, &mut base, b5, plus(b3).not(), plus(b4).not())?;
-    put_xor(alloc, &mut base, Node::Xor(0), plus(a5).not(), plus(b5))?;
-    Ok(base)
-}
-
 #[test]
 fn refuter_spent(rt: HostRuntime) -> Result<(), Fail> {
     let alloc = rt.alloc();
     let base = cone_of_xor(alloc)?;
     let differ = plus(Node::Xor(0));
     let equal = clause_of(alloc, &[differ.not()])?;
-    let (mut solver, answer, left) = solved(&rt, alloc, base.as_slice(), &equal, 1)?;
+    let mut solver = PlainSolver::new(alloc);
+    let (answer, left) = solved(&rt, alloc, &mut solver, base.as_slice(), &equal, 1)?;
     assert!(rt; matches!(answer, Refuted::Spent));
     assert_eq!(rt; left, 0);
     assert_eq!(rt; solver.log().len(), 1);
@@ -300,7 +69,8 @@ fn log_of_queries(rt: HostRuntime) -> Result<(), Fail> {
     let alloc = rt.alloc();
     let base = cone_of_xor(alloc)?;
     let equal = clause_of(alloc, &[plus(Node::Xor(0)).not()])?;
-    let (mut solver, _, _) = solved(&rt, alloc, base.as_slice(), &equal, 1)?;
+    let mut solver = PlainSolver::new(alloc);
+    solved(&rt, alloc, &mut solver, base.as_slice(), &equal, 1)?;
     assert!(rt; is_over(base.as_slice(), equal.lits()));
     let mut left = 100_000;
     let answer = solver.refute(alloc, &equal, &mut left)?;
@@ -314,118 +84,21 @@ fn log_of_queries(rt: HostRuntime) -> Result<(), Fail> {
     Ok(())
 }
 
-/// Clauses, a target, whether they imply it, and the units that the plan spends.
-type Row<'a> = (&'a [&'a [i32]], &'a [i32], bool, u64);
-
-/// Small bases with their answers, by a brute force over all assignments, and the units spent, by the
-/// plan's definition; both were worked out by a program in another language.
-const ROWS: [Row<'static>; 18] = [
-    (&[], &[], false, 0),
-    (&[&[]], &[], true, 0),
-    (&[&[1], &[-1]], &[], true, 0),
-    (&[&[1]], &[1], true, 0),
-    (&[&[1]], &[-1], false, 0),
-    (&[&[1, 2]], &[1, 2], true, 0),
-    (&[&[1, 2]], &[1], false, 0),
-    (&[&[-1, 2], &[-2, 3], &[-3, 4]], &[-1, 4], true, 0),
-    (&[&[-1, 2], &[-2, 3], &[-3, 4]], &[-4, 1], false, 0),
-    (&[&[1, 2], &[1, 2], &[-1, 2], &[1, -2]], &[1, 2], true, 0),
-    (&[&[1, 2], &[-1, 2], &[1, -2], &[-1, -2]], &[], true, 1),
-    (&[&[1, 2], &[-1, 2], &[1, -2]], &[], false, 1),
-    // Three pigeons in two holes, two in two, and three of which the third may stay out.
-    (
-        &[
-            &[1, 2],
-            &[3, 4],
-            &[5, 6],
-            &[-1, -3],
-            &[-1, -5],
-            &[-3, -5],
-            &[-2, -4],
-            &[-2, -6],
-            &[-4, -6],
-        ],
-        &[],
-        true,
-        1,
-    ),
-    (&[&[1, 2], &[3, 4], &[-1, -3], &[-2, -4]], &[], false, 0),
-    (
-        &[
-            &[1, 2],
-            &[3, 4],
-            &[-1, -3],
-            &[-1, -5],
-            &[-3, -5],
-            &[-2, -4],
-            &[-2, -6],
-            &[-4, -6],
-        ],
-        &[-5, -6],
-        true,
-        0,
-    ),
-    (
-        &[
-            &[1, 2],
-            &[3, 4],
-            &[-1, -3],
-            &[-1, -5],
-            &[-3, -5],
-            &[-2, -4],
-            &[-2, -6],
-            &[-4, -6],
-        ],
-        &[-5],
-        true,
-        0,
-    ),
-    // All clauses of three variables, and all but one.
-    (
-        &[
-            &[1, 2, 3],
-            &[1, 2, -3],
-            &[1, -2, 3],
-            &[1, -2, -3],
-            &[-1, 2, 3],
-            &[-1, 2, -3],
-            &[-1, -2, 3],
-            &[-1, -2, -3],
-        ],
-        &[],
-        true,
-        3,
-    ),
-    (
-        &[
-            &[1, 2, 3],
-            &[1, 2, -3],
-            &[1, -2, 3],
-            &[1, -2, -3],
-            &[-1, 2, 3],
-            &[-1, 2, -3],
-            &[-1, -2, 3],
-        ],
-        &[],
-        false,
-        3,
-    ),
-];
-
 #[test]
 fn small_bases(rt: HostRuntime) -> Result<(), Fail> {
     let alloc = rt.alloc();
+    let mut solver = PlainSolver::new(alloc);
     for (lists, target, implied, units) in ROWS {
         let mut base = Vec::new(alloc);
         for numbers in lists {
             put(&mut base, clause(alloc, numbers)?)?;
         }
         let target = clause(alloc, target)?;
-        let (_, answer, left) = solved(&rt, alloc, base.as_slice(), &target, 100)?;
+        let (answer, left) = solved(&rt, alloc, &mut solver, base.as_slice(), &target, 100)?;
         assert!(rt; has_answer(&answer, implied), "{lists:?}");
         assert_eq!(rt; left.saturating_add(units), 100);
         if units >= 1 {
-            let (_, answer, left) = solved(&rt, alloc, base.as_slice(), &target, units)?;
+            let (answer, left) = solved(&rt, alloc, &mut solver, base.as_slice(), &target, units)?;
             assert!(rt; matches!(answer, Refuted::Spent));
             assert_eq!(rt; left, 0);
         }
@@ -433,27 +106,10 @@ fn small_bases(rt: HostRuntime) -> Result<(), Fail> {
     Ok(())
 }
 
-/// Two chains of XORs over the same inputs, one from each end, and what each comes to.
-fn parity_chains(alloc: Global, inputs: u32) -> Result<(Vec<Named>, Lit, Lit), Fail> {
-    let mut base = Vec::new(alloc);
-    let mut first = plus(Node::Input(0));
-    for k in 1..inputs {
-        let node = Node::Gate(Side::A, k);
-        put_xor(alloc, &mut base, node, first, plus(Node::Input(k)))?;
-        first = plus(node);
-    }
-    let mut second = plus(Node::Input(inputs.saturating_sub(1)));
-    for k in (0..inputs.saturating_sub(1)).rev() {
-        let node = Node::Gate(Side::B, k);
-        put_xor(alloc, &mut base, node, plus(Node::Input(k)), second)?;
-        second = plus(node);
-    }
-    Ok((base, first, second))
-}
-
 #[test]
 fn parity_chains_agree(rt: HostRuntime) -> Result<(), Fail> {
     let alloc = rt.alloc();
+    let mut solver = PlainSolver::new(alloc);
     for (inputs, units) in [(2, 1), (3, 3), (4, 7), (5, 15)] {
         let (base, first, second) = parity_chains(alloc, inputs)?;
         for (target, implied, units) in [
@@ -462,7 +118,7 @@ fn parity_chains_agree(rt: HostRuntime) -> Result<(), Fail> {
             ([first, second], false, 0),
         ] {
             let target = clause_of(alloc, &target)?;
-            let (_, answer, left) = solved(&rt, alloc, base.as_slice(), &target, 100)?;
+            let (answer, left) = solved(&rt, alloc, &mut solver, base.as_slice(), &target, 100)?;
             assert!(rt; has_answer(&answer, implied), "{inputs}");
             assert_eq!(rt; left.saturating_add(units), 100);
         }
@@ -470,74 +126,14 @@ fn parity_chains_agree(rt: HostRuntime) -> Result<(), Fail> {
     Ok(())
 }
 
-/// For each seed from 1: whether the clauses drawn from it are unsatisfiable, and the units spent,
-/// worked out as the rows above.
-const DRAWN: [(bool, u64); 32] = [
-    (true, 4),
-    (true, 5),
-    (false, 1),
-    (false, 0),
-    (true, 0),
-    (false, 1),
-    (true, 4),
-    (false, 1),
-    (false, 3),
-    (false, 0),
-    (false, 0),
-    (true, 2),
-    (true, 0),
-    (false, 3),
-    (false, 3),
-    (false, 0),
-    (true, 5),
-    (false, 2),
-    (true, 2),
-    (true, 2),
-    (false, 2),
-    (true, 3),
-    (false, 4),
-    (false, 4),
-    (true, 1),
-    (true, 1),
-    (true, 1),
-    (true, 2),
-    (true, 1),
-    (true, 5),
-    (false, 2),
-    (false, 1),
-];
-
-/// Up to 38 clauses of three drawn literals over eight variables.
-fn drawn_base(alloc: Global, seed: u32) -> Result<Vec<Named>, Fail> {
-    let mut base = Vec::new(alloc);
-    let mut state = seed;
-    for _ in 0..38 {
-        let mut lits = Vec::new(alloc);
-        for _ in 0..3 {
-            state = state.wrapping_mul(1_664_525).wrapping_add(1_013_904_223);
-            let draw = state >> 16;
-            let node = Node::Input((draw >> 1) % 8);
-            lits.push(Lit {
-                node,
-                neg: draw % 2 == 0,
-            })?;
-        }
-        match Clause::of(alloc, lits.as_slice()) {
-            Ok(clause) => put(&mut base, clause)?,
-            Err(ClauseErr::Tautology) => {}
-            Err(ClauseErr::NoMemory) => return Err("out of memory".into()),
-        }
-    }
-    Ok(base)
-}
-
 #[test]
 fn drawn_bases(rt: HostRuntime) -> Result<(), Fail> {
     let alloc = rt.alloc();
+    let mut solver = PlainSolver::new(alloc);
     for (seed, (implied, units)) in (1..).zip(DRAWN) {
         let base = drawn_base(alloc, seed)?;
         let empty = clause_of(alloc, &[])?;
-        let (_, answer, left) = solved(&rt, alloc, base.as_slice(), &empty, 100)?;
+        let (answer, left) = solved(&rt, alloc, &mut solver, base.as_slice(), &empty, 100)?;
         assert!(rt; has_answer(&answer, implied), "seed {seed}");
         assert_eq!(rt; left.saturating_add(units), 100, "seed {seed}");
     }

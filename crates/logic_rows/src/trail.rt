@@ -1,8 +1,8 @@
-use crate::{Put, Trail, flip};
 use lits::{Clause, Lit, Node};
 use std::alloc::Global;
 use std::process::Abort;
 use std::test::Fail;
+use watch_lists::{Put, Trail, flip};
 
 /// The literal of a numbered input, negated where the number is.
 fn lit(number: i32) -> Lit {
