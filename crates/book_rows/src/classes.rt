@@ -1,38 +1,19 @@
-ghost use Rattle.std.specs.Prelude.{◌≡◌, [], ◌∷◌, IfOk, length};
-ghost use Rattle.netlist.specs.Circuit.{IsCircuit};
+ghost use Rattle.std.specs.Prelude.{◌≡◌, IfOk, length};
 ghost use Rattle.netlist.specs.Net.{nodes_of};
 
 use lemma_book::{Book, Entry, Offered, Task};
 use lits::{Clause, Listed, Lit, Literal, Node, Ref, Side, Step};
-use netlist::{And, Circuit, Net};
+use netlist::Net;
 use sig_classes::{leader, tasks};
-use std::alloc::{AllocError, Global};
+use std::alloc::Global;
 use std::process::Abort;
 use std::test::Fail;
 use word_sim::{Pool, Sigs, signatures};
-
-fn and(var: u32, left: u32, right: u32) -> And
-    ensures { result ≡ record { var = var; left = left; right = right } }
-{
-    And { var, left, right }
-}
-
-/// A circuit of two inputs with one output.
-fn circuit(alloc: Global, gates: &[And], output: u32) -> Result<Circuit, AllocError>
-    requires { IsCircuit (record { inputs = 1 ∷ 2 ∷ []; gates = gates.now; outputs = output ∷ [] }) }
-{
-    Circuit::of(
-        alloc,
-        Vec::from_slice(alloc, &[1, 2])?,
-        Vec::from_slice(alloc, gates)?,
-        Vec::from_slice(alloc, &[output])?,
-    )
-}
+use worked_circuits::{and, two_input_circuit};
 
 /// Two XORs by other gates, whose outputs are a gate and the negation of one.
 fn two_xors(alloc: Global) -> Result<Net, Fail> {
-    let a = circuit(alloc, &[and(3, 2, 5), and(4, 3, 4), and(5, 7, 9)], 11)?;
-    let b = circuit(alloc, &[and(3, 2, 4), and(4, 3, 5), and(5, 7, 9)], 10)?;
+    let (a, b) = worked_circuits::two_xors(alloc)?;
     Ok(Net::of(alloc, a, b).map_err(|_| "a net")?)
 }
 
@@ -146,8 +127,8 @@ fn leaders(rt: HostRuntime) -> Result<(), Fail> {
 #[test]
 fn classes_with_complements(rt: HostRuntime) -> Result<(), Fail> {
     let alloc = rt.alloc();
-    let a = circuit(alloc, &[and(3, 4, 4), and(4, 2, 3)], 6)?;
-    let b = circuit(alloc, &[and(3, 5, 1)], 6)?;
+    let a = two_input_circuit(alloc, &[and(3, 4, 4), and(4, 2, 3)], 6)?;
+    let b = two_input_circuit(alloc, &[and(3, 5, 1)], 6)?;
     let net = Net::of(alloc, a, b).map_err(|_| "a net")?;
     let sigs = rows(&rt, alloc, &net)?;
     let book = Book::new(alloc, 1, 1);

@@ -1,45 +1,26 @@
-ghost use Rattle.std.specs.Prelude.{◌≡◌, [], ◌∷◌, IfOk};
-ghost use Rattle.netlist.specs.Circuit.{IsCircuit};
+ghost use Rattle.std.specs.Prelude.{[], ◌∷◌, IfOk};
 ghost use Rattle.lemma_book.specs.Book.{IsLegal};
+ghost use Rattle.lemma_book.specs.Cone.{AreThere};
+ghost use Rattle.std.specs.Bool.{OnTrue};
 
 use lemma_book::{Book, Entry};
-use lits::{Lit, Node, Side};
-use netlist::{And, Circuit, Net};
-use std::alloc::{AllocError, Global};
+use lits::{Lit, Node, Ref, Side};
+use netlist::Net;
+use std::alloc::Global;
 use std::process::Abort;
 use std::test::Fail;
 
 mod text;
 
-fn and(var: u32, left: u32, right: u32) -> And
-    ensures { result ≡ record { var = var; left = left; right = right } }
-{
-    And { var, left, right }
-}
-
-/// A circuit of two inputs with one output.
-fn circuit(alloc: Global, gates: &[And], output: u32) -> Result<Circuit, AllocError>
-    requires { IsCircuit (record { inputs = 1 ∷ 2 ∷ []; gates = gates.now; outputs = output ∷ [] }) }
-{
-    Circuit::of(
-        alloc,
-        Vec::from_slice(alloc, &[1, 2])?,
-        Vec::from_slice(alloc, gates)?,
-        Vec::from_slice(alloc, &[output])?,
-    )
-}
-
 /// Two ANDs of two inputs, a3 and b3, whose fanins stand in the other order.
 fn swapped_ands(alloc: Global) -> Result<Net, Fail> {
-    let a = circuit(alloc, &[and(3, 2, 4)], 6)?;
-    let b = circuit(alloc, &[and(3, 4, 2)], 6)?;
+    let (a, b) = worked_circuits::swapped_ands(alloc)?;
     Ok(Net::of(alloc, a, b).map_err(|_| "a net")?)
 }
 
 /// Two XORs by other gates, of which a5 is the negation of b5.
 fn two_xors(alloc: Global) -> Result<Net, Fail> {
-    let a = circuit(alloc, &[and(3, 2, 5), and(4, 3, 4), and(5, 7, 9)], 11)?;
-    let b = circuit(alloc, &[and(3, 2, 4), and(4, 3, 5), and(5, 7, 9)], 10)?;
+    let (a, b) = worked_circuits::two_xors(alloc)?;
     Ok(Net::of(alloc, a, b).map_err(|_| "a net")?)
 }
 
@@ -448,16 +429,39 @@ const B3: Lit = Lit {
     neg: false,
 };
 
+/// Whether the miter has a variable for the literal's node.
+fn is_there(net: &Net, lit: Lit) -> bool
+    ensures { OnTrue result (AreThere net.now (lit ∷ [])) }
+{
+    net.cnf_number(lit).is_some()
+}
+
+/// The cone of the merged gate has its merge's clauses and those of the gate that it stands for, and none
+/// of its own.
 #[test]
 fn book_readers(rt: HostRuntime) -> Result<(), Fail> {
     let alloc = rt.alloc();
-    let (_, book) = merged(&rt, alloc)?;
+    let (net, book) = merged(&rt, alloc)?;
     let a3 = Lit {
         node: A3,
         neg: false,
     };
     assert_eq!(rt; book.root(B3), a3);
     assert_eq!(rt; book.path(alloc, B3)?.as_slice(), [0].as_slice());
+    assert!(rt; is_there(&net, B3));
+    let mut names = Vec::new(alloc);
+    for named in book.cone(alloc, &net, 1, &[B3])? {
+        names.push(named.by)?;
+    }
+    let axiom = |number: u8| Ref::Axiom(A3, number);
+    let expected = [
+        axiom(0),
+        axiom(1),
+        axiom(2),
+        Ref::Entry(0, 0),
+        Ref::Entry(0, 1),
+    ];
+    assert_eq!(rt; names.as_slice(), expected.as_slice());
     Ok(())
 }
 

@@ -1,50 +1,11 @@
-ghost use Rattle.std.specs.Prelude.{◌≡◌, [], ◌∷◌, IfOk};
-ghost use Rattle.netlist.specs.Circuit.{IsCircuit};
+ghost use Rattle.std.specs.Prelude.{[]};
 
 use lits::{Clause, Dim, Lit, Node, Side};
 use netlist::{And, Circuit, Definition, Fanins, Net, Placed, Unlike, VariableTable, laws};
 use std::alloc::{AllocError, Global};
 use std::process::Abort;
 use std::test::Fail;
-
-fn circuit(
-    alloc: Global,
-    inputs: &[u32],
-    gates: &[And],
-    outputs: &[u32],
-) -> Result<Circuit, AllocError>
-    requires { IsCircuit (record { inputs = inputs.now; gates = gates.now; outputs = outputs.now }) }
-    ensures { IfOk result
-        (λ c. c ≡ record { inputs = inputs.now; gates = gates.now; outputs = outputs.now }) }
-{
-    Circuit::of(
-        alloc,
-        Vec::from_slice(alloc, inputs)?,
-        Vec::from_slice(alloc, gates)?,
-        Vec::from_slice(alloc, outputs)?,
-    )
-}
-
-/// The AND of two inputs.
-fn and(alloc: Global, left: u32, right: u32) -> Result<Circuit, AllocError>
-    requires { IsCircuit (record {
-      inputs = 1 ∷ 2 ∷ [];
-      gates = record { var = 3; left = left; right = right } ∷ [];
-      outputs = 6 ∷ [];
-    }) }
-    ensures { IfOk result (λ c. c ≡ record {
-      inputs = 1 ∷ 2 ∷ [];
-      gates = record { var = 3; left = left; right = right } ∷ [];
-      outputs = 6 ∷ [];
-    }) }
-{
-    let gate = And {
-        var: 3,
-        left,
-        right,
-    };
-    circuit(alloc, &[1, 2], &[gate], &[6])
-}
+use worked_circuits::{circuit, one_gate};
 
 /// Puts the clause last as a line of a DIMACS file.
 fn push_line(text: &mut String, clause: &Clause<Dim>) -> Result<(), AllocError> {
@@ -79,7 +40,13 @@ fn swapped_and(rt: HostRuntime) -> Result<(), Fail> {
     let alloc = rt.alloc();
     let expected = "1 0\n-4 2 0\n-4 3 0\n4 -2 -3 0\n-5 3 0\n-5 2 0\n5 -3 -2 0\n-6 4 5 0\n\
         -6 -4 -5 0\n6 -4 5 0\n6 4 -5 0\n6 0\n";
-    is_miter(&rt, alloc, and(alloc, 2, 4)?, and(alloc, 4, 2)?, expected)
+    is_miter(
+        &rt,
+        alloc,
+        one_gate(alloc, 2, 4)?,
+        one_gate(alloc, 4, 2)?,
+        expected,
+    )
 }
 
 #[test]
@@ -90,7 +57,7 @@ fn and_against_false(rt: HostRuntime) -> Result<(), Fail> {
     is_miter(
         &rt,
         alloc,
-        and(alloc, 2, 4)?,
+        one_gate(alloc, 2, 4)?,
         circuit(alloc, &[1, 2], &[], &[0])?,
         expected,
     )
@@ -143,7 +110,7 @@ fn merged_to_input_and_false(rt: HostRuntime) -> Result<(), Fail> {
 
 /// The net of the two ANDs with swapped fanins.
 fn swapped_net(alloc: Global) -> Result<Net, Fail> {
-    Ok(Net::of(alloc, and(alloc, 2, 4)?, and(alloc, 4, 2)?).map_err(|_| "a net")?)
+    Ok(Net::of(alloc, one_gate(alloc, 2, 4)?, one_gate(alloc, 4, 2)?).map_err(|_| "a net")?)
 }
 
 const GATE: Node = Node::Gate(Side::B, 3);
@@ -202,7 +169,7 @@ fn what_defines_a_node(rt: HostRuntime) -> Result<(), Fail> {
 #[test]
 fn fanins_by_position(rt: HostRuntime) -> Result<(), Fail> {
     let alloc = rt.alloc();
-    let net = Net::of(alloc, and(alloc, 2, 4)?, and(alloc, 1, 5)?).map_err(|_| "a net")?;
+    let net = Net::of(alloc, one_gate(alloc, 2, 4)?, one_gate(alloc, 1, 5)?).map_err(|_| "a net")?;
     let at = |position: u32, neg: bool| Placed { position, neg };
     let a = Fanins {
         left: at(1, false),
@@ -254,7 +221,7 @@ fn literals_and_sizes(rt: HostRuntime) -> Result<(), Fail> {
 #[test]
 fn values(rt: HostRuntime) -> Result<(), Fail> {
     let alloc = rt.alloc();
-    let circuit = and(alloc, 3, 4)?;
+    let circuit = one_gate(alloc, 3, 4)?;
     for (x, y, value) in [
         (false, false, false),
         (false, true, true),
@@ -274,11 +241,15 @@ fn unlike_circuits(rt: HostRuntime) -> Result<(), Fail> {
     let alloc = rt.alloc();
     let more_inputs = Net::of(
         alloc,
-        and(alloc, 2, 4)?,
+        one_gate(alloc, 2, 4)?,
         circuit(alloc, &[1, 2, 3], &[], &[])?,
     );
     assert!(rt; matches!(more_inputs, Err(Unlike::Inputs(2, 3))));
-    let fewer_outputs = Net::of(alloc, and(alloc, 2, 4)?, circuit(alloc, &[1, 2], &[], &[])?);
+    let fewer_outputs = Net::of(
+        alloc,
+        one_gate(alloc, 2, 4)?,
+        circuit(alloc, &[1, 2], &[], &[])?,
+    );
     assert!(rt; matches!(fewer_outputs, Err(Unlike::Outputs(1, 0))));
     Ok(())
 }

@@ -1,12 +1,12 @@
-ghost use Rattle.std.specs.Prelude.{◌≡◌, [], ◌∷◌, length};
+ghost use Rattle.std.specs.Prelude.{◌≡◌, length};
 ghost use Rattle.std.specs.Bool.{OnTrue};
-ghost use Rattle.netlist.specs.Circuit.{IsCircuit};
 
 use lits::Side;
-use netlist::{And, Circuit, Net};
+use netlist::Net;
 use std::alloc::{AllocError, Global};
 use std::test::Fail;
 use word_sim::{Pool, fill, signatures};
+use worked_circuits::one_gate;
 
 /// A pool of one seeded word; a pattern that is added opens the next word.
 #[test]
@@ -16,27 +16,6 @@ fn seeded_pool(rt: HostRuntime) -> Result<(), Fail> {
     pool.add(&[true, false])?;
     assert_eq!(rt; (pool.patterns(), pool.words()), (65, 2));
     Ok(())
-}
-
-/// A circuit of two inputs whose output is a gate.
-fn and(alloc: Global, left: u32, right: u32) -> Result<Circuit, AllocError>
-    requires { IsCircuit (record {
-      inputs = 1 ∷ 2 ∷ [];
-      gates = record { var = 3; left = left; right = right } ∷ [];
-      outputs = 6 ∷ [];
-    }) }
-{
-    let gate = And {
-        var: 3,
-        left,
-        right,
-    };
-    Circuit::of(
-        alloc,
-        Vec::from_slice(alloc, &[1, 2])?,
-        Vec::from_slice(alloc, &[gate])?,
-        Vec::from_slice(alloc, &[6])?,
-    )
 }
 
 /// Whether a pattern has a truth value for each input.
@@ -57,7 +36,7 @@ fn pool(alloc: Global) -> Result<Pool, AllocError> {
 #[test]
 fn rows_of_swapped_ands(rt: HostRuntime) -> Result<(), Fail> {
     let alloc = rt.alloc();
-    let net = Net::of(alloc, and(alloc, 2, 4)?, and(alloc, 4, 2)?).map_err(|_| "a net")?;
+    let net = Net::of(alloc, one_gate(alloc, 2, 4)?, one_gate(alloc, 4, 2)?).map_err(|_| "a net")?;
     let pool = pool(alloc)?;
     assert!(rt; fits(&net, &pool));
     let sigs = signatures(alloc, &net, &pool)?;
@@ -76,7 +55,7 @@ fn rows_of_swapped_ands(rt: HostRuntime) -> Result<(), Fail> {
 #[test]
 fn rows_of_complements(rt: HostRuntime) -> Result<(), Fail> {
     let alloc = rt.alloc();
-    let net = Net::of(alloc, and(alloc, 3, 5)?, and(alloc, 1, 5)?).map_err(|_| "a net")?;
+    let net = Net::of(alloc, one_gate(alloc, 3, 5)?, one_gate(alloc, 1, 5)?).map_err(|_| "a net")?;
     let pool = pool(alloc)?;
     assert!(rt; fits(&net, &pool));
     let mut rows = vec![in alloc; 7; net.positions() as usize * pool.words() as usize]?;

@@ -1,5 +1,5 @@
 //! Whole checks: what is said, warned and left, and with which status.
-use crate::desk::{Ran, run_words};
+use crate::desk::run_words;
 use crate::files::{SWAPPED_A, SWAPPED_B, SWAPPED_CNF, TIGHT, WORDS, XOR_X, XOR_Y};
 use cec_top::Status;
 use lemma_book::Entry;

@@ -1,6 +1,6 @@
 use crate::solving::{
-    DRAWN, ROWS, X, Y, check, clause, clause_of, cone_of_xor, drawn_base, has_answer, is_base,
-    is_over, parity_chains, plus, put, put_and, solved,
+    DRAWN, ROWS, X, Y, base_of, check, clause, clause_of, cone_of_xor, drawn_base, has_answer,
+    is_base, is_over, one_gate, parity_chains, plus, solved, twin_gates,
 };
 use lits::{Literal, Node, Side};
 use solver_watch::WatchSolver;
@@ -10,12 +10,7 @@ use unit_prop::{Refuted, Refuter};
 #[test]
 fn refuter_yes(rt: HostRuntime) -> Result<(), Fail> {
     let alloc = rt.alloc();
-    let a = Node::Gate(Side::A, 3);
-    let b = Node::Gate(Side::B, 3);
-    let mut base = Vec::new(alloc);
-    put_and(alloc, &mut base, a, X, Y)?;
-    put_and(alloc, &mut base, b, Y, X)?;
-    let target = clause_of(alloc, &[plus(b).not(), plus(a)])?;
+    let (base, target) = twin_gates(alloc)?;
     let mut solver = WatchSolver::new(alloc)?;
     let (answer, left) = solved(&rt, alloc, &mut solver, base.as_slice(), &target, 100)?;
     assert!(rt; has_answer(&answer, true));
@@ -27,10 +22,7 @@ fn refuter_yes(rt: HostRuntime) -> Result<(), Fail> {
 #[test]
 fn refuter_no(rt: HostRuntime) -> Result<(), Fail> {
     let alloc = rt.alloc();
-    let a = Node::Gate(Side::A, 3);
-    let mut base = Vec::new(alloc);
-    put_and(alloc, &mut base, a, X, Y)?;
-    let target = clause_of(alloc, &[plus(a).not()])?;
+    let (base, target) = one_gate(alloc)?;
     let mut solver = WatchSolver::new(alloc)?;
     let (answer, _) = solved(&rt, alloc, &mut solver, base.as_slice(), &target, 100)?;
     let Refuted::No(model) = answer else {
@@ -38,7 +30,10 @@ fn refuter_no(rt: HostRuntime) -> Result<(), Fail> {
     };
     let mut model = model.into_vec();
     model.sort()?;
-    assert_eq!(rt; model.as_slice(), [X, Y, plus(a)].as_slice());
+    assert_eq!(rt;
+        model.as_slice(),
+        [X, Y, plus(Node::Gate(Side::A, 3))].as_slice()
+    );
     Ok(())
 }
 
@@ -84,10 +79,7 @@ fn small_bases(rt: HostRuntime) -> Result<(), Fail> {
     let alloc = rt.alloc();
     let mut solver = WatchSolver::new(alloc)?;
     for (lists, target, implied, _) in ROWS {
-        let mut base = Vec::new(alloc);
-        for numbers in lists {
-            put(&mut base, clause(alloc, numbers)?)?;
-        }
+        let base = base_of(alloc, lists)?;
         let target = clause(alloc, target)?;
         let (answer, _) = solved(&rt, alloc, &mut solver, base.as_slice(), &target, 100)?;
         assert!(rt; has_answer(&answer, implied), "{lists:?}");

@@ -33,14 +33,14 @@ pub fn clause(alloc: Global, numbers: &[i32]) -> Result<Clause<Lit>, Fail> {
 }
 
 /// Puts a clause last, with its place as its name.
-pub fn put(base: &mut Vec<Named>, clause: Clause<Lit>) -> Result<(), Fail> {
+fn put(base: &mut Vec<Named>, clause: Clause<Lit>) -> Result<(), Fail> {
     let by = Ref::Entry(base.len() as u64, 0);
     base.push(Named { clause, by })?;
     Ok(())
 }
 
 /// Puts the clauses of a gate, the AND of two literals.
-pub fn put_and(
+fn put_and(
     alloc: Global,
     base: &mut Vec<Named>,
     gate: Node,
@@ -54,13 +54,7 @@ pub fn put_and(
 }
 
 /// Puts the clauses of a node that is the XOR of two literals.
-pub fn put_xor(
-    alloc: Global,
-    base: &mut Vec<Named>,
-    node: Node,
-    a: Lit,
-    b: Lit,
-) -> Result<(), Fail> {
+fn put_xor(alloc: Global, base: &mut Vec<Named>, node: Node, a: Lit, b: Lit) -> Result<(), Fail> {
     let on = plus(node);
     put(base, clause_of(alloc, &[on.not(), a, b])?)?;
     put(base, clause_of(alloc, &[on.not(), a.not(), b.not()])?)?;
@@ -249,6 +243,26 @@ pub const Y: Lit = Lit {
     neg: false,
 };
 
+/// Two gates that are the AND of two inputs, with their fanins swapped, and the clause that one implies the
+/// other.
+pub fn twin_gates(alloc: Global) -> Result<(Vec<Named>, Clause<Lit>), Fail> {
+    let (a, b) = (Node::Gate(Side::A, 3), Node::Gate(Side::B, 3));
+    let mut base = Vec::new(alloc);
+    put_and(alloc, &mut base, a, X, Y)?;
+    put_and(alloc, &mut base, b, Y, X)?;
+    let target = clause_of(alloc, &[plus(b).not(), plus(a)])?;
+    Ok((base, target))
+}
+
+/// A gate that is the AND of two inputs, and the clause that it is false.
+pub fn one_gate(alloc: Global) -> Result<(Vec<Named>, Clause<Lit>), Fail> {
+    let a = Node::Gate(Side::A, 3);
+    let mut base = Vec::new(alloc);
+    put_and(alloc, &mut base, a, X, Y)?;
+    let target = clause_of(alloc, &[plus(a).not()])?;
+    Ok((base, target))
+}
+
 /// The cone of the one output of two circuits, each an XOR of two inputs by other gates.
 pub fn cone_of_xor(alloc: Global) -> Result<Vec<Named>, Fail> {
     let gate = |side: Side, variable: u32| Node::Gate(side, variable);
@@ -262,6 +276,15 @@ pub fn cone_of_xor(alloc: Global) -> Result<Vec<Named>, Fail> {
     put_and(alloc, &mut base, b4, X.not(), Y.not())?;
     put_and(alloc, &mut base, b5, plus(b3).not(), plus(b4).not())?;
     put_xor(alloc, &mut base, Node::Xor(0), plus(a5).not(), plus(b5))?;
+    Ok(base)
+}
+
+/// The clauses of a row.
+pub fn base_of(alloc: Global, lists: &[&[i32]]) -> Result<Vec<Named>, Fail> {
+    let mut base = Vec::new(alloc);
+    for numbers in lists {
+        put(&mut base, clause(alloc, numbers)?)?;
+    }
     Ok(base)
 }
 

@@ -1,6 +1,5 @@
-ghost use Rattle.std.specs.Prelude.{◌≡◌, ◌≤◌, [], ◌∷◌};
+ghost use Rattle.std.specs.Prelude.{◌≤◌};
 ghost use Rattle.std.specs.Bool.{OnTrue};
-ghost use Rattle.netlist.specs.Circuit.{IsCircuit};
 ghost use Rattle.lemma_book.specs.Book.{IsLegal};
 ghost use Rattle.lemma_book.specs.Good.{IsEarlier};
 ghost use Rattle.cone_query.specs.Query.{IsGate};
@@ -8,37 +7,21 @@ ghost use Rattle.cone_query.specs.Query.{IsGate};
 use cone_query::{output, pair};
 use lemma_book::{Book, Entry, Task};
 use lits::{Clause, Listed, Lit, Literal, Node, Ref, Side, Step};
-use netlist::{And, Circuit, Net};
+use netlist::Net;
 use solver_plain::PlainSolver;
-use std::alloc::{AllocError, Global};
+use std::alloc::Global;
 use std::process::Abort;
 use std::test::Fail;
 
-fn circuit(alloc: Global, gates: &[And], output: u32) -> Result<Circuit, AllocError>
-    requires { IsCircuit (record { inputs = 1 ∷ 2 ∷ []; gates = gates.now; outputs = output ∷ [] }) }
-{
-    let inputs = Vec::from_slice(alloc, &[1, 2])?;
-    let gates = Vec::from_slice(alloc, gates)?;
-    Circuit::of(alloc, inputs, gates, Vec::from_slice(alloc, &[output])?)
-}
-
-fn and(var: u32, left: u32, right: u32) -> And
-    ensures { result ≡ record { var = var; left = left; right = right } }
-{
-    And { var, left, right }
-}
-
 /// The AND of two inputs on both sides, with the fanins swapped.
 fn swapped_and(alloc: Global) -> Result<Net, Fail> {
-    let a = circuit(alloc, &[and(3, 2, 4)], 6)?;
-    let b = circuit(alloc, &[and(3, 4, 2)], 6)?;
+    let (a, b) = worked_circuits::swapped_ands(alloc)?;
     Ok(Net::of(alloc, a, b).map_err(|_| "a net")?)
 }
 
 /// The XOR of two inputs on both sides, by other gates.
 fn two_xors(alloc: Global) -> Result<Net, Fail> {
-    let a = circuit(alloc, &[and(3, 2, 5), and(4, 3, 4), and(5, 7, 9)], 11)?;
-    let b = circuit(alloc, &[and(3, 2, 4), and(4, 3, 5), and(5, 7, 9)], 10)?;
+    let (a, b) = worked_circuits::two_xors(alloc)?;
     Ok(Net::of(alloc, a, b).map_err(|_| "a net")?)
 }
 

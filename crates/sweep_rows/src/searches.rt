@@ -1,24 +1,10 @@
-ghost use Rattle.std.specs.Prelude.{[], ◌∷◌};
-ghost use Rattle.netlist.specs.Circuit.{IsCircuit};
-
 use circuit_search::{Caps, Search};
 use lemma_book::{Book, Entry, Task};
 use lits::{Lit, Node, Side};
 use netlist::{And, Circuit, Net};
 use std::alloc::{AllocError, Global};
 use std::test::Fail;
-
-/// A circuit with two inputs, 1 and 2.
-fn circuit(alloc: Global, gates: &[And], output: u32) -> Result<Circuit, AllocError>
-    requires { IsCircuit (record { inputs = 1 ∷ 2 ∷ []; gates = gates.now; outputs = output ∷ [] }) }
-{
-    Circuit::of(
-        alloc,
-        Vec::from_slice(alloc, &[1, 2])?,
-        Vec::from_slice(alloc, gates)?,
-        Vec::from_slice(alloc, &[output])?,
-    )
-}
+use worked_circuits::two_input_circuit;
 
 /// The AND of the inputs.
 fn and(alloc: Global) -> Result<Circuit, AllocError> {
@@ -27,7 +13,7 @@ fn and(alloc: Global) -> Result<Circuit, AllocError> {
         left: 2,
         right: 4,
     };
-    circuit(alloc, &[gate], 6)
+    two_input_circuit(alloc, &[gate], 6)
 }
 
 /// The first input without the second.
@@ -37,7 +23,7 @@ fn without(alloc: Global) -> Result<Circuit, AllocError> {
         left: 5,
         right: 2,
     };
-    circuit(alloc, &[gate], 6)
+    two_input_circuit(alloc, &[gate], 6)
 }
 
 /// Whether the inputs are equal: neither is true without the other.
@@ -57,7 +43,7 @@ fn equal(alloc: Global) -> Result<Circuit, AllocError> {
         left: 7,
         right: 9,
     };
-    circuit(alloc, &[first, second, last], 10)
+    two_input_circuit(alloc, &[first, second, last], 10)
 }
 
 /// The same as what isn't true of one input alone: gate 5 has one of them, and not both.
@@ -77,7 +63,7 @@ fn not_one(alloc: Global) -> Result<Circuit, AllocError> {
         left: 7,
         right: 9,
     };
-    circuit(alloc, &[none, both, last], 11)
+    two_input_circuit(alloc, &[none, both, last], 11)
 }
 
 /// A net of two circuits.

@@ -1,35 +1,12 @@
-ghost use Rattle.std.specs.Prelude.{◌≡◌};
-ghost use Rattle.netlist.specs.Circuit.{IsCircuit};
 ghost use Rattle.check_session.specs.Check.{AreInRange};
 
 use check_session::{Options, Session, Verdict};
 use lemma_book::Entry;
 use lits::{Lit, Node, Side};
-use netlist::{And, Circuit, Unlike};
+use netlist::{Circuit, Unlike};
 use std::alloc::{AllocError, Global};
 use std::test::Fail;
-
-fn circuit(
-    alloc: Global,
-    inputs: &[u32],
-    gates: &[And],
-    outputs: &[u32],
-) -> Result<Circuit, AllocError>
-    requires { IsCircuit (record { inputs = inputs.now; gates = gates.now; outputs = outputs.now }) }
-{
-    Circuit::of(
-        alloc,
-        Vec::from_slice(alloc, inputs)?,
-        Vec::from_slice(alloc, gates)?,
-        Vec::from_slice(alloc, outputs)?,
-    )
-}
-
-fn and(var: u32, left: u32, right: u32) -> And
-    ensures { result ≡ record { var = var; left = left; right = right } }
-{
-    And { var, left, right }
-}
+use worked_circuits::{and, circuit};
 
 /// The AND of two inputs.
 fn one_and(alloc: Global) -> Result<Circuit, AllocError> {

@@ -1,37 +1,15 @@
 ghost use Rattle.std.specs.Prelude.{◌≡◌, None, length};
-ghost use Rattle.netlist.specs.Circuit.{IsCircuit};
 ghost use Rattle.lemma_book.specs.Book.{IsLegal};
 
 use desk_port::{Desk, MemDesk};
 use lemma_book::{Book, Entry};
 use lits::{Clause, Listed, Lit, Literal, Node, Ref, Side, Step};
-use netlist::{And, Circuit, Net};
+use netlist::Net;
 use proof_stitch::{Span, StitchErr, derivation, refutation};
-use std::alloc::{AllocError, Global};
+use std::alloc::Global;
 use std::collections::BTreeMap;
 use std::test::Fail;
-
-fn circuit(
-    alloc: Global,
-    inputs: &[u32],
-    gates: &[And],
-    outputs: &[u32],
-) -> Result<Circuit, AllocError>
-    requires { IsCircuit (record { inputs = inputs.now; gates = gates.now; outputs = outputs.now }) }
-{
-    Circuit::of(
-        alloc,
-        Vec::from_slice(alloc, inputs)?,
-        Vec::from_slice(alloc, gates)?,
-        Vec::from_slice(alloc, outputs)?,
-    )
-}
-
-fn and(var: u32, left: u32, right: u32) -> And
-    ensures { result ≡ record { var = var; left = left; right = right } }
-{
-    And { var, left, right }
-}
+use worked_circuits::{and, circuit};
 
 /// Starts a file and writes the derivation.
 fn derived<D: Desk>(

@@ -1,34 +1,10 @@
-ghost use Rattle.std.specs.Prelude.{◌≡◌};
-ghost use Rattle.netlist.specs.Circuit.{IsCircuit};
-
 use lemma_book::{Book, Entry};
 use lits::{Lit, Literal, Node, Side};
-use netlist::{And, Circuit, Net};
-use std::alloc::{AllocError, Global};
+use netlist::{Circuit, Net};
+use std::alloc::Global;
 use std::test::Fail;
 use strash_pass::run;
-
-fn circuit(
-    alloc: Global,
-    inputs: &[u32],
-    gates: &[And],
-    outputs: &[u32],
-) -> Result<Circuit, AllocError>
-    requires { IsCircuit (record { inputs = inputs.now; gates = gates.now; outputs = outputs.now }) }
-{
-    Circuit::of(
-        alloc,
-        Vec::from_slice(alloc, inputs)?,
-        Vec::from_slice(alloc, gates)?,
-        Vec::from_slice(alloc, outputs)?,
-    )
-}
-
-fn and(var: u32, left: u32, right: u32) -> And
-    ensures { result ≡ record { var = var; left = left; right = right } }
-{
-    And { var, left, right }
-}
+use worked_circuits::{and, circuit};
 
 /// The net of the circuits, and its book after the pass, which merges so many gates.
 fn passed(alloc: Global, a: Circuit, b: Circuit, merges: u64) -> Result<Book, Fail> {

@@ -1,0 +1,78 @@
+//! The small circuits of the worked cases, for the crates of tests.
+//!
+//! `circuit` and `and` write a circuit down as a line or two of a test; `swapped_ands` and `two_xors` are the
+//! pairs that most cases are about. What `circuit` promises is exact, so that a test may ask for what a
+//! call requires of its circuits. Begin to read here: there is no other file.
+#![tactic(auto)]
+
+ghost use Rattle.std.specs.Prelude.{◌≡◌, [], ◌∷◌, IfOk};
+ghost use Rattle.netlist.specs.Circuit.{IsCircuit};
+
+use netlist::{And, Circuit};
+use std::alloc::{AllocError, Global};
+
+/// The gate of a variable, by the literals of its fanins.
+pub fn and(var: u32, left: u32, right: u32) -> And
+    ensures { result ≡ record { var = var; left = left; right = right } }
+{
+    And { var, left, right }
+}
+
+/// The circuit of input variables, gates and output literals.
+pub fn circuit(
+    alloc: Global,
+    inputs: &[u32],
+    gates: &[And],
+    outputs: &[u32],
+) -> Result<Circuit, AllocError>
+    requires { IsCircuit (record { inputs = inputs.now; gates = gates.now; outputs = outputs.now }) }
+    ensures { IfOk result
+        (λ c. c ≡ record { inputs = inputs.now; gates = gates.now; outputs = outputs.now }) }
+{
+    Circuit::of(
+        alloc,
+        Vec::from_slice(alloc, inputs)?,
+        Vec::from_slice(alloc, gates)?,
+        Vec::from_slice(alloc, outputs)?,
+    )
+}
+
+/// The circuit of two inputs, 1 and 2, with one output.
+pub fn two_input_circuit(alloc: Global, gates: &[And], output: u32) -> Result<Circuit, AllocError>
+    requires { IsCircuit (record { inputs = 1 ∷ 2 ∷ []; gates = gates.now; outputs = output ∷ [] }) }
+    ensures { IfOk result
+        (λ c. c ≡ record { inputs = 1 ∷ 2 ∷ []; gates = gates.now; outputs = output ∷ [] }) }
+{
+    circuit(alloc, &[1, 2], gates, &[output])
+}
+
+/// The circuit of two inputs and a gate, 3, that is its output.
+pub fn one_gate(alloc: Global, left: u32, right: u32) -> Result<Circuit, AllocError>
+    requires { IsCircuit (record {
+      inputs = 1 ∷ 2 ∷ [];
+      gates = record { var = 3; left = left; right = right } ∷ [];
+      outputs = 6 ∷ [];
+    }) }
+    ensures { IfOk result (λ c. c ≡ record {
+      inputs = 1 ∷ 2 ∷ [];
+      gates = record { var = 3; left = left; right = right } ∷ [];
+      outputs = 6 ∷ [];
+    }) }
+{
+    two_input_circuit(alloc, &[and(3, left, right)], 6)
+}
+
+/// Two ANDs of two inputs, gate 3 of each circuit, whose fanins stand in the other order.
+pub fn swapped_ands(alloc: Global) -> Result<(Circuit, Circuit), AllocError> {
+    Ok((one_gate(alloc, 2, 4)?, one_gate(alloc, 4, 2)?))
+}
+
+/// Two XORs of two inputs by other gates, of which gate 5 of the first is the negation of gate 5 of the
+/// second.
+pub fn two_xors(alloc: Global) -> Result<(Circuit, Circuit), AllocError> {
+    let gates = [and(3, 2, 5), and(4, 3, 4), and(5, 7, 9)];
+    let a = two_input_circuit(alloc, &gates, 11)?;
+    let gates = [and(3, 2, 4), and(4, 3, 5), and(5, 7, 9)];
+    let b = two_input_circuit(alloc, &gates, 10)?;
+    Ok((a, b))
+}
