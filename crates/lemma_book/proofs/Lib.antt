@@ -19,7 +19,7 @@ mod ConeLemmas
 mod UnmergedRoots
 mod Telling
 mod CauseOrder
-mod NodeValue
 mod NewClauses
 mod Judged
 mod PartLemmas
+mod ConeValueLemmas

@@ -2,6 +2,7 @@ pub mod Entry
 pub mod Shelf
 pub mod Root
 pub mod Cone
+pub mod ConeValue
 pub mod Walk
 pub mod Good
 pub mod Fault

@@ -4,13 +4,17 @@ ghost use Rattle.netlist.specs.Circuit.{output_value};
 ghost use Rattle.netlist.specs.Net.{circuit_of, position_of, value_of};
 ghost use Rattle.lemma_book.specs.Good.{IsThere, ArePlaced, IsApart, IsOutApart, HasApart};
 ghost use Rattle.lemma_book.specs.Judging.{Tells};
+ghost use Rattle.lemma_book.specs.ConeValue.{AreValues};
 
+use crate::cone_value::value_at;
 use crate::entry::Entry;
 use lits::{Lit, Node, Side};
 use netlist::{Net, laws};
 use std::alloc::{AllocError, Global};
+use std::collections::HashMap;
 
-/// Whether values differ where the entry says so. Both circuits are evaluated whole.
+/// Whether values differ where the entry says so: two nodes are evaluated by their cones, and for an output
+/// both circuits.
 pub(crate) fn has_apart(alloc: Global, net: &Net, entry: &Entry) -> Result<bool, AllocError>
     requires there { IsThere net.now entry.now }
     ensures { IfOk result (Tells (HasApart net.now entry.now)) }
@@ -42,41 +46,31 @@ fn are_apart(
     if input.len() != net.circuit(Side::A).inputs().len() {
         return Ok(false);
     }
-    let value = node_value(alloc, net, input, node)?;
-    let target = node_value(alloc, net, input, lit.node)?;
+    let mut known = HashMap::new(alloc);
+    let value = node_value(alloc, net, input, &mut known, node)?;
+    let target = node_value(alloc, net, input, &mut known, lit.node)?;
     Ok(value != (target != lit.neg))
 }
 
-/// The value of a node on the input.
-fn node_value(alloc: Global, net: &Net, input: &[bool], node: Node) -> Result<bool, AllocError>
-    requires placed { IsSome (position_of net.now node) }
-    requires whole { length input.now ≡ length net.now.a.inputs }
-    ensures { IfOk result (λ b. b ≡ value_of net.now input.now node) }
-{
-    match node {
-        Node::Const => Ok(true),
-        Node::Input(k) => Ok(input[k as usize]),
-        Node::Gate(side, var) => gate_value(alloc, net, input, side, var),
-        Node::Xor(_) => Ok(false),
-    }
-}
-
-/// The value of a gate on the input.
-fn gate_value(
+/// The value of a node on the input, by its cone.
+fn node_value(
     alloc: Global,
     net: &Net,
     input: &[bool],
-    side: Side,
-    var: u32,
+    known: &mut HashMap<u32, bool>,
+    node: Node,
 ) -> Result<bool, AllocError>
-    requires placed { IsSome (position_of net.now (Node.Gate side var)) }
+    requires placed { IsSome (position_of net.now node) }
     requires whole { length input.now ≡ length net.now.a.inputs }
-    ensures { IfOk result (λ b. b ≡ value_of net.now input.now (Node.Gate side var)) }
+    requires known { AreValues known.old net.now input.now }
+    ensures value { IfOk result (λ b. b ≡ value_of net.now input.now node) }
+    ensures known { AreValues known.new net.now input.now }
 {
     laws::is_net(net);
-    let circuit = net.circuit(side);
-    let mut values = vec![in alloc; false; circuit.gates().len()]?;
-    Ok(circuit.value(input, 2 * var, &mut values))
+    match net.position(node) {
+        Some(position) => value_at(alloc, net, input, known, position),
+        None => unreachable!(),
+    }
 }
 
 /// Whether the output differs on the input.

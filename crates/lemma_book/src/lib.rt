@@ -23,6 +23,7 @@ pub use turn::{Turn, What};
 
 mod apart;
 mod book;
+mod cone_value;
 mod cones;
 mod entry;
 mod judge;

@@ -1,16 +1,16 @@
--- An input with a position is there, and an XOR has none.
-use Rattle.std.proofs.Common.{subst}
-use Rattle.std.specs.Option.{IsSome}
+-- The node at a node's position is that node.
+use Rattle.std.proofs.Common.{◌≡◌, ◌∙◌, IfOk, sym, subst}
 use Rattle.lits.specs.declared.node.Node.{Node}
-use Rattle.netlist.specs.Net.{position_of}
-use Rattle.lemma_book.proofs.NodeValue.{input-within, no_placed-xor}
+use Rattle.lits.specs.Same.{same_node}
+use Rattle.netlist.specs.Net.{nodes_of, value_of}
+use Rattle.netlist.proofs.Facts.{node-at, at-place}
 use Rattle.lemma_book.proofs.apart.node_value.Goals as goal
 
-pub bounds-input-k : goal.bounds-input-k
-bounds-input-k c =
-    input-within c.args.net.now c.in-Input.k c.args.input.now (subst (λ (n : Node). IsSome (position_of c.args.net.now n)) c.in-Input.is c.requires.placed)
-    c.requires.whole
+pub value_at-requires-clause-there : goal.value_at-requires-clause-there
+value_at-requires-clause-there c =
+    (at-place (λ n. same_node n c.args.node) (nodes_of c.args.net.now) c.in-Some.position (sym c.position.ensures ∙ c.in-Some.is)).3
 
-pub returns-in-Xor : goal.returns-in-Xor
-returns-in-Xor c =
-    absurd (no_placed-xor c.in-Xor.field-0 c.args.net.now (subst (λ (n : Node). IsSome (position_of c.args.net.now n)) c.in-Xor.is c.requires.placed))
+pub returns-clause-value : goal.returns-clause-value
+returns-clause-value c =
+    subst (λ (n : Node). IfOk c.value_at.result (λ b. b ≡ value_of c.args.net.now c.args.input.now n))
+    (node-at c.args.net.now c.args.node c.in-Some.position (sym c.position.ensures ∙ c.in-Some.is)) c.value_at.ensures.value
