@@ -46,32 +46,21 @@ gate_at m c p = do
 
 -- ---- lines
 
-abbrev pub inputs_at : ℕ → ℕ → Aig → Place → Result (Aig × Place) AigerErr
-inputs_at zero m c p = Ok (c, p)
-inputs_at (suc n) m c p = do
-  next ← input_at m c p
-  inputs_at n m next.0 next.1
-
-abbrev pub outputs_at : ℕ → ℕ → Aig → Place → Result (Aig × Place) AigerErr
-outputs_at zero m c p = Ok (c, p)
-outputs_at (suc n) m c p = do
-  next ← output_at m c p
-  outputs_at n m next.0 next.1
-
-abbrev pub gates_at : ℕ → ℕ → Aig → Place → Result (Aig × Place) AigerErr
-gates_at zero m c p = Ok (c, p)
-gates_at (suc n) m c p = do
-  next ← gate_at m c p
-  gates_at n m next.0 next.1
+-- so many lines of one kind, one after the other
+abbrev pub lines_at : (ℕ → Aig → Place → Result (Aig × Place) AigerErr) → ℕ → ℕ → Aig → Place → Result (Aig × Place) AigerErr
+lines_at line zero m c p = Ok (c, p)
+lines_at line (suc n) m c p = do
+  next ← line m c p
+  lines_at line n m next.0 next.1
 
 -- ---- the file
 
 -- what the lines behind the header say, gates in the order of their lines
 unfoldable pub body_at : Header → Place → Result (Aig × Place) AigerErr
 body_at h p = do
-  inputs ← inputs_at h.i h.m (record { inputs = []; gates = []; outputs = [] }) p
-  outputs ← outputs_at h.o h.m inputs.0 inputs.1
-  gates_at h.a h.m outputs.0 outputs.1
+  inputs ← lines_at input_at h.i h.m (record { inputs = []; gates = []; outputs = [] }) p
+  outputs ← lines_at output_at h.o h.m inputs.0 inputs.1
+  lines_at gate_at h.a h.m outputs.0 outputs.1
 
 -- The circuit that the bytes spell, or their first fault. What is undefined or on a cycle is judged behind the last gate,
 -- and then the tail.

@@ -1,5 +1,5 @@
 ghost use Rattle.std.specs.Prelude.{◌≡◌, ◌≤◌, ◌<◌, ◌+◌, [], length, IfOk, OnOk};
-ghost use Rattle.aiger_ascii.specs.Ascii.{defined, input_at, output_at, gate_at, inputs_at, outputs_at, gates_at, Grows, IsNew};
+ghost use Rattle.aiger_ascii.specs.Ascii.{defined, input_at, output_at, gate_at, lines_at, Grows, IsNew};
 
 use byte_scan::{AigerErr, Scan, VARIABLE_LIMIT, literal_line, number, number_line, space, used};
 use circuit_draft::Draft;
@@ -14,7 +14,7 @@ pub(crate) fn inputs(
 ) -> Result<(), AigerErr>
     requires most { most ≤ VARIABLE_LIMIT }
     requires first { draft.old.gates ≡ [] }
-    ensures reads { Grows result draft.new scan.new (inputs_at count most draft.old scan.old) }
+    ensures reads { Grows result draft.new scan.new (lines_at input_at count most draft.old scan.old) }
     ensures outputs { OnOk result (draft.new.outputs ≡ draft.old.outputs) }
 {
     for _ in 0..count {
@@ -45,7 +45,7 @@ pub(crate) fn outputs(
 ) -> Result<(), AigerErr>
     requires most { most ≤ VARIABLE_LIMIT }
     requires room { length draft.old.outputs + count ≤ VARIABLE_LIMIT }
-    ensures { Grows result draft.new scan.new (outputs_at count most draft.old scan.old) }
+    ensures { Grows result draft.new scan.new (lines_at output_at count most draft.old scan.old) }
 {
     for _ in 0..count {
         output(scan, most, draft)?;
@@ -73,7 +73,7 @@ pub(crate) fn gates(
     draft: &mut Draft,
 ) -> Result<(), AigerErr>
     requires { most ≤ VARIABLE_LIMIT }
-    ensures { Grows result draft.new scan.new (gates_at count most draft.old scan.old) }
+    ensures { Grows result draft.new scan.new (lines_at gate_at count most draft.old scan.old) }
 {
     for _ in 0..count {
         gate(scan, most, draft)?;

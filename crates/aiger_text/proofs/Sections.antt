@@ -8,7 +8,7 @@ use Rattle.lits.specs.Clause.{has, no_repeat}
 use Rattle.netlist.specs.declared.gate.And.{And}
 use Rattle.netlist.specs.Circuit.{Aig, gate_vars}
 use Rattle.netlist.proofs.Facts.{no_repeat-split}
-use Rattle.aiger_ascii.specs.Ascii.{inputs_at, outputs_at, gates_at}
+use Rattle.aiger_ascii.specs.Ascii.{input_at, output_at, gate_at, lines_at}
 use Rattle.aiger_text.specs.Lines.{output_line}
 use Rattle.aiger_text.specs.AsciiText.{input_line, gate_line}
 use Rattle.aiger_text.proofs.Reading.{Finds}
@@ -24,7 +24,7 @@ IsInput m v = (0 < v) × (v ≤ m)
 pub inputs-found : (p : Place) (m : ℕ) (done vs rest : List ℕ) → m ≤ 16777216
     → AllByRecursion (IsInput m) vs → no_repeat ◌==◌ (0 ∷ (done ++ vs)) ≡ true
     → ahead p ≡ flat_map input_line vs ++ rest
-    → Finds (inputs_at (length vs) m (aig done [] []) p) (aig (done ++ vs) [] []) rest
+    → Finds (lines_at input_at (length vs) m (aig done [] []) p) (aig (done ++ vs) [] []) rest
 inputs-found p m done [] rest most all once e =
     record { place = p; is = rw (append-nil done) refl; behind = e }
 inputs-found p m done (v ∷ vs) rest most all once e =
@@ -45,7 +45,7 @@ inputs-found p m done (v ∷ vs) rest most all once e =
 pub outputs-found : (p : Place) (m : ℕ) (inputs done lits rest : List ℕ) → m ≤ 16777216
     → AllByRecursion (λ n. n ≤ 2 * m + 1) lits
     → ahead p ≡ flat_map output_line lits ++ rest
-    → Finds (outputs_at (length lits) m (aig inputs [] done) p) (aig inputs [] (done ++ lits)) rest
+    → Finds (lines_at output_at (length lits) m (aig inputs [] done) p) (aig inputs [] (done ++ lits)) rest
 outputs-found p m inputs done [] rest most all e =
     record { place = p; is = rw (append-nil done) refl; behind = e }
 outputs-found p m inputs done (n ∷ ns) rest most all e =
@@ -64,7 +64,7 @@ pub gates-found : (p : Place) (m : ℕ) (inputs outputs : List ℕ) (done gs : L
     → m ≤ 16777216 → AllByRecursion (IsWithin m) gs
     → no_repeat ◌==◌ (0 ∷ (inputs ++ gate_vars (done ++ gs))) ≡ true
     → ahead p ≡ flat_map gate_line gs ++ rest
-    → Finds (gates_at (length gs) m (aig inputs done outputs) p) (aig inputs (done
+    → Finds (lines_at gate_at (length gs) m (aig inputs done outputs) p) (aig inputs (done
     ++ gs) outputs) rest
 gates-found p m inputs outputs done [] rest most all once e =
     record { place = p; is = rw (append-nil done) refl; behind = e }

@@ -1,6 +1,7 @@
 use Rattle.std.proofs.Common.{◌≡◌, ◌∙◌, ◌-◌, arith, refl}
 use Rattle.std.proofs.lemmas.Result.{err_from_is_err_and}
-use Rattle.aiger_ascii.proofs.LoopLemmas.{inputs-step, inputs-fault, inputs-end}
+use Rattle.aiger_ascii.specs.Ascii.{input_at}
+use Rattle.aiger_ascii.proofs.LoopLemmas.{lines-step, lines-fault, lines-end}
 use Rattle.aiger_ascii.proofs.lines.inputs.Goals as goal
 
 pub loop-init : goal.loop-init
@@ -10,7 +11,7 @@ pub loop-preserved : goal.loop-preserved
 loop-preserved c =
     let l = c.loop in
     record {
-      rest = l.invariant.rest ∙ inputs-step c.args.count l.counter c.args.most l.draft c.input.new.draft l.scan c.input.new.scan c.loop-test.true c.in_ok-input.ensures.reads;
+      rest = l.invariant.rest ∙ lines-step input_at c.args.count l.counter c.args.most l.draft c.input.new.draft l.scan c.input.new.scan c.loop-test.true c.in_ok-input.ensures.reads;
       first = c.in_ok-input.ensures.rest.0;
       outputs = c.in_ok-input.ensures.rest.1 ∙ l.invariant.outputs;
     }
@@ -19,7 +20,7 @@ pub returns-in_err-input-clause-reads : goal.returns-in_err-input-clause-reads
 returns-in_err-input-clause-reads c =
     let p = err_from_is_err_and c.from_residual.result c.from_residual.ensures.1 in
     let l = c.loop in
-    rw (p.1, p.2, l.invariant.rest) (inputs-fault c.args.count l.counter c.args.most l.draft l.scan c.in_err-input.field-0.0 c.loop-test.true c.in_err-input.ensures.reads)
+    rw (p.1, p.2, l.invariant.rest) (lines-fault input_at c.args.count l.counter c.args.most l.draft l.scan c.in_err-input.field-0.0 c.loop-test.true c.in_err-input.ensures.reads)
 
 pub returns-clause-reads : goal.returns-clause-reads
-returns-clause-reads c = let l = c.loop in l.invariant.rest ∙ inputs-end c.args.count l.counter c.args.most l.draft l.scan c.loop-test.false
+returns-clause-reads c = let l = c.loop in l.invariant.rest ∙ lines-end input_at c.args.count l.counter c.args.most l.draft l.scan c.loop-test.false

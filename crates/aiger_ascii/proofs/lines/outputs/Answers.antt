@@ -1,6 +1,7 @@
 use Rattle.std.proofs.Common.{◌≡◌, ◌∙◌, ◌-◌, arith, refl}
 use Rattle.std.proofs.lemmas.Result.{err_from_is_err_and}
-use Rattle.aiger_ascii.proofs.LoopLemmas.{outputs-step, outputs-fault, outputs-end}
+use Rattle.aiger_ascii.specs.Ascii.{output_at}
+use Rattle.aiger_ascii.proofs.LoopLemmas.{lines-step, lines-fault, lines-end}
 use Rattle.aiger_ascii.proofs.lines.outputs.Goals as goal
 
 pub loop-init : goal.loop-init
@@ -10,7 +11,7 @@ pub loop-preserved : goal.loop-preserved
 loop-preserved c =
     let l = c.loop in
     record {
-      rest = l.invariant.rest ∙ outputs-step c.args.count l.counter c.args.most l.draft c.output.new.draft l.scan c.output.new.scan c.loop-test.true c.in_ok-output.ensures.reads;
+      rest = l.invariant.rest ∙ lines-step output_at c.args.count l.counter c.args.most l.draft c.output.new.draft l.scan c.output.new.scan c.loop-test.true c.in_ok-output.ensures.reads;
       count = omega (arith, c.in_ok-output.ensures.count, l.invariant.count);
     }
 
@@ -18,7 +19,7 @@ pub returns-in_err-output : goal.returns-in_err-output
 returns-in_err-output c =
     let p = err_from_is_err_and c.from_residual.result c.from_residual.ensures.1 in
     let l = c.loop in
-    rw (p.1, p.2, l.invariant.rest) (outputs-fault c.args.count l.counter c.args.most l.draft l.scan c.in_err-output.field-0.0 c.loop-test.true c.in_err-output.ensures.reads)
+    rw (p.1, p.2, l.invariant.rest) (lines-fault output_at c.args.count l.counter c.args.most l.draft l.scan c.in_err-output.field-0.0 c.loop-test.true c.in_err-output.ensures.reads)
 
 pub returns : goal.returns
-returns c = let l = c.loop in l.invariant.rest ∙ outputs-end c.args.count l.counter c.args.most l.draft l.scan c.loop-test.false
+returns c = let l = c.loop in l.invariant.rest ∙ lines-end output_at c.args.count l.counter c.args.most l.draft l.scan c.loop-test.false

@@ -1,12 +1,9 @@
-use Rattle.std.proofs.Common.{◌≡◌, ◌∙◌, ◌∷◌, List, ℕ, length, sym, ap, subst, true, None, Ok}
-use Rattle.std.specs.List.{flat_map, range_with_len}
-use Rattle.netlist.specs.declared.gate.And.{And}
+use Rattle.std.proofs.Common.{◌≡◌, ◌∙◌, ◌∷◌, sym, ap, subst, true, None, Ok}
 use Rattle.netlist.specs.Circuit.{Aig}
-use Rattle.circuit_draft.specs.Levels.{is_in_order, by_level}
+use Rattle.circuit_draft.specs.Levels.{is_in_order}
 use Rattle.circuit_draft.specs.Draft.{IsDraft, finished, undefined_in}
-use Rattle.circuit_draft.specs.Buckets.{picked}
 use Rattle.circuit_draft.proofs.FinishLemmas.{IsCircuit-order, AreDefined-uses, finished-order, finished-levels, with_gates, made_gates}
-use Rattle.circuit_draft.proofs.ByLevelLemmas.{IsCircuit-levels, picked_all}
+use Rattle.circuit_draft.proofs.ByLevelLemmas.{IsCircuit-levels, by_level-picked}
 use Rattle.circuit_draft.proofs.InOrderLemmas.{no_cycle-order}
 use Rattle.circuit_draft.proofs.CycleLemmas.{no_cycle, AreWithin-levels}
 use Rattle.circuit_draft.proofs.draft.Draft.finish.Goals as goal
@@ -40,11 +37,8 @@ of-requires-2 c =
     let draft : IsDraft c.args.self = subst (λ (a : Aig). IsDraft a) c.self.view_is c.self.invariant.draft in
     let are = c.in_ok-levels.ensures.levels in
     let same = c.as_slice.ensures.value ∙ ap (λ (a : Aig). a.gates) c.self.view_is in
-    let gates : c.in_ok-gates.gates.items ≡ by_level c.args.self =
-    c.in_ok-gates.ensures
-    ∙ ap (λ (gs : List And). flat_map (λ n. picked n gs c.in_ok-of.field-0) (range_with_len 1 (length gs))) same
-    ∙ ap (λ (ls : List ℕ). flat_map (λ n. picked n c.args.self.gates ls) (range_with_len 1 (length c.args.self.gates))) c.in_ok-of.ensures
-    ∙ picked_all c.args.self c.in_ok-levels.levels.items (range_with_len 1 (length c.args.self.gates)) are in
+    let gates = by_level-picked c.args.self c.as_slice.result.now c.in_ok-gates.gates.items c.in_ok-of.field-0 c.in_ok-levels.levels.items
+    same c.in_ok-of.ensures are c.in_ok-gates.ensures in
     with_gates c.args.self d c.in_ok-gates.gates.items c.self.view_is gates (IsCircuit-levels c.args.self c.in_ok-levels.levels.items draft (sym c.in_default.ensures) are)
 
 pub returns : goal.returns
@@ -53,10 +47,7 @@ returns c =
     let draft : IsDraft c.args.self = subst (λ (a : Aig). IsDraft a) c.self.view_is c.self.invariant.draft in
     let are = c.in_ok-levels.ensures.levels in
     let same = c.as_slice.ensures.value ∙ ap (λ (a : Aig). a.gates) c.self.view_is in
-    let gates : c.in_ok-gates.gates.items ≡ by_level c.args.self =
-    c.in_ok-gates.ensures
-    ∙ ap (λ (gs : List And). flat_map (λ n. picked n gs c.in_ok-of.field-0) (range_with_len 1 (length gs))) same
-    ∙ ap (λ (ls : List ℕ). flat_map (λ n. picked n c.args.self.gates ls) (range_with_len 1 (length c.args.self.gates))) c.in_ok-of.ensures
-    ∙ picked_all c.args.self c.in_ok-levels.levels.items (range_with_len 1 (length c.args.self.gates)) are in
+    let gates = by_level-picked c.args.self c.as_slice.result.now c.in_ok-gates.gates.items c.in_ok-of.field-0 c.in_ok-levels.levels.items
+    same c.in_ok-of.ensures are c.in_ok-gates.ensures in
     finished-levels c.args.self (sym c.in_default.ensures) (no_cycle c.args.self c.in_ok-levels.levels.items are) (sym c.if-is_in_order.ensures)
     ∙ ap (λ (a : Aig). Ok a) (sym (c.in_ok-of-2.ensures ∙ made_gates c.args.self d c.in_ok-gates.gates.items c.self.view_is gates))
