@@ -1,3 +1,3 @@
 mod KeepLemmas
 mod RunLemmas
-mod ReplayLemmas
+pub mod ReplayLemmas
