@@ -7,9 +7,10 @@
 //! Between taking the lock and giving it back stands one push of a shared entry and one of a turn, or as many
 //! pushes as there are entries that the pass hasn't seen.
 //!
-//! Definitions: `specs/Pass.antt` (what each call does), `specs/Closed.antt` (the record), `specs/Story.antt`
-//! (one turn), `specs/Line.antt` and `specs/Rule.antt` (what the lock keeps); the book machine stands in
-//! `specs/Machine.antt` of `lemma_book`. Begin to read at `pass.rt`, then `board.rt`, `history.rt`, `turn.rt`.
+//! Definitions: `specs/Pass.antt` (what each call does), `specs/Closed.antt` (the record),
+//! `specs/Story.antt` (one turn), `specs/Line.antt` and `specs/Rule.antt` (what the lock keeps); the book
+//! machine stands in `specs/Machine.antt` of `lemma_book`. Begin to read at `pass.rt`, then `board.rt`,
+//! `history.rt` and `turn.rt`.
 #![tactic(auto)]
 
 pub use board::{Board, Record};

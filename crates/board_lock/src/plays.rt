@@ -6,7 +6,7 @@ ghost use Rattle.lemma_book.specs.declared.entry.Entry.TheVariants.{Out};
 ghost use Rattle.board_lock.specs.declared.view.Note.{Note};
 ghost use Rattle.board_lock.specs.Rule.{Kept};
 ghost use Rattle.board_lock.specs.Views.{opener, kept_of, cut_of, both_of, spent};
-ghost use Rattle.board_lock.specs.Plays.{Ticketed, Looked, Released, Missed, Drawn, Numbered, no_note};
+ghost use Rattle.board_lock.specs.Plays.{Ticketed, Looked, Released, Missed, Drawn, Numbered, no_note, no_net};
 
 use crate::about::About;
 use crate::history::History;
@@ -39,7 +39,7 @@ pub trait Over {
 }
 
 impl Over for Brand {
-    ghost net = { record { a = record { inputs = []; gates = []; outputs = [] }; b = record { inputs = []; gates = []; outputs = [] } } };
+    ghost net = { no_net };
 }
 
 pub struct Look<N: Over>(PhantomData<N>);

@@ -1,11 +1,10 @@
 //! The steps of a pass at the table: each function is one atomic step, or the few of one turn at the lock.
-ghost use Rattle.std.specs.Prelude.{◌≡◌, ◌^◌, ◌<◌, ◌≤◌, false, [], ◌∷◌, ◌++◌, length, MatchBool};
+ghost use Rattle.std.specs.Prelude.{◌≡◌, ◌^◌, ◌<◌, ◌≤◌, false, [], ◌∷◌, ◌++◌, MatchBool};
 ghost use Rattle.lemma_book.specs.Book.{StartsWith};
-ghost use Rattle.board_lock.specs.declared.view.Said.TheVariants.{Known};
 ghost use Rattle.board_lock.specs.Totals.{AllBelow};
-ghost use Rattle.board_lock.specs.Story.{AreSo, book_after, story_missed, no_story, note_of, said_of};
+ghost use Rattle.board_lock.specs.Story.{AreSo, book_after, story_missed, no_story};
 ghost use Rattle.board_lock.specs.Views.{IsIdle, IsIn, noting, missing, in_line, drew, numbering, kept_of, cut_of, both_of};
-ghost use Rattle.board_lock.specs.Plays.{CameIn, Took, IsInLine, Tells, IsFit};
+ghost use Rattle.board_lock.specs.Plays.{CameIn, Took, IsInLine, IsCutting, Tells, IsFit, known_note, offered_note};
 
 use crate::history::History;
 use crate::plays::{
@@ -87,7 +86,8 @@ fn leave<N: Noting>(lock: &Lock, place: &mut Place, history: History)
     requires tells { Tells lock.now.shared.key.net place.old.me.0 N.note history }
     ensures same { place.new.table_id ≡ place.old.table_id }
     ensures noted { place.new.me ≡ (noting place.old.me.0 N.note, []) }
-    ensures so { AreSo (book_after place.old.me.0.taken.book N.note.said) (place.old.me.0.notes ++ N.note ∷ []) }
+    ensures so { AreSo (book_after place.old.me.0.taken.book N.note.said)
+        (place.old.me.0.notes ++ N.note ∷ []) }
     ensures known { StartsWith place.old.me.0.taken.book place.old.me.0.known }
 {
     drop(lock.shared.exchange(place, 0, history));
@@ -134,30 +134,32 @@ pub fn number(lock: &Lock, place: &mut Place) -> u64
 pub fn cut_by<N: Amount>(lock: &Lock, place: &mut Place, turns: u64) -> Place
     requires told { turns ≡ N.amount }
     requires fit { IsFit lock.now.shared.table_id place.old.table_id }
-    requires idle { (place.old.me.0.waits ≡ false) × (place.old.me.0.holds ≡ false) × (1 ≤ length place.old.me.0.held) × (place.old.me.1 ≡ []) }
-    requires own { 1 ≤ length place.old.me.0.numbers }
+    requires cutting { IsCutting place.old.me }
     requires few { turns ≤ place.old.me.0.left }
     ensures same { (place.new.table_id ≡ place.old.table_id) × (result.table_id ≡ place.old.table_id) }
-    ensures parts { (place.new.me ≡ (kept_of turns place.old.me.0, [])) × (result.me ≡ (cut_of turns place.old.me.0, [])) }
+    ensures kept { place.new.me ≡ (kept_of turns place.old.me.0, []) }
+    ensures cut { result.me ≡ (cut_of turns place.old.me.0, []) }
 {
     cut::<N>(lock, place)
 }
 
 fn cut<N: Amount>(lock: &Lock, place: &mut Place) -> Place
     requires fit { IsFit lock.now.shared.table_id place.old.table_id }
-    requires idle { (place.old.me.0.waits ≡ false) × (place.old.me.0.holds ≡ false) × (1 ≤ length place.old.me.0.held) × (place.old.me.1 ≡ []) }
-    requires own { 1 ≤ length place.old.me.0.numbers }
+    requires cutting { IsCutting place.old.me }
     requires few { N.amount ≤ place.old.me.0.left }
     ensures same { (place.new.table_id ≡ place.old.table_id) × (result.table_id ≡ place.old.table_id) }
-    ensures parts { (place.new.me ≡ (kept_of N.amount place.old.me.0, [])) × (result.me ≡ (cut_of N.amount place.old.me.0, [])) }
+    ensures kept { place.new.me ≡ (kept_of N.amount place.old.me.0, []) }
+    ensures cut { result.me ≡ (cut_of N.amount place.old.me.0, []) }
 {
     lock.shared.split_seat::<Cut<N>>(place)
 }
 
 /// Takes in another pass.
 pub fn glue(lock: &Lock, place: &mut Place, other: Place)
-    requires fit { IsFit lock.now.shared.table_id place.old.table_id × IsFit lock.now.shared.table_id other.table_id }
-    requires idle { IsIdle place.old.me.0 × (place.old.me.1 ≡ []) × IsIdle other.me.0 × (other.me.1 ≡ []) }
+    requires fit { IsFit lock.now.shared.table_id place.old.table_id }
+    requires other_fit { IsFit lock.now.shared.table_id other.table_id }
+    requires idle { IsIdle place.old.me.0 × (place.old.me.1 ≡ []) }
+    requires other_idle { IsIdle other.me.0 × (other.me.1 ≡ []) }
     ensures same { place.new.table_id ≡ place.old.table_id }
     ensures both { place.new.me ≡ (both_of place.old.me.0 other.me.0, []) }
 {
@@ -166,13 +168,15 @@ pub fn glue(lock: &Lock, place: &mut Place, other: Place)
 
 /// Ends a turn that looked at the book.
 pub fn leave_known<N: Noting>(lock: &Lock, place: &mut Place, history: History, known: u64)
-    requires told { N.note ≡ note_of place.old.me.0.number (Known known) }
+    requires told { N.note ≡ known_note place.old.me.0 known }
     requires fit { IsFit lock.now.shared.table_id place.old.table_id }
     requires inside { IsIn place.old.me.0 × (place.old.me.1 ≡ (0, no_story) ∷ []) }
-    requires tells { Tells lock.now.shared.key.net place.old.me.0 (note_of place.old.me.0.number (Known known)) history }
+    requires tells { Tells lock.now.shared.key.net place.old.me.0
+        (known_note place.old.me.0 known) history }
     ensures same { place.new.table_id ≡ place.old.table_id }
-    ensures noted { place.new.me ≡ (noting place.old.me.0 (note_of place.old.me.0.number (Known known)), []) }
-    ensures so { AreSo place.old.me.0.taken.book (place.old.me.0.notes ++ note_of place.old.me.0.number (Known known) ∷ []) }
+    ensures noted { place.new.me ≡ (noting place.old.me.0 (known_note place.old.me.0 known), []) }
+    ensures so { AreSo place.old.me.0.taken.book
+        (place.old.me.0.notes ++ known_note place.old.me.0 known ∷ []) }
     ensures known { StartsWith place.old.me.0.taken.book place.old.me.0.known }
 {
     leave::<N>(lock, place, history);
@@ -182,9 +186,10 @@ pub fn leave_known<N: Noting>(lock: &Lock, place: &mut Place, history: History, 
 pub fn leave_offered<N: Asked>(lock: &Lock, place: &mut Place, history: History, offered: Offered)
     requires fit { IsFit lock.now.shared.table_id place.old.table_id }
     requires inside { IsIn place.old.me.0 × (place.old.me.1 ≡ (0, no_story) ∷ []) }
-    requires tells { Tells lock.now.shared.key.net place.old.me.0 (note_of place.old.me.0.number (said_of N.entry offered)) history }
+    requires tells { Tells lock.now.shared.key.net place.old.me.0
+        (offered_note place.old.me.0 N.entry offered) history }
     ensures same { place.new.table_id ≡ place.old.table_id }
-    ensures noted { place.new.me ≡ (noting place.old.me.0 (note_of place.old.me.0.number (said_of N.entry offered)), []) }
+    ensures noted { place.new.me ≡ (noting place.old.me.0 (offered_note place.old.me.0 N.entry offered), []) }
     ensures known { StartsWith place.old.me.0.taken.book place.old.me.0.known }
 {
     leave_told::<Brand>(lock, place, history, offered);

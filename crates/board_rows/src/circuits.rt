@@ -36,7 +36,7 @@ fn and(alloc: Global, left: u32, right: u32) -> Result<Circuit, AllocError>
 }
 
 /// Two ANDs of two inputs, whose fanins stand in the other order.
-pub fn swapped_ands(alloc: Global) -> Result<Net, Fail> {
+pub(crate) fn swapped_ands(alloc: Global) -> Result<Net, Fail> {
     let (a, b) = (and(alloc, 2, 4)?, and(alloc, 4, 2)?);
     Ok(Net::of(alloc, a, b).map_err(|_| "a net")?)
 }
@@ -89,7 +89,7 @@ fn good(alloc: Global, net: &Net, book: &Book, entry: Entry) -> Option<Entry>
 }
 
 /// The entry that merges one gate to the other, once it is known to be good over the book.
-pub fn good_merge(alloc: Global, net: &Net, book: &Book) -> Option<Entry>
+pub(crate) fn good_merge(alloc: Global, net: &Net, book: &Book) -> Option<Entry>
     requires { IsLegal net.now book.now }
     ensures { IfSome result (IsGood net.now book.now) }
 {
@@ -97,7 +97,7 @@ pub fn good_merge(alloc: Global, net: &Net, book: &Book) -> Option<Entry>
 }
 
 /// An entry that nothing settles, once it is known to be good over the book.
-pub fn good_apart(alloc: Global, net: &Net, book: &Book) -> Option<Entry>
+pub(crate) fn good_apart(alloc: Global, net: &Net, book: &Book) -> Option<Entry>
     requires { IsLegal net.now book.now }
     ensures { IfSome result (IsGood net.now book.now) }
 {

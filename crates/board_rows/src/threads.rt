@@ -3,6 +3,7 @@ ghost use Rattle.std.specs.Prelude.{◌≡◌, ◌≤◌, IfOk};
 ghost use Rattle.std.specs.Thread.{IsSync};
 ghost use Rattle.lemma_book.specs.Book.{IsLegal};
 ghost use Rattle.board_lock.specs.Pass.{share_of};
+ghost use Rattle.board_rows.specs.Work.{MayWork};
 
 use crate::circuits::{good_apart, good_merge, swapped_ands};
 use board_lock::{Board, Pass, Record};
@@ -15,9 +16,7 @@ use std::thread::{Threads, join};
 
 /// Offers the merge, which one of both threads puts and the other finds.
 fn offer_merge<R: Wait>(rt: &R, alloc: Global, net: &Net, board: &Board, pass: &mut Pass)
-    requires own { pass.old.table ≡ board.now.table }
-    requires net { net.now ≡ board.now.root.net }
-    requires legal { IsLegal net.now pass.old.known }
+    requires { MayWork net.now board.now pass.old }
     ensures table { pass.new.table ≡ pass.old.table }
     ensures share { share_of pass.new ≡ share_of pass.old }
     ensures legal { IsLegal net.now pass.new.known }
@@ -33,9 +32,7 @@ fn offer_merge<R: Wait>(rt: &R, alloc: Global, net: &Net, board: &Board, pass: &
 
 /// Offers an entry that nothing settles.
 fn offer_apart<R: Wait>(rt: &R, alloc: Global, net: &Net, board: &Board, pass: &mut Pass)
-    requires own { pass.old.table ≡ board.now.table }
-    requires net { net.now ≡ board.now.root.net }
-    requires legal { IsLegal net.now pass.old.known }
+    requires { MayWork net.now board.now pass.old }
     ensures table { pass.new.table ≡ pass.old.table }
     ensures share { share_of pass.new ≡ share_of pass.old }
     ensures legal { IsLegal net.now pass.new.known }
@@ -51,9 +48,7 @@ fn offer_apart<R: Wait>(rt: &R, alloc: Global, net: &Net, board: &Board, pass: &
 
 /// Draws a number, and looks at the book.
 fn look<R: Wait>(rt: &R, alloc: Global, net: &Net, board: &Board, pass: &mut Pass)
-    requires own { pass.old.table ≡ board.now.table }
-    requires net { net.now ≡ board.now.root.net }
-    requires legal { IsLegal net.now pass.old.known }
+    requires { MayWork net.now board.now pass.old }
     ensures table { pass.new.table ≡ pass.old.table }
     ensures share { share_of pass.new ≡ share_of pass.old }
     ensures legal { IsLegal net.now pass.new.known }
@@ -67,9 +62,7 @@ fn look<R: Wait>(rt: &R, alloc: Global, net: &Net, board: &Board, pass: &mut Pas
 
 /// What one thread does: the merge once, and three rounds.
 fn work<R: Wait>(rt: &R, alloc: Global, net: &Net, board: &Board, mut pass: Pass) -> Pass
-    requires own { pass.table ≡ board.now.table }
-    requires net { net.now ≡ board.now.root.net }
-    requires legal { IsLegal net.now pass.known }
+    requires { MayWork net.now board.now pass }
     ensures table { result.table ≡ pass.table }
     ensures share { share_of result ≡ share_of pass }
 {
@@ -99,11 +92,11 @@ fn both<R: Threads + Wait + Sync>(
     let (mut one, two) = join(
         rt,
         || -> Pass
-            requires { IsSync R.row × (pass.table ≡ shared.now.table) × (net.now ≡ shared.now.root.net) × IsLegal net.now pass.known }
+            requires { IsSync R.row × MayWork net.now shared.now pass }
             ensures { (result.table ≡ pass.table) × (share_of result ≡ share_of pass) }
         { work(rt, alloc, net, shared, pass) },
         || -> Pass
-            requires { IsSync R.row × (other.table ≡ shared.now.table) × (net.now ≡ shared.now.root.net) × IsLegal net.now other.known }
+            requires { IsSync R.row × MayWork net.now shared.now other }
             ensures { (result.table ≡ other.table) × (share_of result ≡ share_of other) }
         { work(rt, alloc, net, shared, other) },
     );
@@ -117,6 +110,9 @@ fn two_threads(rt: HostRuntime) -> Result<(), Fail> {
     let net = swapped_ands(alloc)?;
     let (book, record) = both(&rt, alloc, &net, Book::new(alloc, 1, 1))?;
     assert_eq!(rt; book.len(), 7);
-    assert_eq!(rt; (record.turns.len(), record.missed, record.drawn), (14, 0, 6));
+    assert_eq!(rt;
+        (record.turns.len(), record.missed, record.drawn),
+        (14, 0, 6)
+    );
     Ok(())
 }

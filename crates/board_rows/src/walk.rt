@@ -31,6 +31,9 @@ fn board_walk(rt: HostRuntime) -> Result<(), Fail> {
     p.join(&board, q);
     let (book, record) = board.close(p);
     assert_eq!(rt; book.len(), 1);
-    assert_eq!(rt; (record.turns.len(), record.missed, record.drawn), (4, 0, 2));
+    assert_eq!(rt;
+        (record.turns.len(), record.missed, record.drawn),
+        (4, 0, 2)
+    );
     Ok(())
 }

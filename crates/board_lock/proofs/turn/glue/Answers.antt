@@ -6,10 +6,11 @@ pub join_seat-requires : goal.join_seat-requires
 join_seat-requires c =
     let p = c.args.place.now in
     let o = c.args.other in
-    let i = c.requires.idle in (
-      c.requires.fit.0.same,
-      c.requires.fit.1.same,
-      i.3,
-      rw c.requires.fit.0.words (omega arith),
-      join_goes c.args.lock.now.shared.key p.id o.id p.me.0 o.me.0 i.0 i.2,
+    let i = c.requires.idle in
+    let j = c.requires.other_idle in (
+      c.requires.fit.same,
+      c.requires.other_fit.same,
+      j.1,
+      rw c.requires.fit.words (omega arith),
+      join_goes c.args.lock.now.shared.key p.id o.id p.me.0 o.me.0 i.0 j.0,
     )

@@ -10,5 +10,5 @@ returns-clause-ok c =
     let cut = c.cut_by-place in
     subst (λ (h : Held). SplitOff c.args.turns c.args.self.now (held_of cut.new.place.table_id cut.new.place.me.0) h) (sym c.of.ensures)
     (split_off v.place.table_id cut.new.place.table_id cut.result.table_id v.place.me.0 mid.result c.args.turns mid.new.place.me cut.new.place.me
-    cut.result.me c.args.self.now (sym c.self.view_is) mid.ensures.numbered cut.ensures.parts.0 cut.ensures.parts.1
+    cut.result.me c.args.self.now (sym c.self.view_is) mid.ensures.numbered cut.ensures.kept cut.ensures.cut
     (cut.ensures.same.0 ∙ mid.ensures.same) (cut.ensures.same.1 ∙ mid.ensures.same))
