@@ -1,4 +1,4 @@
 pub mod Facts
 mod KeepLemmas
 mod RunLemmas
-mod ReplayLemmas
+pub mod ReplayLemmas

@@ -35,7 +35,7 @@ place-below test (e ∷ es) i at = go (test e) refl (place_of test es) refl (pla
         let below = rest k g in
         omega arith
 
-settled-below : (es : List Entry) (e : Entry) (i : ℕ) → settled_at es e ≡ Some i → i < length es
+pub settled-below : (es : List Entry) (e : Entry) (i : ℕ) → settled_at es e ≡ Some i → i < length es
 settled-below es e i at = go (subject_of e) refl
   where
     go : (o : Option Subject) → subject_of e ≡ o → i < length es

@@ -1,0 +1,12 @@
+mod TotalLemmas
+mod GatherLemmas
+mod LineLemmas
+mod TimesLemmas
+mod StoryLemmas
+mod CountLemmas
+mod AnswerLemmas
+mod Steps
+mod Turns
+mod Ends
+mod BookLemmas
+mod PassLemmas

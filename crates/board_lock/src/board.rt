@@ -1,0 +1,126 @@
+//! The board: a book under a ticket lock.
+ghost use Rattle.std.specs.Prelude.{◌≡◌, ◌≤◌, [], ◌∷◌, IfOk, IfErr, length};
+ghost use Rattle.lemma_book.specs.Book.{IsLegal};
+ghost use Rattle.board_lock.specs.Story.{Story};
+ghost use Rattle.board_lock.specs.Pass.{opened, IsWholePass};
+ghost use Rattle.board_lock.specs.Closed.{IsClosed};
+
+use crate::about::About;
+use crate::history::History;
+use crate::pass::Pass;
+use crate::plays::Lock;
+use lemma_book::{Book, Turn};
+use lits::Listed;
+use netlist::Net;
+use std::alloc::{AllocError, Global};
+use std::marker::Model;
+
+/// A book that many threads share, and how many tasks there are to be drawn.
+///
+/// The table has four words, the turns that were ended, the tickets that were given, the draws and the
+/// splits, and one slot with the book and the turns.
+#[derive(Drop)]
+pub struct Board {
+    pub(crate) table: Lock,
+    pub(crate) tasks: u64,
+}
+
+impl Model for Board {
+    ghost use Rattle.std.specs.Prelude.{◌≡◌};
+    ghost use Rattle.board_lock.specs.Pass.{Post};
+
+    ghost Value = { Post };
+
+    ghost view = { λ b. record {
+      table = b.table.shared.table_id;
+      root = b.table.shared.key;
+      tasks = b.tasks;
+    } };
+
+    ghost invariant = { λ b. (b.table.shared.table_id.words ≡ 4) × (b.table.shared.table_id.slots ≡ 1) };
+}
+
+/// What was done on a board: the turns in order, how many were missed, and how many numbers were drawn.
+#[derive(Drop)]
+pub struct Record {
+    pub turns: Listed<Turn>,
+    pub missed: u64,
+    pub drawn: u64,
+}
+
+impl Board {
+    /// A board over a net, with its book, and the first pass, which has all 2^62 turns. Where memory is
+    /// refused the book comes back.
+    pub fn open(
+        alloc: Global,
+        net: &Net,
+        book: Book,
+        tasks: u64,
+    ) -> Result<(Board, Pass), (Book, AllocError)>
+        requires { IsLegal net.now book }
+        ensures root { IfOk result (λ r. r.0.root ≡ record { net = net.now; opening = book }) }
+        ensures tasks { IfOk result (λ r. r.0.tasks ≡ tasks) }
+        ensures pass { IfOk result (λ r. r.1 ≡ opened r.0) }
+        ensures err { IfErr result (λ e. e.0 ≡ book) }
+    {
+        let Ok(about) = about(alloc, net, &book) else {
+            return Err((book, AllocError));
+        };
+        let Ok(seen) = book.copy(alloc) else {
+            return Err((book, AllocError));
+        };
+        let Ok(mut slots) = Vec::with_capacity(alloc, 1) else {
+            return Err((book, AllocError));
+        };
+        slots.push_reserved(History::of(alloc, book));
+        match Lock::new(alloc, &[0, 0, 0, 0], slots, &about) {
+            Ok((table, place)) => {
+                let pass = Pass::of(place, 0, seen, 1 << 62);
+                Ok((Board { table, tasks }, pass))
+            }
+            Err(refused) => Err((book_in(refused.slots), AllocError)),
+        }
+    }
+
+    /// Ends the board with the pass that is whole: no other pass has a turn left. Gives the book, and the
+    /// record of how it came about.
+    pub fn close(self, pass: Pass) -> (Book, Record)
+        requires own { pass.table ≡ self.table }
+        requires whole { IsWholePass pass }
+        ensures { IsClosed self.root pass result.0 result.1.turns result.1.missed result.1.drawn }
+    {
+        let Board { table, tasks: _ } = self;
+        let mut closed = table.close_with(pass.into_place());
+        let history = closed.take(0);
+        let drawn = closed.word(2);
+        closed.free();
+        let (book, turns, missed) = history.into_parts();
+        let record = Record {
+            turns: Listed::of(turns),
+            missed,
+            drawn,
+        };
+        (book, record)
+    }
+}
+
+/// Copies of the net and of the book.
+fn about(alloc: Global, net: &Net, book: &Book) -> Result<About, AllocError>
+    ensures { IfOk result (λ a. a ≡ record { net = net.now; opening = book.now }) }
+{
+    Ok(About {
+        net: net.copy(alloc)?,
+        opening: book.copy(alloc)?,
+    })
+}
+
+/// The book of the one history.
+fn book_in(mut slots: Vec<History>) -> Book
+    requires { 1 ≤ length slots.items }
+    ensures { (h : Story) → slots.items ≡ h ∷ [] → result ≡ h.book }
+{
+    let Some(history) = slots.pop() else {
+        unreachable!()
+    };
+    history.into_parts().0
+}

@@ -1,0 +1,217 @@
+//! A pass of a board: what one thread does to the shared book.
+ghost use Rattle.std.specs.Prelude.{◌≡◌, ◌+◌, ◌^◌, ◌<◌, ◌≤◌, length, IfOk, IfErr, OnErr};
+ghost use Rattle.lemma_book.specs.Good.{IsGood};
+ghost use Rattle.lemma_book.specs.Book.{IsFrom};
+ghost use Rattle.board_lock.specs.Views.{IsIdle};
+ghost use Rattle.board_lock.specs.Pass.{DrewOne, SplitOff, Refreshed, OfferedOne, joined, missed_one, IsPass, held_of, Spends, Shares, Gains};
+
+use crate::board::Board;
+use crate::plays::{Asked, Place};
+use crate::turn;
+use lemma_book::{Book, Entry, Offered};
+use netlist::Net;
+use std::alloc::{AllocError, Global};
+use std::marker::{Brand, Model};
+use std::sync::Wait;
+
+/// One thread's part in a board: the book as it has seen it, and so many turns.
+///
+/// Each draw, refresh, offer and split takes one turn. The turns that are left and those that were taken make
+/// 2^62 over all passes of a board, so no number is drawn twice and none wraps.
+#[derive(Drop)]
+pub struct Pass {
+    place: Place,
+    number: u64,
+    seen: Book,
+    left: u64,
+}
+
+impl Model for Pass {
+    ghost use Rattle.board_lock.specs.Pass.{Held, held_of, IsPass};
+
+    ghost Value = { Held };
+
+    ghost view = { λ p. held_of p.place.table_id p.place.me.0 };
+
+    ghost invariant = { λ p. IsPass p.place.table_id p.place.me p.number p.seen p.left };
+}
+
+impl Pass {
+    /// The pass of a seat, by what its view says of it.
+    pub(crate) fn of(place: Place, number: u64, seen: Book, left: u64) -> Pass
+        requires { IsPass place.table_id place.me number seen left }
+        ensures { result ≡ held_of place.table_id place.me.0 }
+    {
+        Pass {
+            place,
+            number,
+            seen,
+            left,
+        }
+    }
+
+    /// The seat, and no pass any more.
+    pub(crate) fn into_place(self) -> Place
+        ensures table { result.table_id ≡ self.table }
+        ensures held { held_of result.table_id result.me.0 ≡ self }
+        ensures idle { IsIdle result.me.0 }
+    {
+        self.place
+    }
+
+    /// The book as the pass knows it: the opening one, or that of its last refresh.
+    pub fn seen(&self) -> &Book
+        ensures { result.now ≡ self.now.known }
+    {
+        &self.seen
+    }
+
+    /// How many turns are left.
+    pub fn left(&self) -> u64
+        ensures { result ≡ self.now.left }
+    {
+        self.left
+    }
+
+    /// Draws the number of a task; none where there are no more tasks. No lock is taken.
+    pub fn draw(&mut self, board: &Board) -> Option<u64>
+        requires own { self.old.table ≡ board.now.table }
+        requires left { 1 ≤ self.old.left }
+        ensures drew { DrewOne board.now.tasks self.old self.new result }
+        ensures spent { Spends self.old self.new }
+    {
+        let number = turn::draw(&board.table, &mut self.place);
+        self.left -= 1;
+        if number < board.tasks {
+            Some(number)
+        } else {
+            None
+        }
+    }
+
+    /// Takes in another pass: this one knows the longer of both books, and has the turns, draws and answers
+    /// of both.
+    pub fn join(&mut self, board: &Board, other: Pass)
+        requires own { (self.old.table ≡ board.now.table) × (other.table ≡ board.now.table) }
+        requires few { self.old.left + other.left < 2 ^ 64 }
+        ensures joined { self.new ≡ joined self.old other }
+        ensures gained { Gains self.old other self.new }
+    {
+        let Pass {
+            place,
+            number: _,
+            seen,
+            left,
+        } = other;
+        turn::glue(&board.table, &mut self.place, place);
+        self.left += left;
+        if self.seen.len() <= seen.len() {
+            self.seen = seen;
+        }
+    }
+
+    /// A new pass with so many of the turns, which knows what this one knows. Where memory is refused nothing
+    /// is done, and no turn is taken.
+    pub fn split(&mut self, alloc: Global, board: &Board, turns: u64) -> Result<Pass, AllocError>
+        requires own { self.old.table ≡ board.now.table }
+        requires few { turns < self.old.left }
+        ensures ok { IfOk result (SplitOff turns self.old self.new) }
+        ensures shared { IfOk result (Shares turns self.old self.new) }
+        ensures err { OnErr result (self.new ≡ self.old) }
+    {
+        let seen = self.seen.copy(alloc)?;
+        let number = turn::number(&board.table, &mut self.place) + 1;
+        let place = turn::cut_by::<Brand>(&board.table, &mut self.place, turns);
+        self.left = self.left - 1 - turns;
+        Ok(Pass::of(place, number, seen, turns))
+    }
+
+    /// Looks at the book, and answers how many entries there are. Only the entries past those that were seen
+    /// are added, and they are shared. Where memory is refused the turn is missed.
+    pub fn refresh<R: Wait>(
+        &mut self,
+        rt: &R,
+        alloc: Global,
+        board: &Board,
+    ) -> Result<u64, AllocError>
+        requires own { self.old.table ≡ board.now.table }
+        requires left { 1 ≤ self.old.left }
+        ensures ok { IfOk result (Refreshed board.now.root.net self.old self.new) }
+        ensures err { OnErr result (self.new ≡ missed_one self.old) }
+        ensures spent { Spends self.old self.new }
+    {
+        turn::come_in(rt, &board.table, &mut self.place);
+        let mut history = turn::take(alloc, &board.table, &mut self.place);
+        match history.look(alloc, &mut self.seen, self.number) {
+            Ok(known) => {
+                turn::leave_known::<Brand>(&board.table, &mut self.place, history, known);
+                self.left -= 1;
+                Ok(known)
+            }
+            Err(AllocError) => {
+                history.miss();
+                turn::miss(&board.table, &mut self.place, history);
+                self.left -= 1;
+                Err(AllocError)
+            }
+        }
+    }
+
+    /// Offers an entry that is good over what the pass has seen, and is checked no more: it goes last, unless
+    /// an entry settles it that the pass hasn't seen. Where memory is refused the turn is missed, and the
+    /// entry comes back.
+    pub fn offer<R: Wait>(
+        &mut self,
+        rt: &R,
+        alloc: Global,
+        net: &Net,
+        board: &Board,
+        entry: Entry,
+    ) -> Result<Offered, (Entry, AllocError)>
+        requires own { self.old.table ≡ board.now.table }
+        requires net { net.now ≡ board.now.root.net }
+        requires left { 1 ≤ self.old.left }
+        requires good { IsGood net.now self.old.known entry }
+        ensures ok { IfOk result (OfferedOne entry self.old self.new) }
+        ensures from { IfOk result (IsFrom (length self.old.known.entries)) }
+        ensures err { IfErr result (λ e. (e.0 ≡ entry) × (self.new ≡ missed_one self.old)) }
+        ensures spent { Spends self.old self.new }
+    {
+        self.offer_by::<Brand, R>(rt, alloc, net, board, entry)
+    }
+
+    fn offer_by<N: Asked, R: Wait>(
+        &mut self,
+        rt: &R,
+        alloc: Global,
+        net: &Net,
+        board: &Board,
+        entry: Entry,
+    ) -> Result<Offered, (Entry, AllocError)>
+        requires asked { entry ≡ N.entry }
+        requires own { self.old.table ≡ board.now.table }
+        requires net { net.now ≡ board.now.root.net }
+        requires left { 1 ≤ self.old.left }
+        requires good { IsGood net.now self.old.known entry }
+        ensures ok { IfOk result (OfferedOne entry self.old self.new) }
+        ensures from { IfOk result (IsFrom (length self.old.known.entries)) }
+        ensures err { IfErr result (λ e. (e.0 ≡ entry) × (self.new ≡ missed_one self.old)) }
+        ensures spent { Spends self.old self.new }
+    {
+        turn::come_in(rt, &board.table, &mut self.place);
+        let mut history = turn::take(alloc, &board.table, &mut self.place);
+        match history.append(alloc, net, self.seen.len(), self.number, entry) {
+            Ok(offered) => {
+                turn::leave_offered::<N>(&board.table, &mut self.place, history, offered);
+                self.left -= 1;
+                Ok(offered)
+            }
+            Err(refused) => {
+                history.miss();
+                turn::miss(&board.table, &mut self.place, history);
+                self.left -= 1;
+                Err(refused)
+            }
+        }
+    }
+}

@@ -1,0 +1,105 @@
+//! A net of two AND gates whose fanins stand in the other order, and the entry that merges them.
+ghost use Rattle.std.specs.Prelude.{◌≡◌, [], ◌∷◌, IfSome};
+ghost use Rattle.netlist.specs.Circuit.{IsCircuit};
+ghost use Rattle.lemma_book.specs.Book.{IsLegal};
+ghost use Rattle.lemma_book.specs.Good.{IsGood};
+
+use lemma_book::{Book, Entry, Judgement};
+use lits::{Clause, Listed, Lit, Literal, Node, Ref, Side, Step};
+use netlist::{And, Circuit, Net};
+use std::alloc::{AllocError, Global};
+use std::test::Fail;
+
+const A: Node = Node::Gate(Side::A, 3);
+
+const B: Node = Node::Gate(Side::B, 3);
+
+/// The AND of two inputs.
+fn and(alloc: Global, left: u32, right: u32) -> Result<Circuit, AllocError>
+    requires { IsCircuit (record {
+      inputs = 1 ∷ 2 ∷ [];
+      gates = record { var = 3; left = left; right = right } ∷ [];
+      outputs = 6 ∷ [];
+    }) }
+{
+    let gate = And {
+        var: 3,
+        left,
+        right,
+    };
+    Circuit::of(
+        alloc,
+        Vec::from_slice(alloc, &[1, 2])?,
+        Vec::from_slice(alloc, &[gate])?,
+        Vec::from_slice(alloc, &[6])?,
+    )
+}
+
+/// Two ANDs of two inputs, whose fanins stand in the other order.
+pub(crate) fn swapped_ands(alloc: Global) -> Result<Net, Fail> {
+    let (a, b) = (and(alloc, 2, 4)?, and(alloc, 4, 2)?);
+    Ok(Net::of(alloc, a, b).map_err(|_| "a net")?)
+}
+
+fn step(alloc: Global, lits: &[Lit], hints: &[Ref]) -> Option<Step> {
+    let clause = Clause::of(alloc, lits).ok()?;
+    let hints = Listed::of(Vec::from_slice(alloc, hints).ok()?);
+    Some(Step { clause, hints })
+}
+
+/// The entry that merges one gate to the other; none where memory is refused.
+fn merge(alloc: Global) -> Option<Entry> {
+    let plus = |node| Lit { node, neg: false };
+    let (a, b) = (plus(A), plus(B));
+    let below = [Ref::Axiom(B, 0), Ref::Axiom(B, 1), Ref::Axiom(A, 2)];
+    let above = [Ref::Axiom(A, 0), Ref::Axiom(A, 1), Ref::Axiom(B, 2)];
+    let mut steps = Vec::new(alloc);
+    steps.push(step(alloc, &[b.not(), a], &below)?).ok()?;
+    steps.push(step(alloc, &[b, a.not()], &above)?).ok()?;
+    Some(Entry::Merge {
+        node: B,
+        lit: a,
+        steps: Listed::of(steps),
+    })
+}
+
+/// The entry where one gate and the first input differ; none where memory is refused.
+fn apart(alloc: Global) -> Option<Entry> {
+    let lit = Lit {
+        node: Node::Input(0),
+        neg: false,
+    };
+    let input = Vec::from_slice(alloc, &[true, false]).ok()?;
+    Some(Entry::Apart {
+        node: B,
+        lit,
+        input: Listed::of(input),
+    })
+}
+
+/// The entry, if it is good over the book.
+fn good(alloc: Global, net: &Net, book: &Book, entry: Entry) -> Option<Entry>
+    requires { IsLegal net.now book.now }
+    ensures { IfSome result (IsGood net.now book.now) }
+{
+    match book.judge(alloc, net, &entry) {
+        Ok(Judgement::Good) => Some(entry),
+        _ => None,
+    }
+}
+
+/// The entry that merges one gate to the other, once it is known to be good over the book.
+pub(crate) fn good_merge(alloc: Global, net: &Net, book: &Book) -> Option<Entry>
+    requires { IsLegal net.now book.now }
+    ensures { IfSome result (IsGood net.now book.now) }
+{
+    good(alloc, net, book, merge(alloc)?)
+}
+
+/// An entry that nothing settles, once it is known to be good over the book.
+pub(crate) fn good_apart(alloc: Global, net: &Net, book: &Book) -> Option<Entry>
+    requires { IsLegal net.now book.now }
+    ensures { IfSome result (IsGood net.now book.now) }
+{
+    good(alloc, net, book, apart(alloc)?)
+}

@@ -1,0 +1,12 @@
+//! Rows of calls on the board: what each call answers on one thread, and what two threads leave behind.
+//!
+//! `walk.rt` has a board of one task and two passes, and the answers of each call; `threads.rt` two threads
+//! that offer, refresh, join and close; `circuits.rt` makes the net and the entry that they speak of.
+#![tactic(auto)]
+
+#[cfg(test)]
+mod circuits;
+#[cfg(test)]
+mod threads;
+#[cfg(test)]
+mod walk;
