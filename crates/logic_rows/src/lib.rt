@@ -2,8 +2,8 @@
 //! with answers that come from outside, and small formulas. It has no code of its own.
 //!
 //! The tests of a crate stand here and not in it, since a crate with tests is proved twice. Modules:
-//! `literals` is of `lits`, `steps` of `unit_prop`, `trail` of `watch_lists`, `plain_solver` of `solver_plain`,
-//! `learning_solver` of `solver_watch`; `solving` is what both solvers' tests share.
+//! `literals` is of `lits`, `steps` of `unit_prop`, `trail` of `watch_lists`, `plain_solver` of
+//! `solver_plain`, `learning_solver` of `solver_watch`; `solving` is what both solvers' tests share.
 #![tactic(auto)]
 
 #[cfg(test)]

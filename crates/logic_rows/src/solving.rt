@@ -13,16 +13,16 @@ use std::process::Abort;
 use std::test::Fail;
 use unit_prop::{Closure, Refuted, Refuter, StepCheck, close_under};
 
-pub fn plus(node: Node) -> Lit {
+pub(crate) fn plus(node: Node) -> Lit {
     Lit { node, neg: false }
 }
 
-pub fn clause_of(alloc: Global, lits: &[Lit]) -> Result<Clause<Lit>, Fail> {
+pub(crate) fn clause_of(alloc: Global, lits: &[Lit]) -> Result<Clause<Lit>, Fail> {
     Ok(Clause::of(alloc, lits).map_err(|_| "a clause")?)
 }
 
 /// The clause of numbered inputs, negated where the number is.
-pub fn clause(alloc: Global, numbers: &[i32]) -> Result<Clause<Lit>, Fail> {
+pub(crate) fn clause(alloc: Global, numbers: &[i32]) -> Result<Clause<Lit>, Fail> {
     let mut lits = Vec::new(alloc);
     for number in numbers {
         let node = Node::Input(number.unsigned_abs());
@@ -63,7 +63,7 @@ fn put_xor(alloc: Global, base: &mut Vec<Named>, node: Node, a: Lit, b: Lit) -> 
 }
 
 /// Whether the names differ and none is that of an own step.
-pub fn is_base(base: &[Named]) -> bool
+pub(crate) fn is_base(base: &[Named]) -> bool
     ensures { OnTrue result (IsBase base.now) }
 {
     let Some((first, rest)) = base.split_first() else {
@@ -91,7 +91,7 @@ fn is_named(base: &[Named], name: Ref) -> bool
 }
 
 /// Whether each literal's variable is in the base.
-pub fn is_over(base: &[Named], lits: &[Lit]) -> bool
+pub(crate) fn is_over(base: &[Named], lits: &[Lit]) -> bool
     ensures { OnTrue result (IsOver base.now lits.now) }
 {
     let Some((first, rest)) = lits.split_first() else {
@@ -174,7 +174,7 @@ fn is_new(alloc: Global, base: &[Named], log: &[Step], clause: &Clause<Lit>) -> 
 }
 
 /// Checks a solver's answer and log outside of it.
-pub fn check(
+pub(crate) fn check(
     rt: &impl Abort,
     alloc: Global,
     base: &[Named],
@@ -204,7 +204,7 @@ pub fn check(
 
 /// The solver's answer to the query of the target over the base, which is checked, and the units that are
 /// left.
-pub fn solved<R: Refuter>(
+pub(crate) fn solved<R: Refuter>(
     rt: &impl Abort,
     alloc: Global,
     solver: &mut R,
@@ -225,7 +225,7 @@ pub fn solved<R: Refuter>(
     Ok((answer, left))
 }
 
-pub fn has_answer(answer: &Refuted, implied: bool) -> bool {
+pub(crate) fn has_answer(answer: &Refuted, implied: bool) -> bool {
     match answer {
         Refuted::Yes(_) => implied,
         Refuted::No(_) => !implied,
@@ -233,19 +233,19 @@ pub fn has_answer(answer: &Refuted, implied: bool) -> bool {
     }
 }
 
-pub const X: Lit = Lit {
+pub(crate) const X: Lit = Lit {
     node: Node::Input(0),
     neg: false,
 };
 
-pub const Y: Lit = Lit {
+pub(crate) const Y: Lit = Lit {
     node: Node::Input(1),
     neg: false,
 };
 
 /// Two gates that are the AND of two inputs, with their fanins swapped, and the clause that one implies the
 /// other.
-pub fn twin_gates(alloc: Global) -> Result<(Vec<Named>, Clause<Lit>), Fail> {
+pub(crate) fn twin_gates(alloc: Global) -> Result<(Vec<Named>, Clause<Lit>), Fail> {
     let (a, b) = (Node::Gate(Side::A, 3), Node::Gate(Side::B, 3));
     let mut base = Vec::new(alloc);
     put_and(alloc, &mut base, a, X, Y)?;
@@ -255,7 +255,7 @@ pub fn twin_gates(alloc: Global) -> Result<(Vec<Named>, Clause<Lit>), Fail> {
 }
 
 /// A gate that is the AND of two inputs, and the clause that it is false.
-pub fn one_gate(alloc: Global) -> Result<(Vec<Named>, Clause<Lit>), Fail> {
+pub(crate) fn one_gate(alloc: Global) -> Result<(Vec<Named>, Clause<Lit>), Fail> {
     let a = Node::Gate(Side::A, 3);
     let mut base = Vec::new(alloc);
     put_and(alloc, &mut base, a, X, Y)?;
@@ -264,7 +264,7 @@ pub fn one_gate(alloc: Global) -> Result<(Vec<Named>, Clause<Lit>), Fail> {
 }
 
 /// The cone of the one output of two circuits, each an XOR of two inputs by other gates.
-pub fn cone_of_xor(alloc: Global) -> Result<Vec<Named>, Fail> {
+pub(crate) fn cone_of_xor(alloc: Global) -> Result<Vec<Named>, Fail> {
     let gate = |side: Side, variable: u32| Node::Gate(side, variable);
     let mut base = Vec::new(alloc);
     let (a3, a4, a5) = (gate(Side::A, 3), gate(Side::A, 4), gate(Side::A, 5));
@@ -280,7 +280,7 @@ pub fn cone_of_xor(alloc: Global) -> Result<Vec<Named>, Fail> {
 }
 
 /// The clauses of a row.
-pub fn base_of(alloc: Global, lists: &[&[i32]]) -> Result<Vec<Named>, Fail> {
+pub(crate) fn base_of(alloc: Global, lists: &[&[i32]]) -> Result<Vec<Named>, Fail> {
     let mut base = Vec::new(alloc);
     for numbers in lists {
         put(&mut base, clause(alloc, numbers)?)?;
@@ -289,11 +289,11 @@ pub fn base_of(alloc: Global, lists: &[&[i32]]) -> Result<Vec<Named>, Fail> {
 }
 
 /// Clauses, a target, whether they imply it, and the units that the plan spends.
-pub type Row<'a> = (&'a [&'a [i32]], &'a [i32], bool, u64);
+pub(crate) type Row<'a> = (&'a [&'a [i32]], &'a [i32], bool, u64);
 
 /// Small bases with their answers, by a brute force over all assignments, and the units spent, by the
 /// plan's definition; both were worked out by a program in another language.
-pub const ROWS: [Row<'static>; 18] = [
+pub(crate) const ROWS: [Row<'static>; 18] = [
     (&[], &[], false, 0),
     (&[&[]], &[], true, 0),
     (&[&[1], &[-1]], &[], true, 0),
@@ -387,7 +387,7 @@ pub const ROWS: [Row<'static>; 18] = [
 ];
 
 /// Two chains of XORs over the same inputs, one from each end, and what each comes to.
-pub fn parity_chains(alloc: Global, inputs: u32) -> Result<(Vec<Named>, Lit, Lit), Fail> {
+pub(crate) fn parity_chains(alloc: Global, inputs: u32) -> Result<(Vec<Named>, Lit, Lit), Fail> {
     let mut base = Vec::new(alloc);
     let mut first = plus(Node::Input(0));
     for k in 1..inputs {
@@ -406,7 +406,7 @@ pub fn parity_chains(alloc: Global, inputs: u32) -> Result<(Vec<Named>, Lit, Lit
 
 /// For each seed from 1: whether the clauses drawn from it are unsatisfiable, and the units spent,
 /// worked out as the rows above.
-pub const DRAWN: [(bool, u64); 32] = [
+pub(crate) const DRAWN: [(bool, u64); 32] = [
     (true, 4),
     (true, 5),
     (false, 1),
@@ -442,7 +442,7 @@ pub const DRAWN: [(bool, u64); 32] = [
 ];
 
 /// Up to 38 clauses of three drawn literals over eight variables.
-pub fn drawn_base(alloc: Global, seed: u32) -> Result<Vec<Named>, Fail> {
+pub(crate) fn drawn_base(alloc: Global, seed: u32) -> Result<Vec<Named>, Fail> {
     let mut base = Vec::new(alloc);
     let mut state = seed;
     for _ in 0..38 {

@@ -2,11 +2,12 @@
 //!
 //! `circuit` and `and` write a circuit down as a line or two of a test; `swapped_ands` and `two_xors` are the
 //! pairs that most cases are about. What `circuit` promises is exact, so that a test may ask for what a
-//! call requires of its circuits. Begin to read here: there is no other file.
+//! call requires of its circuits. `specs/Worked.antt` has the circuit of one gate. Begin to read here.
 #![tactic(auto)]
 
-ghost use Rattle.std.specs.Prelude.{◌≡◌, [], ◌∷◌, IfOk};
+ghost use Rattle.std.specs.Prelude.{◌≡◌, ◌×◌, [], ◌∷◌, IfOk};
 ghost use Rattle.netlist.specs.Circuit.{IsCircuit};
+ghost use Rattle.worked_circuits.specs.Worked.{one_gate};
 
 use netlist::{And, Circuit};
 use std::alloc::{AllocError, Global};
@@ -48,28 +49,24 @@ pub fn two_input_circuit(alloc: Global, gates: &[And], output: u32) -> Result<Ci
 
 /// The circuit of two inputs and a gate, 3, that is its output.
 pub fn one_gate(alloc: Global, left: u32, right: u32) -> Result<Circuit, AllocError>
-    requires { IsCircuit (record {
-      inputs = 1 ∷ 2 ∷ [];
-      gates = record { var = 3; left = left; right = right } ∷ [];
-      outputs = 6 ∷ [];
-    }) }
-    ensures { IfOk result (λ c. c ≡ record {
-      inputs = 1 ∷ 2 ∷ [];
-      gates = record { var = 3; left = left; right = right } ∷ [];
-      outputs = 6 ∷ [];
-    }) }
+    requires { IsCircuit (one_gate left right) }
+    ensures { IfOk result (λ c. c ≡ one_gate left right) }
 {
     two_input_circuit(alloc, &[and(3, left, right)], 6)
 }
 
 /// Two ANDs of two inputs, gate 3 of each circuit, whose fanins stand in the other order.
-pub fn swapped_ands(alloc: Global) -> Result<(Circuit, Circuit), AllocError> {
+pub fn swapped_ands(alloc: Global) -> Result<(Circuit, Circuit), AllocError>
+    ensures { IfOk result (λ p. (p.0 ≡ one_gate 2 4) × (p.1 ≡ one_gate 4 2)) }
+{
     Ok((one_gate(alloc, 2, 4)?, one_gate(alloc, 4, 2)?))
 }
 
 /// Two XORs of two inputs by other gates, of which gate 5 of the first is the negation of gate 5 of the
 /// second.
-pub fn two_xors(alloc: Global) -> Result<(Circuit, Circuit), AllocError> {
+pub fn two_xors(alloc: Global) -> Result<(Circuit, Circuit), AllocError>
+    ensures { IfOk result (λ p. (p.0.outputs ≡ 11 ∷ []) × (p.1.outputs ≡ 10 ∷ [])) }
+{
     let gates = [and(3, 2, 5), and(4, 3, 4), and(5, 7, 9)];
     let a = two_input_circuit(alloc, &gates, 11)?;
     let gates = [and(3, 2, 4), and(4, 3, 5), and(5, 7, 9)];
