@@ -13,7 +13,7 @@ use Rattle.lemma_book.specs.Entry.{Entries, subject_of, is_on, place_on, settled
 use Rattle.lemma_book.specs.Book.{IsLegal, StartsWith}
 use Rattle.lemma_book.specs.Machine.{MayFollow, length_after, IsReplay}
 use Rattle.lemma_book.proofs.Facts.{legal-last}
-use Rattle.sweep_core.proofs.ReplayLemmas.{settled-below}
+use Rattle.sweep_core.proofs.Facts.{settled-below}
 use Rattle.board_lock.specs.declared.view.Said.{Said}
 use Rattle.board_lock.specs.declared.view.Said.TheVariants.{At, Already, Known}
 use Rattle.board_lock.specs.declared.view.Note.{Note}

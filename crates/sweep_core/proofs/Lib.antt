@@ -1,4 +1,4 @@
 pub mod Facts
 mod KeepLemmas
 mod RunLemmas
-pub mod ReplayLemmas
+mod ReplayLemmas
