@@ -5,7 +5,7 @@
 //! call requires of its circuits. `specs/Worked.antt` has the circuit of one gate. Begin to read here.
 #![tactic(auto)]
 
-ghost use Rattle.std.specs.Prelude.{◌≡◌, ◌×◌, [], ◌∷◌, IfOk};
+ghost use Rattle.std.specs.Prelude.{◌≡◌, [], ◌∷◌, IfOk};
 ghost use Rattle.netlist.specs.Circuit.{IsCircuit};
 ghost use Rattle.worked_circuits.specs.Worked.{one_gate};
 
