@@ -1,5 +1,5 @@
 -- The story after one more turn: what it says of the book stays so.
-use Rattle.std.proofs.Common.{◌≡◌, ◌≢◌, ℕ, zero, suc, ◌+◌, ◌<◌, ◌≤◌, Bool, true, false, cond, ◌==◌, Option, None, Some, List, [], ◌∷◌, ◌++◌, length, map, slice_get, sym, refl, ap, ◌∙◌, subst, append_assoc, length-append, arith}
+use Rattle.std.proofs.Common.{◌≡◌, ℕ, zero, suc, ◌+◌, Option, None, Some, List, [], ◌∷◌, ◌++◌, length, slice_get, sym, refl, ap, ◌∙◌, subst, append_assoc, length-append, arith}
 use Rattle.std.specs.Option.{option_map, option_map_or}
 use Rattle.std.proofs.lemmas.List.{append-nil}
 use Rattle.std.proofs.lemmas.Option.{none-some, slice_get_within}
@@ -13,7 +13,7 @@ use Rattle.lemma_book.specs.Entry.{Entries, subject_of, is_on, place_on, settled
 use Rattle.lemma_book.specs.Book.{IsLegal, StartsWith}
 use Rattle.lemma_book.specs.Machine.{MayFollow, length_after, IsReplay}
 use Rattle.lemma_book.proofs.Facts.{legal-last}
-use Rattle.sweep_core.proofs.ReplayLemmas.{settled-below}
+use Rattle.sweep_core.proofs.Facts.{settled-below}
 use Rattle.board_lock.specs.declared.view.Said.{Said}
 use Rattle.board_lock.specs.declared.view.Said.TheVariants.{At, Already, Known}
 use Rattle.board_lock.specs.declared.view.Note.{Note}

@@ -1,3 +1,4 @@
 mod KeepLemmas
 mod RunLemmas
-pub mod ReplayLemmas
+mod ReplayLemmas
+pub mod Facts
