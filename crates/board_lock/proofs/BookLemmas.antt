@@ -1,5 +1,5 @@
 -- A book whose first entries are known: the entry that is good over these, and the answer to it.
-use Rattle.std.proofs.Common.{◌≡◌, ℕ, zero, suc, ◌+◌, ◌≤◌, Option, None, Some, List, [], ◌∷◌, ◌++◌, length, take, drop, length-append, sym, refl, ap, ◌∙◌, subst, arith}
+use Rattle.std.proofs.Common.{◌≡◌, ℕ, ◌≤◌, Option, None, Some, List, [], ◌∷◌, ◌++◌, length, take, drop, length-append, sym, refl, ap, ◌∙◌, subst, arith}
 use Rattle.std.specs.Option.{option_map_or}
 use Rattle.std.proofs.lemmas.List.{take-append-drop}
 use Rattle.netlist.specs.Net.{AigPair}
@@ -11,7 +11,7 @@ use Rattle.lemma_book.specs.Good.{IsGood}
 use Rattle.lemma_book.specs.Book.{StartsWith, answer_to, book_after as machine_after}
 use Rattle.lemma_book.proofs.Facts.{good-longer}
 use Rattle.sweep_core.specs.Run.{what_of as machine_what}
-use Rattle.board_lock.specs.Story.{Story, IsAnswer, said_of, note_of, what_of, book_after, story_after}
+use Rattle.board_lock.specs.Story.{IsAnswer, said_of, what_of, book_after}
 
 take-all : {X : Type 0} (xs ys : List X) → take (length xs) (xs ++ ys) ≡ xs
 take-all [] [] = refl

@@ -1,7 +1,6 @@
 -- The table at its start, where two passes join, and at its end.
-use Rattle.std.proofs.Common.{◌≡◌, ◌≢◌, ℕ, zero, suc, ◌+◌, ◌-◌, ◌^◌, ◌<◌, ◌≤◌, Bool, true, false, true≢false, cond, List, [], ◌∷◌, ◌++◌, length, length-append, map, set, sym, refl, ap, ◌∙◌, subst, arith}
-use Rattle.std.specs.List.{flat_map}
-use mathlib.Core.Option.{Option, some, some-injective}
+use Rattle.std.proofs.Common.{◌≡◌, ◌≢◌, ℕ, ◌+◌, ◌^◌, ◌≤◌, Bool, true, false, true≢false, cond, List, [], ◌∷◌, length, length-append, map, set, sym, refl, ap, ◌∙◌, arith}
+use mathlib.Core.Option.{some, some-injective}
 use lib.ListN.{get_elem?}
 use native.Mathlib.Decide.{ℕ_discrete}
 use Rattle.atomic_table.specs.Table.{State, Joins, Seen, opening}
@@ -10,7 +9,7 @@ use Rattle.lemma_book.specs.Entry.{Entries}
 use Rattle.lemma_book.specs.Book.{IsLegal, StartsWith}
 use Rattle.board_lock.specs.declared.view.View.{View}
 use Rattle.board_lock.specs.declared.view.Note.{Note}
-use Rattle.board_lock.specs.Totals.{total, times, Each}
+use Rattle.board_lock.specs.Totals.{total, times}
 use Rattle.board_lock.specs.Line.{InLine, waiting, holding}
 use Rattle.board_lock.specs.Story.{Story, Root, turn_of, under}
 use Rattle.board_lock.specs.Rule.{Kept, Knows, stand_of, shelf, left, turns, drawn, splits, missed, numbered, draws_of, made, noted}

@@ -10,3 +10,4 @@ mod Turns
 mod Ends
 mod BookLemmas
 mod PassLemmas
+pub mod Facts

@@ -1,9 +1,9 @@
 -- The line at each change: one view changes, the one that is served goes, or views change that don't wait.
-use Rattle.std.proofs.Common.{◌≡◌, ◌≢◌, ℕ, ◌+◌, ◌<◌, ◌≤◌, Bool, true, false, true≢false, cond, List, set, sym, refl, ap, ◌∙◌, subst, ◌⊎◌, ⊎_elim, arith}
+use Rattle.std.proofs.Common.{◌≡◌, ◌≢◌, ℕ, ◌+◌, Bool, true, false, true≢false, cond, List, set, sym, refl, ap, ◌∙◌, subst, ◌⊎◌, ⊎_elim, arith}
 use mathlib.Core.Option.{some}
 use lib.ListN.{get_elem?}
 use Rattle.atomic_table.proofs.Lists.{at_set}
-use Rattle.board_lock.specs.Totals.{total, Each}
+use Rattle.board_lock.specs.Totals.{total}
 use Rattle.board_lock.specs.Line.{Stand, waiting, holding, InLine, Line}
 use Rattle.board_lock.proofs.TotalLemmas.{total-set, total-alone, each-set, Stays}
 

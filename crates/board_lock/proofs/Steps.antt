@@ -1,15 +1,14 @@
 -- The steps of a pass outside the lock keep the rule: a draw, a number for a new pass, a ticket, and the cut itself.
-use Rattle.std.proofs.Common.{◌≡◌, ◌≢◌, ℕ, zero, suc, ◌+◌, ◌-◌, ◌%◌, ◌^◌, ◌<◌, ◌≤◌, Bool, true, false, true≢false, cond, ◌==◌, List, [], ◌∷◌, ◌++◌, length, length-append, set, slice_set, slice_index, sym, refl, ap, ◌∙◌, arith}
-use mathlib.Core.Option.{Option, some, none}
-use lib.ListN.{get_elem?}
+use Rattle.std.proofs.Common.{◌≡◌, ℕ, ◌+◌, ◌-◌, ◌%◌, ◌^◌, ◌≤◌, Bool, true, false, true≢false, cond, List, [], ◌∷◌, ◌++◌, length, length-append, set, slice_set, slice_index, sym, refl, ap, ◌∙◌, arith}
+use mathlib.Core.Option.{none}
 use Rattle.std.proofs.Math.Nat.{mod-eq_of_lt}
-use Rattle.atomic_table.specs.Table.{State, step, Allows, Splits, keeps}
+use Rattle.atomic_table.specs.Table.{step, Allows, Splits, keeps}
 use Rattle.board_lock.specs.declared.view.View.{View}
 use Rattle.board_lock.specs.Totals.{times}
 use Rattle.board_lock.specs.Line.{waiting, holding}
 use Rattle.board_lock.specs.Story.{Story, Root}
 use Rattle.board_lock.specs.Rule.{Kept, Knows, stand_of, shelf, left, turns, drawn, splits, numbered, draws_of}
-use Rattle.board_lock.specs.Views.{IsIdle, kept_of, cut_of, first_of, drew, numbering, in_line}
+use Rattle.board_lock.specs.Views.{IsIdle, kept_of, cut_of, first_of}
 use Rattle.board_lock.specs.Plays.{Ticketed, Drawn, Numbered}
 use Rattle.board_lock.proofs.TotalLemmas.{total-keep, total-cut, total-le, each-set, each-from, from-cut}
 use Rattle.board_lock.proofs.TimesLemmas.{times-append, times-one, once-last, drawn-below, below-all}

@@ -1,5 +1,5 @@
 -- The steps of a turn keep the rule: a look, which may take the slot, and the release, noted or missed.
-use Rattle.std.proofs.Common.{◌≡◌, ◌≢◌, ℕ, zero, suc, ◌+◌, ◌-◌, ◌%◌, ◌^◌, ◌<◌, ◌≤◌, Bool, true, false, true≢false, cond, ◌==◌, MatchBool, List, [], ◌∷◌, ◌++◌, length, length-append, set, slice_set, slice_index, sym, refl, ap, ◌∙◌, subst, arith}
+use Rattle.std.proofs.Common.{◌≡◌, ℕ, ◌+◌, ◌%◌, ◌^◌, ◌≤◌, Bool, true, false, true≢false, cond, ◌==◌, MatchBool, List, [], ◌∷◌, ◌++◌, length-append, set, slice_set, slice_index, sym, refl, ap, ◌∙◌, subst, arith}
 use mathlib.Core.Option.{Option, some, none}
 use lib.ListN.{get_elem?}
 use Rattle.std.proofs.Math.Nat.{mod-eq_of_lt}
@@ -12,7 +12,7 @@ use Rattle.board_lock.specs.declared.view.View.{View}
 use Rattle.board_lock.specs.declared.view.Note.{Note}
 use Rattle.board_lock.specs.Totals.{total, Each, times}
 use Rattle.board_lock.specs.Line.{Line, holding}
-use Rattle.board_lock.specs.Story.{Story, Root, AreSo, IsAnswer, book_after, story_after, story_missed}
+use Rattle.board_lock.specs.Story.{Story, Root, AreSo, IsAnswer, story_after, story_missed}
 use Rattle.board_lock.specs.Rule.{Kept, Knows, Tale, Answers, stand_of, shelf, left}
 use Rattle.board_lock.specs.Views.{IsIn, noting, missing}
 use Rattle.board_lock.specs.Plays.{Took, Looked, Released, Missed, Tells}

@@ -1,5 +1,5 @@
 -- What each step tells its pass.
-use Rattle.std.specs.Prelude.{◌≡◌, ℕ, ◌^◌, ◌<◌, ◌≤◌, ◌==◌, true, false, List, [], ◌∷◌, ◌++◌, length, MatchBool}
+use Rattle.std.specs.Prelude.{◌≡◌, ℕ, ◌^◌, ◌<◌, ◌≤◌, ◌==◌, true, false, [], ◌∷◌, ◌++◌, length, MatchBool}
 use Rattle.netlist.specs.Circuit.{Aig}
 use Rattle.netlist.specs.Net.{AigPair}
 use Rattle.lemma_book.specs.declared.entry.Entry.{Entry}

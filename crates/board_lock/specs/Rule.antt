@@ -1,11 +1,10 @@
 -- The rule of the board's table, in three groups: the line and the counts; the story and what passes know of it; the draws
 -- and the answers. Each count is a total over the views of all passes.
-use Rattle.std.specs.Prelude.{◌≡◌, ℕ, zero, suc, ◌+◌, ◌^◌, ◌≤◌, true, List, [], ◌∷◌, ◌++◌, length, map}
+use Rattle.std.specs.Prelude.{◌≡◌, ℕ, zero, suc, ◌+◌, ◌^◌, ◌≤◌, true, List, [], ◌∷◌, length, map}
 use Rattle.std.specs.List.{flat_map}
 use mathlib.Core.Option.{Option, none, some}
 use Rattle.atomic_table.specs.Table.{State}
 use Rattle.lemma_book.specs.declared.turn.Turn.{Turn}
-use Rattle.lemma_book.specs.Entry.{Entries}
 use Rattle.lemma_book.specs.Book.{IsLegal, StartsWith}
 use Rattle.lemma_book.specs.Machine.{Replays}
 use Rattle.board_lock.specs.declared.view.View.{View}

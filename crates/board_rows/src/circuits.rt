@@ -1,43 +1,21 @@
 //! A net of two AND gates whose fanins stand in the other order, and the entry that merges them.
-ghost use Rattle.std.specs.Prelude.{◌≡◌, [], ◌∷◌, IfSome};
-ghost use Rattle.netlist.specs.Circuit.{IsCircuit};
+ghost use Rattle.std.specs.Prelude.{IfSome};
 ghost use Rattle.lemma_book.specs.Book.{IsLegal};
 ghost use Rattle.lemma_book.specs.Good.{IsGood};
 
 use lemma_book::{Book, Entry, Judgement};
 use lits::{Clause, Listed, Lit, Literal, Node, Ref, Side, Step};
-use netlist::{And, Circuit, Net};
-use std::alloc::{AllocError, Global};
+use netlist::Net;
+use std::alloc::Global;
 use std::test::Fail;
 
 const A: Node = Node::Gate(Side::A, 3);
 
 const B: Node = Node::Gate(Side::B, 3);
 
-/// The AND of two inputs.
-fn and(alloc: Global, left: u32, right: u32) -> Result<Circuit, AllocError>
-    requires { IsCircuit (record {
-      inputs = 1 ∷ 2 ∷ [];
-      gates = record { var = 3; left = left; right = right } ∷ [];
-      outputs = 6 ∷ [];
-    }) }
-{
-    let gate = And {
-        var: 3,
-        left,
-        right,
-    };
-    Circuit::of(
-        alloc,
-        Vec::from_slice(alloc, &[1, 2])?,
-        Vec::from_slice(alloc, &[gate])?,
-        Vec::from_slice(alloc, &[6])?,
-    )
-}
-
 /// Two ANDs of two inputs, whose fanins stand in the other order.
 pub(crate) fn swapped_ands(alloc: Global) -> Result<Net, Fail> {
-    let (a, b) = (and(alloc, 2, 4)?, and(alloc, 4, 2)?);
+    let (a, b) = worked_circuits::swapped_ands(alloc)?;
     Ok(Net::of(alloc, a, b).map_err(|_| "a net")?)
 }
 

@@ -1,7 +1,15 @@
 //! One task and two passes, on one thread.
+ghost use Rattle.std.specs.Prelude.{◌≡◌};
+ghost use Rattle.lemma_book.specs.Book.{IsLegal};
+ghost use Rattle.board_lock.specs.Pass.{share_of};
+ghost use Rattle.board_rows.specs.Work.{MayWork};
+
 use crate::circuits::{good_merge, swapped_ands};
-use board_lock::Board;
-use lemma_book::{Book, Entry, Offered, Turn, What};
+use board_lock::{Board, Pass};
+use lemma_book::{Book, Entry, Offered};
+use netlist::Net;
+use std::alloc::{AllocError, Global};
+use std::sync::Wait;
 use std::test::Fail;
 
 /// The first pass draws the task, and the second finds none; both offer one entry, and both look.

@@ -1,4 +1,4 @@
-use Rattle.std.proofs.Common.{◌≡◌, ◌<◌, ◌≤◌, sym, ◌∙◌, arith}
+use Rattle.std.proofs.Common.{sym, arith}
 use Rattle.board_lock.proofs.PassLemmas.{joined_pass, longer-left, longer-right}
 use Rattle.board_lock.proofs.pass.Pass.join.Goals as goal
 
