@@ -1,11 +1,12 @@
 #!/usr/bin/env python3
-"""Runs each command of examples/README.md and compares what it prints and its status.
+"""Runs each command of examples/README.md and compares what it prints and its status, and README.md's own example.
 
 Usage: examples.py [PROGRAM]
 
 A command is a line `    $ cec WORDS`; the lines below it, up to `    status N`, are what it prints on standard output and on
 standard error. PROGRAM is the repository's own where it is left out. Status 1 where anything differs. The gate runs the same
-commands (the program `cec_examples`), and what it compares with is asked to be what the page says.
+commands (the program `cec_examples`), and what it compares with is asked to be what the page says. README.md has a check in
+full: the files that it leaves are asked to stand there, indented.
 """
 import shutil
 import subprocess
@@ -29,6 +30,16 @@ def examples(text):
             lines.append(line[4:])
 
 
+def not_in_readme(program, room):
+    """What README.md's own example leaves and the page hasn't."""
+    readme = (house.TOP / "README.md").read_text()
+    subprocess.run([program, "check", "and.aag", "and_swapped.aag", "--out", "and_of_readme"], cwd=room, capture_output=True)
+    for name in ["and_of_readme.0.cnf", "and_of_readme.0.lrat"]:
+        left = (Path(room) / name).read_text() if (Path(room) / name).is_file() else "not there\n"
+        if "\n\n" + "".join(f"    {line}\n" for line in left.splitlines()) + "\n" not in readme:
+            yield name
+
+
 def main():
     program = house.program(sys.argv[1] if len(sys.argv) > 1 else None)
     folder, wrong, count = house.TOP / "examples", 0, 0
@@ -47,6 +58,9 @@ def main():
             if (said, ran.returncode) != (lines, status):
                 wrong += 1
                 print(f"cec {' '.join(words)}: {said} with status {ran.returncode}, and not {lines} with {status}")
+        for name in not_in_readme(program, room):
+            wrong += 1
+            print(f"README.md hasn't the lines of {name} that its example leaves")
     print(f"{count} examples, {wrong} wrong")
     sys.exit(1 if wrong or not count else 0)
 
