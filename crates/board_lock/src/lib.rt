@@ -9,8 +9,9 @@
 //!
 //! Definitions: `specs/Pass.antt` (what each call does), `specs/Closed.antt` (the record),
 //! `specs/Story.antt` (one turn), `specs/Line.antt` and `specs/Rule.antt` (what the lock keeps); the book
-//! machine stands in `specs/Machine.antt` of `lemma_book`. Begin to read at `pass.rt`, then `board.rt`,
-//! `history.rt` and `turn.rt`.
+//! machine stands in `specs/Machine.antt` of `lemma_book`. For the crate's own functions: `specs/Views.antt`
+//! and `specs/Plays.antt` (what a step makes of a pass's view, and tells it), `specs/Totals.antt` (sums over
+//! all passes). Begin to read at `pass.rt`, then `board.rt`, `history.rt` and `turn.rt`.
 #![tactic(auto)]
 
 pub use board::{Board, Record};

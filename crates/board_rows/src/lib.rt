@@ -2,6 +2,7 @@
 //!
 //! `walk.rt` has a board of one task and two passes, and the answers of each call; `threads.rt` two threads
 //! that offer, refresh, join and close; `circuits.rt` makes the net and the entry that they speak of.
+//! `specs/Work.antt` says what a thread is given. Begin to read at `walk.rt`.
 #![tactic(auto)]
 
 #[cfg(test)]

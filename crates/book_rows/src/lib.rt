@@ -3,7 +3,7 @@
 //!
 //! The tests of a crate stand here and not in it, since a crate with tests is proved twice. Modules:
 //! `nets` is of `netlist`, `patterns` of `word_sim`, `classes` of `sig_classes`, `lemmas` of `lemma_book`,
-//! `machine` of `sweep_core`.
+//! `machine` of `sweep_core`. Begin to read at `nets.rt`.
 #![tactic(auto)]
 
 #[cfg(test)]

@@ -3,7 +3,8 @@
 //!
 //! The tests of a crate stand here and not in it, since a crate with tests is proved twice. Modules:
 //! `literals` is of `lits`, `steps` of `unit_prop`, `trail` of `watch_lists`, `plain_solver` of
-//! `solver_plain`, `learning_solver` of `solver_watch`; `solving` is what both solvers' tests share.
+//! `solver_plain`, `learning_solver` of `solver_watch`; `solving` is what both solvers' tests share. Begin
+//! to read at `literals.rt`.
 #![tactic(auto)]
 
 #[cfg(test)]

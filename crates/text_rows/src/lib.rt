@@ -1,10 +1,11 @@
 //! Tests of the crates of files, words and endings, from outside: each public call once, worked files with
 //! their first fault, and the texts that no clause says. It has no code of its own.
 //!
-//! The tests of a crate stand here and not in it, since a crate with tests is proved twice. Modules:
-//! `bytes` is of `byte_scan`, `ascii` of `aiger_ascii`, `binary` of `aiger_binary`, `forms` of `aiger_file`,
+//! The tests of a crate stand here and not in it, since a crate with tests is proved twice. Modules: `bytes`
+//! is of `byte_scan`, `ascii` of `aiger_ascii`, `binary` of `aiger_binary`, `forms` of `aiger_file`,
 //! `formulas` of `dimacs_text`, `proof_lines` of `lrat_text`, `proof_checks` of `lrat_checker`, `proof_runs`
-//! of `lrat_run`, `ends` of `endings`, `words` of `command_line`, `workloads` of `workload_gen`.
+//! of `lrat_run`, `ends` of `endings`, `words` of `command_line`, `workloads` of `workload_gen`. Begin to
+//! read at `bytes.rt`.
 #![tactic(auto)]
 
 #[cfg(test)]
