@@ -7,16 +7,22 @@ use lemma_book::{Book, Entry, Judgement};
 use lits::{Clause, Listed, Lit, Literal, Node, Ref, Side, Step};
 use netlist::Net;
 use std::alloc::Global;
-use std::test::Fail;
 
 const A: Node = Node::Gate(Side::A, 3);
 
 const B: Node = Node::Gate(Side::B, 3);
 
-/// Two ANDs of two inputs, whose fanins stand in the other order.
-pub(crate) fn swapped_ands(alloc: Global) -> Result<Net, Fail> {
-    let (a, b) = worked_circuits::swapped_ands(alloc)?;
-    Ok(Net::of(alloc, a, b).map_err(|_| "a net")?)
+/// The entry that merges the gates, or one that nothing settles.
+#[derive(Clone, Copy)]
+pub(crate) enum Kind {
+    Merge,
+    Apart,
+}
+
+/// Two ANDs of two inputs, whose fanins stand in the other order; none where memory is refused.
+pub(crate) fn swapped_ands(alloc: Global) -> Option<Net> {
+    let (a, b) = worked_circuits::swapped_ands(alloc).ok()?;
+    Net::of(alloc, a, b).ok()
 }
 
 fn step(alloc: Global, lits: &[Lit], hints: &[Ref]) -> Option<Step> {
@@ -55,29 +61,21 @@ fn apart(alloc: Global) -> Option<Entry> {
     })
 }
 
-/// The entry, if it is good over the book.
-fn good(alloc: Global, net: &Net, book: &Book, entry: Entry) -> Option<Entry>
+fn made(alloc: Global, kind: Kind) -> Option<Entry> {
+    match kind {
+        Kind::Merge => merge(alloc),
+        Kind::Apart => apart(alloc),
+    }
+}
+
+/// An entry of the kind, if it is good over the book; none where memory is refused.
+pub(crate) fn good(alloc: Global, net: &Net, book: &Book, kind: Kind) -> Option<Entry>
     requires { IsLegal net.now book.now }
     ensures { IfSome result (IsGood net.now book.now) }
 {
+    let entry = made(alloc, kind)?;
     match book.judge(alloc, net, &entry) {
         Ok(Judgement::Good) => Some(entry),
         _ => None,
     }
-}
-
-/// The entry that merges one gate to the other, once it is known to be good over the book.
-pub(crate) fn good_merge(alloc: Global, net: &Net, book: &Book) -> Option<Entry>
-    requires { IsLegal net.now book.now }
-    ensures { IfSome result (IsGood net.now book.now) }
-{
-    good(alloc, net, book, merge(alloc)?)
-}
-
-/// An entry that nothing settles, once it is known to be good over the book.
-pub(crate) fn good_apart(alloc: Global, net: &Net, book: &Book) -> Option<Entry>
-    requires { IsLegal net.now book.now }
-    ensures { IfSome result (IsGood net.now book.now) }
-{
-    good(alloc, net, book, apart(alloc)?)
 }

@@ -1,34 +1,28 @@
-//! One task and two passes, on one thread.
-ghost use Rattle.std.specs.Prelude.{◌≡◌};
-ghost use Rattle.lemma_book.specs.Book.{IsLegal};
-ghost use Rattle.board_lock.specs.Pass.{share_of};
-ghost use Rattle.board_rows.specs.Work.{MayWork};
-
-use crate::circuits::{good_merge, swapped_ands};
-use board_lock::{Board, Pass};
+//! One task and two passes, on one thread, with memory enough.
+use crate::circuits::{Kind, good, swapped_ands};
+use board_lock::Board;
 use lemma_book::{Book, Entry, Offered};
-use netlist::Net;
-use std::alloc::{AllocError, Global};
-use std::sync::Wait;
 use std::test::Fail;
 
 /// The first pass draws the task, and the second finds none; both offer one entry, and both look.
 #[test]
 fn board_walk(rt: HostRuntime) -> Result<(), Fail> {
     let alloc = rt.alloc();
-    let net = swapped_ands(alloc)?;
+    let Some(net) = swapped_ands(alloc) else {
+        return Err("no memory".into());
+    };
     let Ok((board, mut p)) = Board::open(alloc, &net, Book::new(alloc, 1, 1), 1) else {
         return Err("no memory".into());
     };
     assert_eq!(rt; p.draw(&board), Some(0));
     let mut q = p.split(alloc, &board, 1 << 40)?;
     assert_eq!(rt; q.draw(&board), None);
-    let Some(entry) = good_merge(alloc, &net, p.seen()) else {
+    let Some(entry) = good(alloc, &net, p.seen(), Kind::Merge) else {
         return Err("no memory".into());
     };
     let put = p.offer(&rt, alloc, &net, &board, entry);
     assert!(rt; matches!(put, Ok(Offered::At(0))));
-    let Some(entry) = good_merge(alloc, &net, q.seen()) else {
+    let Some(entry) = good(alloc, &net, q.seen(), Kind::Merge) else {
         return Err("no memory".into());
     };
     let again = q.offer(&rt, alloc, &net, &board, entry);

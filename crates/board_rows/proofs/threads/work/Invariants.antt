@@ -1,6 +1,6 @@
 use Rattle.std.proofs.Common.{◌≡◌}
-use Rattle.lemma_book.specs.Book.{IsLegal}
 use Rattle.board_lock.specs.Pass.{share_of}
+use Rattle.board_rows.specs.Work.{MayWork}
 use Rattle.board_rows.proofs.threads.work.Given as goal
 
 abbrev pub invariant-loop : goal.invariant-loop
@@ -8,5 +8,5 @@ invariant-loop g l =
     record {
       table : l.pass.table ≡ l.fn.pass.table;
       share : share_of l.pass ≡ share_of l.fn.pass;
-      legal : IsLegal l.net.now l.pass.known;
+      may : MayWork l.net.now l.board.now l.pass;
     }
