@@ -3,7 +3,8 @@
 //! `walk.rt` has a board of one task and two passes, and the answers of each call; `short.rt` the same walk
 //! where memory may be refused once, which a script tries at each allocation; `threads.rt` two threads that
 //! offer, refresh, join and close; `circuits.rt` makes the net and the entries that they speak of, and
-//! `calls.rt` has the calls that these make.
+//! `calls.rt` has the calls that these make. `specs/Work.antt` says what a thread is given. Begin to read
+//! at `walk.rt`.
 #![tactic(auto)]
 
 #[cfg(test)]
