@@ -12,8 +12,8 @@
 //! `specs/Cone.antt` (cones), `specs/Good.antt` (good entry), `specs/Fault.antt` (first cause of a refusal),
 //! `specs/Book.antt` (legal book), `specs/Agreement.antt` (what entries say of all inputs),
 //! `specs/Machine.antt` (many workers at one book). For the crate's own functions: `specs/Judging.antt`,
-//! `specs/Walk.antt` (through a cone), `specs/ConeValue.antt` (a node's value by its cone),
-//! `specs/Shelf.antt` (the index of entries). Begin to read at `entry.rt`, then `book.rt`, `judge.rt`.
+//! `specs/Walk.antt` (through a cone), `specs/Shelf.antt` (the index of entries). Begin to read at
+//! `entry.rt`, then `book.rt`, `judge.rt`.
 #![tactic(auto)]
 
 pub use book::Book;
