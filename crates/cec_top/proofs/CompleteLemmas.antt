@@ -203,6 +203,12 @@ check-decided c old new status kept ample (inl p) = λ code.
     absurd (omega (arith, within, count, settled.budget_is, ample.ample))
 check-decided c old new status kept ample (inr p) = λ code. absurd (omega (arith, code, ends-code _ _ new status p))
 
+-- what ends before any command of the words is run ends for want of memory
+pub at-once : (old new : DeskState) (status : Status) (stop : Stop) (mid : DeskState) → IsAtOnce old mid stop
+    → Warns (stop_line [] stop) (status_of stop) mid new status → HasVerdict status
+at-once old new status stop mid cause (inl w) = inr (ap code_of w.0 ∙ ap (λ (s : Stop). code_of (status_of s)) cause.0)
+at-once old new status stop mid cause (inr w) = inr (ap code_of w.0)
+
 module _ (words : List (List ℕ)) (old new : DeskState) (status : Status) (kept : List Kept)
     (asked : (words : List (List ℕ)) (r : Request) → Asks words r → ¬ (WantHelp words ⊎ AreRefused words))
     (answers : Answers words old new status kept) where
@@ -215,12 +221,8 @@ module _ (words : List (List ℕ)) (old new : DeskState) (status : Status) (kept
     | inr (inr (inl p)) ↦ let t : SelfIt p.command ≡ CheckIt c = same_request words (SelfIt p.command) (CheckIt c) p.asked asks in cc
     | inr (inr (inr (inl p))) ↦ absurd (asked words (CheckIt c) asks (inl p.wanted))
     | inr (inr (inr (inr (inl p)))) ↦ absurd (asked words (CheckIt c) asks (inr p.refused))
-    | inr (inr (inr (inr (inr p)))) ↦ at-once p.ends.stop p.ends.mid p.ends.cause p.ends.warns
+    | inr (inr (inr (inr (inr p)))) ↦ at-once old new status p.ends.stop p.ends.mid p.ends.cause p.ends.warns
   ]
-    where
-      at-once : (stop : Stop) (mid : DeskState) → IsAtOnce old mid stop → Warns (stop_line [] stop) (status_of stop) mid new status → HasVerdict status
-      at-once stop mid cause (inl w) = inr (ap code_of w.0 ∙ ap (λ (s : Stop). code_of (status_of s)) cause.0)
-      at-once stop mid cause (inr w) = inr (ap code_of w.0)
 
   pub decided : (c : CheckCommand) → Asks words (CheckIt c) → IsAmple c old → code_of status ≢ 2
   decided c asks ample = λ code. elim answers [

@@ -19,7 +19,7 @@ use Rattle.command_line.specs.Words.{LratCommand, Request, CheckIt, LratIt, Self
 use Rattle.cec_top.specs.declared.kept.Kept.{Kept}
 use Rattle.cec_top.specs.Answers.{Answers, IsAtOnce}
 use Rattle.cec_top.specs.Complete.{NoFault, IsWithinLimit, CanVerify, HasVerdict}
-use Rattle.cec_top.proofs.CompleteLemmas.{IsExcused, leaves-stops, warned-counts}
+use Rattle.cec_top.proofs.CompleteLemmas.{IsExcused, leaves-stops, warned-counts, at-once}
 use Rattle.cec_top.proofs.WordsLemmas.{lrat_or, same_request}
 
 -- bytes of a file that is there
@@ -111,9 +111,5 @@ module _ (words : List (List ℕ)) (old new : DeskState) (status : Status) (kept
     | inr (inr (inl p)) ↦ let t : SelfIt p.command ≡ LratIt c = same_request words (SelfIt p.command) (LratIt c) p.asked asks in cc
     | inr (inr (inr (inl p))) ↦ absurd (asked words (LratIt c) asks (inl p.wanted))
     | inr (inr (inr (inr (inl p)))) ↦ absurd (asked words (LratIt c) asks (inr p.refused))
-    | inr (inr (inr (inr (inr p)))) ↦ at-once p.ends.stop p.ends.mid p.ends.cause p.ends.warns
+    | inr (inr (inr (inr (inr p)))) ↦ at-once old new status p.ends.stop p.ends.mid p.ends.cause p.ends.warns
   ]
-    where
-      at-once : (stop : Stop) (mid : DeskState) → IsAtOnce old mid stop → Warns (stop_line [] stop) (status_of stop) mid new status → HasVerdict status
-      at-once stop mid cause (inl w) = inr (ap code_of w.0 ∙ ap (λ (s : Stop). code_of (status_of s)) cause.0)
-      at-once stop mid cause (inr w) = inr (ap code_of w.0)
