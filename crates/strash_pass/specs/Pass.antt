@@ -102,6 +102,11 @@ pub record Merges (old new : Entries) (node : Node) (target : Lit) : Type 0 wher
   pub steps : List Step
   pub last : new ≡ with_last old (Merge node target steps)
 
+-- it has, or nothing has changed
+abbrev pub MergesOrStays : Entries → Entries → Node → Lit → Bool → Type 0
+MergesOrStays old new node target true = Merges old new node target
+MergesOrStays old new node target false = new ≡ old
+
 -- none of the nodes is an XOR
 abbrev pub is_xor : Node → Bool
 is_xor (Xor j) = true

@@ -3,7 +3,8 @@
 //! Gate by gate in the order of positions, the roots of the two fanins are looked at. A gate that they
 //! decide is merged to a constant or to one of them; else it is merged to an earlier gate over the same two
 //! roots. A merge's proof steps take their few hints from the clauses of the two gates and from the merges
-//! that their fanins went through, and no solver is asked.
+//! that their fanins went through: they are read off the structure or searched for there, and no solver is
+//! asked.
 //!
 //! `run` promises that it adds merges alone, that a legal book stays legal, and that afterwards no unmerged
 //! gate folds or has an earlier unmerged gate over the same roots. Which of several equal gates a gate is
@@ -19,5 +20,6 @@ mod fold;
 mod merge;
 mod pair;
 mod pass;
+mod straight;
 mod visit;
 mod ways;

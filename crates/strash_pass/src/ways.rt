@@ -8,6 +8,7 @@ ghost use Rattle.strash_pass.specs.Pass.{constant_among, HasGate, IsTwin, IsWay,
 
 use crate::merge::merge;
 use crate::pair::Pair;
+use crate::straight::merged_straight;
 use lemma_book::Book;
 use lits::{Lit, Node};
 use netlist::{Definition, Net};
@@ -56,6 +57,29 @@ fn with_constant(way: Vec<Lit>, left: Lit, right: Lit, target: Lit) -> Result<Ve
 /// Merges a gate to an earlier one over the same roots. The way has the gate and the merged nodes that
 /// its fanins passed.
 pub fn merge_twin(
+    alloc: Global,
+    net: &Net,
+    book: &mut Book,
+    gate: Definition,
+    twin: Definition,
+    way: Vec<Lit>,
+) -> Result<(), AllocError>
+    requires net { IsNet net.now }
+    requires legal { IsLegal net.now book.old }
+    requires way { IsWay net.now book.old.entries way.items gate }
+    requires twin { IsTwin net.now book.old.entries twin gate }
+    ensures legal { IsLegal net.now book.new }
+    ensures ok { OnOk result (Merges book.old book.new gate.node (positive twin.node)) }
+    ensures err { OnErr result (book.new ≡ book.old) }
+{
+    if merged_straight(alloc, net, book, gate, twin)? {
+        return Ok(());
+    }
+    merge_by_search(alloc, net, book, gate, twin, way)
+}
+
+/// The same by hints that are searched for among the clauses on both ways.
+fn merge_by_search(
     alloc: Global,
     net: &Net,
     book: &mut Book,
