@@ -1,9 +1,10 @@
 ghost use Rattle.std.specs.Prelude.{[], ◌∷◌};
 ghost use Rattle.netlist.specs.Circuit.{IsCircuit};
 
+use crate::equalities::Equalities;
 use crate::{Caps, Search};
 use lemma_book::{Book, Entry, Task};
-use lits::{Lit, Node, Side};
+use lits::{Clause, Listed, Lit, Node, Ref, Side, Step};
 use netlist::{And, Circuit, Net};
 use std::alloc::{AllocError, Global};
 use std::test::Fail;
@@ -157,5 +158,42 @@ fn a_search_without_choices_gives_up(rt: HostRuntime) -> Result<(), Fail> {
     let (found, dropped) = of_pair(alloc, &net, 5, true, 0)?;
     assert!(rt; found.is_none());
     assert_eq!(rt; dropped, 0);
+    Ok(())
+}
+
+/// A step of which the hints alone matter.
+fn step(alloc: Global, hint: Ref) -> Result<Step, AllocError> {
+    let lit = Lit {
+        node: Node::Input(0),
+        neg: false,
+    };
+    let clause = Clause::from_slice(alloc, &[lit])?;
+    let hints = Listed::of(Vec::from_slice(alloc, &[hint])?);
+    Ok(Step { clause, hints })
+}
+
+/// Two steps, each with a hint.
+fn steps(alloc: Global, first: Ref, second: Ref) -> Result<Vec<Step>, AllocError> {
+    let mut steps = Vec::new(alloc);
+    steps.push(step(alloc, first)?)?;
+    steps.push(step(alloc, second)?)?;
+    Ok(steps)
+}
+
+/// Of four steps the proof needs the last two, which become its first ones.
+#[test]
+fn a_proof_begins_with_the_steps_that_it_needs(rt: HostRuntime) -> Result<(), Fail> {
+    let alloc = rt.alloc();
+    let axiom = Ref::Axiom(Node::Input(0), 0);
+    let mut equalities = Equalities::of(alloc, 3)?;
+    equalities.push(1, 0, steps(alloc, axiom, Ref::Own(0))?)?;
+    equalities.push(2, 0, steps(alloc, axiom, Ref::Own(2))?)?;
+    assert_eq!(rt; equalities.target(2), Some((2, 0)));
+    let proof = equalities.proof(alloc, steps(alloc, Ref::Own(3), Ref::Own(4))?)?;
+    let hints = [axiom, Ref::Own(0), Ref::Own(1), Ref::Own(2)];
+    assert_eq!(rt; proof.len(), 4);
+    for (step, hint) in proof.iter().zip(hints.iter()) {
+        assert_eq!(rt; step.hints.as_slice(), [*hint].as_slice());
+    }
     Ok(())
 }
