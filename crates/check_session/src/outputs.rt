@@ -7,8 +7,7 @@ ghost use Rattle.lemma_book.specs.Good.{IsGood};
 ghost use Rattle.check_session.specs.Growth.{Grows};
 ghost use Rattle.check_session.specs.Outputs.{AreSettled, SeeMerges, is_of_output};
 
-use crate::rounds::caps;
-use circuit_search::Search;
+use circuit_search::{Caps, Search};
 use lemma_book::{Book, Entry};
 use lits::Node;
 use netlist::Net;
@@ -91,12 +90,20 @@ fn entry_on<R: Refuter + Send>(
     ensures seen { IfOk result (SeesAll book.now) }
 {
     if !has_equal_roots(net, book, output) {
-        match search.output(alloc, net, book, output, caps(book.out_budget()))? {
+        match search.output(alloc, net, book, output, out_caps(book.out_budget()))? {
             Some(entry) => return Ok(entry),
             None => {}
         }
     }
     cone_query::output(alloc, net, book, output, refuter)
+}
+
+/// How far the lazy search for an output of this budget goes: as far as the query of the whole cone may.
+fn out_caps(budget: u64) -> Caps {
+    Caps {
+        conflicts: budget,
+        decisions: u64::MAX,
+    }
 }
 
 /// Whether the merges alone make an output's literals one, so that there is nothing to search for.

@@ -8,6 +8,8 @@ pub(crate) enum Name {
     Axiom(u32, u8),
     /// Clause k that the entry at a place shows.
     Entry(u32, u8),
+    /// The clause of a step of the equalities.
+    Shown(u32),
     /// The lesson of this number.
     Lesson(u32),
 }

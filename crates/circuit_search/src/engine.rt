@@ -1,11 +1,13 @@
 use crate::caps::Caps;
 use crate::clauses::{Clauses, Name};
+use crate::equalities::Equalities;
 use crate::lessons::Lessons;
 use crate::merges::Merges;
 use crate::table::NONE;
 use crate::trail::{FALSE, FREE, Trail};
 use crate::variables::Variables;
 use crate::watches::Watches;
+use lemma_book::Book;
 use netlist::Net;
 use std::alloc::{AllocError, Global};
 
@@ -13,6 +15,9 @@ use std::alloc::{AllocError, Global};
 #[derive(Drop)]
 pub(crate) struct Engine {
     pub(crate) merges: Merges,
+    pub(crate) equalities: Equalities,
+    /// How many steps of the equalities the query may use.
+    pub(crate) shown: u32,
     pub(crate) variables: Variables,
     pub(crate) clauses: Clauses,
     pub(crate) watches: Watches,
@@ -22,6 +27,8 @@ pub(crate) struct Engine {
     pub(crate) assumed: (u32, u32),
     /// What is left of the caps.
     pub(crate) left: Caps,
+    /// Whether equalities were searched for.
+    pub(crate) is_equated: bool,
 }
 
 impl Engine {
@@ -29,6 +36,8 @@ impl Engine {
     pub(crate) fn of(alloc: Global, net: &Net) -> Result<Engine, AllocError> {
         Ok(Engine {
             merges: Merges::of(alloc, net)?,
+            equalities: Equalities::of(alloc, net.positions())?,
+            shown: 0,
             variables: Variables::of(alloc, net.positions())?,
             clauses: Clauses::new(alloc),
             watches: Watches::new(alloc),
@@ -39,7 +48,16 @@ impl Engine {
                 conflicts: 0,
                 decisions: 0,
             },
+            is_equated: false,
         })
+    }
+
+    /// Reads what is new in the book.
+    pub(crate) fn catch_up(&mut self, net: &Net, book: &Book) {
+        if self.merges.catch_up(net, book) {
+            self.equalities.forget();
+            self.is_equated = false;
+        }
     }
 
     /// Forgets the query before, and begins one. The constant is true.

@@ -10,7 +10,8 @@
 //! `Book::judge`, and it hands out an entry only where the book says that it is good; so its answers are
 //! those of the lemma book, whatever the search. An entry that the book refuses is dropped, and counted.
 //!
-//! Definitions: `specs/Answer.antt`. Begin to read at `search.rt`, then `round.rt`.
+//! Definitions: `specs/Answer.antt`. Begin to read at `search.rt`, then `round.rt`; `equalities.rt`
+//! has what only the proofs of outputs use.
 #![tactic(auto)]
 
 pub use caps::Caps;
@@ -21,6 +22,8 @@ mod assumptions;
 mod caps;
 mod clauses;
 mod engine;
+mod equalities;
+mod equating;
 mod justify;
 mod lessons;
 mod loading;

@@ -12,7 +12,13 @@ impl Engine {
         if self.variables.is_loaded(var) {
             return Ok(NONE);
         }
-        match self.merges.source(net, self.variables.position(var)) {
+        let position = self.variables.position(var);
+        if let Some((first, target)) = self.equalities.target(position) {
+            if first < self.shown {
+                return self.load_equality(var, first, target);
+            }
+        }
+        match self.merges.source(net, position) {
             Source::Free => Ok(NONE),
             Source::Merged(entry, target) => self.load_merge(var, entry, target),
             Source::Gate(left, right) => self.load_gate(var, left, right),
@@ -25,6 +31,15 @@ impl Engine {
         let target = self.code(target)?;
         let below = self.put(&[lit | 1, target], Name::Entry(entry, 0))?;
         let above = self.put(&[lit, target ^ 1], Name::Entry(entry, 1))?;
+        Ok(below.min(above))
+    }
+
+    /// Loads the two clauses of an equality.
+    fn load_equality(&mut self, var: u32, first: u32, target: u32) -> Result<u32, AllocError> {
+        let lit = var.wrapping_mul(2);
+        let target = self.code(target)?;
+        let below = self.put(&[lit | 1, target], Name::Shown(first))?;
+        let above = self.put(&[lit, target ^ 1], Name::Shown(first.wrapping_add(1)))?;
         Ok(below.min(above))
     }
 

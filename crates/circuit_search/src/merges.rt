@@ -17,6 +17,8 @@ pub(crate) struct Merges {
     targets: Vec<u32>,
     /// For each position the length of the longest way down to an input.
     depths: Vec<u32>,
+    /// For each position the code, and 1, of the last query about its node that spent its budget; else 0.
+    spent: Vec<u32>,
     /// The position of the first gate.
     first_gate: u32,
     /// How many entries of the book were read.
@@ -42,6 +44,7 @@ impl Merges {
             entries: vec![in alloc; 0; len]?,
             targets: vec![in alloc; 0; len]?,
             depths: vec![in alloc; 0; len]?,
+            spent: vec![in alloc; 0; len]?,
             first_gate: net
                 .positions()
                 .saturating_sub(count(net.all_fanins().len())),
@@ -76,17 +79,21 @@ impl Merges {
         0 < position && position < self.first_gate
     }
 
-    /// Reads the entries of the book that are new.
-    pub(crate) fn catch_up(&mut self, net: &Net, book: &Book) {
-        if book.len() < self.seen {
+    /// Reads the entries of the book that are new. Whether it is another book than before.
+    pub(crate) fn catch_up(&mut self, net: &Net, book: &Book) -> bool {
+        let is_other = book.len() < self.seen;
+        if is_other {
             self.forget();
         }
         for place in self.seen..book.len() {
-            if let Some(Entry::Merge { node, lit, .. }) = book.entry(place) {
-                self.note(net, place, *node, *lit);
+            match book.entry(place) {
+                Some(Entry::Merge { node, lit, .. }) => self.note(net, place, *node, *lit),
+                Some(Entry::Spent { node, lit, .. }) => self.note_spent(net, *node, *lit),
+                _ => {}
             }
         }
         self.seen = book.len();
+        is_other
     }
 
     /// Forgets what was read, where the book is another one.
@@ -94,6 +101,9 @@ impl Merges {
         self.seen = 0;
         for entry in self.entries.iter_mut() {
             *entry = 0;
+        }
+        for code in self.spent.iter_mut() {
+            *code = 0;
         }
     }
 
@@ -109,6 +119,28 @@ impl Merges {
                 neg: lit.neg,
             };
             put(&mut self.targets, position, code_of(target));
+        }
+    }
+
+    /// Notes that the query of a pair spent its budget.
+    fn note_spent(&mut self, net: &Net, node: Node, lit: Lit) {
+        if let (Some(position), Some(target)) = (net.position(node), net.position(lit.node)) {
+            let target = Placed {
+                position: target,
+                neg: lit.neg,
+            };
+            put(&mut self.spent, position, code_of(target).saturating_add(1));
+        }
+    }
+
+    /// The code that a node was last compared with, if it isn't merged and the query spent its budget.
+    pub(crate) fn open(&self, position: u32) -> Option<u32> {
+        if at(&self.entries, position) > 0 {
+            return None;
+        }
+        match at(&self.spent, position) {
+            0 => None,
+            code => Some(code - 1),
         }
     }
 

@@ -6,13 +6,15 @@ use crate::engine::Engine;
 use crate::lessons::Hints;
 use crate::merges::code_of;
 use crate::round::Outcome;
+use crate::table::count;
 use lemma_book::{Entry, Task};
-use lits::{Listed, Lit, Literal, Node, Ref, Side};
+use lits::{Listed, Lit, Literal, Node, Ref, Side, Step};
 use netlist::{Net, Placed};
 use std::alloc::{AllocError, Global};
 
 /// What was found out of two codes.
-enum Found {
+#[derive(Clone, Copy)]
+pub(crate) enum Found {
     /// They have one value: the first clauses refute that only the first code is true, the other ones that
     /// only the second.
     Equal(Hints, Hints),
@@ -34,6 +36,7 @@ impl Engine {
     {
         let Task { node, lit } = *task;
         let positive = Lit { node, neg: false };
+        self.shown = 0;
         match self.compare(net, positive, lit, caps)? {
             Found::Equal(there, back) => self.merge(alloc, net, node, lit, there, back),
             Found::Apart => {
@@ -61,6 +64,7 @@ impl Engine {
         if first == second {
             return self.out_of_one(alloc, net, output);
         }
+        self.shown = self.equalities.len();
         match self.compare(net, first, second, caps)? {
             Found::Equal(there, back) => self.out(alloc, net, output, first, there, back),
             Found::Apart => {
@@ -72,7 +76,7 @@ impl Engine {
     }
 
     /// Asks whether two literals have one value.
-    fn compare(
+    pub(crate) fn compare(
         &mut self,
         net: &Net,
         first: Lit,
@@ -124,12 +128,26 @@ impl Engine {
         ensures { IfOk result (λ o. IfSome o (SettlesPair (record { node = node; lit = lit }))) }
     {
         let positive = Lit { node, neg: false };
-        self.reach(alloc, there, back)?;
-        let mut steps = self.steps(alloc, net)?;
-        self.add_step(alloc, net, &[positive.not(), lit], &[], there, &mut steps)?;
-        self.add_step(alloc, net, &[positive, lit.not()], &[], back, &mut steps)?;
+        let steps = self.merge_steps(alloc, net, positive, lit, there, back)?;
         let steps = Listed::of(steps);
         Ok(Some(Entry::Merge { node, lit, steps }))
+    }
+
+    /// The steps that show two literals equal; the last two say it.
+    pub(crate) fn merge_steps(
+        &mut self,
+        alloc: Global,
+        net: &Net,
+        first: Lit,
+        second: Lit,
+        there: Hints,
+        back: Hints,
+    ) -> Result<Vec<Step>, AllocError> {
+        self.reach(alloc, there, back)?;
+        let mut steps = self.steps(alloc, net)?;
+        self.add_step(alloc, net, &[first.not(), second], &[], there, &mut steps)?;
+        self.add_step(alloc, net, &[first, second.not()], &[], back, &mut steps)?;
+        Ok(steps)
     }
 
     /// The entry of an output of which both cases are refuted: first that the second literal alone is true,
@@ -151,12 +169,12 @@ impl Engine {
         };
         self.reach(alloc, back, there)?;
         let mut steps = self.steps(alloc, net)?;
-        let before = Ref::Own(steps.len() as u64);
+        let before = self.own(count(steps.len()));
         let one = Ref::Axiom(Node::Xor(output), 0);
         let both = Ref::Axiom(Node::Xor(output), 1);
         self.add_step(alloc, net, &[equal, first], &[one], back, &mut steps)?;
         self.add_step(alloc, net, &[equal], &[before, both], there, &mut steps)?;
-        let steps = Listed::of(steps);
+        let steps = Listed::of(self.equalities.proof(alloc, steps)?);
         Ok(Some(Entry::Out { output, steps }))
     }
 

@@ -80,7 +80,7 @@ impl Search {
             self.is_known = true;
             return self.judged(alloc, net, book, entry);
         }
-        self.engine.merges.catch_up(net, book);
+        self.engine.catch_up(net, book);
         match self.engine.pair(alloc, net, task, caps)? {
             Some(entry) => self.judged(alloc, net, book, entry),
             None => Ok(None),
@@ -100,8 +100,8 @@ impl Search {
         requires legal { IsLegal net.now book.now }
         ensures { IfOk result (Finds (SettlesOutput output) net.now book.now) }
     {
-        self.engine.merges.catch_up(net, book);
-        match self.engine.output(alloc, net, output, caps)? {
+        self.engine.catch_up(net, book);
+        match self.engine.output_by_equalities(alloc, net, output, caps)? {
             Some(entry) => self.judged(alloc, net, book, entry),
             None => Ok(None),
         }

@@ -85,32 +85,47 @@ impl Engine {
         match self.clauses.name(clause) {
             Some(Name::Axiom(var, k)) => Ref::Axiom(self.node(net, var), k),
             Some(Name::Entry(place, k)) => Ref::Entry(u64::from(place), k),
-            Some(Name::Lesson(lesson)) => Ref::Own(u64::from(self.lessons.number(lesson))),
+            Some(Name::Shown(place)) => Ref::Own(u64::from(place)),
+            Some(Name::Lesson(lesson)) => self.own(self.lessons.number(lesson)),
             // Nothing has this name, so the book refuses the entry.
             None => Ref::Own(u64::MAX),
         }
+    }
+
+    /// What a step is called that the query adds, by its number: it stands behind those of the equalities.
+    pub(crate) fn own(&self, number: u32) -> Ref {
+        Ref::Own(u64::from(self.shown).saturating_add(u64::from(number)))
     }
 
     /// The literals of a clause.
     fn lits_of(&self, alloc: Global, net: &Net, clause: u32) -> Result<Vec<Lit>, AllocError> {
         let mut lits = Vec::new(alloc);
         for code in self.clauses.get(clause) {
-            let node = self.node(net, *code / 2);
-            lits.push(Lit {
-                node,
-                neg: *code & 1 == 1,
-            })?;
+            let position = self.variables.position(*code / 2);
+            lits.push(lit_at(net, position.wrapping_mul(2) | (*code & 1)))?;
         }
         Ok(lits)
     }
 
     /// The node of a variable.
     fn node(&self, net: &Net, var: u32) -> Node {
-        let position = self.variables.position(var);
-        if position < net.positions() {
-            net.node(position)
-        } else {
-            Node::Const
-        }
+        node_at(net, self.variables.position(var))
+    }
+}
+
+/// The node at a position.
+fn node_at(net: &Net, position: u32) -> Node {
+    if position < net.positions() {
+        net.node(position)
+    } else {
+        Node::Const
+    }
+}
+
+/// The literal that is given by twice its position, and 1 where it is negated.
+pub(crate) fn lit_at(net: &Net, code: u32) -> Lit {
+    Lit {
+        node: node_at(net, code / 2),
+        neg: code & 1 == 1,
     }
 }

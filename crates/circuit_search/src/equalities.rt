@@ -1,0 +1,146 @@
+use crate::table::{at, count, put};
+use lits::{Listed, Ref, Step};
+use std::alloc::{AllocError, Global};
+
+/// Equalities of nodes that the book doesn't have, with the steps that show them.
+///
+/// A merge may have no more steps than the budget of the sweep allows. A pair that takes more stays open, and
+/// with it most pairs above. The proof of an output may be much longer, so it may contain the steps of such
+/// equalities: they stand here once, and each proof takes those that it needs.
+#[derive(Drop)]
+pub(crate) struct Equalities {
+    /// For each position the place of the first of the two steps that say it, and 1; 0 where none does.
+    firsts: Vec<u32>,
+    /// For each position the code that its node is equal to.
+    targets: Vec<u32>,
+    /// The steps. The hint `Own(k)` is step k of them.
+    steps: Vec<Step>,
+}
+
+impl Equalities {
+    /// No equalities, of a net with so many positions.
+    pub(crate) fn of(alloc: Global, positions: u32) -> Result<Equalities, AllocError> {
+        Ok(Equalities {
+            firsts: vec![in alloc; 0; positions as usize]?,
+            targets: vec![in alloc; 0; positions as usize]?,
+            steps: Vec::new(alloc),
+        })
+    }
+
+    /// Forgets all.
+    pub(crate) fn forget(&mut self) {
+        for first in self.firsts.iter_mut() {
+            *first = 0;
+        }
+        self.steps.clear();
+    }
+
+    /// How many steps there are.
+    pub(crate) fn len(&self) -> u32 {
+        count(self.steps.len())
+    }
+
+    /// The place of the first of the two steps that say what a node is equal to, and the code that it is.
+    pub(crate) fn target(&self, position: u32) -> Option<(u32, u32)> {
+        match at(&self.firsts, position) {
+            0 => None,
+            first => Some((first - 1, at(&self.targets, position))),
+        }
+    }
+
+    /// Takes the steps of an equality, of which the last two say it.
+    pub(crate) fn push(
+        &mut self,
+        position: u32,
+        target: u32,
+        steps: Vec<Step>,
+    ) -> Result<(), AllocError> {
+        for step in steps {
+            self.steps.push(step)?;
+        }
+        let first = self.len().saturating_sub(1);
+        put(&mut self.firsts, position, first);
+        put(&mut self.targets, position, target);
+        Ok(())
+    }
+
+    /// The steps of a proof, behind the steps of the equalities that they lead to.
+    pub(crate) fn proof(&self, alloc: Global, steps: Vec<Step>) -> Result<Vec<Step>, AllocError> {
+        let mut numbers = vec![in alloc; 0; self.steps.len()]?;
+        let many = self.number(&mut numbers, &steps);
+        let mut proof = Vec::new(alloc);
+        for place in 0..self.len() {
+            if at(&numbers, place) > 0 {
+                if let Some(step) = self.steps.get(place as usize) {
+                    proof.push(self.renamed(alloc, step, &numbers, many)?)?;
+                }
+            }
+        }
+        for step in &steps {
+            proof.push(self.renamed(alloc, step, &numbers, many)?)?;
+        }
+        Ok(proof)
+    }
+
+    /// Numbers the steps, from 1, that a proof leads to, and tells how many these are.
+    fn number(&self, numbers: &mut [u32], proof: &[Step]) -> u32 {
+        for step in proof {
+            mark_hints(numbers, step);
+        }
+        for place in (0..self.len()).rev() {
+            if at(numbers, place) > 0 {
+                if let Some(step) = self.steps.get(place as usize) {
+                    mark_hints(numbers, step);
+                }
+            }
+        }
+        let mut many: u32 = 0;
+        for number in numbers.iter_mut() {
+            if *number > 0 {
+                many = many.saturating_add(1);
+                *number = many;
+            }
+        }
+        many
+    }
+
+    /// The step with the names that its hints have in a proof, which has so many steps of equalities.
+    fn renamed(
+        &self,
+        alloc: Global,
+        step: &Step,
+        numbers: &[u32],
+        many: u32,
+    ) -> Result<Step, AllocError> {
+        let clause = step.clause.copy()?;
+        let mut hints = Vec::with_capacity(alloc, step.hints.len())?;
+        for hint in step.hints.as_slice() {
+            hints.push(self.name(*hint, numbers, many))?;
+        }
+        let hints = Listed::of(hints);
+        Ok(Step { clause, hints })
+    }
+
+    /// What a hint is called in a proof.
+    fn name(&self, hint: Ref, numbers: &[u32], many: u32) -> Ref {
+        let Ref::Own(place) = hint else {
+            return hint;
+        };
+        let len = u64::from(self.len());
+        if place >= len {
+            return Ref::Own((place - len).saturating_add(u64::from(many)));
+        }
+        Ref::Own(u64::from(at(numbers, place as u32).saturating_sub(1)))
+    }
+}
+
+/// Marks the steps that the hints of a step name.
+fn mark_hints(marks: &mut [u32], step: &Step) {
+    for hint in step.hints.as_slice() {
+        if let Ref::Own(place) = hint {
+            if let Ok(place) = u32::try_from(*place) {
+                put(marks, place, 1);
+            }
+        }
+    }
+}

@@ -1,0 +1,95 @@
+ghost use Rattle.std.specs.Prelude.{◌≡◌, IfOk, IfSome};
+ghost use Rattle.circuit_search.specs.Answer.{SettlesOutput};
+
+use crate::caps::Caps;
+use crate::engine::Engine;
+use crate::proposal::Found;
+use crate::steps::lit_at;
+use lemma_book::Entry;
+use netlist::Net;
+use std::alloc::{AllocError, Global};
+
+/// How far the first search for an output goes.
+const FEW: u64 = 100;
+
+const CHOICES: u64 = 2000;
+
+/// How far the search for one equality goes, and the second one for an output.
+const CONFLICTS: u64 = 1000;
+
+const DECISIONS: u64 = 20000;
+
+impl Engine {
+    /// The entry that a search proposes for an output: a short search first, and where that gives up a search
+    /// that may use equalities of pairs that the book leaves open.
+    pub(crate) fn output_by_equalities(
+        &mut self,
+        alloc: Global,
+        net: &Net,
+        output: u32,
+        caps: Caps,
+    ) -> Result<Option<Entry>, AllocError>
+        ensures { IfOk result (λ o. IfSome o (SettlesOutput output)) }
+    {
+        let few = Caps {
+            conflicts: caps.conflicts.min(FEW),
+            decisions: caps.decisions.min(CHOICES),
+        };
+        if let Some(entry) = self.output(alloc, net, output, few)? {
+            return Ok(Some(entry));
+        }
+        if !self.is_equated {
+            self.is_equated = true;
+            self.equate(alloc, net, caps.conflicts)?;
+        }
+        let more = Caps {
+            conflicts: caps.conflicts.min(CONFLICTS),
+            decisions: caps.decisions.min(DECISIONS),
+        };
+        self.output(alloc, net, output, more)
+    }
+
+    /// Searches once more for why pairs are equal whose queries spent their budgets, from the inputs up.
+    ///
+    /// A few hard pairs leave most pairs above them open: on a Hamming decoder four of 188. With these few all
+    /// others are easy again.
+    pub(crate) fn equate(
+        &mut self,
+        alloc: Global,
+        net: &Net,
+        conflicts: u64,
+    ) -> Result<(), AllocError> {
+        let mut left = conflicts;
+        for position in 0..net.positions() {
+            if let Some(target) = self.merges.open(position) {
+                let caps = Caps {
+                    conflicts: left.min(CONFLICTS),
+                    decisions: DECISIONS,
+                };
+                self.equate_pair(alloc, net, position, target, caps)?;
+                let spent = caps.conflicts.saturating_sub(self.left.conflicts);
+                left = left.saturating_sub(spent);
+            }
+        }
+        Ok(())
+    }
+
+    /// Searches for why a node is equal to a code.
+    fn equate_pair(
+        &mut self,
+        alloc: Global,
+        net: &Net,
+        position: u32,
+        target: u32,
+        caps: Caps,
+    ) -> Result<(), AllocError> {
+        let node = lit_at(net, position.wrapping_mul(2));
+        let lit = lit_at(net, target);
+        self.shown = self.equalities.len();
+        if let Found::Equal(there, back) = self.compare(net, node, lit, caps)? {
+            let steps = self.merge_steps(alloc, net, node, lit, there, back)?;
+            self.equalities.push(position, target, steps)?;
+        }
+        Ok(())
+    }
+}
