@@ -51,8 +51,8 @@ impl Engine {
 
     /// Searches once more for why pairs are equal whose queries spent their budgets, from the inputs up.
     ///
-    /// A few hard pairs leave most pairs above them open: on a Hamming decoder four of 188. With these few all
-    /// others are easy again.
+    /// A few hard pairs leave most pairs above them open: on a Hamming decoder four of 188. With these few
+    /// all others are easy again.
     pub(crate) fn equate(
         &mut self,
         alloc: Global,
