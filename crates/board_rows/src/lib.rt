@@ -1,8 +1,7 @@
 //! Rows of calls on the board: what each call answers on one thread, and what two threads leave behind.
 //!
-//! `walk.rt` has a board of one task and two passes, and the answers of each call; `short.rt` the same walk
-//! where memory may be refused once, which a script tries at each allocation; `threads.rt` two threads that
-//! offer, refresh, join and close; `circuits.rt` makes the net and the entries that they speak of, and
+//! `walk.rt` has a board of one task and two passes, and the answers of each call; `threads.rt` two threads
+//! that offer, refresh, join and close; `circuits.rt` makes the net and the entries that they speak of, and
 //! `calls.rt` has the calls that these make. `specs/Work.antt` says what a thread is given. Begin to read
 //! at `walk.rt`.
 #![tactic(auto)]
@@ -11,8 +10,6 @@
 mod calls;
 #[cfg(test)]
 mod circuits;
-#[cfg(test)]
-mod short;
 #[cfg(test)]
 mod threads;
 #[cfg(test)]

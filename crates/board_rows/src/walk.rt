@@ -1,37 +1,102 @@
-//! One task and two passes, on one thread, with memory enough.
-use crate::circuits::{Kind, good, swapped_ands};
-use board_lock::Board;
+//! One task and two passes, on one thread.
+ghost use Rattle.std.specs.Prelude.{◌≡◌, IfSome};
+ghost use Rattle.lemma_book.specs.Book.{IsLegal};
+ghost use Rattle.board_lock.specs.Pass.{share_of};
+ghost use Rattle.board_rows.specs.Work.{MayWork, IsOpened, IsSplit};
+
+use crate::calls::{draw, look_once, offer_once};
+use crate::circuits::{Kind, swapped_ands};
+use board_lock::{Board, Pass, Record};
 use lemma_book::{Book, Entry, Offered};
+use netlist::Net;
+use std::alloc::Global;
+use std::sync::Wait;
 use std::test::Fail;
 
+/// What the calls of the walk answered.
+#[derive(Clone, Copy)]
+struct Told {
+    tasks: (Option<u64>, Option<u64>),
+    offers: (Option<Offered>, Option<Offered>),
+    looks: (Option<u64>, Option<u64>),
+}
+
+fn open(alloc: Global, net: &Net, book: Book) -> Option<(Board, Pass)>
+    requires { IsLegal net.now book }
+    ensures { IfSome result (λ r. IsOpened net.now r.0 r.1) }
+{
+    Board::open(alloc, net, book, 1).ok()
+}
+
+fn split(alloc: Global, net: &Net, board: &Board, pass: &mut Pass) -> Option<Pass>
+    requires may { MayWork net.now board.now pass.old }
+    ensures may { MayWork net.now board.now pass.new }
+    ensures split { IfSome result (IsSplit net.now board.now pass.old pass.new) }
+{
+    if pass.left() <= 1 << 40 {
+        return None;
+    }
+    pass.split(alloc, board, 1 << 40).ok()
+}
+
 /// The first pass draws the task, and the second finds none; both offer one entry, and both look.
+fn answers<R: Wait>(
+    rt: &R,
+    alloc: Global,
+    net: &Net,
+    board: &Board,
+    p: &mut Pass,
+    q: &mut Pass,
+) -> Told
+    requires first { MayWork net.now board.now p.old }
+    requires second { MayWork net.now board.now q.old }
+    ensures first { MayWork net.now board.now p.new }
+    ensures second { MayWork net.now board.now q.new }
+    ensures first_share { share_of p.new ≡ share_of p.old }
+    ensures second_share { share_of q.new ≡ share_of q.old }
+{
+    Told {
+        tasks: (draw(net, board, p), draw(net, board, q)),
+        offers: (
+            offer_once(rt, alloc, net, board, p, Kind::Merge),
+            offer_once(rt, alloc, net, board, q, Kind::Merge),
+        ),
+        looks: (
+            look_once(rt, alloc, net, board, q),
+            look_once(rt, alloc, net, board, p),
+        ),
+    }
+}
+
+/// The whole walk, with what the board leaves.
+fn walked<R: Wait>(rt: &R, alloc: Global, net: &Net, book: Book) -> Option<(Told, Book, Record)>
+    requires { IsLegal net.now book }
+    ensures { IfSome result (λ r. IsLegal net.now r.1) }
+{
+    let (board, mut p) = open(alloc, net, book)?;
+    let mut q = split(alloc, net, &board, &mut p)?;
+    let answers = answers(rt, alloc, net, &board, &mut p, &mut q);
+    p.join(&board, q);
+    let (book, record) = board.close(p);
+    Some((answers, book, record))
+}
+
 #[test]
 fn board_walk(rt: HostRuntime) -> Result<(), Fail> {
     let alloc = rt.alloc();
     let Some(net) = swapped_ands(alloc) else {
         return Err("no memory".into());
     };
-    let Ok((board, mut p)) = Board::open(alloc, &net, Book::new(alloc, 1, 1), 1) else {
+    let Some((answers, book, record)) = walked(&rt, alloc, &net, Book::new(alloc, 1, 1)) else {
         return Err("no memory".into());
     };
-    assert_eq!(rt; p.draw(&board), Some(0));
-    let mut q = p.split(alloc, &board, 1 << 40)?;
-    assert_eq!(rt; q.draw(&board), None);
-    let Some(entry) = good(alloc, &net, p.seen(), Kind::Merge) else {
-        return Err("no memory".into());
-    };
-    let put = p.offer(&rt, alloc, &net, &board, entry);
-    assert!(rt; matches!(put, Ok(Offered::At(0))));
-    let Some(entry) = good(alloc, &net, q.seen(), Kind::Merge) else {
-        return Err("no memory".into());
-    };
-    let again = q.offer(&rt, alloc, &net, &board, entry);
-    assert!(rt; matches!(again, Ok(Offered::Already(0))));
-    assert_eq!(rt; q.refresh(&rt, alloc, &board)?, 1);
-    assert_eq!(rt; p.refresh(&rt, alloc, &board)?, 1);
-    assert!(rt; matches!(p.seen().entry(0), Some(Entry::Merge { .. })));
-    p.join(&board, q);
-    let (book, record) = board.close(p);
+    assert_eq!(rt; answers.tasks, (Some(0), None));
+    assert_eq!(rt;
+        answers.offers,
+        (Some(Offered::At(0)), Some(Offered::Already(0)))
+    );
+    assert_eq!(rt; answers.looks, (Some(1), Some(1)));
+    assert!(rt; matches!(book.entry(0), Some(Entry::Merge { .. })));
     assert_eq!(rt; book.len(), 1);
     assert_eq!(rt;
         (record.turns.len(), record.missed, record.drawn),

@@ -8,5 +8,5 @@ invariant-loop g l =
     record {
       table : l.pass.table ≡ l.fn.pass.table;
       share : share_of l.pass ≡ share_of l.fn.pass;
-      may : MayWork l.net.now l.board.now l.pass;
+      may : MayWork l.net l.board l.pass;
     }
