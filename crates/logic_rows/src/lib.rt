@@ -2,13 +2,11 @@
 //! with answers that come from outside, and small formulas. It has no code of its own.
 //!
 //! The tests of a crate stand here and not in it, since a crate with tests is proved twice. Modules:
-//! `literals` is of `lits`, `steps` of `unit_prop`, `trail` of `watch_lists`, `plain_solver` of
-//! `solver_plain`, `learning_solver` of `solver_watch`; `solving` is what both solvers' tests share. Begin
+//! `literals` is of `lits`, `steps` of `unit_prop`, `plain_solver` of `solver_plain`; `solving` is what its
+//! tests share with those of the learning solver, which `fuzz/tests.py` runs without a proof. Begin
 //! to read at `literals.rt`.
 #![tactic(auto)]
 
-#[cfg(test)]
-mod learning_solver;
 #[cfg(test)]
 mod literals;
 #[cfg(test)]
@@ -17,5 +15,3 @@ mod plain_solver;
 mod solving;
 #[cfg(test)]
 mod steps;
-#[cfg(test)]
-mod trail;
