@@ -1,9 +1,9 @@
 #!/usr/bin/env python3
 """Measures `check` beside MiniSat and CaDiCaL on the same miters.
 
-Usage: solver.py FOLDER [--program PROGRAM] [--options WORDS] [--classes tiny small] [--limit SECONDS] [--rounds N] [--only REGEX]
+Usage: solver.py [FOLDER] [--program PROGRAM] [--options WORDS] [--classes tiny small] [--limit SECONDS] [--rounds N] [--only REGEX]
 
-FOLDER has pairs of circuits, `NAME.a.aag` and `NAME.b.aag`, and `manifest.tsv`, a table with a header: at least the columns
+Without FOLDER it makes a small corpus (`made_pairs.py`). FOLDER has pairs of circuits, `NAME.a.aag` and `NAME.b.aag`, and `manifest.tsv`, a table with a header: at least the columns
 `name`, `class` and `expected`. Each pair is given to `PROGRAM check A B --out P` with the words of --options, then `minisat P.0.cnf` and `cadical -q P.0.cnf`
 get the miter that the program wrote, and the checker of proofs in C judges its proof. The seconds are those of the processor, the
 least of the rounds; a run that takes more than the limit has none.
@@ -25,6 +25,7 @@ import tempfile
 from pathlib import Path
 
 sys.path.insert(0, str(Path(__file__).resolve().parents[1] / "tools"))
+import made_pairs
 from house import compiled, program
 
 LEAST = 0.01
@@ -69,16 +70,27 @@ def ratio(mine, other):
     return max(mine[0], LEAST) / max(other[0], LEAST)
 
 
-def main():
+def words_given():
     parser = argparse.ArgumentParser(description=__doc__.splitlines()[0])
-    parser.add_argument("folder", type=Path)
+    parser.add_argument("folder", type=Path, nargs="?")
     parser.add_argument("--program", help="the built program, else the repository's own")
     parser.add_argument("--options", default="", help="further words for the program")
     parser.add_argument("--classes", nargs="+", default=["tiny", "small"])
     parser.add_argument("--limit", type=float, default=60)
     parser.add_argument("--rounds", type=int, default=1)
     parser.add_argument("--only", type=re.compile, default=re.compile(""))
-    words = parser.parse_args()
+    return parser.parse_args()
+
+
+def main():
+    words = words_given()
+    with made_pairs.corpus(words.folder) as folder:
+        words.folder = folder
+        return measured(words)
+
+
+def measured(words):
+    """Measures each pair of the folder, and gives the script's status."""
     mine = program(words.program)
     with open(words.folder / "manifest.tsv", newline="") as table:
         rows = [row for row in csv.DictReader(table, delimiter="\t") if row["class"] in words.classes]

@@ -1,7 +1,7 @@
 #!/usr/bin/env python3
 """Measures `check` beside ABC's `&cec` and CaDiCaL on the same pairs, and has each proof checked.
 
-Usage: sweep.py FOLDER [--program PROGRAM] [--options WORDS] [--classes tiny small medium] [--limit SECONDS] [--rounds N] [--only REGEX]
+Usage: sweep.py [FOLDER] [--program PROGRAM] [--options WORDS] [--classes tiny small medium] [--limit SECONDS] [--rounds N] [--only REGEX]
 
 FOLDER is as for `solver.py`, with the binary files `NAME.a.aig` and `NAME.b.aig` too. Each pair is given to `PROGRAM check A B --out
 P` with the words of --options, to `berkeley-abc` (`&cec`), and the miter that the program wrote to `cadical`; a peer that isn't
@@ -23,6 +23,7 @@ from pathlib import Path
 
 sys.path.insert(0, str(Path(__file__).resolve().parents[1] / "tools"))
 from house import compiled, program
+import made_pairs
 from solver import best, mean, ratio, shown
 
 ABC_WORDS = {"Networks are equivalent": "EQUIVALENT", "Networks are NOT EQUIVALENT": "DIFFERENT"}
@@ -59,16 +60,27 @@ def judged(reference, verdict, prefix):
     return "VERIFIED" if subprocess.run(command, capture_output=True, check=False).returncode == 0 else "REFUSED"
 
 
-def main():
+def words_given():
     parser = argparse.ArgumentParser(description=__doc__.splitlines()[0])
-    parser.add_argument("folder", type=Path)
+    parser.add_argument("folder", type=Path, nargs="?")
     parser.add_argument("--program", help="the built program, else the repository's own")
     parser.add_argument("--options", default="", help="further words for the program")
     parser.add_argument("--classes", nargs="+", default=["tiny", "small", "medium"])
     parser.add_argument("--limit", type=float, default=60)
     parser.add_argument("--rounds", type=int, default=1)
     parser.add_argument("--only", type=re.compile, default=re.compile(""))
-    words = parser.parse_args()
+    return parser.parse_args()
+
+
+def main():
+    words = words_given()
+    with made_pairs.corpus(words.folder) as folder:
+        words.folder = folder
+        return measured(words)
+
+
+def measured(words):
+    """Measures each pair of the folder, and gives the script's status."""
     mine = program(words.program)
     have = {name: shutil.which(name) is not None for name in ("berkeley-abc", "cadical")}
     for name in (name for name, there in have.items() if not there):

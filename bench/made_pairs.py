@@ -1,0 +1,48 @@
+"""A small corpus of the repository's own, for measurements without another: adders, parities and comparators in two architectures, and each
+pair once more with a gate of the second circuit turned so that they differ."""
+import sys
+from contextlib import contextmanager
+from pathlib import Path
+from tempfile import TemporaryDirectory
+
+sys.path.insert(0, str(Path(__file__).resolve().parents[1] / "tools"))
+from workload import KINDS
+
+SIZES = {"tiny": (4, 8), "small": (32, 64), "medium": (256, 512)}
+
+
+def turned(circuit):
+    """The same circuit with its last output negated."""
+    circuit.outputs[-1] ^= 1
+    return circuit
+
+
+def write(folder, name, a, b):
+    for side, circuit in zip("ab", (a, b)):
+        (folder / f"{name}.{side}.aag").write_bytes(circuit.ascii())
+        (folder / f"{name}.{side}.aig").write_bytes(circuit.binary())
+
+
+def lay_out(folder):
+    """Writes the pairs and their table into the folder."""
+    rows = ["name\tclass\texpected"]
+    for size_class, sizes in SIZES.items():
+        for kind, make in KINDS.items():
+            for size in sizes:
+                name = f"{kind}{size}"
+                write(folder, name, *make(size))
+                a, b = make(size)
+                write(folder, f"{name}-turned", a, turned(b))
+                rows += [f"{name}\t{size_class}\tEQUIVALENT", f"{name}-turned\t{size_class}\tDIFFERENT"]
+    (folder / "manifest.tsv").write_text("\n".join(rows) + "\n")
+
+
+@contextmanager
+def corpus(folder):
+    """The folder that is given, else one with the pairs made here, which is gone afterwards."""
+    if folder:
+        yield folder
+        return
+    with TemporaryDirectory() as made:
+        lay_out(Path(made))
+        yield Path(made)
