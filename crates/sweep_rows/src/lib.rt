@@ -2,17 +2,13 @@
 //! of its own.
 //!
 //! The tests of a crate stand here and not in it, since a crate with tests is proved twice. Modules:
-//! `structure` is of `strash_pass`, `searches` of `circuit_search`, `queries` of `cone_query`, `stitching`
-//! of `proof_stitch`, `sessions` of `check_session`. Begin to read at `structure.rt`.
+//! `structure` is of `strash_pass`, `searches` of `circuit_search`, `sessions` of `check_session`. Begin to
+//! read at `structure.rt`.
 #![tactic(auto)]
 
-#[cfg(test)]
-mod queries;
 #[cfg(test)]
 mod searches;
 #[cfg(test)]
 mod sessions;
-#[cfg(test)]
-mod stitching;
 #[cfg(test)]
 mod structure;
