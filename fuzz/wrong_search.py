@@ -1,0 +1,112 @@
+#!/usr/bin/env python3
+"""Checks by programs whose search is made wrong on purpose: no verdict may be another one than the circuits have.
+
+Usage: wrong_search.py [--runs N] [--seed N] [--edit NAME ..]
+
+For each file `wrong_search/NAME.edit` (its lines as in a must-fail edit) a program over a copy of the crates, in which `circuit_search`
+is changed so, checks the same random pairs, and so does one that isn't changed. The pairs are evaluated on every input here:
+EQUIVALENT must be true, and DIFFERENT must name an output and an input on which it differs. A proposal that the lemma book refuses may
+cost a query of the whole cone, and may leave a pair undecided, but that is all. Nothing is proved here: the contract of
+`circuit_search`, that an entry is good, is what this shows at work. Prints a line for each program; status 1 where anything is wrong.
+"""
+import argparse
+import itertools
+import random
+import shutil
+import sys
+import tempfile
+from collections import Counter
+from concurrent.futures import ThreadPoolExecutor
+from pathlib import Path
+
+import runner
+from pairs import evaluated, random_circuit, rewritten, text
+from rounds import SEED
+
+EDITS = Path(__file__).resolve().parent / "wrong_search"
+USES = ["check_session", "aiger_file", "lemma_book"]
+
+
+def as_pairs_of_gates(circuit):
+    """Each gate a second time, as an AND of itself with its own fanins: equal nodes that only a search merges."""
+    inputs, outputs, gates = circuit
+    made, moved, free = [], {}, len(inputs) + 1
+
+    def at(literal):
+        return moved.get(literal & ~1, literal & ~1) ^ (literal & 1)
+
+    for lhs, left, right in gates:
+        first, second = 2 * free, 2 * free + 2
+        made += [(first, at(left), at(right)), (second, first, at(right))]
+        moved[lhs] = second
+        free += 2
+    return inputs, [at(literal) for literal in outputs], made
+
+
+def pairs(rng, runs):
+    """Random pairs of circuits, the second one rewritten or changed."""
+    for _ in range(runs):
+        a = random_circuit(rng, rng.randrange(2, 8), rng.randrange(1, 4), rng.randrange(4, 30))
+        yield a, as_pairs_of_gates(rewritten(rng, a))
+
+
+def fault_in(answer, a, b):
+    """What is wrong with an answer, or none."""
+    word, *rest = answer.split() or ["nothing"]
+    if word == "DIFFERENT":
+        bits = [digit == "1" for digit in rest[1]]
+        j = int(rest[0])
+        return None if evaluated(a, bits)[j] != evaluated(b, bits)[j] else "a wrong no"
+    if word == "EQUIVALENT":
+        every = itertools.product([False, True], repeat=len(a[0]))
+        return "a wrong yes" if any(evaluated(a, bits) != evaluated(b, bits) for bits in every) else None
+    return None if word == "UNDECIDED" else "no answer"
+
+
+def changed(folder, edit):
+    """Makes the edit in the copy."""
+    lines = edit.read_text().splitlines()
+    said = {line.split(": ", 1)[0]: line.split(": ", 1)[1] for line in lines if line.startswith(("file: ", "old: ", "new: "))}
+    file = folder / "crates" / "circuit_search" / said["file"]
+    source = file.read_text()
+    if source.count(said["old"]) != 1:
+        raise SystemExit(f"{edit.name}: its line doesn't stand once in {said['file']}")
+    file.write_text(source.replace(said["old"], said["new"]))
+
+
+def answers(name, lines):
+    """What the program with this edit, or with none, says of the pairs."""
+    change = (lambda folder: changed(folder, EDITS / f"{name}.edit")) if name else None
+    return runner.answers("checks", USES, lines, change).splitlines()
+
+
+def main():
+    words = argparse.ArgumentParser(description=__doc__, formatter_class=argparse.RawDescriptionHelpFormatter)
+    words.add_argument("--runs", type=int, default=1000)
+    words.add_argument("--seed", type=int, default=SEED)
+    words.add_argument("--edit", nargs="+", default=sorted(file.stem for file in EDITS.glob("*.edit")))
+    asked = words.parse_args()
+    if not shutil.which("rt"):
+        print("skipped: the toolchain's command rt is not there")
+        return 0
+    made = list(pairs(random.Random(asked.seed), asked.runs))
+    lines = ["\t".join(text(circuit).replace("\n", ";") for circuit in pair) for pair in made]
+    names = [None, *asked.edit]
+    with ThreadPoolExecutor(2) as workers:
+        said = dict(zip(names, workers.map(lambda name: answers(name, lines), names)))
+    wrong = 0
+    for name in names:
+        faults = [(fault_in(answer, *pair), line) for answer, pair, line in zip(said[name], made, lines)]
+        faults = [(fault, line) for fault, line in faults if fault] + [("no answer", line) for line in lines[len(said[name]):]]
+        found = dict(Counter(answer.split()[0] for answer in said[name] if answer))
+        others = sum(one != other for one, other in zip(said[name], said[None]))
+        print(f"{name or 'as it is'}: {found}, {others} other answers or books than as it is, {len(faults)} wrong")
+        for fault, line in faults:
+            print(f"  {fault}: {line}")
+        wrong += len(faults)
+    print(f"seed {asked.seed}: {len(names) * asked.runs} runs, {wrong} wrong")
+    return 1 if wrong else 0
+
+
+if __name__ == "__main__":
+    sys.exit(main())
