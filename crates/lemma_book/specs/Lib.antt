@@ -1,5 +1,6 @@
 pub mod Entry
 pub mod Shelf
+pub mod NodeHasher
 pub mod Root
 pub mod Cone
 pub mod ConeValue

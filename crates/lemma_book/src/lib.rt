@@ -12,12 +12,14 @@
 //! `specs/Cone.antt` (cones), `specs/Good.antt` (good entry), `specs/Fault.antt` (first cause of a refusal),
 //! `specs/Book.antt` (legal book), `specs/Agreement.antt` (what entries say of all inputs),
 //! `specs/Machine.antt` (many workers at one book). For the crate's own functions: `specs/Judging.antt`,
-//! `specs/Walk.antt` (through a cone), `specs/Shelf.antt` (the index of entries). Begin to read at
+//! `specs/Walk.antt` (through a cone), `specs/Shelf.antt` (the index of entries), `specs/NodeHasher.antt`
+//! (its hash). Begin to read at
 //! `entry.rt`, then `book.rt`, `judge.rt`.
 #![tactic(auto)]
 
 pub use book::Book;
 pub use entry::{Entry, Subject, Task};
+pub use node_hasher::NodeHasher;
 pub use refused::{Fault, Judgement, Offered, Refused};
 pub use turn::{Turn, What};
 
@@ -29,6 +31,7 @@ mod entry;
 mod judge;
 pub mod laws;
 mod newness;
+mod node_hasher;
 mod offer;
 mod presence;
 mod refused;

@@ -5,6 +5,7 @@ ghost use Rattle.std.specs.HashMap.{spare};
 ghost use Rattle.lemma_book.specs.Shelf.{number_of, key_of, IsIndex, Notes};
 
 use crate::entry::{Entry, Subject, Task};
+use crate::node_hasher::NodeHasher;
 use std::alloc::{AllocError, Global};
 use std::collections::{HashMap, VecDeque};
 use std::marker::Model;
@@ -32,11 +33,14 @@ impl Entry {
     }
 }
 
+/// By key the number of the first entry that has it.
+type Index = HashMap<Key, u64, NodeHasher>;
+
 /// Entries in order, shared, and an index from what they settle to their numbers.
 #[derive(Drop)]
 pub struct Shelf {
     entries: Vec<Arc<Entry>>,
-    index: HashMap<Key, u64>,
+    index: Index,
 }
 
 impl Model for Shelf {
@@ -59,7 +63,7 @@ impl Shelf {
     {
         Shelf {
             entries: Vec::new(alloc),
-            index: HashMap::new(alloc),
+            index: HashMap::with_hasher(alloc, NodeHasher::new()),
         }
     }
 
@@ -132,7 +136,7 @@ fn shared(alloc: Global, entries: &[Arc<Entry>]) -> Result<VecDeque<Arc<Entry>>,
 }
 
 /// Puts the entries last, one by one, for which there is room.
-fn put_all(entries: &mut Vec<Arc<Entry>>, index: &mut HashMap<Key, u64>, more: VecDeque<Arc<Entry>>)
+fn put_all(entries: &mut Vec<Arc<Entry>>, index: &mut Index, more: VecDeque<Arc<Entry>>)
     requires index { IsIndex (map arc_value entries.old.items) index.old }
     requires room { vec_len entries.old + length more.items ≤ vec_capacity entries.old }
     requires spare { length more.items ≤ spare index.old }
@@ -147,7 +151,7 @@ fn put_all(entries: &mut Vec<Arc<Entry>>, index: &mut HashMap<Key, u64>, more: V
 }
 
 /// Puts an entry last, for which there is room.
-fn put(entries: &mut Vec<Arc<Entry>>, index: &mut HashMap<Key, u64>, entry: Arc<Entry>)
+fn put(entries: &mut Vec<Arc<Entry>>, index: &mut Index, entry: Arc<Entry>)
     requires index { IsIndex (map arc_value entries.old.items) index.old }
     requires room { vec_len entries.old < vec_capacity entries.old }
     requires spare { 0 < spare index.old }
@@ -161,7 +165,7 @@ fn put(entries: &mut Vec<Arc<Entry>>, index: &mut HashMap<Key, u64>, entry: Arc<
 }
 
 /// Notes the number of one more entry by its key, unless an earlier one has that.
-fn note(index: &mut HashMap<Key, u64>, key: Option<Key>, number: u64)
+fn note(index: &mut Index, key: Option<Key>, number: u64)
     requires { 0 < spare index.old }
     ensures notes { Notes index.old key number index.new }
     ensures spare { spare index.old ≤ spare index.new + 1 }

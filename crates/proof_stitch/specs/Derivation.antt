@@ -49,6 +49,11 @@ spent_log entries j = option_map_or log_of (about entries j) []
 abbrev pub outputs_of : AigPair → List ℕ
 outputs_of net = range_with_len 0 (length net.a.outputs)
 
+-- the lines of these logs behind the id `last`
+abbrev pub log_lines : AigPair → List Entry → ℕ → List LratStep
+log_lines net entries last =
+    additions net (shown_ids net entries) (last + 1) (map (spent_log entries) (outputs_of net))
+
 -- the derivation: the steps of the Merge and Out entries in the order of the book, then the logs in the order of the
 -- outputs
 abbrev pub derivation_of : AigPair → List Entry → List LratStep
@@ -95,3 +100,7 @@ spans_from entries id (j ∷ js) = span_of entries id j ++ spans_from entries (i
 abbrev pub spans_of : AigPair → List Entry → List Span
 spans_of net entries =
     spans_from entries (length (miter_of net) + length (book_additions net entries) + 1) (outputs_of net)
+
+-- each log is as long as the budget
+abbrev pub AreWhole : ℕ → List Span → Type 0
+AreWhole budget spans = All (λ s. s.last + 1 ≡ s.first + budget) spans

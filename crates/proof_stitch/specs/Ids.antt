@@ -1,6 +1,7 @@
 -- What a step needs so that it can be written.
 use Rattle.std.specs.Prelude.{ℕ, ◌+◌, ◌<◌, ◌^◌, IsSome, List}
 use Rattle.std.specs.List.{All, slice_index_or}
+use Rattle.lits.specs.declared.literal.Lit.{Lit}
 use Rattle.lits.specs.declared.step.Ref.{Ref}
 use Rattle.lits.specs.declared.step.Ref.TheVariants.{Axiom, Entry as Shown, Own}
 use Rattle.lits.specs.declared.step.Step.{Step}
@@ -13,7 +14,15 @@ HasId net shown first (Axiom node k) = IsSome (clause_number_of net node k)
 HasId net shown first (Shown entry k) = slice_index_or shown entry 0 + k < 2 ^ 64
 HasId net shown first (Own k) = first + k < 2 ^ 64
 
--- each literal has a CNF number, and each hint an id
+-- each literal has a CNF number
+abbrev pub AreNumbered : AigPair → List Lit → Type 0
+AreNumbered net lits = All (λ l. IsSome (cnf_number_of net l)) lits
+
+-- so it is in the step's clause, and each hint has an id
 pub record HasIds (net : AigPair) (shown : List ℕ) (first : ℕ) (step : Step) : Type 0 where
-  pub literals : All (λ l. IsSome (cnf_number_of net l)) step.clause
+  pub literals : AreNumbered net step.clause
   pub hints : All (HasId net shown first) step.hints
+
+-- so has each of some steps that stand behind the id `last`
+abbrev pub HaveIds : AigPair → List ℕ → ℕ → List Step → Type 0
+HaveIds net shown last steps = All (HasIds net shown (last + 1)) steps

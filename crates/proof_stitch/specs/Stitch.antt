@@ -29,16 +29,22 @@ is_out (OutSpent j seen log) = false
 abbrev pub has_out : List Entry → ℕ → Bool
 has_out entries j = option_map_or is_out (about entries j) false
 
--- the id of the clause that the output's entry shows
-abbrev pub unit_id : AigPair → List Entry → ℕ → ℕ
-unit_id net entries j =
-    option_map_or (λ place. slice_index_or (shown_ids net entries) place 0) (place_on entries (Output j)) 0
+-- the id of the clause that the output's entry shows, if `shown` has these ids by entry
+abbrev pub unit_in : List ℕ → List Entry → ℕ → ℕ
+unit_in shown entries j = option_map_or (λ place. slice_index_or shown place 0) (place_on entries (Output j)) 0
 
--- the addition of the empty clause under that id: its hints are the units of the outputs in order, and then the
--- miter's last clause
+abbrev pub unit_id : AigPair → List Entry → ℕ → ℕ
+unit_id net entries j = unit_in (shown_ids net entries) entries j
+
+-- those of the outputs in order
+abbrev pub unit_ids : AigPair → List Entry → List ℕ
+unit_ids net entries = map (unit_id net entries) (range_with_len 0 (length net.a.outputs))
+
+-- the addition of the empty clause under that id: its hints are the units of the outputs, and then the miter's last
+-- clause
 abbrev pub empty_addition : AigPair → List Entry → ℕ → LratStep
 empty_addition net entries id =
-    Add id [] (map (unit_id net entries) (range_with_len 0 (length net.a.outputs)) ++ length (miter_of net) ∷ [])
+    Add id [] (unit_ids net entries ++ length (miter_of net) ∷ [])
 
 -- the proof: the steps of the Merge and Out entries in the order of the book, then the empty clause
 abbrev pub refutation_of : AigPair → List Entry → List LratStep

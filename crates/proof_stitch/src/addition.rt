@@ -2,7 +2,7 @@ ghost use Rattle.std.specs.Prelude.{◌≡◌, ◌+◌, ◌<◌, ◌^◌, IfOk, 
 ghost use Rattle.std.specs.List.{All, slice_index_or};
 ghost use Rattle.netlist.specs.Miter.{numbered, cnf_number_of};
 ghost use Rattle.proof_stitch.specs.Steps.{id_of, addition};
-ghost use Rattle.proof_stitch.specs.Ids.{HasId, HasIds};
+ghost use Rattle.proof_stitch.specs.Ids.{AreNumbered, HasId, HasIds};
 
 use lits::{Dim, Listed, Lit, Ref, Step};
 use lrat_text::LratStep;
@@ -33,7 +33,7 @@ pub fn addition(
 
 /// The literals as numbers of the miter.
 fn numbers(alloc: Global, net: &Net, lits: &[Lit]) -> Result<Vec<Dim>, AllocError>
-    requires { All (λ l. IsSome (cnf_number_of net.now l)) lits.now }
+    requires { AreNumbered net.now lits.now }
     ensures { IfOk result (λ v. v.items ≡ map (numbered net.now) lits.now) }
 {
     let mut numbers = Vec::with_capacity(alloc, lits.len())?;

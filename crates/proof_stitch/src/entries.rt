@@ -1,13 +1,9 @@
-ghost use Rattle.std.specs.Prelude.{◌≡◌, ◌+◌, ◌<◌, ◌^◌, ◌++◌, IfOk, OnOk, length, map};
-ghost use Rattle.std.specs.List.{range_with_len, slice_index_or};
-ghost use Rattle.std.specs.Option.{option_map_or};
+ghost use Rattle.std.specs.Prelude.{◌≡◌, ◌+◌, ◌<◌, ◌^◌, IfOk, OnOk, length};
 ghost use Rattle.netlist.specs.Miter.{miter_of};
-ghost use Rattle.lrat_text.specs.Writing.{text_from};
-ghost use Rattle.lemma_book.specs.declared.entry.Subject.TheVariants.{Output};
-ghost use Rattle.lemma_book.specs.Entry.{place_on};
 ghost use Rattle.lemma_book.specs.Book.{IsLegal};
 ghost use Rattle.proof_stitch.specs.Written.{shown_ids, book_additions};
-ghost use Rattle.proof_stitch.specs.Stitch.{unit_id};
+ghost use Rattle.proof_stitch.specs.Stitch.{unit_ids, unit_in};
+ghost use Rattle.proof_stitch.specs.Text.{Puts};
 
 use crate::addition::first_shown;
 use crate::proof_text::ProofText;
@@ -27,9 +23,7 @@ pub fn push_entries(
     requires legal { IsLegal net.now book.now }
     requires shown { shown.now ≡ shown_ids net.now book.now.entries }
     requires start { proof.old.last ≡ length (miter_of net.now) }
-    ensures text { OnOk result (proof.new.text.items
-        ≡ proof.old.text.items ++ text_from (length (miter_of net.now))
-        (book_additions net.now book.now.entries)) }
+    ensures text { OnOk result (Puts proof.old (book_additions net.now book.now.entries) proof.new) }
     ensures last { OnOk result (proof.new.last
         ≡ length (miter_of net.now) + length (book_additions net.now book.now.entries)) }
     ensures room { OnOk result (proof.new.last + 1 < 2 ^ 60) }
@@ -47,8 +41,7 @@ pub fn push_entries(
 /// The ids of the outputs' units, in order of outputs.
 pub fn units(alloc: Global, net: &Net, book: &Book, shown: &[u64]) -> Result<Vec<u64>, AllocError>
     requires { shown.now ≡ shown_ids net.now book.now.entries }
-    ensures { IfOk result (λ v. v.items
-        ≡ map (unit_id net.now book.now.entries) (range_with_len 0 (length net.now.a.outputs))) }
+    ensures { IfOk result (λ v. v.items ≡ unit_ids net.now book.now.entries) }
 {
     let mut units = Vec::new(alloc);
     for output in 0..net.outputs() {
@@ -59,9 +52,7 @@ pub fn units(alloc: Global, net: &Net, book: &Book, shown: &[u64]) -> Result<Vec
 
 /// The id of an output's unit.
 fn unit(book: &Book, shown: &[u64], output: u32) -> u64
-    ensures { result
-        ≡ option_map_or (λ place. slice_index_or shown.now place 0)
-        (place_on book.now.entries (Output output)) 0 }
+    ensures { result ≡ unit_in shown.now book.now.entries output }
 {
     match book.place_on(Subject::Output(output)) {
         Some(place) => first_shown(shown, place),

@@ -1,11 +1,10 @@
-ghost use Rattle.std.specs.Prelude.{◌≡◌, ◌+◌, ◌<◌, ◌^◌, [], ◌∷◌, ◌++◌, IfOk, OnOk, length, map};
-ghost use Rattle.std.specs.List.{All};
-ghost use Rattle.lrat_text.specs.Writing.{text_from};
+ghost use Rattle.std.specs.Prelude.{◌≡◌, ◌+◌, ◌<◌, ◌^◌, ◌++◌, IfOk, OnOk, length};
 ghost use Rattle.lemma_book.specs.Book.{IsLegal};
-ghost use Rattle.proof_stitch.specs.Steps.{additions_from, additions};
-ghost use Rattle.proof_stitch.specs.Ids.{HasIds};
+ghost use Rattle.proof_stitch.specs.Steps.{additions_behind};
+ghost use Rattle.proof_stitch.specs.Ids.{HaveIds};
+ghost use Rattle.proof_stitch.specs.Text.{Puts};
 ghost use Rattle.proof_stitch.specs.Written.{shown_ids};
-ghost use Rattle.proof_stitch.specs.Derivation.{spent_log, outputs_of, span_of, spans_from};
+ghost use Rattle.proof_stitch.specs.Derivation.{log_lines, spent_log, outputs_of, span_of, spans_from};
 
 use crate::proof_text::ProofText;
 use lemma_book::{Book, Entry};
@@ -31,10 +30,8 @@ pub fn push_logs(
     requires legal { IsLegal net.now book.now }
     requires shown { shown.now ≡ shown_ids net.now book.now.entries }
     requires room { proof.old.last < 2 ^ 60 }
-    ensures text { OnOk result (proof.new.text.items ≡ proof.old.text.items
-        ++ text_from proof.old.last
-        (additions net.now (shown_ids net.now book.now.entries) (proof.old.last + 1)
-        (map (spent_log book.now.entries) (outputs_of net.now)))) }
+    ensures text { OnOk result
+        (Puts proof.old (log_lines net.now book.now.entries proof.old.last) proof.new) }
     ensures spans { IfOk result (λ spans. spans.items
         ≡ spans_from book.now.entries (proof.old.last + 1) (outputs_of net.now)) }
 {
@@ -58,12 +55,10 @@ fn push_log(
     proof: &mut ProofText,
     spans: &mut Vec<Span>,
 ) -> Result<(), AllocError>
-    requires ids { All (HasIds net.now shown.now (proof.old.last + 1)) (spent_log book.now.entries output) }
+    requires ids { HaveIds net.now shown.now proof.old.last (spent_log book.now.entries output) }
     requires room { proof.old.last + length (spent_log book.now.entries output) + 1 < 2 ^ 64 }
-    ensures text { OnOk result (proof.new.text.items ≡ proof.old.text.items
-        ++ text_from proof.old.last
-        (additions_from net.now shown.now (proof.old.last + 1) (proof.old.last + 1)
-        (spent_log book.now.entries output))) }
+    ensures text { OnOk result (Puts proof.old
+        (additions_behind net.now shown.now proof.old.last (spent_log book.now.entries output)) proof.new) }
     ensures last { OnOk result
         (proof.new.last ≡ proof.old.last + length (spent_log book.now.entries output)) }
     ensures spans { OnOk result (spans.new.items

@@ -1,8 +1,8 @@
-ghost use Rattle.std.specs.Prelude.{◌≡◌, ◌+◌, ◌<◌, ◌^◌, [], ◌++◌, All, IsSome, OnOk, length};
-ghost use Rattle.lrat_text.specs.Writing.{line_text, text_from};
-ghost use Rattle.proof_stitch.specs.Steps.{addition, additions_from};
-ghost use Rattle.proof_stitch.specs.Ids.{HasIds};
-ghost use Rattle.proof_stitch.specs.Text.{Stitches};
+ghost use Rattle.std.specs.Prelude.{◌≡◌, ◌+◌, ◌<◌, ◌^◌, [], ◌++◌, IsSome, OnOk, length};
+ghost use Rattle.lrat_text.specs.Writing.{line_text};
+ghost use Rattle.proof_stitch.specs.Steps.{addition, additions_behind};
+ghost use Rattle.proof_stitch.specs.Ids.{HasIds, HaveIds};
+ghost use Rattle.proof_stitch.specs.Text.{Puts, Stitches};
 
 use crate::addition::addition;
 use crate::stitch_err::StitchErr;
@@ -65,11 +65,10 @@ impl ProofText {
         shown: &[u64],
         steps: &[Step],
     ) -> Result<(), AllocError>
-        requires ids { All (HasIds net.now shown.now (self.old.last + 1)) steps.now }
+        requires ids { HaveIds net.now shown.now self.old.last steps.now }
         requires room { self.old.last + length steps.now + 1 < 2 ^ 64 }
-        ensures text { OnOk result (self.new.text.items ≡ self.old.text.items
-            ++ text_from self.old.last
-            (additions_from net.now shown.now (self.old.last + 1) (self.old.last + 1) steps.now)) }
+        ensures text { OnOk result
+            (Puts self.old (additions_behind net.now shown.now self.old.last steps.now) self.new) }
         ensures last { OnOk result (self.new.last ≡ self.old.last + length steps.now) }
     {
         let first = self.last + 1;

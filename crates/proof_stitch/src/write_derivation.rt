@@ -1,7 +1,7 @@
-ghost use Rattle.std.specs.Prelude.{◌≡◌, ◌+◌, All, IfOk, IsSome};
+ghost use Rattle.std.specs.Prelude.{◌≡◌, IfOk, IsSome};
 ghost use Rattle.lemma_book.specs.Book.{IsLegal};
 ghost use Rattle.proof_stitch.specs.Text.{proof_text, Stitches};
-ghost use Rattle.proof_stitch.specs.Derivation.{derivation_of, spans_of, IsDerivation, AreSpans};
+ghost use Rattle.proof_stitch.specs.Derivation.{derivation_of, spans_of, IsDerivation, AreSpans, AreWhole};
 
 use crate::entries::push_entries;
 use crate::laws;
@@ -32,7 +32,7 @@ pub fn derivation<D: Desk>(
     ensures numbers { IfOk result (λ spans. spans.items ≡ spans_of net.now book.now.entries) }
 
     // Each log is as long as the budget.
-    ensures whole { IfOk result (λ spans. All (λ s. s.last + 1 ≡ s.first + book.now.out_budget) spans.items) }
+    ensures whole { IfOk result (λ spans. AreWhole book.now.out_budget spans.items) }
 {
     laws::derives(net, book);
     let (proof, spans) = whole_derivation(alloc, net, book)?;
@@ -50,7 +50,7 @@ fn whole_derivation(
     ensures text { IfOk result
         (λ p. p.0.text.items ≡ proof_text net.now (derivation_of net.now book.now.entries)) }
     ensures spans { IfOk result (λ p. p.1.items ≡ spans_of net.now book.now.entries) }
-    ensures whole { IfOk result (λ p. All (λ s. s.last + 1 ≡ s.first + book.now.out_budget) p.1.items) }
+    ensures whole { IfOk result (λ p. AreWhole book.now.out_budget p.1.items) }
 {
     book.sweep_budget();
     book.out_budget();

@@ -6,7 +6,7 @@ ghost use Rattle.strash_pass.specs.Pass.{gates_before, IsPass};
 
 use crate::visit::Pass;
 use indexmap::IndexMap;
-use lemma_book::Book;
+use lemma_book::{Book, NodeHasher};
 use lits::{Node, Side};
 use netlist::{Net, laws};
 use std::alloc::{AllocError, Global};
@@ -26,7 +26,7 @@ pub fn run(alloc: Global, net: &Net, book: &mut Book) -> Result<u64, AllocError>
     laws::is_net(net);
     let before = book.len();
     let mut pass = Pass {
-        gates: IndexMap::new(alloc),
+        gates: IndexMap::with_hasher(alloc, NodeHasher::new()),
         visited: 0,
     };
     visit_side(&mut pass, alloc, net, book, Side::A)?;

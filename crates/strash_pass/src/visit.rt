@@ -8,7 +8,7 @@ use crate::fold::folded;
 use crate::pair::Pair;
 use crate::ways::{merge_folded, merge_twin};
 use indexmap::IndexMap;
-use lemma_book::Book;
+use lemma_book::{Book, NodeHasher};
 use lits::Lit;
 use netlist::{Definition, Net};
 use std::alloc::{AllocError, Global};
@@ -16,7 +16,7 @@ use std::alloc::{AllocError, Global};
 /// The gates that were visited and stay unmerged, by their fanins' roots, and how many gates were visited.
 #[derive(Drop)]
 pub struct Pass {
-    pub gates: IndexMap<Pair, Definition>,
+    pub gates: IndexMap<Pair, Definition, NodeHasher>,
     pub visited: u64,
 }
 

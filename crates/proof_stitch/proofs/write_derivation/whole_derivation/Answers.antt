@@ -13,7 +13,8 @@ returns-clause-text c =
     let m = length (miter_of c.args.net.now) in
     let entries = c.args.book.now.entries in
     let text : c.push_entries.new.proof.text.items ≡ text_from m (book_additions c.args.net.now entries) =
-    c.in_ok-push_entries.ensures.text ∙ rw c.new-proof.ensures.text refl in
+    c.in_ok-push_entries.ensures.text
+    ∙ rw (c.new-proof.ensures.text, c.new-proof.ensures.last ∙ (c.from.ensures ∙ c.clauses.ensures.count)) refl in
     derivation-text c.args.net.now entries c.push_entries.new.proof.text.items c.push_entries.new.proof.last c.push_logs.new.proof.text.items
     text c.in_ok-push_entries.ensures.last c.in_ok-spans.ensures.text
 

@@ -14,7 +14,7 @@ returns-clause-text c =
     let entries = c.args.book.now.entries in
     let clauses : c.from-clauses.result ≡ m = c.from-clauses.ensures ∙ c.clauses.ensures.count in
     let text : c.push_entries.new.proof.text.items ≡ text_from m (book_additions c.args.net.now entries) =
-    c.in_ok-push_entries.ensures.text ∙ rw c.new-proof.ensures.text refl in
+    c.in_ok-push_entries.ensures.text ∙ rw (c.new-proof.ensures.text, c.new-proof.ensures.last ∙ clauses) refl in
     let hints : c.of-2.result ≡ map (unit_id c.args.net.now entries) (range_with_len 0 (length c.args.net.now.a.outputs)) ++ m ∷ [] =
     c.of-2.ensures ∙ c.in_ok-push.ensures.items ∙ rw (c.in_ok-hints.ensures, clauses) refl in
     let line : c.push-2.new.self.text.items
