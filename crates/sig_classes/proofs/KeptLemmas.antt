@@ -195,10 +195,10 @@ pub record AreParted (net : AigPair) (patterns : List (List Bool)) (sigs : Signa
   pub some : 1 ≤ length patterns
 
 pub are-parted : (net : AigPair) → IsNet net → (entries : List Entry) (patterns : List (List Bool)) (kept : Kept) → AreKept net patterns kept
-    → (part : Patterns) (inputs : ℕ) → part ≡ record { inputs = inputs; patterns = part_from kept.seen patterns }
-    → (sigs : Signatures) → AreSignatures net part.patterns sigs → (old new : List ℕ) → old ≡ kept.leaders
+    → (piece : Patterns) (inputs : ℕ) → piece ≡ record { inputs = inputs; patterns = part_from kept.seen patterns }
+    → (sigs : Signatures) → AreSignatures net piece.patterns sigs → (old new : List ℕ) → old ≡ kept.leaders
     → AreLeast old sigs (length (nodes_of net)) new → AreParted net patterns sigs new
-are-parted net is entries patterns kept are part inputs parts sigs bits old new same least =
+are-parted net is entries patterns kept are piece inputs parts sigs bits old new same least =
     let rows : AreSignatures net (part_from kept.seen patterns) sigs = subst (λ (p : Patterns). AreSignatures net p.patterns sigs) parts bits in
     let some : 1 ≤ length patterns = part-some patterns kept.seen rows.some in
     record {

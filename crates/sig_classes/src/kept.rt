@@ -26,14 +26,11 @@ pub struct KeptClasses {
 }
 
 impl Model for KeptClasses {
-    ghost use Rattle.std.specs.Prelude.{◌≤◌};
     ghost use Rattle.sig_classes.specs.Kept.{Kept};
 
     ghost Value = { Kept };
 
     ghost view = { λ k. record { seen = k.seen; leaders = k.leaders.items } };
-
-    ghost invariant = { λ k. 0 ≤ k.seen };
 }
 
 impl KeptClasses {
