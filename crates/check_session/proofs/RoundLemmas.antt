@@ -1,8 +1,10 @@
 -- What a settled pair changes of the pairs behind it.
-use Rattle.std.proofs.Common.{◌≡◌, ◌≢◌, ℕ, ◌+◌, ◌<◌, Bool, true, false, List, [], ◌∷◌, ◌++◌, length, Option, Some, None, refl, sym, ap, ◌∙◌, subst, arith, Result, Ok, Err, OnOk}
+use Rattle.std.proofs.Common.{◌≡◌, ◌≢◌, ℕ, ◌+◌, ◌<◌, Bool, true, false, List, [], ◌∷◌, ◌++◌, length, Option, Some, None, refl, sym, ap, ◌∙◌, subst, arith, Result, Ok, Err, OnOk, take, append_assoc, length-append}
 use Rattle.std.specs.List.{AllByRecursion}
 use Rattle.std.specs.Option.{option_and_then}
 use Rattle.std.specs.Prelude.{slice_get}
+use Rattle.std.proofs.lemmas.List.{append-nil, take-append-le}
+use Rattle.sig_classes.specs.Kept.{AreClasses, AreKept, Kept}
 use Rattle.lits.specs.declared.node.Node.{Node}
 use Rattle.netlist.specs.Place.{place_of}
 use Rattle.netlist.specs.Net.{AigPair, position_of}
@@ -20,7 +22,7 @@ use Rattle.lemma_book.specs.Good.{IsBefore, IsEarlier, IsGood, NotApart}
 use Rattle.sig_classes.specs.Leader.{IsOpenGate, AreRising}
 use Rattle.lemma_book.specs.Book.{IsLegal}
 use Rattle.check_session.specs.Growth.{is_of_pair}
-use Rattle.check_session.specs.Rounds.{Fits, HasWholeInput, Joins, MayAsk, AreAsked, Settles}
+use Rattle.check_session.specs.Rounds.{Extends, Fits, HasWholeInput, Joins, MayAsk, AreAsked, Settles}
 use Rattle.std.proofs.lemmas.Option.{same_Some}
 use Rattle.cone_query.specs.Query.{task_of, IsGate}
 use Rattle.check_session.proofs.OutputLemmas.{on-subject}
@@ -175,6 +177,35 @@ fits-more net book (Spent node lit seen log) old new good fits joins = subst (λ
 fits-more net book (Out j steps) old new good fits joins = subst (λ (p : Patterns). Fits net p) (sym joins) fits
 fits-more net book (OutApart j input) old new good fits joins = subst (λ (p : Patterns). Fits net p) (sym joins) fits
 fits-more net book (OutSpent j seen log) old new good fits joins = subst (λ (p : Patterns). Fits net p) (sym joins) fits
+
+-- the pool is longer by that at most
+pub extends-same : (old new : Patterns) → new ≡ old → Extends old new
+extends-same old new same = record { added = []; is = ap (λ (p : Patterns). p.patterns) same ∙ sym (append-nil old.patterns) }
+
+pub extends-more : (e : Entry) (old new : Patterns) → Joins e old new → Extends old new
+extends-more (Merge node lit steps) old new joins = extends-same old new joins
+extends-more (Apart node lit input) old new joins = record { added = input ∷ []; is = ap (λ (p : Patterns). p.patterns) joins }
+extends-more (Spent node lit seen log) old new joins = extends-same old new joins
+extends-more (Out j steps) old new joins = extends-same old new joins
+extends-more (OutApart j input) old new joins = extends-same old new joins
+extends-more (OutSpent j seen log) old new joins = extends-same old new joins
+
+pub extends-twice : (old mid new : Patterns) → Extends old mid → Extends mid new → Extends old new
+extends-twice old mid new first second = record {
+  added = first.added ++ second.added;
+  is = second.is ∙ (ap (λ (ps : List (List Bool)). ps ++ second.added) first.is ∙ append_assoc old.patterns first.added second.added);
+}
+
+-- classes over some of the first patterns are still that
+pub kept-extends : (net : AigPair) (old new : Patterns) (kept : Kept) → Extends old new → AreKept net old.patterns kept
+    → AreKept net new.patterns kept
+kept-extends net old new kept extends are =
+    let same : take kept.seen new.patterns ≡ take kept.seen old.patterns =
+    ap (take kept.seen) extends.is ∙ take-append-le kept.seen old.patterns extends.added are.some in
+    record {
+      some = omega (arith, are.some, ap (λ (ps : List (List Bool)). length ps) extends.is, length-append old.patterns extends.added);
+      classes = subst (λ (ps : List (List Bool)). AreClasses net ps kept.leaders) (sym same) are.classes;
+    }
 
 pub on-ok-both : {T E : Type 0} (r : Result T E) (Q : Type 0) → Q → OnOk r Q
 on-ok-both (Ok x) Q q = q

@@ -50,3 +50,8 @@ Joins (Spent node lit seen log) old new = new ≡ old
 Joins (Out j steps) old new = new ≡ old
 Joins (OutApart j input) old new = new ≡ old
 Joins (OutSpent j seen log) old new = new ≡ old
+
+-- patterns joined the pool, if any
+pub record Extends (old new : Patterns) : Type 0 where
+  pub added : List (List Bool)
+  pub is : new.patterns ≡ old.patterns ++ added

@@ -2,19 +2,19 @@ ghost use Rattle.std.specs.Prelude.{◌≡◌, ◌<◌, ◌≤◌, length, Some,
 ghost use Rattle.lemma_book.specs.Book.{IsLegal};
 ghost use Rattle.lemma_book.specs.Good.{IsGood};
 ghost use Rattle.cone_query.specs.Query.{task_of};
-ghost use Rattle.sig_classes.specs.Leader.{AreTasks, IsSwept};
+ghost use Rattle.sig_classes.specs.Leader.{IsSwept};
 ghost use Rattle.check_session.specs.Growth.{Grows, is_of_pair};
-ghost use Rattle.check_session.specs.Rounds.{Fits, MayAsk, AreAsked, HasWholeInput, Joins, Settles};
+ghost use Rattle.check_session.specs.Rounds.{Extends, Fits, MayAsk, AreAsked, HasWholeInput, Joins, Settles};
 
 use crate::outputs::put;
 use circuit_search::{Caps, Search};
 use cone_query::pair;
 use lemma_book::{Book, Entry, Task};
 use netlist::Net;
-use sig_classes::{laws, tasks};
+use sig_classes::{KeptClasses, laws};
 use std::alloc::{AllocError, Global};
 use unit_prop::Refuter;
-use word_sim::{Pool, signatures};
+use word_sim::Pool;
 
 /// Merges nodes that are equal: first those that the structure alone shows to be, then those of which
 /// queries show it.
@@ -39,7 +39,8 @@ pub(crate) fn sweep<R: Refuter + Send>(
 /// candidates left.
 ///
 /// A counterexample joins the pool, so the next round has other candidates; a pair whose budget was
-/// spent is no candidate again. Each round puts an entry into the book at least.
+/// spent is no candidate again. Each round puts an entry into the book at least, and simulates what joined
+/// the pool in the one before.
 fn settle_rounds<R: Refuter + Send>(
     alloc: Global,
     net: &Net,
@@ -54,8 +55,9 @@ fn settle_rounds<R: Refuter + Send>(
     ensures swept { OnOk result (IsSwept net.now book.new.entries) }
 {
     netlist::laws::is_net(net);
+    let mut classes = KeptClasses::new(alloc, net)?;
     for _ in 0..u64::MAX {
-        let due = due(alloc, net, pool, book)?;
+        let due = classes.tasks(alloc, net, pool, book)?;
         let pairs = due.as_slice();
         if pairs.is_empty() {
             laws::reduced_without_tasks();
@@ -66,16 +68,6 @@ fn settle_rounds<R: Refuter + Send>(
         settle_all(alloc, net, pairs, book, pool, search, refuter)?;
     }
     Err(AllocError)
-}
-
-/// The pairs that no pattern of the pool tells apart.
-fn due(alloc: Global, net: &Net, pool: &Pool, book: &Book) -> Result<Vec<Task>, AllocError>
-    requires legal { IsLegal net.now book.now }
-    requires fits { Fits net.now pool.now }
-    ensures { IfOk result (λ v. AreTasks net.now book.now.entries pool.now.patterns v.items) }
-{
-    let sigs = signatures(alloc, net, pool)?;
-    tasks(alloc, net, &sigs, book)
 }
 
 /// Settles the pairs of a round, in order.
@@ -93,6 +85,7 @@ fn settle_all<R: Refuter + Send>(
     requires tasks { AreAsked net.now book.old.entries tasks.now }
     ensures grows { OnOk result (Grows net.now is_of_pair book.old book.new) }
     ensures fits { OnOk result (Fits net.now pool.new) }
+    ensures pool { OnOk result (Extends pool.old pool.new) }
 {
     for task in tasks {
         settle(alloc, net, *task, book, pool, search, refuter)?;
@@ -115,6 +108,7 @@ fn settle<R: Refuter + Send>(
     requires task { MayAsk net.now book.old.entries task }
     ensures settles { OnOk result (Settles net.now task book.old book.new) }
     ensures fits { OnOk result (Fits net.now pool.new) }
+    ensures pool { OnOk result (Extends pool.old pool.new) }
 {
     let entry = entry_on(alloc, net, book, &task, search, refuter)?;
     note_input(net, &entry, search)?;

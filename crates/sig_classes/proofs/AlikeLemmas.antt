@@ -46,10 +46,10 @@ each-element test [] d each = refl
 each-element test (x ∷ xs) d each =
     rw (each 0 (omega arith)) (each-element test xs d (λ k below. each (suc k) (omega arith)))
 
-equal-numbers : (a b : ℕ) → (a == b) ≡ true → a ≡ b
+pub equal-numbers : (a b : ℕ) → (a == b) ≡ true → a ≡ b
 equal-numbers a b e = grind (arith, nat_tests)
 
-same-numbers : (a b : ℕ) → a ≡ b → (a == b) ≡ true
+pub same-numbers : (a b : ℕ) → a ≡ b → (a == b) ≡ true
 same-numbers a b e = grind (arith, nat_tests)
 
 -- alike rows have the same normal words
@@ -71,13 +71,13 @@ pub alike-join : (count : ℕ) (a b c : List ℕ) → alike count a b ≡ true �
 alike-join count a b c one two = words-alike count a c (λ w below. alike-words count a b one w below ∙ alike-words count b c two w below)
 
 -- so they have the same hash
-hash-same : (f g : ℕ → ℕ) (n : ℕ) → ((w : ℕ) → w < n → f w ≡ g w) → hash_of_first f n ≡ hash_of_first g n
+hash-same : (class : ℕ) (f g : ℕ → ℕ) (n : ℕ) → ((w : ℕ) → w < n → f w ≡ g w) → hash_of_first class f n ≡ hash_of_first class g n
 unfolding hash_of_first
-hash-same f g zero same = refl
-hash-same f g (suc n) same = ap₂ mixed (hash-same f g n (λ w below. same w (omega arith))) (same n (omega arith))
+hash-same class f g zero same = refl
+hash-same class f g (suc n) same = ap₂ mixed (hash-same class f g n (λ w below. same w (omega arith))) (same n (omega arith))
 
-pub alike-hash : (count : ℕ) (a b : List ℕ) → alike count a b ≡ true → hash_of count a ≡ hash_of count b
-alike-hash count a b one = hash-same (normal_word count a) (normal_word count b) (words_of count) (alike-words count a b one)
+pub alike-hash : (class count : ℕ) (a b : List ℕ) → alike count a b ≡ true → hash_of class count a ≡ hash_of class count b
+alike-hash class count a b one = hash-same class (normal_word count a) (normal_word count b) (words_of count) (alike-words count a b one)
 
 -- the bits of a mask
 mask-bits : (count w b : ℕ) → b < 64 → is_set (filled_mask count w) b ≡ nat_lt (64 * w + b) count
@@ -162,13 +162,13 @@ module _ (count : ℕ) (f g : ℕ → Bool) (a b : List ℕ) (first : HasBits co
       ∙ sym (normal-bits count g b second w k below within))))
 
 -- one word more
-pub hash-next : (word : ℕ → ℕ) (n : ℕ) → hash_of_first word (n + 1) ≡ mixed (hash_of_first word n) (word n)
+pub hash-next : (class : ℕ) (word : ℕ → ℕ) (n : ℕ) → hash_of_first class word (n + 1) ≡ mixed (hash_of_first class word n) (word n)
 unfolding hash_of_first
-hash-next word n = ap (hash_of_first word) (add-one n)
+hash-next class word n = ap (hash_of_first class word) (add-one n)
 
-pub hash-none : (word : ℕ → ℕ) → hash_of_first word 0 ≡ 0
+pub hash-none : (class : ℕ) (word : ℕ → ℕ) → hash_of_first class word 0 ≡ class
 unfolding hash_of_first
-hash-none word = refl
+hash-none class word = refl
 
 -- a word that differs
 pub word-differs : (count : ℕ) (a b : List ℕ) (w : ℕ) → w < words_of count → normal_word count a w ≢ normal_word count b w

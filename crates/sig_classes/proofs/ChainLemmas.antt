@@ -1,11 +1,12 @@
 -- Chains: empty ones, and one member more.
-use Rattle.std.proofs.Common.{◌≡◌, ◌≢◌, ◌∙◌, ℕ, ◌+◌, ◌-◌, ◌<◌, ◌≤◌, ◌==◌, ◌||◌, ◌⊎◌, Bool, true, false, List, length, slice_index, slice_set, refl, sym, ap, ap₂, subst, arith, inl, inr}
+use Rattle.std.proofs.Common.{◌≡◌, ◌≢◌, ◌∙◌, ℕ, ◌+◌, ◌-◌, ◌<◌, ◌≤◌, ◌==◌, ◌||◌, ◌&&◌, ◌⊎◌, Bool, true, false, List, [], length, slice_index, slice_set, refl, sym, ap, ap₂, subst, arith, inl, inr}
+use Rattle.std.proofs.lemmas.Bool.{and_parts}
 use Rattle.std.proofs.lemmas.Bool.Decides.{nat_tests, eqb_tells}
-use Rattle.std.proofs.lemmas.List.{length-set, get_or-set_same, get_or-set_other}
+use Rattle.std.proofs.lemmas.List.{length-set, get_or_past, get_or-set_same, get_or-set_other}
 use Rattle.word_sim.specs.Rows.{Signatures}
 use Rattle.sig_classes.specs.Alike.{row_of, alike, hash_of, bucket_of}
-use Rattle.sig_classes.specs.Chains.{Chains, AreLinks, AreBefore, IsLink, AreChains, HasMembers, bucket_at, are_alike, with_member}
-use Rattle.sig_classes.proofs.AlikeLemmas.{alike-hash}
+use Rattle.sig_classes.specs.Chains.{Chains, AreLinks, AreBefore, IsLink, AreChains, HasMembers, bucket_at, class_of, are_alike, are_one, with_member}
+use Rattle.sig_classes.proofs.AlikeLemmas.{alike-hash, equal-numbers, same-numbers}
 
 -- chains without members
 pub no-chains : (bucket : ℕ → ℕ) (member : ℕ → Bool) (heads behind : List ℕ) → ((q : ℕ) → member q ≡ false)
@@ -162,12 +163,12 @@ module _ (heads behind : List ℕ) (n b : ℕ) (room : n < length behind) (there
   ]
 
 -- the same by buckets of rows, whose number stays
-pub put-members : (sigs : Signatures) (member : ℕ → Bool) (heads behind : List ℕ) (n b value : ℕ) → n < length behind → b < length heads
-    → b ≡ bucket_at sigs (record { heads = heads; behind = behind }) n → value ≡ slice_index heads b
-    → ((q : ℕ) → member q ≡ true → q < n) → HasMembers sigs member (record { heads = heads; behind = behind })
-    → HasMembers sigs (with_member n member) (record { heads = slice_set heads b (n + 1); behind = slice_set behind n value })
-put-members sigs member heads behind n b value room there is read below chains =
-    let old = λ (m : ℕ) (q : ℕ). bucket_of m (hash_of sigs.patterns (row_of sigs q)) in
+pub put-members : (classes : List ℕ) (sigs : Signatures) (member : ℕ → Bool) (heads behind : List ℕ) (n b value : ℕ) → n < length behind
+    → b < length heads → b ≡ bucket_at classes sigs (record { heads = heads; behind = behind }) n → value ≡ slice_index heads b
+    → ((q : ℕ) → member q ≡ true → q < n) → HasMembers classes sigs member (record { heads = heads; behind = behind })
+    → HasMembers classes sigs (with_member n member) (record { heads = slice_set heads b (n + 1); behind = slice_set behind n value })
+put-members classes sigs member heads behind n b value room there is read below chains =
+    let old = λ (m : ℕ) (q : ℕ). bucket_of m (hash_of (class_of classes q) sigs.patterns (row_of sigs q)) in
     let size : length heads ≡ length (slice_set heads b (n + 1)) = sym (length-set heads b (n + 1)) in
     let inside : old (length heads) n < length heads = omega (arith, is, there) in
     let put : AreChains (old (length heads)) (with_member n member) (slice_set heads (old (length heads) n) (n + 1))
@@ -176,15 +177,12 @@ put-members sigs member heads behind n b value room there is read below chains =
     (subst (λ (v : ℕ). AreChains (old (length heads)) (with_member n member) (slice_set heads b (n + 1)) (slice_set behind n v)) (sym read)
     (subst (λ (k : ℕ). AreChains (old (length heads)) (with_member n member) (slice_set heads k (n + 1)) (slice_set behind n (slice_index heads k))) (sym is) put))
 
--- the link leads into the bucket of a row, and no member whose row is alike stands before it
-abbrev pub IsSearched : Signatures → (ℕ → Bool) → Chains → ℕ → ℕ → Type 0
-IsSearched sigs member t p link = IsLink (bucket_at sigs t) member (bucket_at sigs t p) link
-    × ((q : ℕ) → member q ≡ true → are_alike sigs q p ≡ true → q < link)
-
 -- the bucket of a row, by what it is computed of
-pub bucket-is : (sigs : Signatures) (t : Chains) (p buckets count : ℕ) (row : List ℕ) (b : ℕ) → b ≡ bucket_of buckets (hash_of count row)
-    → buckets ≡ length t.heads → count ≡ sigs.patterns → row ≡ row_of sigs p → b ≡ bucket_at sigs t p
-bucket-is sigs t p buckets count row b is size many same = is ∙ ap₂ bucket_of size (ap₂ hash_of many same)
+pub bucket-is : (classes : List ℕ) (sigs : Signatures) (t : Chains) (p buckets class count : ℕ) (row : List ℕ) (b : ℕ)
+    → b ≡ bucket_of buckets (hash_of class count row) → buckets ≡ length t.heads → class ≡ class_of classes p → count ≡ sigs.patterns
+    → row ≡ row_of sigs p → b ≡ bucket_at classes sigs t p
+bucket-is classes sigs t p buckets class count row b is size own many same =
+    is ∙ ap₂ bucket_of size (ap (λ (c : ℕ). hash_of c count row) own ∙ ap₂ (hash_of (class_of classes p)) many same)
 
 -- whether rows are alike, by what it is computed of
 pub alike-is : (sigs : Signatures) (q p count : ℕ) (a b : List ℕ) (t : Bool) → t ≡ alike count a b → count ≡ sigs.patterns → a ≡ row_of sigs q
@@ -192,34 +190,66 @@ pub alike-is : (sigs : Signatures) (q p count : ℕ) (a b : List ℕ) (t : Bool)
 alike-is sigs q p count a b t is many first second =
     is ∙ ap (λ (n : ℕ). alike n a b) many ∙ ap₂ (alike sigs.patterns) first second
 
--- rows that are alike have one bucket
-alike-bucket : (sigs : Signatures) (t : Chains) (q p : ℕ) → are_alike sigs q p ≡ true → bucket_at sigs t q ≡ bucket_at sigs t p
-alike-bucket sigs t q p one = ap (bucket_of (length t.heads)) (alike-hash sigs.patterns (row_of sigs q) (row_of sigs p) one)
+-- ---- whether two positions are in one class
 
-pub search-init : (sigs : Signatures) (member : ℕ → Bool) (t : Chains) (p v : ℕ) → v ≡ slice_index t.heads (bucket_at sigs t p)
-    → HasMembers sigs member t → IsSearched sigs member t p v
-search-init sigs member t p v read chains = (
-  subst (λ (k : ℕ). IsLink (bucket_at sigs t) member (bucket_at sigs t p) k) (sym read) (chains.head (bucket_at sigs t p)),
-  λ q there one. omega (arith, read, ap (slice_index t.heads) (alike-bucket sigs t q p one), chains.from_head q there),
+pub one-parts : (classes : List ℕ) (sigs : Signatures) (q p : ℕ) → are_one classes sigs q p ≡ true
+    → (class_of classes q ≡ class_of classes p) × (are_alike sigs q p ≡ true)
+one-parts classes sigs q p one =
+    let parts = and_parts (class_of classes q == class_of classes p) (are_alike sigs q p) one in
+    (equal-numbers _ _ parts.0, parts.1)
+
+pub one-from : (classes : List ℕ) (sigs : Signatures) (q p : ℕ) → class_of classes q ≡ class_of classes p → are_alike sigs q p ≡ true
+    → are_one classes sigs q p ≡ true
+one-from classes sigs q p own alike =
+    ap₂ ◌&&◌ (same-numbers (class_of classes q) (class_of classes p) own) alike
+
+-- without classes rows decide alone
+pub one-none : (sigs : Signatures) (q p : ℕ) → are_one [] sigs q p ≡ are_alike sigs q p
+one-none sigs q p =
+    let left : class_of [] q ≡ 0 = get_or_past [] q 0 (omega arith) in
+    let right : class_of [] p ≡ 0 = get_or_past [] p 0 (omega arith) in
+    ap (λ (t : Bool). t && are_alike sigs q p) (same-numbers (class_of [] q) (class_of [] p) (left ∙ sym right))
+
+-- ---- a search
+
+-- the link leads into the bucket of a row, and no member of its class stands before it
+abbrev pub IsSearched : List ℕ → Signatures → (ℕ → Bool) → Chains → ℕ → ℕ → Type 0
+IsSearched classes sigs member t p link = IsLink (bucket_at classes sigs t) member (bucket_at classes sigs t p) link
+    × ((q : ℕ) → member q ≡ true → are_one classes sigs q p ≡ true → q < link)
+
+-- positions in one class have one bucket
+one-bucket : (classes : List ℕ) (sigs : Signatures) (t : Chains) (q p : ℕ) → are_one classes sigs q p ≡ true
+    → bucket_at classes sigs t q ≡ bucket_at classes sigs t p
+one-bucket classes sigs t q p one =
+    let parts = one-parts classes sigs q p one in
+    ap (bucket_of (length t.heads)) (ap (λ (c : ℕ). hash_of c sigs.patterns (row_of sigs q)) parts.0
+    ∙ alike-hash (class_of classes p) sigs.patterns (row_of sigs q) (row_of sigs p) parts.1)
+
+pub search-init : (classes : List ℕ) (sigs : Signatures) (member : ℕ → Bool) (t : Chains) (p v : ℕ)
+    → v ≡ slice_index t.heads (bucket_at classes sigs t p) → HasMembers classes sigs member t → IsSearched classes sigs member t p v
+search-init classes sigs member t p v read chains = (
+  subst (λ (k : ℕ). IsLink (bucket_at classes sigs t) member (bucket_at classes sigs t p) k) (sym read) (chains.head (bucket_at classes sigs t p)),
+  λ q there one. omega (arith, read, ap (slice_index t.heads) (one-bucket classes sigs t q p one), chains.from_head q there),
 )
 
-pub search-next : (sigs : Signatures) (member : ℕ → Bool) (t : Chains) (p link v : ℕ) → 0 < link → are_alike sigs (link - 1) p ≡ false
-    → v ≡ slice_index t.behind (link - 1) → HasMembers sigs member t → IsSearched sigs member t p link → IsSearched sigs member t p v
-search-next sigs member t p link v some other read chains searched =
+pub search-next : (classes : List ℕ) (sigs : Signatures) (member : ℕ → Bool) (t : Chains) (p link v : ℕ) → 0 < link
+    → are_one classes sigs (link - 1) p ≡ false → v ≡ slice_index t.behind (link - 1) → HasMembers classes sigs member t
+    → IsSearched classes sigs member t p link → IsSearched classes sigs member t p v
+search-next classes sigs member t p link v some other read chains searched =
     let here : member (link - 1) ≡ true = searched.0.is_member some in
-    let bucket : bucket_at sigs t (link - 1) ≡ bucket_at sigs t p = searched.0.in_bucket some in (
-      subst (λ (h : ℕ). IsLink (bucket_at sigs t) member h v) bucket
-          (subst (λ (k : ℕ). IsLink (bucket_at sigs t) member (bucket_at sigs t (link - 1)) k) (sym read) (chains.next (link - 1) here)),
+    let bucket : bucket_at classes sigs t (link - 1) ≡ bucket_at classes sigs t p = searched.0.in_bucket some in (
+      subst (λ (h : ℕ). IsLink (bucket_at classes sigs t) member h v) bucket
+          (subst (λ (k : ℕ). IsLink (bucket_at classes sigs t) member (bucket_at classes sigs t (link - 1)) k) (sym read) (chains.next (link - 1) here)),
       λ q there one.
-          let apart : q ≢ link - 1 = λ e. let f : true ≡ false = sym one ∙ ap (λ (k : ℕ). are_alike sigs k p) e ∙ other in cc in
+          let apart : q ≢ link - 1 = λ e. let f : true ≡ false = sym one ∙ ap (λ (k : ℕ). are_one classes sigs k p) e ∙ other in cc in
           let before : q < link - 1 = omega (arith, searched.1 q there one, apart) in
-          omega (arith, read, chains.from_next (link - 1) q here there (bucket ∙ sym (alike-bucket sigs t q p one)) before),
+          omega (arith, read, chains.from_next (link - 1) q here there (bucket ∙ sym (one-bucket classes sigs t q p one)) before),
     )
 
-pub search-end : (sigs : Signatures) (member : ℕ → Bool) (t : Chains) (p : ℕ) → IsSearched sigs member t p 0 → (q : ℕ) → member q ≡ true
-    → are_alike sigs q p ≡ false
-search-end sigs member t p searched q there = go (are_alike sigs q p) refl
+pub search-end : (classes : List ℕ) (sigs : Signatures) (member : ℕ → Bool) (t : Chains) (p : ℕ) → IsSearched classes sigs member t p 0
+    → (q : ℕ) → member q ≡ true → are_one classes sigs q p ≡ false
+search-end classes sigs member t p searched q there = go (are_one classes sigs q p) refl
   where
-    go : (b : Bool) → are_alike sigs q p ≡ b → b ≡ false
+    go : (b : Bool) → are_one classes sigs q p ≡ b → b ≡ false
     go true e = absurd (omega (arith, searched.1 q there e))
     go false e = refl

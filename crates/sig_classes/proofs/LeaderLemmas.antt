@@ -15,6 +15,7 @@ use Rattle.sig_classes.specs.Leader.{IsAlike, IsCandidate, IsLeader}
 use Rattle.sig_classes.specs.Alike.{row_of, first_bit}
 use Rattle.sig_classes.specs.Chains.{are_alike}
 use Rattle.sig_classes.specs.Pass.{root_at, lit_between}
+use Rattle.sig_classes.specs.Kept.{AreSame}
 use Rattle.sig_classes.proofs.AlikeLemmas.{first-value, alike-values, values-alike}
 
 -- what holds of each element, by its place
@@ -112,10 +113,23 @@ module _ (net : AigPair) (is : IsNet net) (entries : List Entry) (patterns : Lis
       (λ k less. turned-left (first_bit (row q)) (first_bit (row p)) (value q k) (value p k)
       (alike-values sigs.patterns (value q) (value p) (row q) (row p) (bits q there) (bits p below) one k (omega (arith, are.size, less))))
 
-  first-bit : (p : ℕ) → p < length (nodes_of net) → first_bit (row p) ≡ value p 0
+  pub first-bit : (p : ℕ) → p < length (nodes_of net) → first_bit (row p) ≡ value p 0
   first-bit p below =
       let some : nat_lt 0 sigs.patterns ≡ true = let l : 0 < sigs.patterns = omega (arith, are.size, are.some) in grind (arith, nat_tests, l) in
       first-value sigs.patterns (value p) (row p) (bits p below) ∙ rw some refl
+
+  -- positions with rows alike have values that no pattern tells apart, and the other way round
+  pub alike-same : (p q : ℕ) → p < length (nodes_of net) → q < length (nodes_of net) → are_alike sigs q p ≡ true → AreSame net patterns q p
+  alike-same p q below there one k less =
+      sym (ap (λ (b : Bool). turned b (value q k)) (first-bit q there))
+      ∙ alike-values sigs.patterns (value q) (value p) (row q) (row p) (bits q there) (bits p below) one k (omega (arith, are.size, less))
+      ∙ ap (λ (b : Bool). turned b (value p k)) (first-bit p below)
+
+  pub same-alike : (p q : ℕ) → p < length (nodes_of net) → q < length (nodes_of net) → AreSame net patterns q p → are_alike sigs q p ≡ true
+  same-alike p q below there same =
+      values-alike sigs.patterns (value q) (value p) (row q) (row p) (bits q there) (bits p below) (λ k less.
+      ap (λ (b : Bool). turned b (value q k)) (first-bit q there) ∙ same k (omega (arith, are.size, less))
+      ∙ sym (ap (λ (b : Bool). turned b (value p k)) (first-bit p below)))
 
   -- and the other way round: a literal with the node's value on each pattern
   pub literal-alike : (p q : ℕ) (neg : Bool) → p < length (nodes_of net) → q < length (nodes_of net)

@@ -5,3 +5,5 @@ mod LeaderLemmas
 mod TaskLemmas
 mod SweptLemmas
 mod RootLemmas
+mod KeptLemmas
+mod LeastLemmas

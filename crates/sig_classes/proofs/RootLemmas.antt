@@ -1,5 +1,5 @@
 -- The row of a node is alike to that of its root in a legal book.
-use Rattle.std.proofs.Common.{◌≡◌, ◌∙◌, ℕ, ◌<◌, ◌&&◌, Bool, true, false, Some, List, length, sym, ap, subst}
+use Rattle.std.proofs.Common.{◌≡◌, ◌∙◌, ℕ, ◌<◌, ◌≤◌, ◌&&◌, Bool, true, false, Some, List, length, sym, ap, subst}
 use Rattle.std.specs.List.{AllByRecursion}
 use Rattle.lits.specs.declared.node.Node.{Node}
 use Rattle.lits.specs.declared.literal.Lit.{Lit}
@@ -20,7 +20,7 @@ use Rattle.sig_classes.proofs.SweptLemmas.{value-alike}
 pub root-alike : (net : AigPair) → IsNet net → (book : Entries) → IsLegal net book → (patterns : List (List Bool)) (sigs : Signatures)
     → AreSignatures net patterns sigs → AllByRecursion (λ bits. length bits ≡ length net.a.inputs) patterns
     → ((l : Lit) → HaveOneValue net l (root_of book.entries l)) → (node : Node) (p : ℕ) → position_of net node ≡ Some p
-    → (q : ℕ) × (q < length (nodes_of net)) × (root_at net book.entries q ≡ true) × (are_alike sigs q p ≡ true)
+    → (q : ℕ) × (q < length (nodes_of net)) × (root_at net book.entries q ≡ true) × (are_alike sigs q p ≡ true) × (q ≤ p)
 root-alike net is book legal patterns sigs are whole keeps node p place =
     let root = root_of book.entries (record { node = node; neg = false }) in
     let low = root-lower net book legal (record { node = node; neg = false }) p place in
@@ -34,4 +34,5 @@ root-alike net is book legal patterns sigs are whole keeps node p place =
       place-inside net root.node low.0 low.1,
       is-root book.entries (node_at net low.0) (subst (IsRoot book.entries) (sym here) (root-unmerged net book legal (record { node = node; neg = false }))),
       (literal-alike net is book.entries patterns sigs are p low.0 root.neg (place-inside net node p place) (place-inside net root.node low.0 low.1) same).0,
+      low.2,
     )

@@ -16,8 +16,9 @@ use Rattle.lemma_book.specs.Entry.{has_spent}
 use Rattle.lemma_book.specs.Root.{merge_of}
 use Rattle.lemma_book.specs.Good.{IsEarlier}
 use Rattle.sig_classes.specs.Leader.{IsLeader, IsDue, AreRising, IsIn, AreTasks}
-use Rattle.sig_classes.specs.Chains.{are_alike, is_first}
+use Rattle.sig_classes.specs.Chains.{are_one, are_alike, is_first}
 use Rattle.sig_classes.specs.Pass.{root_at, is_gate, lit_between, task_at, IsNext, IsNextTask}
+use Rattle.sig_classes.proofs.ChainLemmas.{one-none}
 use Rattle.sig_classes.proofs.FirstLemmas.{first-parts, first-least, none-alike}
 use Rattle.sig_classes.proofs.LeaderLemmas.{is-root, root-is, place-of, place-inside, earlier-is, is-earlier, candidate-at, leader-at, leader-is}
 
@@ -39,23 +40,26 @@ module _ (net : AigPair) (is : IsNet net) (entries : List Entry) (patterns : Lis
 
   module _ (sigs : Signatures) (are : AreSignatures net patterns sigs) where
     -- nor of one that no earlier root is alike to
-    pub next-lone : ((q : ℕ) → is_first sigs (root_at net entries) p q ≡ true → are_alike sigs q p ≡ false) → IsNextTask net entries patterns p None
+    pub next-lone : ((q : ℕ) → is_first [] sigs (root_at net entries) p q ≡ true → are_one [] sigs q p ≡ false) → IsNextTask net entries patterns p None
     next-lone none t same due =
         let earlier = is-earlier net t.node t.lit p (ap (position_of net) same ∙ position-node net is p below) due.earlier in
         let candidate = subst (λ (n : Node). IsLeader net entries patterns n t.lit) same due.leader in
         let c = candidate-at net is entries patterns sigs are p t.lit below candidate.candidate earlier.0 earlier.1 in
-        let f : true ≡ false = sym c.1 ∙ none-alike sigs (root_at net entries) p p none earlier.0 earlier.2 c.0 in cc
+        let f : true ≡ false = sym c.1 ∙ sym (one-none sigs earlier.0 p) ∙ none-alike [] sigs (root_at net entries) p p none earlier.0 earlier.2 c.0 in cc
 
-    module _ (q : ℕ) (first : is_first sigs (root_at net entries) p q ≡ true) (one : are_alike sigs q p ≡ true)
+    module _ (q : ℕ) (first : is_first [] sigs (root_at net entries) p q ≡ true) (both : are_one [] sigs q p ≡ true)
         (root : root_at net entries p ≡ true) where
       parts : (q < p) × (root_at net entries q ≡ true)
-      parts = let r = first-parts sigs (root_at net entries) p q first in (r.0, r.1)
+      parts = let r = first-parts [] sigs (root_at net entries) p q first in (r.0, r.1)
+
+      one : are_alike sigs q p ≡ true
+      one = sym (one-none sigs q p) ∙ both
 
       there : q < length (nodes_of net)
       there = omega (arith, parts.0, below)
 
       least : (r : ℕ) → r < q → root_at net entries r ≡ true → are_alike sigs r p ≡ false
-      least = first-least sigs (root_at net entries) p q p first one
+      least r below is_root = sym (one-none sigs r p) ∙ first-least [] sigs (root_at net entries) p q p first both r below is_root
 
       leads : IsLeader net entries patterns (node_at net p) (lit_between net sigs q p)
       leads = leader-at net is entries patterns sigs are p q below there parts.1 one least

@@ -28,14 +28,14 @@ unfoldable pub mixed : ℕ → ℕ → ℕ
 mixed hash word =
     bit_xor (bit_xor hash word * 11400714819323198485 % 2 ^ 64) ((bit_xor hash word * 11400714819323198485 % 2 ^ 64) / 2 ^ 32)
 
--- the hash of the first n words
-unfoldable pub hash_of_first : (ℕ → ℕ) → ℕ → ℕ
-hash_of_first word zero = 0
-hash_of_first word (suc n) = mixed (hash_of_first word n) (word n)
+-- the hash of a class and the first n words
+unfoldable pub hash_of_first : ℕ → (ℕ → ℕ) → ℕ → ℕ
+hash_of_first class word zero = class
+hash_of_first class word (suc n) = mixed (hash_of_first class word n) (word n)
 
--- the hash of a row's normal form
-abbrev pub hash_of : ℕ → List ℕ → ℕ
-hash_of count row = hash_of_first (normal_word count row) (words_of count)
+-- the hash of a class and a row's normal form
+abbrev pub hash_of : ℕ → ℕ → List ℕ → ℕ
+hash_of class count row = hash_of_first class (normal_word count row) (words_of count)
 
 -- the bucket of a hash among so many, by its upper half
 abbrev pub bucket_of : ℕ → ℕ → ℕ

@@ -1,5 +1,5 @@
 -- What the pass over all positions finds at each of them.
-use Rattle.std.specs.Prelude.{◌≡◌, ℕ, Bool, true, false, not, ◌&&◌, Option, None, Some, List, MatchOption, if◌then◌else◌}
+use Rattle.std.specs.Prelude.{◌≡◌, ℕ, Bool, true, false, not, ◌&&◌, Option, None, Some, List, [], MatchOption, if◌then◌else◌}
 use Rattle.std.specs.Option.{is_some}
 use Rattle.lits.specs.declared.node.Node.{Node}
 use Rattle.lits.specs.declared.node.Node.TheVariants.{Const, Input, Gate, Xor}
@@ -37,7 +37,7 @@ task_at net entries sigs q p =
 
 -- the chains have the first members of the classes of all roots before the position
 abbrev pub HasFirsts : AigPair → List Entry → Signatures → ℕ → Chains → Type 0
-HasFirsts net entries sigs n t = HasMembers sigs (is_first sigs (root_at net entries) n) t
+HasFirsts net entries sigs n t = HasMembers [] sigs (is_first [] sigs (root_at net entries) n) t
 
 -- the one task that is due of the node at the position
 pub record IsNext (net : AigPair) (entries : List Entry) (patterns : List (List Bool)) (p : ℕ) (t : Task) : Type 0 where

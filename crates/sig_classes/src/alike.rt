@@ -66,26 +66,26 @@ fn mixed(hash: u64, word: u64) -> u64
     product ^ (product >> 32)
 }
 
-/// A hash of the row's normal form: alike rows have the same.
-fn hash(row: &[u64], count: u64) -> u64
+/// A hash of a class and the row's normal form: alike rows of one class have the same.
+fn hash(class: u32, row: &[u64], count: u64) -> u64
     requires { length row.now ≡ words_of count }
-    ensures { result ≡ hash_of count row.now }
+    ensures { result ≡ hash_of class count row.now }
 {
     let turn = turn_of(row);
-    let mut hash = 0;
+    let mut hash = u64::from(class);
     for w in 0..row.len() {
         hash = mixed(hash, normal_word(row, turn, w, count));
     }
     hash
 }
 
-/// The bucket of a row's hash among so many.
-pub fn bucket(row: &[u64], count: u64, buckets: u32) -> usize
+/// The bucket of a class and a row among so many.
+pub fn bucket(class: u32, row: &[u64], count: u64, buckets: u32) -> usize
     requires size { length row.now ≡ words_of count }
     requires some { 0 < buckets }
-    ensures bucket { result ≡ bucket_of buckets (hash_of count row.now) }
+    ensures bucket { result ≡ bucket_of buckets (hash_of class count row.now) }
     ensures inside { result < buckets }
 {
-    let upper = hash(row, count) >> 32;
+    let upper = hash(class, row, count) >> 32;
     (upper * u64::from(buckets) >> 32) as usize
 }

@@ -53,10 +53,10 @@ fn enter(net: &Net, sigs: &Sigs, book: &Book, firsts: &mut Firsts, position: u32
     if book.is_merged(net.node(position)) {
         return None;
     }
-    match firsts.find(sigs, position) {
+    match firsts.find(&[], sigs, position) {
         Some(first) => open_task(net, sigs, book, first, position),
         None => {
-            firsts.put(sigs, position);
+            firsts.put(&[], sigs, position);
             None
         }
     }
@@ -64,7 +64,7 @@ fn enter(net: &Net, sigs: &Sigs, book: &Book, firsts: &mut Firsts, position: u32
 
 /// The task of a node and its leader, by their positions; none where the node is no gate or the query
 /// spent its budget.
-fn open_task(net: &Net, sigs: &Sigs, book: &Book, leader: u32, position: u32) -> Option<Task>
+pub fn open_task(net: &Net, sigs: &Sigs, book: &Book, leader: u32, position: u32) -> Option<Task>
     requires sigs { length sigs.now.rows ≡ length (nodes_of net.now) }
     requires leader { leader < length (nodes_of net.now) }
     requires position { position < length (nodes_of net.now) }

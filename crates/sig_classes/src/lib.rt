@@ -6,16 +6,21 @@
 //! query spent its budget. Where there is none the book is reduced over the patterns, and so it is
 //! swept (`laws`).
 //!
-//! Definitions: `specs/Leader.antt` (leader, tasks, reduced, swept); `specs/Alike.antt`,
+//! `KeptClasses` gives the same tasks while patterns join a pool, and simulates only those that are new: its
+//! classes are kept, and break up by the new rows.
+//!
+//! Definitions: `specs/Leader.antt` (leader, tasks, reduced, swept), `specs/Kept.antt` (classes that are kept); `specs/Alike.antt`,
 //! `specs/Chains.antt` and `specs/Pass.antt` say how classes are found, in one pass, by a hash of the
 //! rows up to complement. Begin to read at `classes.rt`.
 #![tactic(auto)]
 
 pub use classes::tasks;
 pub use first::leader;
+pub use kept::KeptClasses;
 
 mod alike;
 mod chains;
 mod classes;
 mod first;
+mod kept;
 pub mod laws;

@@ -1,5 +1,7 @@
 pub mod Facts
 mod DrawLemmas
 mod PoolLemmas
+mod PartLemmas
+mod SomeRows
 mod BitLemmas
 mod RowLemmas

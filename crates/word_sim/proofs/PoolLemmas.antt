@@ -161,10 +161,10 @@ setting-next from input place old n now new s size others one = record {
 }
 
 -- what the patterns of drawn words are
-abbrev drawn-pattern : ℕ → ℕ → List ℕ → ℕ → List Bool
+abbrev pub drawn-pattern : ℕ → ℕ → List ℕ → ℕ → List Bool
 drawn-pattern inputs words drawn p = map (λ i. is_set (slice_index_or drawn (i * words + p / 64) 0) (p % 64)) (range_with_len 0 inputs)
 
-abbrev added-pattern : ℕ → List ℕ → ℕ → List Bool
+abbrev pub added-pattern : ℕ → List ℕ → ℕ → List Bool
 added-pattern inputs added p = map (λ i. is_set (slice_index_or added (p / 64 * inputs + i) 0) (p % 64)) (range_with_len 0 inputs)
 
 module _ (inputs words : ℕ) (drawn : List ℕ) (count : ℕ) (added : List ℕ) (input : ℕ) (there : input < inputs) where

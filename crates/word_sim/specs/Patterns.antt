@@ -1,5 +1,5 @@
 -- What a pool holds: patterns, each a truth value per input; and which ones a seed draws.
-use Rattle.std.specs.Prelude.{ℕ, zero, suc, ◌+◌, ◌*◌, ◌/◌, ◌%◌, ◌==◌, Bool, false, List, [], map}
+use Rattle.std.specs.Prelude.{ℕ, zero, suc, ◌+◌, ◌*◌, ◌/◌, ◌%◌, ◌==◌, ◌++◌, Bool, false, List, [], map, take, drop}
 use Rattle.std.specs.List.{range_with_len, slice_index_or}
 use Rattle.std.specs.Int.{bit_at}
 use Rattle.rand_core.specs.Pcg32Seed.{pcg32_seed}
@@ -47,3 +47,7 @@ seeded seed words inputs = record {
   inputs = inputs;
   patterns = map (seeded_pattern seed words inputs) (range_with_len 0 (64 * words));
 }
+
+-- the first 64 patterns, and behind them those from the word on that follows so many patterns
+abbrev pub part_from : ℕ → List (List Bool) → List (List Bool)
+part_from seen patterns = take 64 patterns ++ drop (64 * (seen / 64)) patterns

@@ -1,8 +1,8 @@
 -- How a pool keeps its patterns in words.
-use Rattle.std.specs.Prelude.{◌≡◌, ◌==◌, ℕ, ◌+◌, ◌*◌, ◌/◌, ◌%◌, ◌^◌, ◌<◌, ◌≤◌, Bool, false, List, length, map, bit_or, if◌then◌else◌}
+use Rattle.std.specs.Prelude.{◌≡◌, ◌==◌, ℕ, ◌+◌, ◌*◌, ◌/◌, ◌%◌, ◌^◌, ◌<◌, ◌≤◌, ◌&&◌, nat_lt, ◌++◌, Bool, false, List, length, map, bit_or, if◌then◌else◌}
 use Rattle.std.specs.List.{range_with_len, slice_index_or}
 use Rattle.std.specs.Int.{bit_at}
-use Rattle.word_sim.specs.Patterns.{is_set}
+use Rattle.word_sim.specs.Patterns.{Patterns, is_set, truth_of}
 
 -- input by input, each with all its words
 abbrev pub drawn_patterns : ℕ → ℕ → List ℕ → List (List Bool)
@@ -36,3 +36,20 @@ pub record AreSet (from : ℕ) (input : List Bool) (place : ℕ) (old new : List
 pub record HasRoom (inputs place : ℕ) (old new : List ℕ) : Type 0 where
   pub count : length new ≡ length old + (if place == 0 then inputs else 0)
   pub same : (k : ℕ) → slice_index_or new k 0 ≡ slice_index_or old k 0
+
+-- the bit is that of input i on pattern p, and 0 behind the last pattern
+abbrev pub bit_of : Patterns → ℕ → ℕ → Bool
+bit_of pool i p = nat_lt p (length pool.patterns) && truth_of pool.patterns i p
+
+-- the words of the first so many inputs are put last
+pub record IsBlock (pool : Patterns) (word count : ℕ) (old new : List ℕ) : Type 0 where
+  pub added : List ℕ
+  pub is : new ≡ old ++ added
+  pub size : length added ≡ count
+  pub bits : (i b : ℕ) → i < count → b < 64 → is_set (slice_index_or added i 0) b ≡ bit_of pool i (64 * word + b)
+
+-- so many words from one on, each for all inputs
+pub record AreBlocks (pool : Patterns) (from count : ℕ) (words : List ℕ) : Type 0 where
+  pub size : length words ≡ count * pool.inputs
+  pub bits : (w i b : ℕ) → w < count → i < pool.inputs → b < 64
+      → is_set (slice_index_or words (w * pool.inputs + i) 0) b ≡ bit_of pool i (64 * (from + w) + b)

@@ -1,7 +1,7 @@
 ghost use Rattle.std.specs.Prelude.{◌≡◌, ◌≤◌, ◌<◌, ◌∷◌, ◌++◌, ◌+◌, ◌*◌, ◌&&◌, nat_lt, ℕ, [], length, IfOk, OnOk, OnErr};
-ghost use Rattle.word_sim.specs.Patterns.{is_set, truth_of, words_of};
+ghost use Rattle.word_sim.specs.Patterns.{is_set, part_from, truth_of, words_of};
 ghost use Rattle.word_sim.specs.Patterns.{seeded as seeded_pool};
-ghost use Rattle.word_sim.specs.Storage.{AreSet, HasRoom};
+ghost use Rattle.word_sim.specs.Storage.{AreBlocks, AreSet, HasRoom, IsBlock};
 
 use crate::draws::draws;
 use std::alloc::{AllocError, Global};
@@ -90,6 +90,48 @@ impl Pool {
             let block = (word - self.drawn_words) as usize;
             self.added[block * self.inputs as usize + input as usize]
         }
+    }
+
+    /// The first 64 patterns, and those from the word on that follows so many: what there is to simulate
+    /// where these were simulated before. The first tell which rows are turned, as they did then.
+    pub fn part(&self, alloc: Global, seen: u64) -> Result<Pool, AllocError>
+        requires { seen ≤ length self.now.patterns }
+        ensures { IfOk result (λ p. p ≡ record { inputs = self.now.inputs; patterns = part_from seen self.now.patterns }) }
+    {
+        let count = self.patterns() - seen / 64 * 64;
+        let (Ok(from), Ok(added_count)) = (u32::try_from(seen / 64), u32::try_from(count)) else {
+            return Err(AllocError);
+        };
+        Ok(Pool {
+            inputs: self.inputs,
+            drawn_words: 1,
+            drawn: self.blocks(alloc, 0, 1)?,
+            added_count,
+            added: self.blocks(alloc, from, self.words() - from)?,
+        })
+    }
+
+    /// So many words from one on, each for all inputs.
+    fn blocks(&self, alloc: Global, from: u32, count: u32) -> Result<Vec<u64>, AllocError>
+        requires { from + count ≤ words_of (length self.now.patterns) }
+        ensures { IfOk result (λ v. AreBlocks self.now from count v.items) }
+    {
+        let mut words = Vec::with_capacity(alloc, self.inputs as usize * count as usize)?;
+        for place in 0..count {
+            self.put_block(from + place, &mut words)?;
+        }
+        Ok(words)
+    }
+
+    /// Puts a word of each input last.
+    fn put_block(&self, word: u32, words: &mut Vec<u64>) -> Result<(), AllocError>
+        requires { word < words_of (length self.now.patterns) }
+        ensures { OnOk result (IsBlock self.now word self.now.inputs words.old.items words.new.items) }
+    {
+        for input in 0..self.inputs() {
+            words.push(self.word(input, word))?;
+        }
+        Ok(())
     }
 
     /// Puts a pattern last. Where memory is refused the pool stays as it is.

@@ -1,5 +1,5 @@
 use Rattle.std.proofs.Common.{◌≡◌}
-use Rattle.check_session.proofs.RoundLemmas.{settles-put, whole-input, fits-more, on-ok-both}
+use Rattle.check_session.proofs.RoundLemmas.{settles-put, whole-input, extends-more, fits-more, on-ok-both}
 use Rattle.check_session.proofs.rounds.settle.Goals as goal
 
 pub keep_input-requires : goal.keep_input-requires
@@ -15,3 +15,7 @@ pub returns-clause-fits : goal.returns-clause-fits
 returns-clause-fits g c =
     on-ok-both c.put.result _ (fits-more c.args.net.now c.args.book.now c.in_ok-entry.entry c.args.pool.now c.keep_input.new.pool
     c.in_ok-entry.ensures.good c.requires.fits c.in_ok-keep_input.ensures)
+
+pub returns-clause-pool : goal.returns-clause-pool
+returns-clause-pool g c =
+    on-ok-both c.put.result _ (extends-more c.in_ok-entry.entry c.args.pool.now c.keep_input.new.pool c.in_ok-keep_input.ensures)

@@ -1,0 +1,314 @@
+-- Classes that are kept: what rows of new patterns part them into, and the tasks that they give.
+use Rattle.std.proofs.Common.{◌≡◌, ◌∙◌, ℕ, ◌+◌, ◌*◌, ◌-◌, ◌/◌, ◌<◌, ◌≤◌, ◌&&◌, ◌⊎◌, nat_lt, Bool, true, false, not, Option, None, Some, List, [], ◌++◌, length, take, drop, refl, sym, ap, ap₂, subst, arith, inl, inr, length-append, length-drop, length-take, Result, Ok, Err, IfOk, if◌then◌else◌}
+use Rattle.std.specs.List.{AllByRecursion, slice_index_or}
+use Rattle.std.proofs.lemmas.Bool.{cases_lt}
+use Rattle.std.proofs.lemmas.Bool.Decides.{nat_tests}
+use Rattle.std.proofs.lemmas.List.{get_or_append_left, get_or-append_right, get_or-append-add, get_or-drop, get_or-take}
+use Rattle.std.proofs.Math.Seq.{take-length}
+use Rattle.lits.specs.declared.literal.Lit.{Lit}
+use Rattle.netlist.specs.Net.{AigPair, IsNet, nodes_of, node_at, value_of, differs}
+use Rattle.netlist.proofs.Facts.{position-node}
+use Rattle.word_sim.specs.Patterns.{Patterns, part_from}
+use Rattle.word_sim.specs.Rows.{Signatures, AreSignatures, turned}
+use Rattle.word_sim.proofs.Facts.{some-signatures}
+use Rattle.lemma_book.specs.declared.entry.Entry.{Entry}
+use Rattle.lemma_book.specs.declared.entry.Task.{Task}
+use Rattle.lemma_book.specs.Entry.{Entries, has_spent}
+use Rattle.lemma_book.specs.Root.{root_of}
+use Rattle.lemma_book.specs.Book.{IsLegal}
+use Rattle.lemma_book.specs.Agreement.{HaveOneValue}
+use Rattle.sig_classes.specs.Chains.{are_one, class_of, is_first}
+use Rattle.sig_classes.specs.Pass.{root_at, is_gate, lit_between, task_at, IsNextTask}
+use Rattle.sig_classes.specs.Kept.{AreSame, IsLeastSame, AreClasses, Kept, AreKept, AreLeast, HaveSigns, led_at}
+use Rattle.sig_classes.proofs.ChainLemmas.{one-parts, one-from, one-none}
+use Rattle.sig_classes.proofs.FirstLemmas.{first-parts, first-from}
+use Rattle.sig_classes.proofs.LeaderLemmas.{first-bit, alike-same, same-alike}
+use Rattle.sig_classes.proofs.RootLemmas.{root-alike}
+use Rattle.sig_classes.proofs.TaskLemmas.{next-merged, next-lone, next-found}
+
+-- a test that isn't true is false
+fails : (t : Bool) → (t ≡ true → ⊥) → t ≡ false
+fails true none = absurd (none refl)
+fails false none = refl
+
+-- ---- positions that no pattern tells apart
+
+same-swap : (net : AigPair) (patterns : List (List Bool)) (q p : ℕ) → AreSame net patterns q p → AreSame net patterns p q
+same-swap net patterns q p same k less = sym (same k less)
+
+same-join : (net : AigPair) (patterns : List (List Bool)) (r q p : ℕ) → AreSame net patterns r q → AreSame net patterns q p → AreSame net patterns r p
+same-join net patterns r q p one two k less = one k less ∙ two k less
+
+-- the same on one pattern
+abbrev SameAt : AigPair → ℕ → ℕ → List Bool → List Bool → Type 0
+SameAt net q p first bits = turned (value_of net first (node_at net q)) (value_of net bits (node_at net q))
+    ≡ turned (value_of net first (node_at net p)) (value_of net bits (node_at net p))
+
+abbrev pattern-at : List (List Bool) → ℕ → List Bool
+pattern-at patterns k = slice_index_or patterns k []
+
+-- the same on a pattern that stands among other patterns too, with the same first one
+same-moved : (net : AigPair) (q p : ℕ) (from to : List (List Bool)) (j k : ℕ) → pattern-at from 0 ≡ pattern-at to 0
+    → pattern-at from j ≡ pattern-at to k → SameAt net q p (pattern-at from 0) (pattern-at from j)
+    → SameAt net q p (pattern-at to 0) (pattern-at to k)
+same-moved net q p from to j k first here same =
+    subst (λ (bits : List Bool). SameAt net q p (pattern-at to 0) bits) here
+    (subst (λ (bits : List Bool). SameAt net q p bits (pattern-at from j)) first same)
+
+-- ---- the patterns of a part
+
+module _ (patterns : List (List Bool)) (seen : ℕ) (some : 1 ≤ length patterns) where
+  abbrev part : List (List Bool)
+  part = part_from seen patterns
+
+  abbrev behind : ℕ
+  behind = 64 * (seen / 64)
+
+  part-length : length part ≡ length (take 64 patterns) + (length patterns - behind)
+  part-length = length-append (take 64 patterns) (drop behind patterns) ∙ ap (λ (n : ℕ). length (take 64 patterns) + n) (length-drop behind patterns)
+
+  -- the first patterns stand where they stood
+  part-early : (k : ℕ) → k < 64 → k < length patterns → (k < length part) × (pattern-at part k ≡ pattern-at patterns k)
+  part-early k early below =
+      let inside : k < length (take 64 patterns) = omega (arith, length-take 64 patterns, early, below) in (
+        omega (arith, inside, part-length),
+        get_or_append_left (take 64 patterns) (drop behind patterns) [] k inside ∙ get_or-take 64 patterns k [] early,
+      )
+
+  part-first : pattern-at part 0 ≡ pattern-at patterns 0
+  part-first = (part-early 0 (omega arith) (omega (arith, some))).1
+
+  -- a pattern of the pool in the part, if it stands behind or is among the first
+  part-has : (k : ℕ) → k < length patterns → behind ≤ k → (j : ℕ) × (j < length part) × (pattern-at part j ≡ pattern-at patterns k)
+  part-has k below late = elim (cases_lt k 64) [
+    | inl early ↦ let here = part-early k early below in (k, here.0, here.1)
+    | inr past ↦
+        let full : length (take 64 patterns) ≡ 64 = omega (arith, length-take 64 patterns, past, below) in
+        let place : behind + (k - behind) ≡ k = omega (arith, late) in (
+          64 + (k - behind),
+          omega (arith, part-length, full, late, below),
+          ap (λ (n : ℕ). pattern-at part (n + (k - behind))) (sym full)
+              ∙ get_or-append-add (take 64 patterns) (drop behind patterns) (k - behind) []
+              ∙ get_or-drop behind patterns (k - behind) [] ∙ ap (pattern-at patterns) place,
+        )
+  ]
+
+  -- and the other way round
+  part-of : (j : ℕ) → j < length part → (k : ℕ) × (k < length patterns) × (pattern-at patterns k ≡ pattern-at part j)
+  part-of j below = elim (cases_lt j (length (take 64 patterns))) [
+    | inl early ↦
+        let few : j < 64 = omega (arith, length-take 64 patterns, early) in
+        let all : j < length patterns = omega (arith, length-take 64 patterns, early) in
+        (j, all, sym (part-early j few all).1)
+    | inr past ↦ (
+          behind + (j - length (take 64 patterns)),
+          omega (arith, part-length, past, below),
+          sym (get_or-append_right (take 64 patterns) (drop behind patterns) (length (take 64 patterns)) j [] refl past
+              ∙ get_or-drop behind patterns (j - length (take 64 patterns)) []),
+        )
+  ]
+
+  -- ---- classes over the first patterns, and rows over the part
+
+  module _ (net : AigPair) (old : List ℕ) (many : seen ≤ length patterns) (classes : AreClasses net (take seen patterns) old)
+      (sigs : Signatures) (are : AreSignatures net part sigs) (is : IsNet net) (entries : List Entry) where
+    abbrev IsPosition : ℕ → Type 0
+    IsPosition p = p < length (nodes_of net)
+
+    -- one class over the first patterns
+    old-same : (q p : ℕ) → IsPosition q → IsPosition p → class_of old q ≡ class_of old p → AreSame net (take seen patterns) q p
+    old-same q p there below own =
+        let first = (classes.each q there).same in
+        let second : AreSame net (take seen patterns) (class_of old q) p =
+        subst (λ (l : ℕ). AreSame net (take seen patterns) l p) (sym own) (classes.each p below).same in
+        same-join net (take seen patterns) q (class_of old q) p (same-swap net (take seen patterns) (class_of old q) q first) second
+
+    same-old : (q p : ℕ) → IsPosition q → IsPosition p → AreSame net (take seen patterns) q p → class_of old q ≡ class_of old p
+    same-old q p there below same =
+        let a = classes.each q there in
+        let b = classes.each p below in
+        let not-less : class_of old q < class_of old p → ⊥ = λ less.
+        b.least (class_of old q) less (same-join net (take seen patterns) (class_of old q) q p a.same same) in
+        let not-more : class_of old p < class_of old q → ⊥ = λ more.
+        a.least (class_of old p) more
+        (same-join net (take seen patterns) (class_of old p) p q b.same (same-swap net (take seen patterns) q p same)) in
+        omega (arith, not-less, not-more)
+
+    seen-at : (k : ℕ) → k < seen → pattern-at (take seen patterns) k ≡ pattern-at patterns k
+    seen-at k below = get_or-take seen patterns k [] below
+
+    -- in one class, and with rows alike: no pattern of the pool tells them apart
+    one-same : (q p : ℕ) → IsPosition q → IsPosition p → are_one old sigs q p ≡ true → AreSame net patterns q p
+    one-same q p there below one k less =
+        let parts = one-parts old sigs q p one in
+        let new : AreSame net part q p = alike-same net is entries part sigs are p q below there parts.1 in
+        elim (cases_lt k behind) [
+          | inl early ↦
+              let before : k < seen = omega (arith, early) in
+              let inside : k < length (take seen patterns) = omega (arith, length-take seen patterns, before, many) in
+              same-moved net q p (take seen patterns) patterns k k (seen-at 0 (omega (arith, before))) (seen-at k before)
+              (old-same q p there below parts.0 k inside)
+          | inr late ↦
+              let has = part-has k less late in
+              same-moved net q p part patterns has.0 k part-first has.2 (new has.0 has.1)
+        ]
+
+    -- and the other way round
+    same-one : (q p : ℕ) → IsPosition q → IsPosition p → AreSame net patterns q p → are_one old sigs q p ≡ true
+    same-one q p there below same =
+        one-from old sigs q p
+        (same-old q p there below (λ k less.
+        let before : k < seen = omega (arith, length-take seen patterns, less) in
+        same-moved net q p patterns (take seen patterns) k k (sym (seen-at 0 (omega (arith, before)))) (sym (seen-at k before))
+        (same k (omega (arith, length-take seen patterns, less)))))
+        (same-alike net is entries part sigs are p q below there (λ j less.
+        let of = part-of j less in
+        same-moved net q p patterns part of.0 j (sym part-first) of.2 (same of.0 of.1)))
+
+    -- the classes over all patterns
+    pub refined-classes : (new : List ℕ) → AreLeast old sigs (length (nodes_of net)) new → AreClasses net patterns new
+    refined-classes new least = record {
+      size = least.size;
+      each = λ p below.
+          let l = least.each p below in
+          let there : class_of new p < length (nodes_of net) = omega (arith, l.low, below) in
+          record {
+            low = l.low;
+            same = one-same (class_of new p) p there below l.one;
+            least = λ r less same.
+                let f : true ≡ false = sym (same-one r p (omega (arith, less, there)) below same) ∙ l.least r less in cc;
+          };
+    }
+
+    pub part-signs : HaveSigns net patterns sigs
+    part-signs p below =
+        first-bit net is entries part sigs are p below ∙ ap (λ (bits : List Bool). value_of net bits (node_at net p)) part-first
+
+part-some : (patterns : List (List Bool)) (seen : ℕ) → 1 ≤ length (part_from seen patterns) → 1 ≤ length patterns
+part-some patterns seen some =
+    omega (arith, some, length-append (take 64 patterns) (drop (64 * (seen / 64)) patterns), length-take 64 patterns, length-drop (64 * (seen / 64)) patterns)
+
+-- what is known where the rows of the part were looked at
+pub record AreParted (net : AigPair) (patterns : List (List Bool)) (sigs : Signatures) (leaders : List ℕ) : Type 0 where
+  pub classes : AreClasses net patterns leaders
+  pub signs : HaveSigns net patterns sigs
+  pub some : 1 ≤ length patterns
+
+pub are-parted : (net : AigPair) → IsNet net → (entries : List Entry) (patterns : List (List Bool)) (kept : Kept) → AreKept net patterns kept
+    → (piece : Patterns) (inputs : ℕ) → piece ≡ record { inputs = inputs; patterns = part_from kept.seen patterns }
+    → (sigs : Signatures) → AreSignatures net piece.patterns sigs → (old new : List ℕ) → old ≡ kept.leaders
+    → AreLeast old sigs (length (nodes_of net)) new → AreParted net patterns sigs new
+are-parted net is entries patterns kept are piece inputs parts sigs bits old new same least =
+    let rows : AreSignatures net (part_from kept.seen patterns) sigs = subst (λ (p : Patterns). AreSignatures net p.patterns sigs) parts bits in
+    let some : 1 ≤ length patterns = part-some patterns kept.seen rows.some in
+    record {
+      classes = refined-classes patterns kept.seen some net kept.leaders are.some are.classes sigs rows is entries new
+          (subst (λ (ls : List ℕ). AreLeast ls sigs (length (nodes_of net)) new) same least);
+      signs = part-signs patterns kept.seen some net kept.leaders are.some are.classes sigs rows is entries;
+      some = some;
+    }
+
+pub if-ok : {T E : Type 0} (r : Result T E) (P Q : T → Type 0) → IfOk r P → ((x : T) → P x → Q x) → IfOk r Q
+if-ok (Ok x) P Q p f = f x p
+if-ok (Err e) P Q p f = tt
+
+-- classes over all patterns are kept
+pub kept-all : (net : AigPair) (patterns : List (List Bool)) (count : ℕ) (leaders : List ℕ) → count ≡ length patterns
+    → AreClasses net patterns leaders → AreKept net patterns (record { seen = count; leaders = leaders })
+kept-all net patterns count leaders all classes =
+    let whole : take count patterns ≡ patterns = ap (λ (n : ℕ). take n patterns) all ∙ take-length patterns in
+    record { some = omega (arith, all); classes = subst (λ (ps : List (List Bool)). AreClasses net ps leaders) (sym whole) classes }
+
+-- before a pattern is looked at there is one class
+pub kept-none : (net : AigPair) (patterns : List (List Bool)) (leaders : List ℕ) → length leaders ≡ length (nodes_of net)
+    → ((p : ℕ) → p < length leaders → class_of leaders p ≡ 0) → AreKept net patterns (record { seen = 0; leaders = leaders })
+kept-none net patterns leaders size none = record {
+  some = omega arith;
+  classes = record {
+    size = size;
+    each = λ p below.
+        let zero-class : class_of leaders p ≡ 0 = none p (omega (arith, size, below)) in
+        record {
+          low = omega (arith, zero-class);
+          same = λ k less. absurd (omega (arith, less));
+          least = λ r less. absurd (omega (arith, zero-class, less));
+        };
+  };
+}
+
+-- ---- tasks
+
+abbrev task-with : AigPair → List Entry → ℕ → Lit → Option Task
+task-with net entries p lit =
+    if is_gate (node_at net p) && not (has_spent entries (node_at net p) lit) then Some (record { node = node_at net p; lit = lit }) else None
+
+module _ (net : AigPair) (is : IsNet net) (book : Entries) (legal : IsLegal net book) (patterns : List (List Bool)) (some : 1 ≤ length patterns)
+    (whole : AllByRecursion (λ bits. length bits ≡ length net.a.inputs) patterns)
+    (keeps : (l : Lit) → HaveOneValue net l (root_of book.entries l)) (leaders : List ℕ) (classes : AreClasses net patterns leaders)
+    (sigs : Signatures) (signs : HaveSigns net patterns sigs) (p : ℕ) (below : p < length (nodes_of net)) where
+  abbrev q : ℕ
+  q = class_of leaders p
+
+  abbrev root : ℕ → Bool
+  root = root_at net book.entries
+
+  least-p : IsLeastSame net patterns q p
+  least-p = classes.each p below
+
+  there : q < length (nodes_of net)
+  there = omega (arith, least-p.low, below)
+
+  module _ (all : Signatures) (are : AreSignatures net patterns all) where
+    one-is_same : (r s : ℕ) → r < length (nodes_of net) → s < length (nodes_of net) → are_one [] all r s ≡ true → AreSame net patterns r s
+    one-is_same r s here next one = alike-same net is book.entries patterns all are s r next here (sym (one-none all r s) ∙ one)
+
+    -- no earlier position is in its class
+    lone-least : (r : ℕ) → r < q → are_one [] all r p ≡ false
+    lone-least r less = fails (are_one [] all r p) (λ one. least-p.least r less (one-is_same r p (omega (arith, less, there)) below one))
+
+    lone-q : (r : ℕ) → r < q → are_one [] all r q ≡ false
+    lone-q r less =
+        let other : are_one [] all r q ≡ true → ⊥ = λ one.
+        least-p.least r less (same-join net patterns r q p (one-is_same r q (omega (arith, less, there)) there one) least-p.same) in
+        fails (are_one [] all r q) other
+
+    -- the least of a class isn't merged, since it would be with an earlier one
+    least-root : root q ≡ true
+    least-root =
+        let earlier = root-alike net is book legal patterns all are whole keeps (node_at net q) q (position-node net is q there) in
+        let not-less : earlier.0 < q → ⊥ = λ less.
+        let f : true ≡ false = sym (one-none all earlier.0 q ∙ earlier.3) ∙ lone-q earlier.0 less in cc in
+        let same : earlier.0 ≡ q = omega (arith, not-less, earlier.4) in
+        sym (ap root same) ∙ earlier.2
+
+    lit-is : lit_between net all q p ≡ lit_between net sigs q p
+    lit-is =
+        ap₂ (λ (a b : Bool). record { node = node_at net q; neg = differs a b })
+        (first-bit net is book.entries patterns all are q there ∙ sym (signs q there))
+        (first-bit net is book.entries patterns all are p below ∙ sym (signs p below))
+
+    led-task : q < p → root p ≡ true → IsNextTask net book.entries patterns p (task_at net book.entries sigs q p)
+    led-task less open-p =
+        let first : is_first [] all root p q ≡ true = first-from [] all root p q less least-root (λ r before is_root. lone-q r before) in
+        let both : are_one [] all q p ≡ true =
+        one-none all q p ∙ same-alike net is book.entries patterns all are p q below there least-p.same in
+        subst (λ (l : Lit). IsNextTask net book.entries patterns p (task-with net book.entries p l)) lit-is
+        (next-found net is book.entries patterns p below all are q first both open-p)
+
+    led-lone : p ≤ q → IsNextTask net book.entries patterns p None
+    led-lone more =
+        next-lone net is book.entries patterns p below all are
+        (λ r first. lone-least r (omega (arith, more, (first-parts [] all root p r first).0)))
+
+  -- the task that is due of the position
+  pub next-led : IsNextTask net book.entries patterns p (led_at net book.entries sigs q p)
+  next-led = go (nat_lt q p) (root p) refl refl
+    where
+      full : (all : Signatures) × AreSignatures net patterns all
+      full = some-signatures net patterns some
+
+      go : (less open-p : Bool) → nat_lt q p ≡ less → root p ≡ open-p
+          → IsNextTask net book.entries patterns p (if less && open-p then task_at net book.entries sigs q p else None)
+      go true true e f = led-task full.0 full.1 (grind (arith, nat_tests, e)) f
+      go true false e f = next-merged net is book.entries patterns p below f
+      go false open-p e f = led-lone full.0 full.1 (grind (arith, nat_tests, e))

@@ -1,0 +1,64 @@
+-- Classes that are kept while patterns join a pool: a position has the least one of its class.
+use Rattle.std.specs.Prelude.{◌≡◌, ℕ, ◌<◌, ◌≤◌, ◌&&◌, nat_lt, Bool, true, false, Option, None, List, length, take, if◌then◌else◌}
+use Rattle.netlist.specs.Net.{AigPair, nodes_of, node_at}
+use Rattle.word_sim.specs.Rows.{Signatures, turned, value_on}
+use Rattle.lemma_book.specs.declared.entry.Entry.{Entry}
+use Rattle.lemma_book.specs.declared.entry.Task.{Task}
+use Rattle.sig_classes.specs.Alike.{first_bit, row_of}
+use Rattle.sig_classes.specs.Chains.{Chains, HasMembers, are_one, class_of, is_first}
+use Rattle.sig_classes.specs.Pass.{root_at, task_at}
+
+-- no pattern tells the nodes at two positions apart, up to complement: on each they have the value that they have on the
+-- first one, or neither has
+abbrev pub AreSame : AigPair → List (List Bool) → ℕ → ℕ → Type 0
+AreSame net patterns q p = (k : ℕ) → k < length patterns
+    → turned (value_on net patterns (node_at net q) 0) (value_on net patterns (node_at net q) k)
+    ≡ turned (value_on net patterns (node_at net p) 0) (value_on net patterns (node_at net p) k)
+
+-- q is the least position of p's class
+pub record IsLeastSame (net : AigPair) (patterns : List (List Bool)) (q p : ℕ) : Type 0 where
+  pub low : q ≤ p
+  pub same : AreSame net patterns q p
+  pub least : (r : ℕ) → r < q → ¬ AreSame net patterns r p
+
+-- each position has the least one of its class
+pub record AreClasses (net : AigPair) (patterns : List (List Bool)) (leaders : List ℕ) : Type 0 where
+  pub size : length leaders ≡ length (nodes_of net)
+  pub each : (p : ℕ) → p < length (nodes_of net) → IsLeastSame net patterns (class_of leaders p) p
+
+-- classes, and over how many of a pool's first patterns
+pub record Kept : Type 0 where
+  pub seen : ℕ
+  pub leaders : List ℕ
+
+pub record AreKept (net : AigPair) (patterns : List (List Bool)) (kept : Kept) : Type 0 where
+  pub some : kept.seen ≤ length patterns
+  pub classes : AreClasses net (take kept.seen patterns) kept.leaders
+
+-- q is the least position that shares p's class and has a row alike
+pub record IsLeastOne (classes : List ℕ) (sigs : Signatures) (q p : ℕ) : Type 0 where
+  pub low : q ≤ p
+  pub one : are_one classes sigs q p ≡ true
+  pub least : (r : ℕ) → r < q → are_one classes sigs r p ≡ false
+
+-- each of the first so many positions has its least one
+pub record AreLeast (classes : List ℕ) (sigs : Signatures) (n : ℕ) (leaders : List ℕ) : Type 0 where
+  pub size : length leaders ≡ n
+  pub each : (p : ℕ) → p < n → IsLeastOne classes sigs (class_of leaders p) p
+
+-- each position counts, merged or not
+abbrev pub every : ℕ → Bool
+every q = true
+
+-- the chains have the first members of the classes of all positions before this one
+abbrev pub HasLeasts : List ℕ → Signatures → ℕ → Chains → Type 0
+HasLeasts classes sigs n t = HasMembers classes sigs (is_first classes sigs every n) t
+
+-- each row begins with the node's value on the first pattern
+abbrev pub HaveSigns : AigPair → List (List Bool) → Signatures → Type 0
+HaveSigns net patterns sigs = (p : ℕ) → p < length (nodes_of net)
+    → first_bit (row_of sigs p) ≡ value_on net patterns (node_at net p) 0
+
+-- the task of the node at p, where q is the least position of its class
+abbrev pub led_at : AigPair → List Entry → Signatures → ℕ → ℕ → Option Task
+led_at net entries sigs q p = if nat_lt q p && root_at net entries p then task_at net entries sigs q p else None

@@ -1,0 +1,148 @@
+ghost use Rattle.std.specs.Prelude.{◌≡◌, ◌<◌, ◌≤◌, ◌+◌, Bool, List, length, IfOk};
+ghost use Rattle.std.specs.List.{AllByRecursion};
+ghost use Rattle.netlist.specs.Net.{nodes_of};
+ghost use Rattle.lemma_book.specs.Book.{IsLegal};
+ghost use Rattle.sig_classes.specs.Leader.{AreTasks};
+ghost use Rattle.sig_classes.specs.Chains.{AreBefore, class_of};
+ghost use Rattle.sig_classes.specs.Kept.{AreClasses, AreKept, AreLeast, HasLeasts, HaveSigns, IsLeastOne, led_at};
+
+use crate::chains::{Firsts, class_of};
+use crate::classes::open_task;
+use lemma_book::{Book, Task};
+use netlist::Net;
+use std::alloc::{AllocError, Global};
+use std::marker::Model;
+use word_sim::{Pool, Sigs, signatures};
+
+/// The classes of a pair's nodes on the patterns of a pool, kept while patterns join it.
+///
+/// What joined is simulated alone, beside the pool's first word, which tells as before which rows are
+/// turned; a class breaks up by the rows of that. So a pattern is simulated once, where `tasks` of all rows
+/// would pay for it in each round to come.
+#[derive(Drop)]
+pub struct KeptClasses {
+    seen: u64,
+    leaders: Vec<u32>,
+}
+
+impl Model for KeptClasses {
+    ghost use Rattle.sig_classes.specs.Kept.{Kept};
+
+    ghost Value = { Kept };
+
+    ghost view = { λ k. record { seen = k.seen; leaders = k.leaders.items } };
+}
+
+impl KeptClasses {
+    /// One class of all nodes, before a pattern is looked at.
+    pub fn new(alloc: Global, net: &Net) -> Result<KeptClasses, AllocError>
+        ensures { IfOk result (λ k. (patterns : List (List Bool)) → AreKept net.now patterns k) }
+    {
+        let leaders = vec![in alloc; 0; net.positions() as usize]?;
+        Ok(KeptClasses { seen: 0, leaders })
+    }
+
+    /// The pairs that are to be asked for over the whole pool, as `tasks` of all its rows would give them.
+    pub fn tasks(
+        &mut self,
+        alloc: Global,
+        net: &Net,
+        pool: &Pool,
+        book: &Book,
+    ) -> Result<Vec<Task>, AllocError>
+        requires legal { IsLegal net.now book.now }
+        requires inputs { pool.now.inputs ≡ length net.now.a.inputs }
+        requires whole { AllByRecursion (λ bits. length bits ≡ length net.now.a.inputs) pool.now.patterns }
+        requires kept { AreKept net.now pool.now.patterns self.old }
+        ensures tasks { IfOk result (λ v. AreTasks net.now book.now.entries pool.now.patterns v.items) }
+        ensures kept { AreKept net.now pool.now.patterns self.new }
+    {
+        netlist::laws::is_net(net);
+        let part = pool.part(alloc, self.seen)?;
+        let sigs = signatures(alloc, net, &part)?;
+        self.leaders = refined(alloc, net, self.leaders.as_slice(), &sigs)?;
+        self.seen = pool.patterns();
+        due(alloc, net, &sigs, self.leaders.as_slice(), book)
+    }
+}
+
+/// The least positions of the classes into which rows part those that are given.
+fn refined(
+    alloc: Global,
+    net: &Net,
+    classes: &[u32],
+    sigs: &Sigs,
+) -> Result<Vec<u32>, AllocError>
+    requires { length sigs.now.rows ≡ length (nodes_of net.now) }
+    ensures { IfOk result (λ v. AreLeast classes.now sigs.now (length (nodes_of net.now)) v.items) }
+{
+    netlist::laws::is_net(net);
+    let mut firsts = Firsts::with_room(alloc, net.positions())?;
+    let mut leaders = Vec::with_capacity(alloc, net.positions() as usize)?;
+    for position in 0..net.positions() {
+        leaders.push(lead(classes, sigs, &mut firsts, position))?;
+    }
+    Ok(leaders)
+}
+
+/// Takes the next position into its class, and gives the least one of that.
+fn lead(classes: &[u32], sigs: &Sigs, firsts: &mut Firsts, position: u32) -> u32
+    requires room { length sigs.now.rows ≡ length firsts.old.behind }
+    requires position { position < length sigs.now.rows }
+    requires order { AreBefore position firsts.old }
+    ensures room { length firsts.new.behind ≡ length firsts.old.behind }
+    ensures order { AreBefore (position + 1) firsts.new }
+    ensures members { HasLeasts classes.now sigs.now position firsts.old
+        → HasLeasts classes.now sigs.now (position + 1) firsts.new }
+    ensures least { HasLeasts classes.now sigs.now position firsts.old
+        → IsLeastOne classes.now sigs.now result position }
+{
+    match firsts.find(classes, sigs, position) {
+        Some(first) => first,
+        None => {
+            firsts.put(classes, sigs, position);
+            position
+        }
+    }
+}
+
+/// The pairs that are due where each position has the least one of its class.
+fn due(
+    alloc: Global,
+    net: &Net,
+    sigs: &Sigs,
+    leaders: &[u32],
+    book: &Book,
+) -> Result<Vec<Task>, AllocError>
+    requires sigs { length sigs.now.rows ≡ length (nodes_of net.now) }
+    requires legal { IsLegal net.now book.now }
+    ensures { IfOk result (λ v. (patterns : List (List Bool)) → AreClasses net.now patterns leaders.now
+        → HaveSigns net.now patterns sigs.now
+        → 1 ≤ length patterns
+        → AllByRecursion (λ bits. length bits ≡ length net.now.a.inputs) patterns
+        → AreTasks net.now book.now.entries patterns v.items) }
+{
+    netlist::laws::is_net(net);
+    lemma_book::laws::roots_keep_values(net, book);
+    let mut tasks = Vec::new(alloc);
+    for position in 0..net.positions() {
+        if let Some(task) = led(net, sigs, leaders, book, position) {
+            tasks.push(task)?;
+        }
+    }
+    Ok(tasks)
+}
+
+/// The task of a position that isn't the least of its class, if one is due.
+fn led(net: &Net, sigs: &Sigs, leaders: &[u32], book: &Book, position: u32) -> Option<Task>
+    requires sigs { length sigs.now.rows ≡ length (nodes_of net.now) }
+    requires position { position < length (nodes_of net.now) }
+    ensures { result ≡ led_at net.now book.now.entries sigs.now (class_of leaders.now position) position }
+{
+    let leader = class_of(leaders, position);
+    if leader < position && !book.is_merged(net.node(position)) {
+        open_task(net, sigs, book, leader, position)
+    } else {
+        None
+    }
+}
