@@ -17,7 +17,9 @@ pub struct NodeHasher {
 
 impl NodeHasher {
     /// A hasher to which nothing has been written.
-    pub fn new() -> NodeHasher {
+    pub fn new() -> NodeHasher
+        ensures { result.state ≡ 0 }
+    {
         NodeHasher { state: 0 }
     }
 }

@@ -9,9 +9,9 @@
 //! `KeptClasses` gives the same tasks while patterns join a pool, and simulates only those that are new: its
 //! classes are kept, and break up by the new rows.
 //!
-//! Definitions: `specs/Leader.antt` (leader, tasks, reduced, swept), `specs/Kept.antt` (classes that are kept); `specs/Alike.antt`,
-//! `specs/Chains.antt` and `specs/Pass.antt` say how classes are found, in one pass, by a hash of the
-//! rows up to complement. Begin to read at `classes.rt`.
+//! Definitions: `specs/Leader.antt` (leader, tasks, reduced, swept), `specs/Kept.antt` (classes that are
+//! kept); `specs/Alike.antt`, `specs/Chains.antt` and `specs/Pass.antt` say how classes are found, in one
+//! pass, by a hash of the rows up to complement. Begin to read at `classes.rt`, then `kept.rt`.
 #![tactic(auto)]
 
 pub use classes::tasks;

@@ -96,7 +96,8 @@ impl Pool {
     /// where these were simulated before. The first tell which rows are turned, as they did then.
     pub fn part(&self, alloc: Global, seen: u64) -> Result<Pool, AllocError>
         requires { seen ≤ length self.now.patterns }
-        ensures { IfOk result (λ p. p ≡ record { inputs = self.now.inputs; patterns = part_from seen self.now.patterns }) }
+        ensures { IfOk result (λ p.
+            p ≡ record { inputs = self.now.inputs; patterns = part_from seen self.now.patterns }) }
     {
         let count = self.patterns() - seen / 64 * 64;
         let (Ok(from), Ok(added_count)) = (u32::try_from(seen / 64), u32::try_from(count)) else {
