@@ -3,7 +3,7 @@ ghost use Rattle.netlist.specs.Miter.{positive};
 ghost use Rattle.lemma_book.specs.Book.{IsLegal};
 ghost use Rattle.strash_pass.specs.Pass.{MergesOrStays};
 
-use lemma_book::{Book, Entry, Offered, Refused};
+use lemma_book::{Book, Entry, Offered, Refused, Subject};
 use lits::{Clause, ClauseErr, Listed, Lit, Literal, Node, Ref, Step};
 use netlist::{Definition, Net};
 use std::alloc::{AllocError, Global};
@@ -84,14 +84,17 @@ fn straight_steps(
 
 /// The root of a literal, and for each merge on the way there the clause that leads on.
 fn way_of(alloc: Global, book: &Book, lit: Lit) -> Result<(Lit, Vec<Ref>), AllocError> {
-    let path = book.path(alloc, lit)?;
     let mut way = Vec::new(alloc);
     let mut lit = lit;
-    for place in path.as_slice() {
-        if let Some(Entry::Merge { lit: target, .. }) = book.entry(*place) {
-            way.push(Ref::Entry(*place, if lit.neg { 1 } else { 0 }))?;
-            lit = if lit.neg { target.not() } else { *target };
-        }
+    for _step in 0..book.len() {
+        let Some(place) = book.place_on(Subject::Merged(lit.node)) else {
+            break;
+        };
+        let Some(Entry::Merge { lit: target, .. }) = book.entry(place) else {
+            break;
+        };
+        way.push(Ref::Entry(place, if lit.neg { 1 } else { 0 }))?;
+        lit = if lit.neg { target.not() } else { *target };
     }
     Ok((lit, way))
 }
