@@ -18,7 +18,7 @@ pub struct NodeHasher {
 impl NodeHasher {
     /// A hasher to which nothing has been written.
     pub fn new() -> NodeHasher
-        ensures { result.state ≡ 0 }
+        ensures { result ≡ record { state = 0 } }
     {
         NodeHasher { state: 0 }
     }
