@@ -7,8 +7,19 @@ use rand_core::utils::NextWord;
 use rand_pcg::Lcg128Xsl64;
 use std::alloc::{AllocError, Global};
 
-/// How many words of 64 patterns are drawn for each input.
-const DRAWN: u32 = 64;
+/// How many words of 64 patterns are drawn for each input, in which each input is true half of the time.
+const EVEN: u32 = 64;
+
+/// How many words are drawn in which inputs are rarely true, and as many in which they are rarely false: on
+/// counters of ones nodes differ only there.
+const RARE: u32 = 11;
+
+/// How many words are drawn in which an input is mostly like the one before it, and as many in which it is
+/// mostly like the one before that: in two operands long runs make long carries.
+const LIKE: u32 = 8;
+
+/// How many words are drawn.
+const DRAWN: u32 = EVEN + 2 * RARE + 2 * LIKE;
 
 /// A pair of a round, by positions.
 #[derive(Clone, Copy)]
@@ -68,8 +79,52 @@ impl Scratch {
         for _ in 0..u64::from(self.inputs).saturating_mul(u64::from(words)) {
             let _drawn = generator.next_word();
         }
-        for _ in 0..u64::from(self.inputs).saturating_mul(u64::from(DRAWN)) {
+        for _ in 0..u64::from(self.inputs).saturating_mul(u64::from(EVEN)) {
             self.words.push(generator.next_word())?;
+        }
+        for often in 0..RARE {
+            self.draw_rare(&mut generator, often, 0)?;
+            self.draw_rare(&mut generator, often, u64::MAX)?;
+        }
+        for often in 0..LIKE {
+            self.draw_like(&mut generator, often, 1)?;
+            self.draw_like(&mut generator, often, 2)?;
+        }
+        Ok(())
+    }
+
+    /// Draws a word of each input that is seldom another one than this.
+    fn draw_rare(
+        &mut self,
+        generator: &mut Lcg128Xsl64,
+        often: u32,
+        usual: u64,
+    ) -> Result<(), AllocError> {
+        for _ in 0..self.inputs {
+            self.words.push(rare(generator, often) ^ usual)?;
+        }
+        Ok(())
+    }
+
+    /// Draws a word of each input that seldom differs from that of the input so many places before.
+    fn draw_like(
+        &mut self,
+        generator: &mut Lcg128Xsl64,
+        often: u32,
+        back: usize,
+    ) -> Result<(), AllocError> {
+        let first = self.words.len();
+        for _ in 0..self.inputs {
+            let drawn = generator.next_word();
+            let place = self.words.len();
+            let word = if place >= first.saturating_add(back) {
+                let fresh = rare(generator, often.saturating_add(1));
+                let before = word_at(&self.words, place.saturating_sub(back));
+                (before & !fresh) | (drawn & fresh)
+            } else {
+                drawn
+            };
+            self.words.push(word)?;
         }
         Ok(())
     }
@@ -182,6 +237,15 @@ impl Scratch {
         let word = word_at(&self.words, self.place(pattern / 64, input));
         (word >> (pattern % 64)) & 1 == 1
     }
+}
+
+/// A word in which a bit is set once in 2, 4, 8 and so on.
+fn rare(generator: &mut Lcg128Xsl64, often: u32) -> u64 {
+    let mut word = generator.next_word();
+    for _ in 0..often {
+        word &= generator.next_word();
+    }
+    word
 }
 
 /// All bits where the literal is negated.
