@@ -1,10 +1,10 @@
-ghost use Rattle.std.specs.Prelude.{[], ◌∷◌, IfOk};
+ghost use Rattle.std.specs.Prelude.{◌≤◌, [], ◌∷◌, IfOk};
 ghost use Rattle.lemma_book.specs.Book.{IsLegal};
 ghost use Rattle.lemma_book.specs.Cone.{AreThere};
 ghost use Rattle.std.specs.Bool.{OnTrue};
 
 use lemma_book::{Book, Entry};
-use lits::{Lit, Node, Ref, Side};
+use lits::{Lit, Named, Node, Ref, Side};
 use netlist::Net;
 use std::alloc::Global;
 use std::process::Abort;
@@ -65,6 +65,23 @@ fn offer_all(
     Ok(())
 }
 
+/// Offers the entries to an empty book over the swapped ANDs.
+fn offer_to_ands(rt: &impl Abort, alloc: Global, rows: &[Row<'_>]) -> Result<(), Fail> {
+    let net = swapped_ands(alloc)?;
+    let mut book = Book::new(alloc, 1, 1);
+    offer_all(rt, alloc, &net, &mut book, rows)
+}
+
+/// Offers the entries to an empty book over the XORs, with so many clauses for each query.
+fn offer_to_xors(rt: &impl Abort, alloc: Global, budget: u64, rows: &[Row<'_>]) -> Result<(), Fail>
+    requires some { 1 ≤ budget }
+    requires range { budget ≤ 1000000000 }
+{
+    let net = two_xors(alloc)?;
+    let mut book = Book::new(alloc, budget, budget);
+    offer_all(rt, alloc, &net, &mut book, rows)
+}
+
 /// A merge without a hint, with node and target exchanged, whole, and once more.
 const OFFERS: [Row<'static>; 4] = [
     (
@@ -87,10 +104,7 @@ const OFFERS: [Row<'static>; 4] = [
 
 #[test]
 fn offers(rt: HostRuntime) -> Result<(), Fail> {
-    let alloc = rt.alloc();
-    let net = swapped_ands(alloc)?;
-    let mut book = Book::new(alloc, 1, 1);
-    offer_all(&rt, alloc, &net, &mut book, &OFFERS)
+    offer_to_ands(&rt, rt.alloc(), &OFFERS)
 }
 
 /// Each cause that is found without looking at steps.
@@ -160,10 +174,7 @@ const NAMES_AND_SIZES: [Row<'static>; 27] = [
 
 #[test]
 fn faults_of_names_and_sizes(rt: HostRuntime) -> Result<(), Fail> {
-    let alloc = rt.alloc();
-    let net = swapped_ands(alloc)?;
-    let mut book = Book::new(alloc, 1, 1);
-    offer_all(&rt, alloc, &net, &mut book, &NAMES_AND_SIZES)
+    offer_to_ands(&rt, rt.alloc(), &NAMES_AND_SIZES)
 }
 
 /// Each cause that is found in steps.
@@ -229,10 +240,7 @@ const STEPS: [Row<'static>; 15] = [
 
 #[test]
 fn faults_of_steps(rt: HostRuntime) -> Result<(), Fail> {
-    let alloc = rt.alloc();
-    let net = swapped_ands(alloc)?;
-    let mut book = Book::new(alloc, 1, 1);
-    offer_all(&rt, alloc, &net, &mut book, &STEPS)
+    offer_to_ands(&rt, rt.alloc(), &STEPS)
 }
 
 /// Two causes stand, and the earlier is told.
@@ -278,10 +286,7 @@ const PAIRS: [Row<'static>; 16] = [
 
 #[test]
 fn earlier_of_two_faults(rt: HostRuntime) -> Result<(), Fail> {
-    let alloc = rt.alloc();
-    let net = swapped_ands(alloc)?;
-    let mut book = Book::new(alloc, 1, 1);
-    offer_all(&rt, alloc, &net, &mut book, &PAIRS)
+    offer_to_ands(&rt, rt.alloc(), &PAIRS)
 }
 
 /// A merge, its output, and what comes after them.
@@ -323,10 +328,7 @@ const SETTLED: [Row<'static>; 14] = [
 
 #[test]
 fn settled_entries(rt: HostRuntime) -> Result<(), Fail> {
-    let alloc = rt.alloc();
-    let net = swapped_ands(alloc)?;
-    let mut book = Book::new(alloc, 1, 1);
-    offer_all(&rt, alloc, &net, &mut book, &SETTLED)
+    offer_to_ands(&rt, rt.alloc(), &SETTLED)
 }
 
 /// Logs of one clause.
@@ -372,10 +374,7 @@ const LOGS: [Row<'static>; 10] = [
 
 #[test]
 fn logs_of_queries(rt: HostRuntime) -> Result<(), Fail> {
-    let alloc = rt.alloc();
-    let net = two_xors(alloc)?;
-    let mut book = Book::new(alloc, 1, 1);
-    offer_all(&rt, alloc, &net, &mut book, &LOGS)
+    offer_to_xors(&rt, rt.alloc(), 1, &LOGS)
 }
 
 /// Logs of two clauses, and a merge by two learned clauses.
@@ -406,10 +405,7 @@ const LONGER_LOGS: [Row<'static>; 4] = [
 
 #[test]
 fn longer_logs(rt: HostRuntime) -> Result<(), Fail> {
-    let alloc = rt.alloc();
-    let net = two_xors(alloc)?;
-    let mut book = Book::new(alloc, 2, 2);
-    offer_all(&rt, alloc, &net, &mut book, &LONGER_LOGS)
+    offer_to_xors(&rt, rt.alloc(), 2, &LONGER_LOGS)
 }
 
 /// The book whose one entry merges b3 to a3, and the net.
@@ -436,33 +432,61 @@ fn is_there(net: &Net, lit: Lit) -> bool
     net.cnf_number(lit).is_some()
 }
 
+const NAMES_IN_CONE: [Ref; 5] = [
+    Ref::Axiom(A3, 0),
+    Ref::Axiom(A3, 1),
+    Ref::Axiom(A3, 2),
+    Ref::Entry(0, 0),
+    Ref::Entry(0, 1),
+];
+
+fn names_of(alloc: Global, clauses: &[Named]) -> Result<Vec<Ref>, Fail> {
+    let mut names = Vec::new(alloc);
+    for named in clauses {
+        names.push(named.by)?;
+    }
+    Ok(names)
+}
+
+fn names_in_cone(alloc: Global, net: &Net, book: &Book) -> Result<Vec<Ref>, Fail>
+    requires { IsLegal net.now book.now }
+{
+    if !is_there(net, B3) {
+        return Err("no such node".into());
+    }
+    let cone = book.cone(alloc, net, 1, &[B3])?;
+    names_of(alloc, cone.as_slice())
+}
+
+fn check_root(rt: &impl Abort, alloc: Global, book: &Book) -> Result<(), Fail> {
+    let a3 = Lit {
+        node: A3,
+        neg: false,
+    };
+    assert!(rt; book.root(B3) == a3);
+    let path = book.path(alloc, B3)?;
+    assert!(rt; path.as_slice() == [0].as_slice());
+    Ok(())
+}
+
 /// The cone of the merged gate has its merge's clauses and those of the gate that it stands for, and none
 /// of its own.
 #[test]
 fn book_readers(rt: HostRuntime) -> Result<(), Fail> {
     let alloc = rt.alloc();
     let (net, book) = merged(&rt, alloc)?;
-    let a3 = Lit {
-        node: A3,
-        neg: false,
-    };
-    assert_eq!(rt; book.root(B3), a3);
-    assert_eq!(rt; book.path(alloc, B3)?.as_slice(), [0].as_slice());
-    assert!(rt; is_there(&net, B3));
-    let mut names = Vec::new(alloc);
-    for named in book.cone(alloc, &net, 1, &[B3])? {
-        names.push(named.by)?;
-    }
-    let axiom = |number: u8| Ref::Axiom(A3, number);
-    let expected = [
-        axiom(0),
-        axiom(1),
-        axiom(2),
-        Ref::Entry(0, 0),
-        Ref::Entry(0, 1),
-    ];
-    assert_eq!(rt; names.as_slice(), expected.as_slice());
+    check_root(&rt, alloc, &book)?;
+    let names = names_in_cone(alloc, &net, &book)?;
+    assert!(rt; names.as_slice() == NAMES_IN_CONE.as_slice());
     Ok(())
+}
+
+fn check_copy(rt: &impl Abort, book: &Book, copy: &Book) {
+    assert!(rt; copy.len() == 1);
+    assert!(rt; copy.sweep_budget() == 1);
+    assert!(rt; copy.out_budget() == 2);
+    assert!(rt; copy.root(B3) == book.root(B3));
+    assert!(rt; matches!(copy.entry(0), Some(Entry::Merge { .. })));
 }
 
 #[test]
@@ -470,11 +494,6 @@ fn copy_of_a_book(rt: HostRuntime) -> Result<(), Fail> {
     let alloc = rt.alloc();
     let (_, book) = merged(&rt, alloc)?;
     let copy = book.copy(alloc)?;
-    assert_eq!(rt;
-        (copy.len(), copy.sweep_budget(), copy.out_budget()),
-        (1, 1, 2)
-    );
-    assert_eq!(rt; copy.root(B3), book.root(B3));
-    assert!(rt; matches!(copy.entry(0), Some(Entry::Merge { .. })));
+    check_copy(&rt, &book, &copy);
     Ok(())
 }

@@ -1,4 +1,5 @@
-ghost use Rattle.std.specs.Prelude.{[]};
+ghost use Rattle.std.specs.Prelude.{◌≡◌};
+ghost use Rattle.worked_circuits.specs.Worked.{one_gate};
 
 use lits::{Clause, Dim, Lit, Node, Side};
 use netlist::{And, Circuit, Definition, Fanins, Net, Placed, Unlike, VariableTable, laws};
@@ -16,6 +17,15 @@ fn push_line(text: &mut String, clause: &Clause<Dim>) -> Result<(), AllocError> 
     text.push_str("0\n")
 }
 
+/// The clauses as lines of a DIMACS file.
+fn lines(alloc: Global, clauses: &[Clause<Dim>]) -> Result<String, AllocError> {
+    let mut text = String::new(alloc);
+    for clause in clauses {
+        push_line(&mut text, clause)?;
+    }
+    Ok(text)
+}
+
 /// Whether the miter's clauses are these lines of a DIMACS file.
 fn is_miter(
     rt: &impl Abort,
@@ -25,11 +35,9 @@ fn is_miter(
     expected: &str,
 ) -> Result<(), Fail> {
     let net = Net::of(alloc, a, b).map_err(|_| "a net")?;
-    let mut text = String::new(alloc);
-    for clause in &net.miter(alloc)? {
-        push_line(&mut text, clause)?;
-    }
-    assert_eq!(rt; text.as_str(), expected);
+    let miter = net.miter(alloc)?;
+    let text = lines(alloc, miter.as_slice())?;
+    assert!(rt; text.as_str() == expected, "{text}");
     laws::satisfiable_if_different(&net);
     laws::unsatisfiable_if_equal(&net);
     Ok(())
@@ -118,71 +126,108 @@ const GATE: Node = Node::Gate(Side::B, 3);
 #[test]
 fn net_of(rt: HostRuntime) -> Result<(), Fail> {
     let net = swapped_net(rt.alloc())?;
-    assert_eq!(rt; net.position(GATE), Some(4));
-    assert_eq!(rt; net.position(Node::Gate(Side::B, 2)), None);
-    assert_eq!(rt; net.position(Node::Input(1)), Some(2));
-    assert_eq!(rt; net.position(Node::Xor(0)), None);
+    assert!(rt; net.position(GATE) == Some(4));
+    assert!(rt; net.position(Node::Gate(Side::B, 2)).is_none());
+    assert!(rt; net.position(Node::Input(1)) == Some(2));
+    assert!(rt; net.position(Node::Xor(0)).is_none());
     Ok(())
+}
+
+const NOT_GATE: Lit = Lit {
+    node: GATE,
+    neg: true,
+};
+
+fn check_numbers(rt: &impl Abort, net: &Net) {
+    assert!(rt; net.clause_number(GATE, 2) == Some(7));
+    assert!(rt; net.clause_number(GATE, 3).is_none());
+    assert!(rt; net.clause_number(Node::Xor(0), 0) == Some(8));
+    assert!(rt; net.cnf_number(NOT_GATE) == Dim::of(-5));
+}
+
+/// Whether it is the gate's first axiom that begins with its negation.
+fn has_axiom(net: &Net) -> bool {
+    match net.axiom(GATE, 0) {
+        Some(axiom) => axiom.lits().first().copied() == Some(NOT_GATE),
+        None => false,
+    }
+}
+
+fn check_copy(rt: &impl Abort, net: &Net, copy: &Net) {
+    assert!(rt; copy.circuit(Side::A).gates() == net.circuit(Side::A).gates());
+    assert!(rt; copy.circuit(Side::B).gates() == net.circuit(Side::B).gates());
+    assert!(rt; copy.clause_number(GATE, 2) == Some(7));
 }
 
 #[test]
 fn miter_of_n1(rt: HostRuntime) -> Result<(), Fail> {
     let net = swapped_net(rt.alloc())?;
-    assert_eq!(rt; net.clause_number(GATE, 2), Some(7));
-    assert_eq!(rt; net.clause_number(GATE, 3), None);
-    assert_eq!(rt; net.clause_number(Node::Xor(0), 0), Some(8));
-    let not_gate = Lit {
-        node: GATE,
-        neg: true,
-    };
-    assert_eq!(rt; net.cnf_number(not_gate), Dim::of(-5));
-    let axiom = net.axiom(GATE, 0).ok_or("an axiom")?;
-    assert_eq!(rt; axiom.lits().first().copied(), Some(not_gate));
+    check_numbers(&rt, &net);
+    assert!(rt; has_axiom(&net));
     let copy = net.copy(rt.alloc())?;
-    assert_eq!(rt; copy.circuit(Side::A).gates(), net.circuit(Side::A).gates());
-    assert_eq!(rt; copy.circuit(Side::B).gates(), net.circuit(Side::B).gates());
-    assert_eq!(rt; copy.clause_number(GATE, 2), Some(7));
+    check_copy(&rt, &net, &copy);
     Ok(())
+}
+
+const DEFINITION: Definition = Definition {
+    node: GATE,
+    left: Lit {
+        node: Node::Input(1),
+        neg: false,
+    },
+    right: Lit {
+        node: Node::Input(0),
+        neg: false,
+    },
+};
+
+fn check_axioms(rt: &impl Abort, net: &Net) {
+    assert!(rt; net.axioms(Node::Const).as_slice().len() == 1);
+    assert!(rt; net.axioms(Node::Input(0)).as_slice().is_empty());
+    assert!(rt; net.axioms(GATE).as_slice().len() == 3);
+    assert!(rt; net.axioms(Node::Xor(0)).as_slice().len() == 4);
 }
 
 #[test]
 fn what_defines_a_node(rt: HostRuntime) -> Result<(), Fail> {
     let net = swapped_net(rt.alloc())?;
-    let input = |k: u32| Lit {
-        node: Node::Input(k),
-        neg: false,
-    };
-    let gate = Definition {
-        node: GATE,
-        left: input(1),
-        right: input(0),
-    };
-    assert_eq!(rt; net.definition(GATE), Some(gate));
-    assert_eq!(rt; net.definition(Node::Const), None);
-    assert_eq!(rt; net.axioms(Node::Const).as_slice().len(), 1);
-    assert_eq!(rt; net.axioms(Node::Input(0)).as_slice().len(), 0);
-    assert_eq!(rt; net.axioms(GATE).as_slice().len(), 3);
-    assert_eq!(rt; net.axioms(Node::Xor(0)).as_slice().len(), 4);
+    assert!(rt; net.definition(GATE) == Some(DEFINITION));
+    assert!(rt; net.definition(Node::Const).is_none());
+    check_axioms(&rt, &net);
     Ok(())
 }
+
+const FANINS: [Fanins; 2] = [
+    Fanins {
+        left: Placed {
+            position: 1,
+            neg: false,
+        },
+        right: Placed {
+            position: 2,
+            neg: false,
+        },
+    },
+    Fanins {
+        left: Placed {
+            position: 0,
+            neg: false,
+        },
+        right: Placed {
+            position: 2,
+            neg: true,
+        },
+    },
+];
 
 #[test]
 fn fanins_by_position(rt: HostRuntime) -> Result<(), Fail> {
     let alloc = rt.alloc();
     let net = Net::of(alloc, one_gate(alloc, 2, 4)?, one_gate(alloc, 1, 5)?).map_err(|_| "a net")?;
-    let at = |position: u32, neg: bool| Placed { position, neg };
-    let a = Fanins {
-        left: at(1, false),
-        right: at(2, false),
-    };
-    let b = Fanins {
-        left: at(0, false),
-        right: at(2, true),
-    };
-    assert_eq!(rt; net.fanins(0), Some(a));
-    assert_eq!(rt; net.fanins(1), Some(b));
-    assert_eq!(rt; net.fanins(2), None);
-    assert_eq!(rt; net.all_fanins(), [a, b].as_slice());
+    assert!(rt; net.fanins(0) == Some(FANINS[0]));
+    assert!(rt; net.fanins(1) == Some(FANINS[1]));
+    assert!(rt; net.fanins(2).is_none());
+    assert!(rt; net.all_fanins() == FANINS.as_slice());
     Ok(())
 }
 
@@ -192,47 +237,61 @@ fn table_of_variables(rt: HostRuntime) -> Result<(), Fail> {
     let mut table = VariableTable::new(alloc);
     table.add(5)?;
     table.add(2)?;
-    assert_eq!(rt; table.place(0), Some(0));
-    assert_eq!(rt; table.place(5), Some(1));
-    assert_eq!(rt; table.place(2), Some(2));
-    assert_eq!(rt; table.place(3), None);
-    assert_eq!(rt; table.place(6), None);
+    assert!(rt; table.place(0) == Some(0));
+    assert!(rt; table.place(5) == Some(1));
+    assert!(rt; table.place(2) == Some(2));
+    assert!(rt; table.place(3).is_none());
+    assert!(rt; table.place(6).is_none());
     Ok(())
+}
+
+fn check_literals(rt: &impl Abort, net: &Net) {
+    assert!(rt; net.lit(Side::B, 7).is_some());
+    assert!(rt; net.lit(Side::B, 8).is_none());
+    assert!(rt; net.output(Side::A, 0).is_some());
+    assert!(rt; net.output(Side::A, 1).is_none());
+}
+
+fn check_sizes(rt: &impl Abort, net: &Net) {
+    assert!(rt; net.positions() == 5);
+    assert!(rt; net.variables() == 6);
+    assert!(rt; net.clauses() == 12);
+    assert!(rt; net.outputs() == 1);
+}
+
+fn check_side(rt: &impl Abort, net: &Net) {
+    let b = net.circuit(Side::B);
+    assert!(rt; b.gates().len() == 1);
+    assert!(rt; b.inputs() == [1, 2].as_slice());
+    assert!(rt; b.outputs() == [6].as_slice());
 }
 
 #[test]
 fn literals_and_sizes(rt: HostRuntime) -> Result<(), Fail> {
     let net = swapped_net(rt.alloc())?;
-    assert!(rt; net.lit(Side::B, 7).is_some());
-    assert!(rt; net.lit(Side::B, 8).is_none());
-    assert!(rt; net.output(Side::A, 0).is_some());
-    assert!(rt; net.output(Side::A, 1).is_none());
-    assert_eq!(rt; net.positions(), 5);
-    assert_eq!(rt; net.variables(), 6);
-    assert_eq!(rt; net.clauses(), 12);
-    assert_eq!(rt; net.outputs(), 1);
-    let b = net.circuit(Side::B);
-    assert_eq!(rt; b.gates().len(), 1);
-    assert_eq!(rt; b.inputs(), [1, 2].as_slice());
-    assert_eq!(rt; b.outputs(), [6].as_slice());
+    check_literals(&rt, &net);
+    check_sizes(&rt, &net);
+    check_side(&rt, &net);
     Ok(())
+}
+
+/// The values of the gate, of its negation, of the second input and of true, where the inputs are these.
+fn check_values(rt: &impl Abort, circuit: &Circuit, x: bool, y: bool, value: bool)
+    requires { circuit.now ≡ one_gate 3 4 }
+{
+    assert!(rt; circuit.value(&[x, y], 6, &mut [false]) == value);
+    assert!(rt; circuit.value(&[x, y], 7, &mut [true]) == !value);
+    assert!(rt; circuit.value(&[x, y], 4, &mut [true]) == y);
+    assert!(rt; circuit.value(&[x, y], 1, &mut [false]));
 }
 
 #[test]
 fn values(rt: HostRuntime) -> Result<(), Fail> {
-    let alloc = rt.alloc();
-    let circuit = one_gate(alloc, 3, 4)?;
-    for (x, y, value) in [
-        (false, false, false),
-        (false, true, true),
-        (true, false, false),
-        (true, true, false),
-    ] {
-        assert_eq!(rt; circuit.value(&[x, y], 6, &mut [false]), value);
-        assert_eq!(rt; circuit.value(&[x, y], 7, &mut [true]), !value);
-        assert_eq!(rt; circuit.value(&[x, y], 4, &mut [true]), y);
-        assert_eq!(rt; circuit.value(&[x, y], 1, &mut [false]), true);
-    }
+    let circuit = one_gate(rt.alloc(), 3, 4)?;
+    check_values(&rt, &circuit, false, false, false);
+    check_values(&rt, &circuit, false, true, true);
+    check_values(&rt, &circuit, true, false, false);
+    check_values(&rt, &circuit, true, true, false);
     Ok(())
 }
 
