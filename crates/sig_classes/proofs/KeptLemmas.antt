@@ -101,11 +101,11 @@ module _ (patterns : List (List Bool)) (seen : ℕ) (some : 1 ≤ length pattern
         let all : j < length patterns = omega (arith, length-take 64 patterns, early) in
         (j, all, sym (part-early j few all).1)
     | inr past ↦ (
-          behind + (j - length (take 64 patterns)),
-          omega (arith, part-length, past, below),
-          sym (get_or-append_right (take 64 patterns) (drop behind patterns) (length (take 64 patterns)) j [] refl past
-              ∙ get_or-drop behind patterns (j - length (take 64 patterns)) []),
-        )
+      behind + (j - length (take 64 patterns)),
+      omega (arith, part-length, past, below),
+      sym (get_or-append_right (take 64 patterns) (drop behind patterns) (length (take 64 patterns)) j [] refl past
+          ∙ get_or-drop behind patterns (j - length (take 64 patterns)) []),
+    )
   ]
 
   -- ---- classes over the first patterns, and rows over the part

@@ -70,7 +70,12 @@ impl Firsts {
             → HasMembers classes.now sigs.now (with_member position member) self.new }
     {
         let class = class_of(classes, position);
-        let bucket = bucket(class, sigs.row(position), sigs.patterns(), self.heads.len() as u32);
+        let bucket = bucket(
+            class,
+            sigs.row(position),
+            sigs.patterns(),
+            self.heads.len() as u32,
+        );
         self.behind[position as usize] = self.heads[bucket];
         self.heads[bucket] = position + 1;
     }

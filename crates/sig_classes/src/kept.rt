@@ -67,12 +67,7 @@ impl KeptClasses {
 }
 
 /// The least positions of the classes into which rows part those that are given.
-fn refined(
-    alloc: Global,
-    net: &Net,
-    classes: &[u32],
-    sigs: &Sigs,
-) -> Result<Vec<u32>, AllocError>
+fn refined(alloc: Global, net: &Net, classes: &[u32], sigs: &Sigs) -> Result<Vec<u32>, AllocError>
     requires { length sigs.now.rows ≡ length (nodes_of net.now) }
     ensures { IfOk result (λ v. AreLeast classes.now sigs.now (length (nodes_of net.now)) v.items) }
 {
