@@ -178,6 +178,12 @@ fits-more net book (Out j steps) old new good fits joins = subst (λ (p : Patter
 fits-more net book (OutApart j input) old new good fits joins = subst (λ (p : Patterns). Fits net p) (sym joins) fits
 fits-more net book (OutSpent j seen log) old new good fits joins = subst (λ (p : Patterns). Fits net p) (sym joins) fits
 
+-- a pattern with a truth value for each input fits
+pub fits-last : (net : AigPair) (input : List Bool) (old new : Patterns) → Fits net old → length input ≡ old.inputs
+    → new ≡ record { inputs = old.inputs; patterns = old.patterns ++ input ∷ [] } → Fits net new
+fits-last net input old new fits size joins = subst (λ (p : Patterns). Fits net p) (sym joins)
+    (record { inputs = fits.inputs; whole = whole-last (length net.a.inputs) old.patterns input fits.whole (size ∙ fits.inputs) })
+
 -- the pool is longer by that at most
 pub extends-same : (old new : Patterns) → new ≡ old → Extends old new
 extends-same old new same = record { added = []; is = ap (λ (p : Patterns). p.patterns) same ∙ sym (append-nil old.patterns) }

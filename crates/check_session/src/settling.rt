@@ -1,4 +1,4 @@
-ghost use Rattle.std.specs.Prelude.{◌≡◌, IfOk};
+ghost use Rattle.std.specs.Prelude.{◌≡◌, IfOk, IfSome, OnOk};
 ghost use Rattle.check_session.specs.Check.{AreInRange, IsFound, empty_book};
 ghost use Rattle.check_session.specs.Finding.{DiffersAt};
 ghost use Rattle.check_session.specs.Rounds.{Fits};
@@ -24,16 +24,21 @@ pub(crate) struct Settled {
     pub(crate) verdict: Verdict,
 }
 
-/// Settles the pair: at once where a pattern of the first pool tells an output apart, and else by the sweep.
+/// Settles the pair: at once where a pattern of the first pool tells an output apart, or one of the search's
+/// own patterns, which then joins the pool; and else by the sweep.
 pub(crate) fn settle(alloc: Global, net: &Net, options: Options) -> Result<Settled, AllocError>
     requires { AreInRange options }
     ensures { IfOk result (λ s. IsFound net.now options s.book s.verdict) }
 {
     let book = Book::new(alloc, options.sweep_budget, options.out_budget);
-    let pool = first_pool(alloc, net, options)?;
-    match difference_in(alloc, net, &pool)? {
+    let mut pool = first_pool(alloc, net, options)?;
+    if let Some(difference) = difference_in(alloc, net, &pool)? {
+        return settle_at_once(alloc, net, options, book, difference);
+    }
+    let mut search = Search::new(alloc, net, options.seed, options.words)?;
+    match difference_beside(alloc, net, &mut pool, &mut search)? {
         Some(difference) => settle_at_once(alloc, net, options, book, difference),
-        None => settle_by_sweep(alloc, net, options, book, pool),
+        None => settle_by_sweep(alloc, net, options, book, pool, search),
     }
 }
 
@@ -47,6 +52,36 @@ fn first_pool(alloc: Global, net: &Net, options: Options) -> Result<Pool, AllocE
         return Err(AllocError);
     };
     Pool::seeded(alloc, options.seed, options.words, inputs)
+}
+
+/// An output that differs on a pattern outside the pool, which then joins it.
+fn difference_beside(
+    alloc: Global,
+    net: &Net,
+    pool: &mut Pool,
+    search: &mut Search,
+) -> Result<Option<Difference>, AllocError>
+    requires fits { Fits net.now pool.old }
+    ensures fits { OnOk result (Fits net.now pool.new) }
+    ensures differs { IfOk result (λ d. IfSome d (λ x. DiffersAt net.now x.output x.input)) }
+{
+    let Some(input) = search.difference(alloc, net)? else {
+        return Ok(None);
+    };
+    join(net, pool, input.as_slice())?;
+    difference_in(alloc, net, pool)
+}
+
+/// Lets a pattern with a truth value for each input join the pool.
+fn join(net: &Net, pool: &mut Pool, input: &[bool]) -> Result<(), AllocError>
+    requires { Fits net.now pool.old }
+    ensures { OnOk result (Fits net.now pool.new) }
+{
+    if input.len() == pool.inputs() as usize {
+        pool.add(input)
+    } else {
+        Ok(())
+    }
 }
 
 /// The verdict that a pattern shows.
@@ -79,12 +114,12 @@ fn settle_by_sweep(
     options: Options,
     mut book: Book,
     mut pool: Pool,
+    mut search: Search,
 ) -> Result<Settled, AllocError>
     requires book { book ≡ empty_book options }
     requires fits { Fits net.now pool }
     ensures { IfOk result (λ s. IsFound net.now options s.book s.verdict) }
 {
-    let mut search = Search::new(alloc, net, options.seed, options.words)?;
     let mut refuter = WatchSolver::new(alloc)?;
     sweep(alloc, net, &mut book, &mut pool, &mut search, &mut refuter)?;
     settle_outputs(alloc, net, &mut book, &mut search, &mut refuter)?;

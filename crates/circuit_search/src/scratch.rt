@@ -1,6 +1,7 @@
 use crate::merges::code_of;
 use crate::table::{at, count, put};
 use lemma_book::Task;
+use lits::Side;
 use netlist::{Net, Placed};
 use rand_core::SeedableRng;
 use rand_core::utils::NextWord;
@@ -182,6 +183,52 @@ impl Scratch {
             self.compare(word);
         }
         Ok(())
+    }
+
+    /// The input of a drawn pattern on which an output differs: of the first such word the least such output.
+    pub(crate) fn difference(
+        &mut self,
+        alloc: Global,
+        net: &Net,
+    ) -> Result<Option<Vec<bool>>, AllocError> {
+        for word in 0..DRAWN {
+            self.simulate(net, word);
+            for output in 0..net.outputs() {
+                if let Some(bit) = self.first_apart(net, output) {
+                    let pattern = word.saturating_mul(64).saturating_add(bit);
+                    return Ok(Some(self.input(alloc, pattern)?));
+                }
+            }
+        }
+        Ok(None)
+    }
+
+    /// The first pattern of the simulated word on which an output differs.
+    fn first_apart(&self, net: &Net, output: u32) -> Option<u32> {
+        let first = self.output_word(net, Side::A, output)?;
+        let second = self.output_word(net, Side::B, output)?;
+        let apart = first ^ second;
+        if apart != 0 {
+            Some(apart.trailing_zeros())
+        } else {
+            None
+        }
+    }
+
+    /// The values of an output of one side on the simulated word.
+    fn output_word(&self, net: &Net, side: Side, output: u32) -> Option<u64> {
+        let lit = net.output(side, output)?;
+        let position = net.position(lit.node)?;
+        Some(word_at(&self.row, position as usize) ^ turn(lit.neg))
+    }
+
+    /// The inputs' truth values in a pattern.
+    fn input(&self, alloc: Global, pattern: u32) -> Result<Vec<bool>, AllocError> {
+        let mut input = Vec::new(alloc);
+        for index in 0..self.inputs {
+            input.push(self.is_true(pattern, index))?;
+        }
+        Ok(input)
     }
 
     /// Where a word of an input stands.

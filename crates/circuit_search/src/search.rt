@@ -38,6 +38,17 @@ impl Search {
         })
     }
 
+    /// An input on which an output seems to differ, if one of its patterns shows it.
+    pub fn difference(
+        &mut self,
+        alloc: Global,
+        net: &Net,
+    ) -> Result<Option<Vec<bool>>, AllocError>
+        ensures { self.new.dropped ≡ self.old.dropped }
+    {
+        self.scratch.difference(alloc, net)
+    }
+
     /// Takes the pairs of a round, and looks for those that its patterns tell apart.
     pub fn sift(&mut self, net: &Net, tasks: &[Task]) -> Result<(), AllocError>
         ensures { self.new.dropped ≡ self.old.dropped }
