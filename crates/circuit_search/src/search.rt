@@ -39,11 +39,7 @@ impl Search {
     }
 
     /// An input on which an output seems to differ, if one of its patterns shows it.
-    pub fn difference(
-        &mut self,
-        alloc: Global,
-        net: &Net,
-    ) -> Result<Option<Vec<bool>>, AllocError>
+    pub fn difference(&mut self, alloc: Global, net: &Net) -> Result<Option<Vec<bool>>, AllocError>
         ensures { self.new.dropped ≡ self.old.dropped }
     {
         self.scratch.difference(alloc, net)
