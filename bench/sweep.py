@@ -1,12 +1,17 @@
 #!/usr/bin/env python3
 """Measures `check` beside ABC's `&cec` and CaDiCaL on the same pairs, and has each proof checked.
 
-Usage: sweep.py [FOLDER] [--program PROGRAM] [--options WORDS] [--classes tiny small medium] [--limit SECONDS] [--rounds N] [--only REGEX]
+Usage: sweep.py [FOLDER] [--program PROGRAM] [--options WORDS] [--classes tiny small medium] [--limit SECONDS] [--rounds N]
+                [--only REGEX] [--statistics]
 
 FOLDER is as for `solver.py`, with the binary files `NAME.a.aig` and `NAME.b.aig` too. Each pair is given to `PROGRAM check A B --out
 P` with the words of --options, to `berkeley-abc` (`&cec`), and the miter that the program wrote to `cadical`; a peer that isn't
 installed (Debian's packages `berkeley-abc` and `cadical`) is left out with one line. The checker of proofs in C judges each
 refutation. The seconds are those of the processor, the least of the rounds; a run that takes more than the limit has none.
+
+With --statistics a second table says of each pair what the check did (rounds, merges, Aparts, Spents, conflicts, decisions, entries
+dropped), as a program tells that is changed so that it counts (`statistics_of_checks.py`), and, where `perf` is there, in which crates the
+seconds were spent.
 
 Prints a line for each pair, then, for each class and peer, how many pairs the program decides and the geometric mean of its time
 over the peer's on the pairs that both decide; times below a hundredth of a second count as that. Status 1 where a verdict is wrong
@@ -24,6 +29,7 @@ from pathlib import Path
 sys.path.insert(0, str(Path(__file__).resolve().parents[1] / "tools"))
 from house import compiled, program
 import made_pairs
+import statistics_of_checks
 from solver import best, mean, ratio, shown
 
 ABC_WORDS = {"Networks are equivalent": "EQUIVALENT", "Networks are NOT EQUIVALENT": "DIFFERENT"}
@@ -69,7 +75,19 @@ def words_given():
     parser.add_argument("--limit", type=float, default=60)
     parser.add_argument("--rounds", type=int, default=1)
     parser.add_argument("--only", type=re.compile, default=re.compile(""))
+    parser.add_argument("--statistics", action="store_true")
     return parser.parse_args()
+
+
+def print_statistics(words, mine, rows):
+    """What the check of each pair did, and where its seconds went."""
+    pairs = [[str(words.folder / f"{row['name']}.{side}.aig") for side in "ab"] for row in rows]
+    for row, pair, counts in zip(rows, pairs, statistics_of_checks.counted(pairs)):
+        print(f"{row['name']}: {counts}")
+        with tempfile.TemporaryDirectory() as place:
+            spent = statistics_of_checks.by_crate([mine, "check", *pair, "--out", str(Path(place) / "p")], place)
+        if spent:
+            print(f"{row['name']}: seconds by crate: {spent}")
 
 
 def main():
@@ -108,6 +126,8 @@ def measured(words):
                         ratios.setdefault((row["class"], name), []).append(ratio(run, other))
             times = " ".join(f"{shown(said[name][0]) if name in said else '-':>8}" for name in have)
             print(f"{row['name']:32} {verdict:10} {shown(run):>7} {times} {size:>8} {proof}", flush=True)
+    if words.statistics:
+        print_statistics(words, mine, rows)
     for kind in words.classes:
         print(f"{kind}: decided {decided.get(kind, 0)} of {sum(row['class'] == kind for row in rows)}")
     for (kind, name), list_of in sorted(ratios.items()):

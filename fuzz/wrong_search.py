@@ -20,6 +20,7 @@ from concurrent.futures import ThreadPoolExecutor
 from pathlib import Path
 
 import runner
+from crates import replaced
 from pairs import evaluated, random_circuit, rewritten, text
 from rounds import SEED
 
@@ -63,20 +64,16 @@ def fault_in(answer, a, b):
     return None if word == "UNDECIDED" else "no answer"
 
 
-def changed(folder, edit):
+def changed(crates, edit):
     """Makes the edit in the copy."""
     lines = edit.read_text().splitlines()
     said = {line.split(": ", 1)[0]: line.split(": ", 1)[1] for line in lines if line.startswith(("file: ", "old: ", "new: "))}
-    file = folder / "crates" / "circuit_search" / said["file"]
-    source = file.read_text()
-    if source.count(said["old"]) != 1:
-        raise SystemExit(f"{edit.name}: its line doesn't stand once in {said['file']}")
-    file.write_text(source.replace(said["old"], said["new"]))
+    replaced(crates / "circuit_search" / said["file"], said["old"], said["new"])
 
 
 def answers(name, lines):
     """What the program with this edit, or with none, says of the pairs."""
-    change = (lambda folder: changed(folder, EDITS / f"{name}.edit")) if name else None
+    change = (lambda crates: changed(crates, EDITS / f"{name}.edit")) if name else None
     return runner.answers("checks", USES, lines, change).splitlines()
 
 
