@@ -1,5 +1,6 @@
 ghost use Rattle.std.specs.Prelude.{◌≡◌, IfOk, length};
 ghost use Rattle.netlist.specs.Net.{nodes_of};
+ghost use Rattle.lemma_book.specs.Book.{IsLegal};
 
 use lemma_book::{Book, Entry, Offered, Task};
 use lits::{Clause, Listed, Lit, Literal, Node, Ref, Side, Step};
@@ -17,17 +18,32 @@ fn two_xors(alloc: Global) -> Result<Net, Fail> {
     Ok(Net::of(alloc, a, b).map_err(|_| "a net")?)
 }
 
-/// The rows on a seeded pool and on all four inputs.
-fn rows(rt: &impl Abort, alloc: Global, net: &Net) -> Result<Sigs, Fail>
-    ensures { IfOk result (λ s. length s.rows ≡ length (nodes_of net.now)) }
+/// A seeded pool and all four inputs.
+fn pool(alloc: Global) -> Result<Pool, Fail>
+    ensures { IfOk result (λ p. p.inputs ≡ 2) }
 {
     let mut pool = Pool::seeded(alloc, 1, 1, 2)?;
     pool.add(&[false, false])?;
     pool.add(&[false, true])?;
     pool.add(&[true, false])?;
     pool.add(&[true, true])?;
+    Ok(pool)
+}
+
+/// The rows on the pool.
+fn rows(rt: &impl Abort, alloc: Global, net: &Net) -> Result<Sigs, Fail>
+    ensures { IfOk result (λ s. length s.rows ≡ length (nodes_of net.now)) }
+{
+    let pool = pool(alloc)?;
     assert!(rt; net.circuit(Side::A).inputs().len() == 2);
     Ok(signatures(alloc, net, &pool)?)
+}
+
+/// What is to be asked where the book is empty.
+fn tasks_on(rt: &impl Abort, alloc: Global, net: &Net) -> Result<Vec<Task>, Fail> {
+    let sigs = rows(rt, alloc, net)?;
+    let book = Book::new(alloc, 1, 1);
+    Ok(tasks(alloc, net, &sigs, &book)?)
 }
 
 fn gate(side: Side, var: u32) -> Lit {
@@ -54,43 +70,47 @@ const PAIR: Task = Task {
 fn tasks_of_two_xors(rt: HostRuntime) -> Result<(), Fail> {
     let alloc = rt.alloc();
     let net = two_xors(alloc)?;
-    let sigs = rows(&rt, alloc, &net)?;
-    let book = Book::new(alloc, 1, 1);
-    let found = tasks(alloc, &net, &sigs, &book)?;
-    assert_eq!(rt; found.as_slice(), [PAIR].as_slice());
+    let found = tasks_on(&rt, alloc, &net)?;
+    assert!(rt; found.as_slice() == [PAIR].as_slice());
     Ok(())
 }
 
-/// What a query with a budget of one clause learned of the pair: where both gates are true, so is x.
-fn spent(alloc: Global) -> Result<Entry, Fail> {
+const HINTS: [Ref; 4] = [
+    Ref::Axiom(B5, 1),
+    Ref::Axiom(Node::Gate(Side::B, 4), 2),
+    Ref::Axiom(A5, 1),
+    Ref::Axiom(Node::Gate(Side::A, 4), 2),
+];
+
+/// Where both gates are true, so is x.
+fn learned(alloc: Global) -> Result<Step, Fail> {
     let x = Lit {
         node: Node::Input(0),
         neg: false,
     };
-    let clause = Clause::of(alloc, &[gate(Side::B, 5).not(), gate(Side::A, 5).not(), x]).map_err(
-        |_| "a clause",
-    )?;
-    let hints = Vec::from_slice(
-        alloc,
-        &[
-            Ref::Axiom(B5, 1),
-            Ref::Axiom(Node::Gate(Side::B, 4), 2),
-            Ref::Axiom(A5, 1),
-            Ref::Axiom(Node::Gate(Side::A, 4), 2),
-        ],
-    )?;
+    let lits = [gate(Side::B, 5).not(), gate(Side::A, 5).not(), x];
+    let clause = Clause::of(alloc, &lits).map_err(|_| "a clause")?;
+    let hints = Listed::of(Vec::from_slice(alloc, &HINTS)?);
+    Ok(Step { clause, hints })
+}
+
+/// What a query with a budget of one clause learned of the pair.
+fn spent(alloc: Global) -> Result<Entry, Fail> {
     let mut log = Vec::new(alloc);
-    log.push(Step {
-        clause,
-        hints: Listed::of(hints),
-    })?;
-    let Task { node, lit } = PAIR;
+    log.push(learned(alloc)?)?;
     Ok(Entry::Spent {
-        node,
-        lit,
+        node: PAIR.node,
+        lit: PAIR.lit,
         seen: 0,
         log: Listed::of(log),
     })
+}
+
+/// Whether the entry becomes the book's first.
+fn is_first(alloc: Global, net: &Net, book: &mut Book, entry: Entry) -> bool
+    requires { IsLegal net.now book.old }
+{
+    matches!(book.offer(alloc, net, entry), Ok(Offered::At(0)))
 }
 
 /// A pair whose budget was spent is no task again.
@@ -100,11 +120,10 @@ fn spent_pair(rt: HostRuntime) -> Result<(), Fail> {
     let net = two_xors(alloc)?;
     let sigs = rows(&rt, alloc, &net)?;
     let mut book = Book::new(alloc, 1, 1);
-    let offered = book
-        .offer(alloc, &net, spent(alloc)?)
-        .map_err(|_| "a good entry")?;
-    assert_eq!(rt; offered, Offered::At(0));
-    assert!(rt; tasks(alloc, &net, &sigs, &book)?.is_empty());
+    let entry = spent(alloc)?;
+    assert!(rt; is_first(alloc, &net, &mut book, entry));
+    let found = tasks(alloc, &net, &sigs, &book)?;
+    assert!(rt; found.is_empty());
     Ok(())
 }
 
@@ -118,31 +137,48 @@ fn leaders(rt: HostRuntime) -> Result<(), Fail> {
     let book = Book::new(alloc, 1, 1);
     assert!(rt; net.position(A5).is_some());
     assert!(rt; net.position(B5).is_some());
-    assert_eq!(rt; leader(&net, &sigs, &book, B5), PAIR.lit);
-    assert_eq!(rt; leader(&net, &sigs, &book, A5), gate(Side::A, 5));
+    assert!(rt; leader(&net, &sigs, &book, B5) == PAIR.lit);
+    assert!(rt; leader(&net, &sigs, &book, A5) == gate(Side::A, 5));
     Ok(())
 }
+
+/// A gate that is an input, its negation, and false.
+fn complements(alloc: Global) -> Result<Net, Fail> {
+    let a = two_input_circuit(alloc, &[and(3, 4, 4), and(4, 2, 3)], 6)?;
+    let b = two_input_circuit(alloc, &[and(3, 5, 1)], 6)?;
+    Ok(Net::of(alloc, a, b).map_err(|_| "a net")?)
+}
+
+const OF_COMPLEMENTS: [Task; 3] = [
+    Task {
+        node: Node::Gate(Side::A, 3),
+        lit: Lit {
+            node: Node::Input(1),
+            neg: false,
+        },
+    },
+    Task {
+        node: Node::Gate(Side::A, 4),
+        lit: Lit {
+            node: Node::Const,
+            neg: true,
+        },
+    },
+    Task {
+        node: Node::Gate(Side::B, 3),
+        lit: Lit {
+            node: Node::Input(1),
+            neg: true,
+        },
+    },
+];
 
 /// Gates that are an input, its negation and false: their classes begin with the input and with the constant.
 #[test]
 fn classes_with_complements(rt: HostRuntime) -> Result<(), Fail> {
     let alloc = rt.alloc();
-    let a = two_input_circuit(alloc, &[and(3, 4, 4), and(4, 2, 3)], 6)?;
-    let b = two_input_circuit(alloc, &[and(3, 5, 1)], 6)?;
-    let net = Net::of(alloc, a, b).map_err(|_| "a net")?;
-    let sigs = rows(&rt, alloc, &net)?;
-    let book = Book::new(alloc, 1, 1);
-    let lit = |node: Node, neg: bool| Lit { node, neg };
-    let task = |side: Side, var: u32, lit: Lit| Task {
-        node: Node::Gate(side, var),
-        lit,
-    };
-    let expected = [
-        task(Side::A, 3, lit(Node::Input(1), false)),
-        task(Side::A, 4, lit(Node::Const, true)),
-        task(Side::B, 3, lit(Node::Input(1), true)),
-    ];
-    let found = tasks(alloc, &net, &sigs, &book)?;
-    assert_eq!(rt; found.as_slice(), expected.as_slice());
+    let net = complements(alloc)?;
+    let found = tasks_on(&rt, alloc, &net)?;
+    assert!(rt; found.as_slice() == OF_COMPLEMENTS.as_slice());
     Ok(())
 }

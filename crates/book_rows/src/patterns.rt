@@ -1,20 +1,22 @@
-ghost use Rattle.std.specs.Prelude.{◌≡◌, length};
+ghost use Rattle.std.specs.Prelude.{◌≡◌, ◌≤◌, length};
 ghost use Rattle.std.specs.Bool.{OnTrue};
 
 use lits::Side;
 use netlist::Net;
 use std::alloc::{AllocError, Global};
+use std::process::Abort;
 use std::test::Fail;
-use word_sim::{Pool, fill, signatures};
+use word_sim::{Pool, Sigs, fill, signatures};
 use worked_circuits::one_gate;
 
 /// A pool of one seeded word; a pattern that is added opens the next word.
 #[test]
 fn seeded_pool(rt: HostRuntime) -> Result<(), Fail> {
     let mut pool = Pool::seeded(rt.alloc(), 7, 1, 2)?;
-    assert_eq!(rt; (pool.inputs(), pool.patterns(), pool.words()), (2, 64, 1));
+    assert!(rt; pool.inputs() == 2);
+    assert!(rt; pool.patterns() == 64 && pool.words() == 1);
     pool.add(&[true, false])?;
-    assert_eq!(rt; (pool.patterns(), pool.words()), (65, 2));
+    assert!(rt; pool.patterns() == 65 && pool.words() == 2);
     Ok(())
 }
 
@@ -33,6 +35,24 @@ fn pool(alloc: Global) -> Result<Pool, AllocError> {
 }
 
 /// The words of the inputs are those of tools/draws.py, the others what C's operators make of them.
+const ROWS: [[u64; 2]; 5] = [
+    [u64::MAX, 1],
+    [0x0021_3964_d113_e80f, 1],
+    [0x3b38_6b74_5518_224d, 0],
+    [0x0020_2964_5110_200d, 0],
+    [0x0020_2964_5110_200d, 0],
+];
+
+fn check_rows(rt: &impl Abort, sigs: &Sigs)
+    requires { 5 ≤ length sigs.now.rows }
+{
+    assert!(rt; sigs.row(0) == ROWS[0].as_slice());
+    assert!(rt; sigs.row(1) == ROWS[1].as_slice());
+    assert!(rt; sigs.row(2) == ROWS[2].as_slice());
+    assert!(rt; sigs.row(3) == ROWS[3].as_slice());
+    assert!(rt; sigs.row(4) == ROWS[4].as_slice());
+}
+
 #[test]
 fn rows_of_swapped_ands(rt: HostRuntime) -> Result<(), Fail> {
     let alloc = rt.alloc();
@@ -40,14 +60,32 @@ fn rows_of_swapped_ands(rt: HostRuntime) -> Result<(), Fail> {
     let pool = pool(alloc)?;
     assert!(rt; fits(&net, &pool));
     let sigs = signatures(alloc, &net, &pool)?;
-    assert_eq!(rt; sigs.patterns(), 65);
+    assert!(rt; sigs.patterns() == 65);
     assert!(rt; net.positions() >= 5);
-    assert_eq!(rt; sigs.row(0), [u64::MAX, 1].as_slice());
-    assert_eq!(rt; sigs.row(1), [0x0021_3964_d113_e80f, 1].as_slice());
-    assert_eq!(rt; sigs.row(2), [0x3b38_6b74_5518_224d, 0].as_slice());
-    assert_eq!(rt; sigs.row(3), [0x0020_2964_5110_200d, 0].as_slice());
-    assert_eq!(rt; sigs.row(4), [0x0020_2964_5110_200d, 0].as_slice());
+    check_rows(&rt, &sigs);
     Ok(())
+}
+
+const ROWS_OF_COMPLEMENTS: [u64; 10] = [
+    u64::MAX,
+    1,
+    0x0021_3964_d113_e80f,
+    1,
+    0x3b38_6b74_5518_224d,
+    0,
+    0xc4c6_848b_2ae4_15b0,
+    0,
+    0xc4c7_948b_aae7_ddb2,
+    1,
+];
+
+/// The rows of all nodes in one buffer.
+fn filled(alloc: Global, net: &Net, pool: &Pool) -> Result<Vec<u64>, AllocError>
+    requires { pool.now.inputs ≡ length net.now.a.inputs }
+{
+    let mut rows = vec![in alloc; 7; net.positions() as usize * pool.words() as usize]?;
+    fill(net, pool, rows.as_mut_slice());
+    Ok(rows)
 }
 
 /// Rows of gates over complements and over the constant, in one buffer; the bits behind pattern 64 are
@@ -58,20 +96,7 @@ fn rows_of_complements(rt: HostRuntime) -> Result<(), Fail> {
     let net = Net::of(alloc, one_gate(alloc, 3, 5)?, one_gate(alloc, 1, 5)?).map_err(|_| "a net")?;
     let pool = pool(alloc)?;
     assert!(rt; fits(&net, &pool));
-    let mut rows = vec![in alloc; 7; net.positions() as usize * pool.words() as usize]?;
-    fill(&net, &pool, rows.as_mut_slice());
-    let expected = [
-        u64::MAX,
-        1,
-        0x0021_3964_d113_e80f,
-        1,
-        0x3b38_6b74_5518_224d,
-        0,
-        0xc4c6_848b_2ae4_15b0,
-        0,
-        0xc4c7_948b_aae7_ddb2,
-        1,
-    ];
-    assert_eq!(rt; rows.as_slice(), expected.as_slice());
+    let rows = filled(alloc, &net, &pool)?;
+    assert!(rt; rows.as_slice() == ROWS_OF_COMPLEMENTS.as_slice());
     Ok(())
 }

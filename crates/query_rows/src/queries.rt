@@ -79,8 +79,8 @@ fn pair_merge(rt: HostRuntime) -> Result<(), Fail> {
     let Entry::Merge { node, lit, .. } = entry else {
         return Err("no merge".into());
     };
-    assert_eq!(rt; node, task.node);
-    assert_eq!(rt; lit, task.lit);
+    assert!(rt; node == task.node);
+    assert!(rt; lit == task.lit);
     Ok(())
 }
 
@@ -96,21 +96,32 @@ fn pair_apart(rt: HostRuntime) -> Result<(), Fail> {
     let Entry::Apart { input, .. } = entry else {
         return Err("no input".into());
     };
-    assert_eq!(rt; input.as_slice(), [true, false].as_slice());
+    assert!(rt; input.as_slice() == [true, false].as_slice());
     Ok(())
+}
+
+/// A log of one clause over the empty book, for want of units.
+fn is_spent(entry: &Entry) -> bool {
+    match entry {
+        Entry::OutSpent { seen, log, .. } => *seen == 0 && log.len() == 1,
+        _ => false,
+    }
+}
+
+/// The answer about the XORs, with so many clauses for an output.
+fn answer_of_xors(rt: &impl Abort, alloc: Global, budget: u64) -> Result<Entry, Fail>
+    requires { (1 ≤ budget) × (budget ≤ 1000000000) }
+{
+    let net = two_xors(alloc)?;
+    let seen = Book::new(alloc, 1, budget);
+    answer_of_output(rt, alloc, &net, &seen)
 }
 
 #[test]
 fn output_query(rt: HostRuntime) -> Result<(), Fail> {
-    let alloc = rt.alloc();
-    let net = two_xors(alloc)?;
-    let entry = answer_of_output(&rt, alloc, &net, &Book::new(alloc, 1, 1))?;
-    let Entry::OutSpent { seen, log, .. } = entry else {
-        return Err("not spent".into());
-    };
-    assert_eq!(rt; seen, 0);
-    assert_eq!(rt; log.as_slice().len(), 1);
-    let entry = answer_of_output(&rt, alloc, &net, &Book::new(alloc, 1, 100_000))?;
+    let entry = answer_of_xors(&rt, rt.alloc(), 1)?;
+    assert!(rt; is_spent(&entry));
+    let entry = answer_of_xors(&rt, rt.alloc(), 100_000)?;
     assert!(rt; matches!(entry, Entry::Out { output: 0, .. }));
     Ok(())
 }
@@ -121,15 +132,16 @@ fn step(alloc: Global, lits: &[Lit], hints: &[Ref]) -> Result<Step, Fail> {
     Ok(Step { clause, hints })
 }
 
+const BELOW: [Ref; 3] = [Ref::Axiom(B3, 0), Ref::Axiom(B3, 1), Ref::Axiom(A3, 2)];
+
+const ABOVE: [Ref; 3] = [Ref::Axiom(A3, 0), Ref::Axiom(A3, 1), Ref::Axiom(B3, 2)];
+
 /// The merge of the two swapped ANDs.
 fn merge(alloc: Global) -> Result<Entry, Fail> {
     let (a, b) = (plus(A3), plus(B3));
-    let axiom = Ref::Axiom;
     let mut steps = Vec::new(alloc);
-    let hints = [axiom(B3, 0), axiom(B3, 1), axiom(A3, 2)];
-    steps.push(step(alloc, &[b.not(), a], &hints)?)?;
-    let hints = [axiom(A3, 0), axiom(A3, 1), axiom(B3, 2)];
-    steps.push(step(alloc, &[b, a.not()], &hints)?)?;
+    steps.push(step(alloc, &[b.not(), a], &BELOW)?)?;
+    steps.push(step(alloc, &[b, a.not()], &ABOVE)?)?;
     Ok(Entry::Merge {
         node: B3,
         lit: a,
@@ -137,28 +149,43 @@ fn merge(alloc: Global) -> Result<Entry, Fail> {
     })
 }
 
+/// The answer about the swapped ANDs over the book of their merge.
+fn answer_of_merged(rt: &impl Abort, alloc: Global) -> Result<Entry, Fail> {
+    let net = swapped_and(alloc)?;
+    let mut seen = Book::new(alloc, 1, 1);
+    assert!(rt; seen.offer(alloc, &net, merge(alloc)?).is_ok());
+    answer_of_output(rt, alloc, &net, &seen)
+}
+
+fn is_step(step: &Step, lits: &[Lit], hints: &[Ref]) -> bool {
+    step.clause.lits() == lits && step.hints.as_slice() == hints
+}
+
+const FIRST_HINTS: [Ref; 2] = [Ref::Entry(0, 0), Ref::Axiom(Node::Xor(0), 0)];
+
+const SECOND_HINTS: [Ref; 3] = [Ref::Own(0), Ref::Entry(0, 1), Ref::Axiom(Node::Xor(0), 1)];
+
+const EQUAL: Lit = Lit {
+    node: Node::Xor(0),
+    neg: true,
+};
+
+fn check_steps(rt: &impl Abort, steps: &[Step]) -> Result<(), Fail> {
+    let [first, second] = steps else {
+        return Err("not two steps".into());
+    };
+    assert!(rt; is_step(first, &[EQUAL, plus(A3)], &FIRST_HINTS));
+    assert!(rt; is_step(second, &[EQUAL], &SECOND_HINTS));
+    Ok(())
+}
+
 /// Two steps over the merge and the XOR: by the merge's first clause a false output of A makes that of B
 /// false, and by its second a true one makes it true, so where the XOR is true neither can be.
 #[test]
 fn output_of_equal_roots(rt: HostRuntime) -> Result<(), Fail> {
-    let alloc = rt.alloc();
-    let net = swapped_and(alloc)?;
-    let mut seen = Book::new(alloc, 1, 1);
-    assert!(rt; seen.offer(alloc, &net, merge(alloc)?).is_ok());
-    let entry = answer_of_output(&rt, alloc, &net, &seen)?;
+    let entry = answer_of_merged(&rt, rt.alloc())?;
     let Entry::Out { steps, .. } = entry else {
         return Err("not out".into());
     };
-    let [first, second] = steps.as_slice() else {
-        return Err("not two steps".into());
-    };
-    let xor = Node::Xor(0);
-    let equal = plus(xor).not();
-    let hints = [Ref::Entry(0, 0), Ref::Axiom(xor, 0)];
-    assert_eq!(rt; first.clause.lits(), [equal, plus(A3)].as_slice());
-    assert_eq!(rt; first.hints.as_slice(), hints.as_slice());
-    let hints = [Ref::Own(0), Ref::Entry(0, 1), Ref::Axiom(xor, 1)];
-    assert_eq!(rt; second.clause.lits(), [equal].as_slice());
-    assert_eq!(rt; second.hints.as_slice(), hints.as_slice());
-    Ok(())
+    check_steps(&rt, steps.as_slice())
 }

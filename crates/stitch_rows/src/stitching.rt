@@ -1,15 +1,34 @@
-ghost use Rattle.std.specs.Prelude.{◌≡◌, None, length};
+ghost use Rattle.std.specs.Prelude.{◌≡◌, None, IfOk, length};
+ghost use Rattle.desk_port.specs.MemDesk.{state_of};
 ghost use Rattle.lemma_book.specs.Book.{IsLegal};
 
 use desk_port::{Desk, MemDesk};
 use lemma_book::{Book, Entry};
 use lits::{Clause, Listed, Lit, Literal, Node, Ref, Side, Step};
-use netlist::Net;
+use netlist::{Circuit, Net};
 use proof_stitch::{Span, StitchErr, derivation, refutation};
-use std::alloc::Global;
+use std::alloc::{AllocError, Global};
 use std::collections::BTreeMap;
 use std::test::Fail;
-use worked_circuits::{and, circuit};
+use worked_circuits::circuit;
+
+fn net_of(alloc: Global, a: Circuit, b: Circuit) -> Result<Net, Fail> {
+    Ok(Net::of(alloc, a, b).map_err(|_| "a net")?)
+}
+
+/// A desk without files.
+fn desk(alloc: Global) -> Result<MemDesk, AllocError>
+    ensures { IfOk result (λ desk. (state_of desk).started ≡ None) }
+{
+    MemDesk::new(alloc, BTreeMap::new(alloc), Vec::new(alloc))
+}
+
+fn has_proof(desk: &MemDesk, text: &[u8]) -> bool {
+    match desk.file("p") {
+        Some(found) => found == text,
+        None => false,
+    }
+}
 
 /// Starts a file and writes the derivation.
 fn derived<D: Desk>(
@@ -41,13 +60,13 @@ fn stitched_from_nothing(rt: HostRuntime) -> Result<(), Fail> {
     let alloc = rt.alloc();
     let a = circuit(alloc, &[], &[], &[])?;
     let b = circuit(alloc, &[], &[], &[])?;
-    let net = Net::of(alloc, a, b).map_err(|_| "a net")?;
+    let net = net_of(alloc, a, b)?;
     assert!(rt; net.outputs() == 0);
     let book = Book::new(alloc, 1, 1);
-    let mut desk = MemDesk::new(alloc, BTreeMap::new(alloc), Vec::new(alloc))?;
+    let mut desk = desk(alloc)?;
     let lines = refuted(alloc, &net, &book, &mut desk).map_err(|_| "a proof")?;
-    assert_eq!(rt; lines, 1);
-    assert_eq!(rt; desk.file("p"), Some(&b"3 0 2 0\n"[..]));
+    assert!(rt; lines == 1);
+    assert!(rt; has_proof(&desk, b"3 0 2 0\n"));
     Ok(())
 }
 
@@ -129,36 +148,39 @@ fn put(alloc: Global, net: &Net, book: &mut Book, entry: Entry) -> Result<(), Fa
 #[test]
 fn stitched_entries(rt: HostRuntime) -> Result<(), Fail> {
     let alloc = rt.alloc();
-    let a = circuit(alloc, &[1, 2], &[and(3, 2, 4)], &[6])?;
-    let b = circuit(alloc, &[1, 2], &[and(3, 4, 2)], &[6])?;
-    let net = Net::of(alloc, a, b).map_err(|_| "a net")?;
+    let (a, b) = worked_circuits::swapped_ands(alloc)?;
+    let net = net_of(alloc, a, b)?;
     let mut book = Book::new(alloc, 1, 1);
     put(alloc, &net, &mut book, merge(alloc)?)?;
     put(alloc, &net, &mut book, out(alloc)?)?;
-    let mut desk = MemDesk::new(alloc, BTreeMap::new(alloc), Vec::new(alloc))?;
+    let mut desk = desk(alloc)?;
     let spans = derived(alloc, &net, &book, &mut desk).map_err(|_| "a proof")?;
     assert!(rt; spans.is_empty());
     let text = b"13 -5 4 0 5 6 4 0\n14 5 -4 0 2 3 7 0\n15 -6 4 0 8 13 0\n16 -6 0 15 9 14 0\n";
-    assert_eq!(rt; desk.file("p"), Some(&text[..]));
+    assert!(rt; has_proof(&desk, text));
     Ok(())
 }
+
+const HINTS_OF_LEARNED: [Ref; 7] = [
+    Ref::Axiom(Node::Xor(0), 1),
+    Ref::Axiom(B3, 0),
+    Ref::Axiom(Node::Gate(Side::B, 5), 2),
+    Ref::Axiom(Node::Gate(Side::B, 4), 1),
+    Ref::Axiom(Node::Gate(Side::A, 4), 1),
+    Ref::Axiom(Node::Gate(Side::A, 5), 2),
+    Ref::Axiom(A3, 0),
+];
 
 /// What a query of two XORs learned with a budget of one clause: where the output differs and A's gate is
 /// false, x is true.
 fn spent(alloc: Global) -> Result<Entry, Fail> {
-    let a = |var: u32| Node::Gate(Side::A, var);
-    let b = |var: u32| Node::Gate(Side::B, var);
-    let hints = [
-        Ref::Axiom(DIFFER.node, 1),
-        Ref::Axiom(b(3), 0),
-        Ref::Axiom(b(5), 2),
-        Ref::Axiom(b(4), 1),
-        Ref::Axiom(a(4), 1),
-        Ref::Axiom(a(5), 2),
-        Ref::Axiom(a(3), 0),
-    ];
+    let learned = step(
+        alloc,
+        &[DIFFER.not(), gate(Side::A, 5), X],
+        &HINTS_OF_LEARNED,
+    )?;
     let mut log = Vec::new(alloc);
-    log.push(step(alloc, &[DIFFER.not(), gate(Side::A, 5), X], &hints)?)?;
+    log.push(learned)?;
     Ok(Entry::OutSpent {
         output: 0,
         seen: 0,
@@ -170,30 +192,19 @@ fn spent(alloc: Global) -> Result<Entry, Fail> {
 #[test]
 fn stitched_log(rt: HostRuntime) -> Result<(), Fail> {
     let alloc = rt.alloc();
-    let a = circuit(
-        alloc,
-        &[1, 2],
-        &[and(3, 2, 5), and(4, 3, 4), and(5, 7, 9)],
-        &[11],
-    )?;
-    let b = circuit(
-        alloc,
-        &[1, 2],
-        &[and(3, 2, 4), and(4, 3, 5), and(5, 7, 9)],
-        &[10],
-    )?;
-    let net = Net::of(alloc, a, b).map_err(|_| "a net")?;
+    let (a, b) = worked_circuits::two_xors(alloc)?;
+    let net = net_of(alloc, a, b)?;
     let mut book = Book::new(alloc, 1, 1);
     put(alloc, &net, &mut book, spent(alloc)?)?;
-    let mut desk = MemDesk::new(alloc, BTreeMap::new(alloc), Vec::new(alloc))?;
+    let mut desk = desk(alloc)?;
     let spans = derived(alloc, &net, &book, &mut desk).map_err(|_| "a proof")?;
     let span = Span {
         output: 0,
         first: 25,
         last: 25,
     };
-    assert_eq!(rt; spans.as_slice(), [span].as_slice());
+    assert!(rt; spans.as_slice() == [span].as_slice());
     let text = b"25 -10 6 2 0 21 11 19 15 6 10 2 0\n";
-    assert_eq!(rt; desk.file("p"), Some(&text[..]));
+    assert!(rt; has_proof(&desk, text));
     Ok(())
 }

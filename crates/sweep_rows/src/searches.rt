@@ -112,7 +112,7 @@ fn two_forms_of_an_xor_are_merged(rt: HostRuntime) -> Result<(), Fail> {
     let net = net_of(alloc, equal(alloc)?, not_one(alloc)?)?;
     let (found, dropped) = of_pair(alloc, &net, 5, true, 10)?;
     assert!(rt; matches!(&found, Some(Entry::Merge { .. })));
-    assert_eq!(rt; dropped, 0);
+    assert!(rt; dropped == 0);
     Ok(())
 }
 
@@ -122,7 +122,7 @@ fn two_forms_of_an_output_are_equal(rt: HostRuntime) -> Result<(), Fail> {
     let net = net_of(alloc, equal(alloc)?, not_one(alloc)?)?;
     let (found, dropped) = of_output(alloc, &net)?;
     assert!(rt; matches!(&found, Some(Entry::Out { .. })));
-    assert_eq!(rt; dropped, 0);
+    assert!(rt; dropped == 0);
     Ok(())
 }
 
@@ -132,7 +132,7 @@ fn gates_that_differ_are_apart(rt: HostRuntime) -> Result<(), Fail> {
     let net = net_of(alloc, and(alloc)?, without(alloc)?)?;
     let (found, dropped) = of_pair(alloc, &net, 3, false, 10)?;
     assert!(rt; matches!(&found, Some(Entry::Apart { .. })));
-    assert_eq!(rt; dropped, 0);
+    assert!(rt; dropped == 0);
     Ok(())
 }
 
@@ -142,6 +142,6 @@ fn a_search_without_choices_gives_up(rt: HostRuntime) -> Result<(), Fail> {
     let net = net_of(alloc, equal(alloc)?, not_one(alloc)?)?;
     let (found, dropped) = of_pair(alloc, &net, 5, true, 0)?;
     assert!(rt; found.is_none());
-    assert_eq!(rt; dropped, 0);
+    assert!(rt; dropped == 0);
     Ok(())
 }

@@ -4,14 +4,9 @@ use check_session::{Options, Session, Verdict};
 use lemma_book::Entry;
 use lits::{Lit, Node, Side};
 use netlist::{Circuit, Unlike};
-use std::alloc::{AllocError, Global};
+use std::alloc::Global;
 use std::test::Fail;
-use worked_circuits::{and, circuit};
-
-/// The AND of two inputs.
-fn one_and(alloc: Global) -> Result<Circuit, AllocError> {
-    circuit(alloc, &[1, 2], &[and(3, 2, 4)], &[6])
-}
+use worked_circuits::{circuit, one_gate, swapped_ands, two_xors};
 
 /// The numbers that the program goes by where it isn't told others.
 const DEFAULTS: Options = Options {
@@ -39,7 +34,7 @@ fn checked(
 fn unlike_circuits(rt: HostRuntime) -> Result<(), Fail> {
     let alloc = rt.alloc();
     let b = circuit(alloc, &[1, 2, 3], &[], &[6])?;
-    let refused = Session::open(alloc, one_and(alloc)?, b, DEFAULTS);
+    let refused = Session::open(alloc, one_gate(alloc, 2, 4)?, b, DEFAULTS);
     assert!(rt; matches!(refused, Err(Unlike::Inputs(2, 3))));
     Ok(())
 }
@@ -48,11 +43,11 @@ fn unlike_circuits(rt: HostRuntime) -> Result<(), Fail> {
 #[test]
 fn equal_by_structure(rt: HostRuntime) -> Result<(), Fail> {
     let alloc = rt.alloc();
-    let b = circuit(alloc, &[1, 2], &[and(3, 4, 2)], &[6])?;
-    let (session, verdict) = checked(alloc, one_and(alloc)?, b, DEFAULTS)?;
+    let (a, b) = swapped_ands(alloc)?;
+    let (session, verdict) = checked(alloc, a, b, DEFAULTS)?;
     assert!(rt; matches!(verdict, Verdict::Equivalent));
     let book = session.into_book();
-    assert_eq!(rt; book.len(), 2);
+    assert!(rt; book.len() == 2);
     assert!(rt; matches!(book.entry(0), Some(Entry::Merge { .. })));
     assert!(rt; matches!(book.about(0), Some(Entry::Out { .. })));
     Ok(())
@@ -63,51 +58,43 @@ fn equal_by_structure(rt: HostRuntime) -> Result<(), Fail> {
 fn different_by_a_pattern(rt: HostRuntime) -> Result<(), Fail> {
     let alloc = rt.alloc();
     let b = circuit(alloc, &[1, 2], &[], &[0])?;
-    let (session, verdict) = checked(alloc, one_and(alloc)?, b, DEFAULTS)?;
+    let (session, verdict) = checked(alloc, one_gate(alloc, 2, 4)?, b, DEFAULTS)?;
     let Verdict::Different { output, input } = verdict else {
         return Err("another verdict".into());
     };
-    assert_eq!(rt; output, 0);
-    assert_eq!(rt; input.as_slice(), [true, true].as_slice());
+    assert!(rt; output == 0);
+    assert!(rt; input.as_slice() == [true, true].as_slice());
     let book = session.into_book();
-    assert_eq!(rt; book.len(), 1);
+    assert!(rt; book.len() == 1);
     assert!(rt; matches!(book.about(0), Some(Entry::OutApart { .. })));
     Ok(())
 }
 
-/// The XOR of two inputs, in two ways.
-fn first_xor(alloc: Global) -> Result<Circuit, AllocError> {
-    circuit(
-        alloc,
-        &[1, 2],
-        &[and(3, 2, 5), and(4, 3, 4), and(5, 7, 9)],
-        &[11],
-    )
+/// A session of the XOR of two inputs, in two ways, after its check.
+fn checked_xors(alloc: Global, options: Options) -> Result<(Session, Verdict), Fail>
+    requires { AreInRange options }
+{
+    let (a, b) = two_xors(alloc)?;
+    checked(alloc, a, b, options)
 }
 
-fn second_xor(alloc: Global) -> Result<Circuit, AllocError> {
-    circuit(
-        alloc,
-        &[1, 2],
-        &[and(3, 2, 4), and(4, 3, 5), and(5, 7, 9)],
-        &[10],
-    )
-}
+const LAST_OF_B: Lit = Lit {
+    node: Node::Gate(Side::B, 5),
+    neg: false,
+};
+
+const NOT_LAST_OF_A: Lit = Lit {
+    node: Node::Gate(Side::A, 5),
+    neg: true,
+};
 
 /// No gate is a twin of another; a round merges the last one to the complement of A's.
 #[test]
 fn equal_by_a_round(rt: HostRuntime) -> Result<(), Fail> {
     let alloc = rt.alloc();
-    let (session, verdict) = checked(alloc, first_xor(alloc)?, second_xor(alloc)?, DEFAULTS)?;
+    let (session, verdict) = checked_xors(alloc, DEFAULTS)?;
     assert!(rt; matches!(verdict, Verdict::Equivalent));
-    let lit = |side: Side, neg: bool| Lit {
-        node: Node::Gate(side, 5),
-        neg,
-    };
-    assert_eq!(rt;
-        session.book().root(lit(Side::B, false)),
-        lit(Side::A, true)
-    );
+    assert!(rt; session.book().root(LAST_OF_B) == NOT_LAST_OF_A);
     Ok(())
 }
 
@@ -121,7 +108,7 @@ fn equal_by_its_output(rt: HostRuntime) -> Result<(), Fail> {
         sweep_budget: 1,
         out_budget: 100_000,
     };
-    let (session, verdict) = checked(alloc, first_xor(alloc)?, second_xor(alloc)?, options)?;
+    let (session, verdict) = checked_xors(alloc, options)?;
     assert!(rt; matches!(verdict, Verdict::Equivalent));
     assert!(rt; matches!(session.book().about(0), Some(Entry::Out { .. })));
     Ok(())
@@ -137,14 +124,14 @@ fn undecided_within_budgets(rt: HostRuntime) -> Result<(), Fail> {
         sweep_budget: 1,
         out_budget: 1,
     };
-    let (session, verdict) = checked(alloc, first_xor(alloc)?, second_xor(alloc)?, options)?;
+    let (session, verdict) = checked_xors(alloc, options)?;
     let Verdict::Undecided { outputs } = verdict else {
         return Err("another verdict".into());
     };
-    assert_eq!(rt; outputs.as_slice(), [0].as_slice());
+    assert!(rt; outputs.as_slice() == [0].as_slice());
     let Some(Entry::OutSpent { log, .. }) = session.book().about(0) else {
         return Err("no log".into());
     };
-    assert_eq!(rt; log.len(), 1);
+    assert!(rt; log.len() == 1);
     Ok(())
 }

@@ -1,10 +1,11 @@
 use lemma_book::{Book, Entry};
 use lits::{Lit, Literal, Node, Side};
 use netlist::{Circuit, Net};
-use std::alloc::Global;
+use std::alloc::{AllocError, Global};
+use std::process::Abort;
 use std::test::Fail;
 use strash_pass::run;
-use worked_circuits::{and, circuit};
+use worked_circuits::{and, circuit, swapped_ands, two_xors};
 
 /// The net of the circuits, and its book after the pass, which merges so many gates.
 fn passed(alloc: Global, a: Circuit, b: Circuit, merges: u64) -> Result<Book, Fail> {
@@ -19,11 +20,6 @@ fn passed(alloc: Global, a: Circuit, b: Circuit, merges: u64) -> Result<Book, Fa
 
 const X: Lit = Lit {
     node: Node::Input(0),
-    neg: false,
-};
-
-const Y: Lit = Lit {
-    node: Node::Input(1),
     neg: false,
 };
 
@@ -43,14 +39,13 @@ fn gate(side: Side, var: u32) -> Lit {
 #[test]
 fn strash_of_swapped_ands(rt: HostRuntime) -> Result<(), Fail> {
     let alloc = rt.alloc();
-    let a = circuit(alloc, &[1, 2], &[and(3, 2, 4)], &[6])?;
-    let b = circuit(alloc, &[1, 2], &[and(3, 4, 2)], &[6])?;
+    let (a, b) = swapped_ands(alloc)?;
     let book = passed(alloc, a, b, 1)?;
-    assert_eq!(rt; book.root(gate(Side::B, 3)), gate(Side::A, 3));
+    assert!(rt; book.root(gate(Side::B, 3)) == gate(Side::A, 3));
     let Some(Entry::Merge { steps, .. }) = book.entry(0) else {
         return Err("no merge".into());
     };
-    assert_eq!(rt; steps.len(), 2);
+    assert!(rt; steps.len() == 2);
     Ok(())
 }
 
@@ -58,47 +53,51 @@ fn strash_of_swapped_ands(rt: HostRuntime) -> Result<(), Fail> {
 #[test]
 fn strash_of_two_xors(rt: HostRuntime) -> Result<(), Fail> {
     let alloc = rt.alloc();
-    let a = circuit(
-        alloc,
-        &[1, 2],
-        &[and(3, 2, 5), and(4, 3, 4), and(5, 7, 9)],
-        &[11],
-    )?;
-    let b = circuit(
-        alloc,
-        &[1, 2],
-        &[and(3, 2, 4), and(4, 3, 5), and(5, 7, 9)],
-        &[10],
-    )?;
+    let (a, b) = two_xors(alloc)?;
     let book = passed(alloc, a, b, 0)?;
-    assert_eq!(rt; book.root(gate(Side::B, 5)), gate(Side::B, 5));
+    assert!(rt; book.root(gate(Side::B, 5)) == gate(Side::B, 5));
     Ok(())
 }
 
-/// Gates that merge, by what they are merged to: an AND of one literal twice, of a literal and its
-/// negation, of an input and true, of true and an input, of false and an input, of an input and false.
-#[test]
-fn folded_gates(rt: HostRuntime) -> Result<(), Fail> {
-    let alloc = rt.alloc();
-    let a = circuit(
+/// An AND of one literal twice, of a literal and its negation, of an input and true.
+fn first_folds(alloc: Global) -> Result<Circuit, AllocError> {
+    circuit(
         alloc,
         &[1],
         &[and(2, 2, 2), and(3, 2, 3), and(4, 1, 2)],
         &[4, 6],
-    )?;
-    let b = circuit(
+    )
+}
+
+/// An AND of true and an input, of false and an input, of an input and false.
+fn second_folds(alloc: Global) -> Result<Circuit, AllocError> {
+    circuit(
         alloc,
         &[1],
         &[and(2, 3, 1), and(3, 0, 2), and(4, 2, 0)],
         &[5, 6],
-    )?;
-    let book = passed(alloc, a, b, 6)?;
-    assert_eq!(rt; book.root(gate(Side::A, 2)), X);
-    assert_eq!(rt; book.root(gate(Side::A, 3)), YES.not());
-    assert_eq!(rt; book.root(gate(Side::A, 4)), X);
-    assert_eq!(rt; book.root(gate(Side::B, 2)), X.not());
-    assert_eq!(rt; book.root(gate(Side::B, 3)), YES.not());
-    assert_eq!(rt; book.root(gate(Side::B, 4)), YES.not());
+    )
+}
+
+fn check_first_folds(rt: &impl Abort, book: &Book) {
+    assert!(rt; book.root(gate(Side::A, 2)) == X);
+    assert!(rt; book.root(gate(Side::A, 3)) == YES.not());
+    assert!(rt; book.root(gate(Side::A, 4)) == X);
+}
+
+fn check_second_folds(rt: &impl Abort, book: &Book) {
+    assert!(rt; book.root(gate(Side::B, 2)) == X.not());
+    assert!(rt; book.root(gate(Side::B, 3)) == YES.not());
+    assert!(rt; book.root(gate(Side::B, 4)) == YES.not());
+}
+
+/// Gates that merge are merged to what they fold to.
+#[test]
+fn folded_gates(rt: HostRuntime) -> Result<(), Fail> {
+    let alloc = rt.alloc();
+    let book = passed(alloc, first_folds(alloc)?, second_folds(alloc)?, 6)?;
+    check_first_folds(&rt, &book);
+    check_second_folds(&rt, &book);
     Ok(())
 }
 
@@ -110,6 +109,6 @@ fn twins_by_their_roots(rt: HostRuntime) -> Result<(), Fail> {
     let a = circuit(alloc, &[1, 2], &[and(3, 2, 4), and(4, 7, 2)], &[8])?;
     let b = circuit(alloc, &[1, 2], &[and(3, 4, 2), and(4, 2, 7)], &[8])?;
     let book = passed(alloc, a, b, 2)?;
-    assert_eq!(rt; book.root(gate(Side::B, 4).not()), gate(Side::A, 4).not());
+    assert!(rt; book.root(gate(Side::B, 4).not()) == gate(Side::A, 4).not());
     Ok(())
 }

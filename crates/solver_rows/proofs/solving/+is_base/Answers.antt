@@ -1,6 +1,6 @@
 use Rattle.std.proofs.Common.{sym, ◌∙◌}
 use Rattle.solver_plain.proofs.Facts.{base-cons}
-use Rattle.logic_rows.proofs.solving.+is_base.Goals as goal
+use Rattle.solver_rows.proofs.solving.+is_base.Goals as goal
 
 pub returns : goal.returns
 returns t c =
