@@ -4,7 +4,7 @@ from pathlib import Path
 import rounds  # which makes the modules of tools/ known
 from crates import unproved_answers
 
-SECONDS = 100
+SECONDS = 200
 
 
 def answers(name, uses, cases, change=None):
