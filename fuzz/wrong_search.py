@@ -28,19 +28,25 @@ EDITS = Path(__file__).resolve().parent / "wrong_search"
 USES = ["check_session", "aiger_file", "lemma_book"]
 
 
-def as_pairs_of_gates(circuit):
-    """Each gate a second time, as an AND of itself with its own fanins: equal nodes that only a search merges."""
+def expanded(circuit):
+    """The same functions of other gates: an AND with a negated AND is taken apart into two cases, and any other gate is doubled. That
+    two cases are one AND takes a search and a clause that it learns."""
     inputs, outputs, gates = circuit
-    made, moved, free = [], {}, len(inputs) + 1
+    made, moved, fanins = [], {}, {lhs: pair for lhs, *pair in gates}
 
     def at(literal):
         return moved.get(literal & ~1, literal & ~1) ^ (literal & 1)
 
+    def gate(left, right):
+        made.append((2 * (len(inputs) + len(made) + 1), left, right))
+        return made[-1][0]
+
     for lhs, left, right in gates:
-        first, second = 2 * free, 2 * free + 2
-        made += [(first, at(left), at(right)), (second, first, at(right))]
-        moved[lhs] = second
-        free += 2
+        if right & 1 and right & ~1 in fanins:
+            first, second = (gate(at(left), at(fanin) ^ 1) for fanin in fanins[right & ~1])
+            moved[lhs] = gate(first ^ 1, second ^ 1) ^ 1
+        else:
+            moved[lhs] = gate(gate(at(left), at(right)), at(right))
     return inputs, [at(literal) for literal in outputs], made
 
 
@@ -48,7 +54,7 @@ def pairs(rng, runs):
     """Random pairs of circuits, the second one rewritten or changed."""
     for _ in range(runs):
         a = random_circuit(rng, rng.randrange(2, 8), rng.randrange(1, 4), rng.randrange(4, 30))
-        yield a, as_pairs_of_gates(rewritten(rng, a))
+        yield a, expanded(rewritten(rng, a))
 
 
 def fault_in(answer, a, b):
