@@ -59,7 +59,7 @@ use check_session::{Options, Session};
 use lemma_book::{Book, Entry};
 use std::alloc::Global;
 use std::env;
-use std::fs;
+use std::fs::{self, Files};
 use std::io::{self, Write};
 
 const OPTIONS: Options = Options {
@@ -83,7 +83,7 @@ fn counts(book: &Book) -> [u64; 3] {
     found
 }
 
-fn answer<R: Files>(rt: &R, alloc: Global, line: &str, text: &mut String) -> io::Result<()> {
+fn answer<R: Files + Alloc>(rt: &R, alloc: Global, line: &str, text: &mut String) -> io::Result<()> {
     let Some((first, second)) = line.split_once("\\t") else {
         return Ok(());
     };
