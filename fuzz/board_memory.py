@@ -3,12 +3,11 @@
 
 Usage: board_memory.py
 
-A program of the repository's crates (in a copy of them, proved and built by `rt run`, so that the first run takes as long as proving
-them) makes the walk `runner/board_walk.txt`, and makes each call again that was refused memory. tools/fail_alloc.c is preloaded and
-refuses one allocation of each run. A refused turn has to be counted as missed, to take one turn, to give the entry back and to change
-nothing else: then the walk ends as it does with memory enough, with as many missed turns as calls that were refused. A run in which
-there was no memory for the board itself or for an entry says `no memory`, or that an offer wasn't made. Status 1 where anything else
-was said, or where no turn was refused at all.
+A program over the repository's crates, built by LLVM at -O2 with no proof, makes the walk `runner/board_walk.txt`, and makes each call
+again that was refused memory. tools/fail_alloc.c is preloaded and refuses one allocation of each run. A refused turn has to be counted
+as missed, to take one turn, to give the entry back and to change nothing else: then the walk ends as it does with memory enough, with
+as many missed turns as calls that were refused. A run in which there was no memory for the board itself or for an entry says
+`no memory`, or that an offer wasn't made. Status 1 where anything else was said, or where no turn was refused at all.
 """
 import os
 import re
@@ -19,7 +18,7 @@ import tempfile
 from pathlib import Path
 
 from rounds import house
-from crates import proved
+from crates import built
 
 USES = ["lits", "netlist", "lemma_book", "board_lock", "worked_circuits"]
 SPECS = house.TOP / "crates" / "board_rows" / "specs"
@@ -54,7 +53,7 @@ def main():
         library, count = Path(made) / "fail_alloc.so", Path(made) / "count"
         subprocess.run(["cc", "-shared", "-fPIC", "-O2", "-o", library, str(house.TOP / "tools" / "fail_alloc.c"), "-ldl"], check=True)
         source = (Path(__file__).resolve().parent / "runner" / "board_walk.txt").read_text()
-        program = proved(made, "board_walk", source, USES, SPECS)
+        program = built(made, "board_walk", source, USES, SPECS)
         whole = ran(program, library, FAIL_ALLOC_COUNT=str(count))
         calls, turned, wrong = int(count.read_text()), 0, 0
         if whole != "answers true true turns 4 drawn 2 missed 0 refused 0 right true\n":

@@ -12,9 +12,17 @@ use crate::plays::{
 };
 use lemma_book::{Book, Offered};
 use std::alloc::Global;
+use std::hint::spin_loop;
 use std::marker::Brand;
 use std::sync::Wait;
 use std::thread;
+use std::time::Duration;
+
+/// How many passes may be in line.
+const ROOM: u64 = 2;
+
+/// How often a pass looks for room, each time after a pause twice as long, before it sleeps.
+const PAUSES: u32 = 10;
 
 /// Waits for its turn, and takes the slot.
 pub fn come_in<R: Wait>(rt: &R, lock: &Lock, place: &mut Place)
@@ -36,6 +44,7 @@ fn wait_over<N: Over, R: Wait>(rt: &R, lock: &Lock, place: &mut Place)
     ensures same { place.new.table_id ≡ place.old.table_id }
     ensures came { CameIn N.net place.old.me place.new.me }
 {
+    wait_for_room(rt, lock);
     let ticket = line_up(lock, place);
     for _ in rt.forever() {
         if look::<N>(lock, place, ticket) {
@@ -43,6 +52,48 @@ fn wait_over<N: Over, R: Wait>(rt: &R, lock: &Lock, place: &mut Place)
         }
         thread::yield_now();
     }
+}
+
+/// Waits while the line is full, before it joins it. Tickets are served in their order, so with more threads than processors a pass
+/// in line whose thread doesn't run would hold up all those behind it, and each of them would be woken to find that.
+fn wait_for_room<R: Wait>(rt: &R, lock: &Lock)
+    requires words { lock.now.shared.table_id.words ≡ 4 }
+{
+    for doublings in 0..PAUSES {
+        if has_room(lock) {
+            return;
+        }
+        pause(1 << doublings);
+    }
+    for _ in rt.forever() {
+        if has_room(lock) {
+            return;
+        }
+        nap(rt, lock);
+    }
+}
+
+/// Whether so few passes are in line that one more may join it.
+fn has_room(lock: &Lock) -> bool
+    requires words { lock.now.shared.table_id.words ≡ 4 }
+{
+    let served = lock.shared.peek(0);
+    lock.shared.peek(1).saturating_sub(served) < ROOM
+}
+
+fn pause(steps: u32) {
+    for _ in 0..steps {
+        spin_loop();
+    }
+}
+
+/// Sleeps for a while, or until a pass is made: no turn wakes those that aren't in line.
+fn nap<R: Wait>(rt: &R, lock: &Lock)
+    requires words { lock.now.shared.table_id.words ≡ 4 }
+{
+    let passes = lock.shared.peek(3) % (1 << 32);
+    lock.shared
+        .park_timeout(rt, 3, passes as u32, Duration::from_millis(2));
 }
 
 /// Takes a ticket.

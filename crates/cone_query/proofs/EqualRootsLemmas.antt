@@ -36,13 +36,13 @@ use Rattle.lemma_book.specs.Cone.{AreThere, clauses_on, nodes_in}
 use Rattle.lemma_book.specs.Entry.{Entries, equal_clause}
 use Rattle.lemma_book.specs.Good.{AreOver, EndsIn, out_clause}
 use Rattle.lemma_book.specs.Root.{merge_of, passed_by, root_of, IsRoot}
-use Rattle.lemma_book.proofs.Facts.{good-out, is_some-variable, apart-lits, on-named, HasItsName}
+use Rattle.lemma_book.proofs.Facts.{good-out, root-opposite, is_some-variable, apart-lits, on-named, HasItsName}
 use Rattle.cone_query.specs.Answered.{IsOutput, SettlesOutput}
 use Rattle.cone_query.specs.EqualRoots.{with_first, AreShown, HaveOtherRoots, IsWayTo, Shows}
 use Rattle.cone_query.proofs.GateOrder.{node_of-no_xor}
 use Rattle.cone_query.proofs.LogLemmas.{take-whole}
 use Rattle.cone_query.proofs.OutputLemmas.{output-unsettled, xor-there, xor-variable, not-merged, axioms-are}
-use Rattle.cone_query.proofs.PathLemmas.{Takes, Covers, take-second, xor-other, xor-same, takes-axioms, root-opposite, covers-opposite, passed-there, together}
+use Rattle.cone_query.proofs.PathLemmas.{Takes, Covers, take-second, xor-other, xor-same, takes-axioms, covers-opposite, passed-there, together}
 
 -- ---- the nodes on a way
 has-more : (xs ys : List Lit) (n : Node) → has same_node (nodes_in (xs ++ ys)) n ≡ (has same_node (nodes_in xs) n || has same_node (nodes_in ys) n)

@@ -38,7 +38,7 @@ use Rattle.lemma_book.specs.Cone.{AreThere, AreIn, named_from, named_clauses, no
 use Rattle.lemma_book.specs.Entry.{Entries, is_on, place_on, about, equal_clause}
 use Rattle.lemma_book.specs.Good.{AreOver, out_clause}
 use Rattle.lemma_book.specs.Root.{MergeAt, merge_of}
-use Rattle.lemma_book.proofs.Facts.{good-out, good-out_apart, good-out_spent, is_some-variable, step_after-more, merge-placed, reach-there}
+use Rattle.lemma_book.proofs.Facts.{apart-lits, good-out, good-out_apart, good-out_spent, is_some-variable, step_after-more, merge-placed, reach-there}
 use Rattle.cone_query.specs.Input.{input_from}
 use Rattle.cone_query.specs.Answered.{IsOutput, SettlesOutput}
 use Rattle.cone_query.proofs.ConeModel.{agree-lit, meets-base, cone-at, named-meets}
@@ -63,16 +63,6 @@ output-unsettled entries j none = go (place_on entries (Output j)) refl
 
 self : (l : Lit) → same_lit l l ≡ true
 self = lit_laws.equivalence.refl
-
--- literals of two nodes differ
-apart-lits : (x y : Lit) → same_node x.node y.node ≡ false → same_lit x y ≡ false
-apart-lits x y e = go (same_lit x y) refl
-  where
-    go : (b : Bool) → same_lit x y ≡ b → b ≡ false
-    go false f = refl
-    go true f =
-        let same = ap (λ (l : Lit). l.node) (exact-lit x y f) in
-        contrary (same_node x.node y.node) (subst (λ (n : Node). same_node x.node n ≡ true) same (and_parts (same_node x.node x.node) _ (self x)).0) e
 
 or_right : (a b : Bool) → b ≡ true → (a || b) ≡ true
 or_right true b e = refl

@@ -1,6 +1,6 @@
 -- Unit propagation over the clauses of a few nodes: along the merges on the path to a root, and through an XOR.
-use Rattle.std.proofs.Common.{◌≡◌, ℕ, zero, suc, ◌+◌, Bool, true, false, not, ◌||◌, Option, Some, None, List, [], ◌∷◌, filter, length, refl, sym, ap, ◌∙◌}
-use Rattle.std.specs.Option.{option_map_or, IsSome}
+use Rattle.std.proofs.Common.{◌≡◌, ℕ, zero, suc, ◌+◌, Bool, true, false, ◌||◌, Option, Some, None, List, [], ◌∷◌, filter, length, refl, sym, ap, ◌∙◌}
+use Rattle.std.specs.Option.{IsSome}
 use Rattle.std.specs.List.{AllByRecursion}
 use Rattle.std.proofs.lemmas.Bool.{or_left, or_right}
 use Rattle.std.proofs.lemmas.Map.Views.{any-filter_same}
@@ -24,7 +24,7 @@ use Rattle.lemma_book.specs.Entry.{Entries, merge_clauses}
 use Rattle.lemma_book.specs.Root.{MergeAt, merge_of, carried, follow, passed, passed_by, root_of, IsRoot}
 use Rattle.lemma_book.specs.Cone.{AreThere, named_from, named_clauses, clauses_on}
 use Rattle.lemma_book.specs.Book.{IsLegal}
-use Rattle.lemma_book.proofs.Facts.{merge-placed, placed-there, is_some-variable, apart-lits}
+use Rattle.lemma_book.proofs.Facts.{carried-opposite, merge-placed, placed-there, is_some-variable, apart-lits}
 use Rattle.cone_query.proofs.LogLemmas.{take-whole}
 
 self : (l : Lit) → same_lit l l ≡ true
@@ -157,23 +157,6 @@ module _ (net : AigPair) (es : List Entry) (nodes : List Node) (p : Lit → Bool
             ∙ take-first p (negative l.node) m.lit both.0 (ap (λ (x : Bool). p (carried x m.lit)) (sym f) ∙ h)
 
 -- ---- along the path to a root
--- the root of a negation is the negation of the root, and both paths pass the same nodes
-carried-opposite : (b : Bool) (t : Lit) → carried (not b) t ≡ opposite (carried b t)
-carried-opposite true t = sym (twice t)
-carried-opposite false t = refl
-
-follow-opposite : (k : ℕ) (es : List Entry) (l : Lit) → follow k es (opposite l) ≡ opposite (follow k es l)
-follow-opposite zero es l = refl
-follow-opposite (suc k) es l = go (merge_of es l.node) (λ t. follow-opposite k es t)
-  where
-    go : (o : Option MergeAt) → ((t : Lit) → follow k es (opposite t) ≡ opposite (follow k es t))
-        → option_map_or (λ m. follow k es (carried (not l.neg) m.lit)) o (opposite l) ≡ opposite (option_map_or (λ m. follow k es (carried l.neg m.lit)) o l)
-    go None rest = refl
-    go (Some m) rest = ap (follow k es) (carried-opposite l.neg m.lit) ∙ rest (carried l.neg m.lit)
-
-pub root-opposite : (es : List Entry) (l : Lit) → root_of es (opposite l) ≡ opposite (root_of es l)
-root-opposite es l = follow-opposite (length es) es l
-
 pub covers-opposite : (nodes : List Node) (k : ℕ) (es : List Entry) (l : Lit) → Covers nodes (passed k es l) → Covers nodes (passed k es (opposite l))
 covers-opposite nodes zero es l covers = tt
 covers-opposite nodes (suc k) es l covers = go (merge_of es l.node) refl (λ t. covers-opposite nodes k es t)

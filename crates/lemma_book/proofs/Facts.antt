@@ -43,3 +43,5 @@ pub use Rattle.lemma_book.proofs.NamedClauses.{HasItsName}
 pub use Rattle.lemma_book.proofs.FaninLemmas.{apart-lits}
 -- no node stands twice among those of the miter
 pub use Rattle.lemma_book.proofs.ThereLemmas.{variables-distinct}
+-- the root of a negation is the negation of the root
+pub use Rattle.lemma_book.proofs.RootLemmas.{carried-opposite, root-opposite}

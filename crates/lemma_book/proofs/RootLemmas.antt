@@ -1,9 +1,11 @@
 -- One more merge is followed.
-use Rattle.std.proofs.Common.{◌≡◌, ℕ, zero, suc, ◌+◌, ◌-◌, ◌<◌, Option, None, Some, List, [], ◌∷◌, ◌++◌, refl, sym, ap, ◌∙◌, arith, append_assoc, append-nil}
+use Rattle.std.proofs.Common.{◌≡◌, ℕ, zero, suc, ◌+◌, ◌-◌, ◌<◌, Bool, true, false, not, Option, None, Some, List, [], ◌∷◌, ◌++◌, length, refl, sym, ap, ◌∙◌, arith, append_assoc, append-nil}
 use Rattle.std.specs.Option.{option_map, option_map_or}
 use Rattle.lits.specs.declared.literal.Lit.{Lit}
+use Rattle.lits.specs.Same.{opposite}
+use Rattle.lits.specs.contracts.literal.LitLiteral.TheImpl.Laws as laws
 use Rattle.lemma_book.specs.declared.entry.Entry.{Entry}
-use Rattle.lemma_book.specs.Root.{MergeAt, merge_of, carried, follow, followed, passed}
+use Rattle.lemma_book.specs.Root.{MergeAt, merge_of, carried, follow, followed, passed, root_of}
 
 less : (n i : ℕ) → i < n → n - i ≡ suc (n - (i + 1))
 less n i l = omega arith
@@ -82,3 +84,20 @@ module _ (es : List Entry) (n i : ℕ) (l : Lit) where
       next =
           ap (λ (k : ℕ). passed k es l) (less n i lt)
           ∙ ap (λ (q : Option MergeAt). option_map_or (λ q. l ∷ passed (n - (i + 1)) es (carried l.neg q.lit)) q []) (sym is ∙ ap (option_map merge_at) some)
+
+-- the root of a negation is the negation of the root
+pub carried-opposite : (b : Bool) (t : Lit) → carried (not b) t ≡ opposite (carried b t)
+carried-opposite true t = sym (laws.twice-law t)
+carried-opposite false t = refl
+
+follow-opposite : (k : ℕ) (es : List Entry) (l : Lit) → follow k es (opposite l) ≡ opposite (follow k es l)
+follow-opposite zero es l = refl
+follow-opposite (suc k) es l = go (merge_of es l.node) (λ t. follow-opposite k es t)
+  where
+    go : (o : Option MergeAt) → ((t : Lit) → follow k es (opposite t) ≡ opposite (follow k es t))
+        → option_map_or (λ m. follow k es (carried (not l.neg) m.lit)) o (opposite l) ≡ opposite (option_map_or (λ m. follow k es (carried l.neg m.lit)) o l)
+    go None rest = refl
+    go (Some m) rest = ap (follow k es) (carried-opposite l.neg m.lit) ∙ rest (carried l.neg m.lit)
+
+pub root-opposite : (es : List Entry) (l : Lit) → root_of es (opposite l) ≡ opposite (root_of es l)
+root-opposite es l = follow-opposite (length es) es l

@@ -1,7 +1,6 @@
 -- The clauses of a gate, of its twin, and of the merges on their fanins' ways show by unit propagation that a gate that
 -- folds, or has a twin, has the value that it is merged to.
-use Rattle.std.proofs.Common.{◌≡◌, ℕ, zero, suc, ◌+◌, Bool, true, false, not, ◌||◌, Option, Some, None, List, [], ◌∷◌, length, refl, sym, ap, ◌∙◌, subst, inl, inr}
-use Rattle.std.specs.Option.{option_map_or}
+use Rattle.std.proofs.Common.{◌≡◌, ℕ, ◌+◌, Bool, true, false, ◌||◌, Some, None, List, [], ◌∷◌, length, refl, sym, ap, ◌∙◌, subst, inl, inr}
 use Rattle.std.specs.List.{AllByRecursion}
 use Rattle.std.proofs.lemmas.Option.{none-some, same_Some}
 use Rattle.lits.specs.Clause.{has}
@@ -18,10 +17,10 @@ use Rattle.unit_prop.specs.Log.{base_clauses}
 use Rattle.unit_prop.proofs.Facts.{lit_laws}
 use Rattle.lemma_book.specs.declared.entry.Entry.{Entry}
 use Rattle.lemma_book.specs.Entry.{Entries}
-use Rattle.lemma_book.specs.Root.{MergeAt, merge_of, carried, follow, root_of, IsRoot}
+use Rattle.lemma_book.specs.Root.{root_of, IsRoot}
 use Rattle.lemma_book.specs.Cone.{clauses_on, nodes_in}
 use Rattle.lemma_book.specs.Book.{IsLegal}
-use Rattle.lemma_book.proofs.Facts.{is_some-variable, placed-there}
+use Rattle.lemma_book.proofs.Facts.{root-opposite, is_some-variable, placed-there}
 use Rattle.strash_pass.specs.Strash.{folded, AreTwins}
 use Rattle.strash_pass.specs.Pass.{Reaches, Shows, ShowsMerge}
 use Rattle.strash_pass.proofs.Propagation.{twice, Takes, take-one, gate-left, gate-right, gate-both, takes-axioms, along}
@@ -30,28 +29,14 @@ use Rattle.strash_pass.proofs.GateFacts.{IsGate, apart-placed}
 same-self : (l : Lit) → same_lit l l ≡ true
 same-self = lit_laws.equivalence.refl
 
--- the root of a negation is the negation of the root
-carried-opposite : (b : Bool) (t : Lit) → carried (not b) t ≡ opposite (carried b t)
-carried-opposite true t = sym (twice t)
-carried-opposite false t = refl
-
-follow-opposite : (k : ℕ) (es : List Entry) (l : Lit) → follow k es (opposite l) ≡ opposite (follow k es l)
-follow-opposite zero es l = refl
-follow-opposite (suc k) es l = go (merge_of es l.node) (λ t. follow-opposite k es t)
-  where
-    go : (o : Option MergeAt) → ((t : Lit) → follow k es (opposite t) ≡ opposite (follow k es t))
-        → option_map_or (λ m. follow k es (carried (not l.neg) m.lit)) o (opposite l) ≡ opposite (option_map_or (λ m. follow k es (carried l.neg m.lit)) o l)
-    go None rest = refl
-    go (Some m) rest = ap (follow k es) (carried-opposite l.neg m.lit) ∙ rest (carried l.neg m.lit)
-
--- so fanins whose roots aren't complements of each other aren't either
+-- fanins whose roots aren't complements of each other aren't either
 pub apart-fanins : (es : List Entry) (l r : Lit) → same_lit (root_of es l) (opposite (root_of es r)) ≡ false → same_lit l (opposite r) ≡ false
 apart-fanins es l r apart = go (same_lit l (opposite r)) refl
   where
     go : (b : Bool) → same_lit l (opposite r) ≡ b → b ≡ false
     go false e = refl
     go true e =
-        let roots : root_of es l ≡ opposite (root_of es r) = ap (root_of es) (exact-lit l (opposite r) e) ∙ follow-opposite (length es) es r in
+        let roots : root_of es l ≡ opposite (root_of es r) = ap (root_of es) (exact-lit l (opposite r) e) ∙ root-opposite es r in
         let f : true ≡ false = sym (same-self (root_of es l)) ∙ ap (same_lit (root_of es l)) roots ∙ apart in cc
 
 flip-apart : (a b : Lit) → same_lit a (opposite b) ≡ false → same_lit b (opposite a) ≡ false
