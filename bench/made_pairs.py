@@ -1,5 +1,8 @@
 """A small corpus of the repository's own, for measurements without another: adders, parities and comparators in two architectures, and each
 pair once more with a gate of the second circuit turned so that they differ."""
+import argparse
+import csv
+import re
 import sys
 from contextlib import contextmanager
 from pathlib import Path
@@ -46,3 +49,25 @@ def corpus(folder):
     with TemporaryDirectory() as made:
         lay_out(Path(made))
         yield Path(made)
+
+
+def words_for(description, *classes):
+    """The words that each script takes that measures pairs of a folder."""
+    parser = argparse.ArgumentParser(description=description)
+    parser.add_argument("folder", type=Path, nargs="?")
+    parser.add_argument("--program", help="the built program, else the repository's own")
+    parser.add_argument("--options", default="", help="further words for the program")
+    parser.add_argument("--classes", nargs="+", default=classes)
+    parser.add_argument("--limit", type=float, default=60)
+    parser.add_argument("--rounds", type=int, default=1)
+    parser.add_argument("--only", type=re.compile, default=re.compile(""))
+    return parser
+
+
+def measured_by(measure, words):
+    """Calls for the rows of the folder's manifest that the words want, and gives the script's status."""
+    with corpus(words.folder) as folder:
+        words.folder = folder
+        with open(folder / "manifest.tsv", newline="", encoding="utf-8") as table:
+            rows = [row for row in csv.DictReader(table, delimiter="\t") if row["class"] in words.classes]
+        return measure(words, [row for row in rows if words.only.search(row["name"])])

@@ -13,10 +13,7 @@ for each output and the end) and how many a second, and what was said of the pro
 over that of MiniSat and of CaDiCaL, over the pairs that both decide; times below a hundredth of a second count as that. Status 1
 where a verdict is wrong or a proof is refused.
 """
-import argparse
-import csv
 import math
-import re
 import resource
 import shutil
 import subprocess
@@ -70,31 +67,9 @@ def ratio(mine, other):
     return max(mine[0], LEAST) / max(other[0], LEAST)
 
 
-def words_given():
-    parser = argparse.ArgumentParser(description=__doc__.splitlines()[0])
-    parser.add_argument("folder", type=Path, nargs="?")
-    parser.add_argument("--program", help="the built program, else the repository's own")
-    parser.add_argument("--options", default="", help="further words for the program")
-    parser.add_argument("--classes", nargs="+", default=["tiny", "small"])
-    parser.add_argument("--limit", type=float, default=60)
-    parser.add_argument("--rounds", type=int, default=1)
-    parser.add_argument("--only", type=re.compile, default=re.compile(""))
-    return parser.parse_args()
-
-
-def main():
-    words = words_given()
-    with made_pairs.corpus(words.folder) as folder:
-        words.folder = folder
-        return measured(words)
-
-
-def measured(words):
-    """Measures each pair of the folder, and gives the script's status."""
+def measured(words, rows):
+    """Measures each pair of these rows, and gives the script's status."""
     mine = program(words.program)
-    with open(words.folder / "manifest.tsv", newline="") as table:
-        rows = [row for row in csv.DictReader(table, delimiter="\t") if row["class"] in words.classes]
-    rows = [row for row in rows if words.only.search(row["name"])]
     there = peers()
     ratios, decided, wrong = {name: [] for name in there}, 0, 0
     print(f"{'pair':32} {'verdict':10} {'cec':>7} {'minisat':>8} {'cadical':>8} {'lines':>8} {'a second':>9} proof")
@@ -131,4 +106,4 @@ def measured(words):
 
 
 if __name__ == "__main__":
-    sys.exit(main())
+    sys.exit(made_pairs.measured_by(measured, made_pairs.words_for(__doc__.splitlines()[0], "tiny", "small").parse_args()))

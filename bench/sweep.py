@@ -17,9 +17,6 @@ Prints a line for each pair, then, for each class and peer, how many pairs the p
 over the peer's on the pairs that both decide; times below a hundredth of a second count as that. Status 1 where a verdict is wrong
 or a proof is refused.
 """
-import argparse
-import csv
-import re
 import shutil
 import subprocess
 import sys
@@ -67,14 +64,7 @@ def judged(reference, verdict, prefix):
 
 
 def words_given():
-    parser = argparse.ArgumentParser(description=__doc__.splitlines()[0])
-    parser.add_argument("folder", type=Path, nargs="?")
-    parser.add_argument("--program", help="the built program, else the repository's own")
-    parser.add_argument("--options", default="", help="further words for the program")
-    parser.add_argument("--classes", nargs="+", default=["tiny", "small", "medium"])
-    parser.add_argument("--limit", type=float, default=60)
-    parser.add_argument("--rounds", type=int, default=1)
-    parser.add_argument("--only", type=re.compile, default=re.compile(""))
+    parser = made_pairs.words_for(__doc__.splitlines()[0], "tiny", "small", "medium")
     parser.add_argument("--statistics", action="store_true")
     return parser.parse_args()
 
@@ -90,22 +80,12 @@ def print_statistics(words, mine, rows):
             print(f"{row['name']}: seconds by crate: {spent}")
 
 
-def main():
-    words = words_given()
-    with made_pairs.corpus(words.folder) as folder:
-        words.folder = folder
-        return measured(words)
-
-
-def measured(words):
-    """Measures each pair of the folder, and gives the script's status."""
+def measured(words, rows):
+    """Measures each pair of these rows, and gives the script's status."""
     mine = program(words.program)
     have = {name: shutil.which(name) is not None for name in ("berkeley-abc", "cadical")}
     for name in (name for name, there in have.items() if not there):
         print(f"{name} isn't installed: apt-get install {name}")
-    with open(words.folder / "manifest.tsv", newline="") as table:
-        rows = [row for row in csv.DictReader(table, delimiter="\t") if row["class"] in words.classes]
-    rows = [row for row in rows if words.only.search(row["name"])]
     ratios, decided, wrong = {}, {}, 0
     print(f"{'pair':32} {'verdict':10} {'cec':>7} {'&cec':>8} {'cadical':>8} {'proof kB':>8} proof")
     with tempfile.TemporaryDirectory() as place:
@@ -137,4 +117,4 @@ def measured(words):
 
 
 if __name__ == "__main__":
-    sys.exit(main())
+    sys.exit(made_pairs.measured_by(measured, words_given()))

@@ -4,22 +4,21 @@ with `cec check` of those files.
 
 Usage: workloads.py [--most N] [--every N] [--cec PROGRAM]
 
-Builds a small program over the crate workload_gen, in a folder that is given up, since `cec self` shows only counts and a
+A small program over the crate workload_gen, built by LLVM at -O2 with no proof, writes them, since `cec self` shows only counts and a
 verdict. Each kind is compared for each number up to --most (64), and for each --every (251) up to 4096. For some numbers up
 to 16 `cec self` has to say the counts of the other generator's circuits and then what `cec check` says of them, with its
 status. PROGRAM is the repository's own where it is left out. Status 1 where anything differs.
 """
 import argparse
-import shutil
 import subprocess
 import sys
 import tempfile
 from pathlib import Path
 
-TOP = Path(__file__).resolve().parents[1]
-sys.path.insert(0, str(TOP / "tools"))
+sys.path.insert(0, str(Path(__file__).resolve().parents[1] / "tools"))
 import house
 import workload
+from crates import built
 
 MOST = 4096
 
@@ -64,37 +63,6 @@ fn main(rt: HostRuntime) -> io::Result<()> {
 """
 
 
-def lines_below(name, lines):
-    """The lines of crates.txt for a crate of the repository and for those that it stands on."""
-    found = {}
-
-    def visit(crate):
-        if crate in lines and crate not in found:
-            for other in lines[crate].split():
-                visit(other)
-            found[crate] = lines[crate]
-
-    visit(name)
-    return found
-
-
-def built(folder):
-    """The path of the program that writes a workload, proved and built in the folder."""
-    text = (TOP / "crates.txt").read_text()
-    lines = dict(line.split(":", 1) for line in text.splitlines() if ":" in line and not line.startswith("#"))
-    below = lines_below("workload_gen", lines)
-    for crate in below:
-        shutil.copytree(TOP / "crates" / crate, folder / "crates" / crate, ignore=shutil.ignore_patterns("out"))
-    shutil.copy(TOP / "HANDLES", folder)
-    source = folder / "crates" / "workload_bytes" / "src"
-    source.mkdir(parents=True)
-    (source / "main.rt").write_text(MAIN)
-    below["workload_bytes"] = " " + " ".join(below)
-    (folder / "crates.txt").write_text("".join(f"{crate}:{uses}\n" for crate, uses in below.items()))
-    subprocess.run(["rt", "run", "--", "parity", "1"], cwd=source.parent, check=True, capture_output=True)
-    return source.parent / "out" / "workload_bytes"
-
-
 def written(program, kind, n):
     """The bytes of both files."""
     told = subprocess.run([program, kind, str(n)], check=True, capture_output=True).stdout
@@ -122,7 +90,7 @@ def main():
     numbers = sorted({*range(1, words.most + 1), *range(words.every, MOST, words.every), MOST})
     wrong = 0
     with tempfile.TemporaryDirectory() as folder:
-        program = built(Path(folder))
+        program = built(folder, "workload_bytes", MAIN, ["workload_gen"])
         for kind, circuits in workload.KINDS.items():
             for n in numbers:
                 a, b = circuits(n)

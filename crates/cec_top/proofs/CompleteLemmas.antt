@@ -22,7 +22,7 @@ use Rattle.cec_top.specs.Headline.{FileSpells, SpellPair}
 use Rattle.check_session.specs.Finding.{Finding, Equivalent, Different, Undecided}
 use Rattle.check_session.specs.Check.{IsWithinFor}
 use Rattle.cec_top.specs.Check.{Made, status_of_finding, AreTold, outputs_of as files_of, text_of_check}
-use Rattle.cec_top.specs.Answers.{fault_in, Answers, AnswersCheck, AreUnlike, BreaksOff, Stops, IsAtOnce, circuit_file, inputs_of, names_of}
+use Rattle.cec_top.specs.Answers.{fault_in, Answers, AnswersCheck, AreUnlike, BreaksOff, Stops, IsAtOnce, circuit_file, inputs_of}
 use Rattle.cec_top.specs.Complete.{NoFault, IsWithinLimit, CanCheck, IsAmple, HasVerdict}
 use Rattle.cec_top.proofs.VerdictLemmas.{only-check}
 use Rattle.cec_top.proofs.HeadlineLemmas.{ends-code, spells-pair}
@@ -153,20 +153,23 @@ finding-code Equivalent = omega arith
 finding-code (Different j input) = omega arith
 finding-code Undecided = omega arith
 
+-- a stop that is excused comes to a verdict on a desk without a fault
+pub excused-verdict : (line : List ℕ) (old mid new : DeskState) (stop : Stop) (status : Status) → NoFault old new
+    → Warns line (status_of stop) mid new status → IsExcused old mid stop → HasVerdict status
+excused-verdict line old mid new stop status none (inr w) excuse = inr (ap code_of w.0)
+excused-verdict line old mid new stop status none (inl w) (inl memory) = inr (ap code_of w.0 ∙ ap (λ (s : Stop). code_of (status_of s)) memory)
+excused-verdict line old mid new stop status none (inl w) (inr (inl reads)) =
+    absurd (none.reads (subst (λ (n : ℕ). Rose old.read_faults n) (sym (warned-counts mid new line w.1).0) reads))
+excused-verdict line old mid new stop status none (inl w) (inr (inr writes)) =
+    absurd (none.writes (subst (λ (n : ℕ). Rose old.write_faults n) (sym (warned-counts mid new line w.1).1) writes))
+
 pub check-complete : (c : CheckCommand) (old new : DeskState) (status : Status) (kept : List Kept) → CanCheck c old → NoFault old new
     → AnswersCheck c old new status kept → HasVerdict status
 check-complete c old new status kept can none (inl p) =
     let only = only-check c old new status kept p in
     inl (subst (λ (s : Status). code_of s ≤ 2) only.status_is (finding-code only.check.finding))
-check-complete c old new status kept can none (inr p) = go p.warns (stops-excused c old can kept p.mid p.stop p.cause)
-  where
-    go : Warns (stop_line (names_of c) p.stop) (status_of p.stop) p.mid new status → IsExcused old p.mid p.stop → HasVerdict status
-    go (inr w) excuse = inr (ap code_of w.0)
-    go (inl w) (inl memory) = inr (ap code_of w.0 ∙ ap (λ (s : Stop). code_of (status_of s)) memory)
-    go (inl w) (inr (inl reads)) =
-        absurd (none.reads (subst (λ (n : ℕ). Rose old.read_faults n) (sym (warned-counts p.mid new _ w.1).0) reads))
-    go (inl w) (inr (inr writes)) =
-        absurd (none.writes (subst (λ (n : ℕ). Rose old.write_faults n) (sym (warned-counts p.mid new _ w.1).1) writes))
+check-complete c old new status kept can none (inr p) =
+    excused-verdict _ old p.mid new p.stop status none p.warns (stops-excused c old can kept p.mid p.stop p.cause)
 
 -- ---- a budget that no query spends
 

@@ -18,7 +18,7 @@ use Rattle.cec_top.specs.Complete.{NoFault, HasVerdict}
 use Rattle.cec_top.specs.Texts.{workload_text}
 use Rattle.cec_top.proofs.HeadlineLemmas.{ends-code}
 use Rattle.cec_top.proofs.VerdictLemmas.{are-equivalent, are-different, are-undecided}
-use Rattle.cec_top.proofs.CompleteLemmas.{IsExcused, finding-code, leaves-stops, warned-counts}
+use Rattle.cec_top.proofs.CompleteLemmas.{IsExcused, finding-code, leaves-stops, excused-verdict}
 
 module _ (c : SelfCommand) (old new : DeskState) (status : Status) (kept : List Kept) where
   whole : (p : EndsSelf c old new status kept) → new ≡ after_say (after_workload c p.made.net old) (text_of_check None p.made)
@@ -96,15 +96,7 @@ module _ (c : SelfCommand) (old new : DeskState) (status : Status) (kept : List 
 
   pub own-complete : NoFault old new → AnswersSelf c old new status kept ⊎ EndsBy [] (IsAtOnce old) new status → HasVerdict status
   own-complete none (inl (inl p)) = inl (subst (λ (s : Status). code_of s ≤ 2) (sym p.status_is) (finding-code p.made.finding))
-  own-complete none (inl (inr p)) = go p.warns (excused p.mid p.stop p.cause)
-    where
-      go : Warns (stop_line [] p.stop) (status_of p.stop) p.mid new status → IsExcused old p.mid p.stop → HasVerdict status
-      go (inr w) excuse = inr (ap code_of w.0)
-      go (inl w) (inl memory) = inr (ap code_of w.0 ∙ ap (λ (s : Stop). code_of (status_of s)) memory)
-      go (inl w) (inr (inl reads)) =
-          absurd (none.reads (subst (λ (n : ℕ). Rose old.read_faults n) (sym (warned-counts p.mid new _ w.1).0) reads))
-      go (inl w) (inr (inr writes)) =
-          absurd (none.writes (subst (λ (n : ℕ). Rose old.write_faults n) (sym (warned-counts p.mid new _ w.1).1) writes))
+  own-complete none (inl (inr p)) = excused-verdict _ old p.mid new p.stop status none p.warns (excused p.mid p.stop p.cause)
   own-complete none (inr p) = go p.warns
     where
       go : Warns (stop_line [] p.stop) (status_of p.stop) p.mid new status → HasVerdict status

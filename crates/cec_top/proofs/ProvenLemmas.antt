@@ -7,19 +7,18 @@ use Rattle.dimacs_text.specs.Reading.{formula_in}
 use Rattle.lrat_text.specs.Reading.{steps_in}
 use Rattle.endings.specs.declared.status.Status.{Status}
 use Rattle.endings.specs.declared.status.Status.TheVariants as ends
-use Rattle.endings.specs.Status.{code_of}
 use Rattle.endings.specs.declared.stop.Stop.{Stop}
 use Rattle.endings.specs.declared.stop.Stop.TheVariants.{CannotRead, TooLong, BadFile, NotAlike, CannotWrite, OutOfMemory}
 use Rattle.endings.specs.Reading.{Input, FileIs, StopsAt, ReadsUpTo, after_reads, limit}
-use Rattle.endings.specs.Stops.{EndsBy, Warns, status_of, stop_line}
+use Rattle.endings.specs.Stops.{EndsBy}
 use Rattle.lrat_run.specs.Files.{cnf_fault, proof_fault, clauses_of, clauses_in, cnf_input, proof_input, inputs_of}
 use Rattle.lrat_run.specs.Texts.{verdict_line}
 use Rattle.lrat_run.specs.Answers.{AnswersLrat, Stops}
 use Rattle.command_line.specs.Words.{LratCommand, Request, CheckIt, LratIt, SelfIt, Asks, WantHelp, AreRefused}
 use Rattle.cec_top.specs.declared.kept.Kept.{Kept}
-use Rattle.cec_top.specs.Answers.{Answers, IsAtOnce}
+use Rattle.cec_top.specs.Answers.{Answers}
 use Rattle.cec_top.specs.Complete.{NoFault, IsWithinLimit, CanVerify, HasVerdict}
-use Rattle.cec_top.proofs.CompleteLemmas.{IsExcused, leaves-stops, warned-counts, at-once}
+use Rattle.cec_top.proofs.CompleteLemmas.{IsExcused, leaves-stops, excused-verdict, at-once}
 use Rattle.cec_top.proofs.WordsLemmas.{lrat_or, same_request}
 
 -- bytes of a file that is there
@@ -79,15 +78,7 @@ module _ (c : LratCommand) (old : DeskState) (can : CanVerify c old) where
       told (inr r) = inr (inr r)
 
   ends-lrat : (new : DeskState) (status : Status) → NoFault old new → EndsBy (c.cnf ∷ c.proof ∷ []) (Stops c.cnf c.proof old) new status → HasVerdict status
-  ends-lrat new status none p = go p.warns (stops-lrat p.mid p.stop p.cause)
-    where
-      go : Warns (stop_line (c.cnf ∷ c.proof ∷ []) p.stop) (status_of p.stop) p.mid new status → IsExcused old p.mid p.stop → HasVerdict status
-      go (inr w) excuse = inr (ap code_of w.0)
-      go (inl w) (inl memory) = inr (ap code_of w.0 ∙ ap (λ (s : Stop). code_of (status_of s)) memory)
-      go (inl w) (inr (inl reads)) =
-          absurd (none.reads (subst (λ (n : ℕ). Rose old.read_faults n) (sym (warned-counts p.mid new _ w.1).0) reads))
-      go (inl w) (inr (inr writes)) =
-          absurd (none.writes (subst (λ (n : ℕ). Rose old.write_faults n) (sym (warned-counts p.mid new _ w.1).1) writes))
+  ends-lrat new status none p = excused-verdict _ old p.mid new p.stop status none p.warns (stops-lrat p.mid p.stop p.cause)
 
   pub lrat-complete : (new : DeskState) (status : Status) → NoFault old new → AnswersLrat c.cnf c.proof old new status → HasVerdict status
   lrat-complete new ends.Done none p = inl (omega arith)

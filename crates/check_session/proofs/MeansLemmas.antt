@@ -1,11 +1,11 @@
 -- What a legal book's entries about the outputs mean for the circuits.
-use Rattle.std.proofs.Common.{◌≡◌, ℕ, ◌<◌, Bool, true, false, List, [], ◌∷◌, ◌++◌, length, Option, Some, None, refl, sym, ap, ◌∙◌, subst, arith}
+use Rattle.std.proofs.Common.{◌≡◌, ℕ, Bool, true, false, List, [], ◌∷◌, ◌++◌, Option, Some, None, refl, subst}
 use Rattle.std.specs.Prelude.{◌↔◌}
 use Rattle.std.specs.List.{find, AllByRecursion}
 use Rattle.std.proofs.lemmas.Option.{none-some, same_Some}
 use Rattle.lits.specs.Assignment.{IsSatisfiable}
 use Rattle.lits.specs.Same.{opposite_dim}
-use Rattle.netlist.specs.Net.{AigPair, Agree, Differ}
+use Rattle.netlist.specs.Net.{AigPair, Differ}
 use Rattle.netlist.specs.Miter.{miter_of}
 use Rattle.unit_prop.specs.Log.{InTurn}
 use Rattle.lemma_book.specs.declared.entry.Entry.{Entry}

@@ -1,5 +1,5 @@
 -- What a settled pair changes of the pairs behind it.
-use Rattle.std.proofs.Common.{◌≡◌, ◌≢◌, ℕ, ◌+◌, ◌<◌, Bool, true, false, List, [], ◌∷◌, ◌++◌, length, Option, Some, None, refl, sym, ap, ◌∙◌, subst, arith, Result, Ok, Err, OnOk, take, append_assoc, length-append}
+use Rattle.std.proofs.Common.{◌≡◌, ◌≢◌, ℕ, ◌+◌, Bool, true, false, List, [], ◌∷◌, ◌++◌, length, Option, Some, None, refl, sym, ap, ◌∙◌, subst, arith, Result, Ok, Err, OnOk, take, append_assoc, length-append}
 use Rattle.std.specs.List.{AllByRecursion}
 use Rattle.std.specs.Option.{option_and_then}
 use Rattle.std.specs.Prelude.{slice_get}
@@ -12,14 +12,14 @@ use Rattle.netlist.proofs.Facts.{at-place}
 use Rattle.lemma_book.specs.declared.entry.Entry.{Entry}
 use Rattle.lemma_book.specs.declared.entry.Entry.TheVariants.{Merge, Apart, Spent, Out, OutApart, OutSpent}
 use Rattle.lemma_book.specs.declared.entry.Subject.{Subject}
-use Rattle.lemma_book.specs.declared.entry.Subject.TheVariants.{Merged, Output}
+use Rattle.lemma_book.specs.declared.entry.Subject.TheVariants.{Merged}
 use Rattle.lemma_book.specs.declared.entry.Task.{Task}
 use Rattle.lemma_book.specs.Entry.{Entries, subject_of, is_on, place_on, with_last}
 use Rattle.lemma_book.specs.Root.{IsRoot, merge_of, merge_in}
 use Rattle.std.specs.declared.alloc.AllocError.{AllocError}
 use Rattle.word_sim.specs.Patterns.{Patterns}
 use Rattle.lemma_book.specs.Good.{IsBefore, IsEarlier, IsGood, NotApart}
-use Rattle.sig_classes.specs.Leader.{IsOpenGate, AreRising}
+use Rattle.sig_classes.specs.Leader.{IsOpenGate}
 use Rattle.lemma_book.specs.Book.{IsLegal}
 use Rattle.check_session.specs.Growth.{is_of_pair}
 use Rattle.check_session.specs.Rounds.{Extends, Fits, HasWholeInput, Joins, MayAsk, AreAsked, Settles}

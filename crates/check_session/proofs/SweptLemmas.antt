@@ -1,6 +1,6 @@
 -- What a round without tasks, and a sweep, leave.
-use Rattle.std.proofs.Common.{◌≡◌, ◌≢◌, ℕ, ◌+◌, ◌*◌, ◌<◌, zero, suc, get_or, drop-cons, add-one, Bool, true, false, ◌||◌, ◌&&◌, List, [], ◌∷◌, ◌++◌, length, map, drop, Option, Some, None, inl, inr, refl, sym, ap, ◌∙◌, subst, arith, Result, Ok, Err, IfOk, OnOk}
-use Rattle.std.specs.Prelude.{◌⊎◌, ◌==◌}
+use Rattle.std.proofs.Common.{◌≡◌, ℕ, ◌+◌, ◌*◌, ◌<◌, suc, get_or, drop-cons, add-one, Bool, true, false, ◌||◌, List, [], ◌∷◌, ◌++◌, length, map, drop, Option, Some, None, inl, inr, refl, sym, ap, ◌∙◌, subst, arith, Result, Ok, Err, IfOk, OnOk}
+use Rattle.std.specs.Prelude.{◌==◌}
 use Rattle.std.specs.List.{AllByRecursion, list_all, list_any, range_with_len}
 use Rattle.std.proofs.lemmas.List.FromFn.{length-map-range_with_len}
 use Rattle.std.proofs.lemmas.Bool.Decides.{nat_tests}
@@ -8,18 +8,17 @@ use Rattle.std.specs.Option.{option_and_then}
 use Rattle.std.specs.declared.alloc.AllocError.{AllocError}
 use Rattle.std.specs.Prelude.{slice_get}
 use Rattle.lits.specs.declared.node.Node.{Node}
-use Rattle.lits.specs.declared.literal.Lit.{Lit}
 use Rattle.netlist.specs.Place.{place_of}
 use Rattle.netlist.specs.Net.{AigPair}
 use Rattle.word_sim.specs.Patterns.{Patterns, seeded, seeded_pattern}
 use Rattle.lemma_book.specs.declared.entry.Entry.{Entry}
 use Rattle.lemma_book.specs.declared.entry.Entry.TheVariants.{Merge, Apart, Spent, Out, OutApart, OutSpent}
-use Rattle.lemma_book.specs.declared.entry.Subject.TheVariants.{Merged, Output}
+use Rattle.lemma_book.specs.declared.entry.Subject.TheVariants.{Merged}
 use Rattle.lemma_book.specs.declared.entry.Task.{Task}
-use Rattle.lemma_book.specs.Entry.{Entries, is_on, place_on, has_spent, is_spent_on}
-use Rattle.lemma_book.specs.Root.{IsRoot, merge_of, merge_in}
+use Rattle.lemma_book.specs.Entry.{Entries, is_on, is_spent_on}
+use Rattle.lemma_book.specs.Root.{IsRoot, merge_in}
 use Rattle.lemma_book.specs.Book.{IsLegal}
-use Rattle.sig_classes.specs.Leader.{IsOpenGate, IsDue, AreTasks, IsLone, HasSpent, IsSwept}
+use Rattle.sig_classes.specs.Leader.{IsDue, AreTasks, IsSwept}
 use Rattle.strash_pass.specs.Strash.{IsMerge, AddsMerges}
 use Rattle.check_session.specs.declared.options.Options.{Options}
 use Rattle.check_session.specs.declared.verdict.Verdict.{Verdict}

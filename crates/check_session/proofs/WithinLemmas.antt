@@ -1,10 +1,8 @@
 -- In a legal book the budget that an output's query spent is at most 3^V, V being the number of the CNF's variables.
 use Rattle.std.proofs.Common.{◌≡◌, ◌≢◌, ℕ, zero, suc, ◌+◌, ◌-◌, ◌*◌, ◌≤◌, ◌^◌, Bool, true, false, Option, Some, None, List, [], ◌∷◌, ◌++◌, length, take, refl, sym, subst, arith, append_assoc, add-zero, pow-suc}
-use Rattle.std.specs.Prelude.{⊤, slice_get, filter}
-use Rattle.std.specs.Option.{option_map_or}
+use Rattle.std.specs.Prelude.{slice_get, filter}
 use Rattle.std.specs.List.{AllByRecursion}
 use Rattle.std.proofs.lemmas.List.{append-nil}
-use Rattle.std.proofs.lemmas.Option.{none-some, same_Some}
 use Rattle.lits.specs.Clause.{has}
 use Rattle.lits.specs.Same.{same_node, same_lit, opposite}
 use Rattle.lits.specs.declared.node.Node.{Node}
@@ -19,13 +17,12 @@ use Rattle.unit_prop.specs.Variables.{variables}
 use Rattle.unit_prop.proofs.Facts.{in_turn-append}
 use Rattle.lemma_book.specs.declared.entry.Entry.{Entry}
 use Rattle.lemma_book.specs.declared.entry.Entry.TheVariants.{Merge, Apart, Spent, Out, OutApart, OutSpent}
-use Rattle.lemma_book.specs.declared.entry.Subject.TheVariants.{Output}
-use Rattle.lemma_book.specs.Entry.{Entries, is_on, about}
+use Rattle.lemma_book.specs.Entry.{Entries, about}
 use Rattle.lemma_book.specs.Good.{Count, NoStep, NotNew, IsGood}
 use Rattle.lemma_book.specs.Book.{IsLegal}
-use Rattle.lemma_book.proofs.Facts.{cone-one, cone-over}
+use Rattle.lemma_book.proofs.Facts.{about-all, cone-one, cone-over}
 use Rattle.proof_stitch.specs.Derivation.{is_spent, has_spent, outputs_of}
-use Rattle.check_session.specs.Finding.{Finding, Equivalent, Different, Undecided, Finds, open_outputs}
+use Rattle.check_session.specs.Finding.{Finding, Equivalent, Different, Undecided, Finds}
 use Rattle.check_session.specs.Check.{IsWithinFor}
 
 -- the laws about budgets
@@ -111,14 +108,6 @@ spent-within net is small among sweep out (Apart node lit input) later spent = c
 spent-within net is small among sweep out (Spent node lit seen log) later spent = cc
 spent-within net is small among sweep out (Out j steps) later spent = cc
 spent-within net is small among sweep out (OutApart j input) later spent = cc
-
-about-all : (P : Entry → Type 0) (entries : List Entry) (j : ℕ) (x : Entry) → AllByRecursion P entries → about entries j ≡ Some x → P x
-about-all P [] j x all e = absurd (none-some x e)
-about-all P (y ∷ ys) j x all e = go (is_on (Output j) y) refl (about-all P ys j x all.1)
-  where
-    go : (b : Bool) → is_on (Output j) y ≡ b → (about ys j ≡ Some x → P x) → P x
-    go true f rest = let g : Some y ≡ Some x = rw f at e in subst P (same_Some y x g) all.0
-    go false f rest = rest (rw f at e)
 
 -- some element passes the test
 record Passes {X : Type 0} (test : X → Bool) : Type 0 where

@@ -2,8 +2,7 @@
 use Rattle.std.specs.Prelude.{◌≡◌, ◌≢◌, ℕ, ◌<◌, Bool, not, false, ⊤, Option, None, Some, List, [], ◌∷◌, ◌++◌, filter, length}
 use Rattle.std.specs.List.{AllByRecursion}
 use Rattle.netlist.specs.Net.{AigPair}
-use Rattle.lemma_book.specs.declared.entry.Entry.TheVariants.{Merge, Apart, Spent, Out, OutApart, OutSpent}
-use Rattle.lemma_book.specs.Entry.{Entries}
+use Rattle.lemma_book.specs.declared.entry.Entry.TheVariants.{OutApart}
 use Rattle.lemma_book.specs.declared.entry.Entry.{Entry}
 use Rattle.lemma_book.specs.Entry.{about}
 use Rattle.check_session.specs.declared.verdict.Verdict.{Verdict}

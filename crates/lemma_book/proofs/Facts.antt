@@ -45,3 +45,5 @@ pub use Rattle.lemma_book.proofs.FaninLemmas.{apart-lits}
 pub use Rattle.lemma_book.proofs.ThereLemmas.{variables-distinct}
 -- the root of a negation is the negation of the root
 pub use Rattle.lemma_book.proofs.RootLemmas.{carried-opposite, root-opposite}
+-- what holds of each entry holds of the one about an output
+pub use Rattle.lemma_book.proofs.IndexLemmas.{about-all}

@@ -5,7 +5,8 @@ use Rattle.std.specs.HashMap.{HashMap, get}
 use Rattle.netlist.specs.Place.{place_of}
 use Rattle.netlist.proofs.Facts.{place_of-append, or_place, find-place, is_some-place}
 use Rattle.std.specs.Prelude.{slice_get, option_and_then, ◌||◌}
-use Rattle.std.specs.List.{list_any}
+use Rattle.std.specs.List.{list_any, AllByRecursion}
+use Rattle.std.proofs.lemmas.Option.{none-some, same_Some}
 use Rattle.lits.specs.declared.node.Node.{Node}
 use Rattle.lits.specs.declared.literal.Lit.{Lit}
 use Rattle.lemma_book.specs.declared.entry.Entry.TheVariants.{Merge, Apart, Spent, Out, OutApart, OutSpent}
@@ -98,3 +99,12 @@ module _ {S : Type 0} (old new : HashMap Key ℕ S) (key : Key) (number : ℕ) w
       go : (k : Key) (b : Bool) → same_key key k ≡ b → cond b (Some number) (get same_key old k) ≡ option_or (get same_key old k) (cond b (Some number) None)
       go k true e = sym (ap (λ (o : Option ℕ). option_or o (Some number)) (none_at k e))
       go k false e = or_none (get same_key old k)
+
+-- what holds of each entry holds of the one about an output, if there is one
+pub about-all : (P : Entry → Type 0) (entries : List Entry) (j : ℕ) (x : Entry) → AllByRecursion P entries → about entries j ≡ Some x → P x
+about-all P [] j x all e = absurd (none-some x e)
+about-all P (y ∷ ys) j x all e = go (is_on (Output j) y) refl (about-all P ys j x all.1)
+  where
+    go : (b : Bool) → is_on (Output j) y ≡ b → (about ys j ≡ Some x → P x) → P x
+    go true f rest = let g : Some y ≡ Some x = rw f at e in subst P (same_Some y x g) all.0
+    go false f rest = rest (rw f at e)

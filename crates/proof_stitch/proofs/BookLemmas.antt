@@ -21,7 +21,7 @@ use Rattle.lemma_book.specs.declared.entry.Subject.{Subject}
 use Rattle.lemma_book.specs.declared.entry.Subject.TheVariants.{Merged, Output}
 use Rattle.lemma_book.specs.Entry.{subject_of, same_subject, is_on, place_on, about, equal_clause}
 use Rattle.lemma_book.specs.Good.{NoNode, Already, Shape, Count, out_clause, IsGood}
-use Rattle.lemma_book.proofs.Facts.{clause-more, chain-more, merge-chain_out, out-chain, out_spent-chain}
+use Rattle.lemma_book.proofs.Facts.{about-all, clause-more, chain-more, merge-chain_out, out-chain, out_spent-chain}
 use Rattle.proof_stitch.specs.Written.{written_steps, shown_clauses}
 use Rattle.proof_stitch.specs.Stitch.{is_out, has_out}
 use Rattle.proof_stitch.specs.Derivation.{is_spent, has_spent, log_of, spent_log}
@@ -384,15 +384,6 @@ out-unit entries j e = go (place_on entries (Output j)) refl
         let g : option_map_or is_out (slice_get entries p) false ≡ true = rw f at whole in
         let h : is_out at.0 ≡ true = rw at.1 at g in
         record { place = p; entry = at.0; found = f; at = at.1; shows = unit at.0 h at.2 }
-
--- what holds of each entry holds of the one about an output, if there is one
-about-all : (P : Entry → Type 0) (entries : List Entry) (j : ℕ) (x : Entry) → AllByRecursion P entries → about entries j ≡ Some x → P x
-about-all P [] j x all e = absurd (none-some x e)
-about-all P (y ∷ ys) j x all e = go (is_on (Output j) y) refl (about-all P ys j x all.1)
-  where
-    go : (b : Bool) → is_on (Output j) y ≡ b → (about ys j ≡ Some x → P x) → P x
-    go true f rest = let g : Some y ≡ Some x = rw f at e in subst P (same_Some y x g) all.0
-    go false f rest = rest (rw f at e)
 
 -- each log is derived, and short
 pub log-derived : (net : AigPair) (out : ℕ) (entries : List Entry) → IsSoundBook net out entries → (j : ℕ)

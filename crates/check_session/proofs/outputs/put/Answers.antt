@@ -1,4 +1,4 @@
-use Rattle.std.proofs.Common.{◌≡◌, ℕ, sym, subst, ◌∙◌}
+use Rattle.std.proofs.Common.{ℕ, sym, subst, ◌∙◌}
 use Rattle.lemma_book.specs.Entry.{first_entries}
 use Rattle.lemma_book.specs.Good.{IsGood}
 use Rattle.check_session.proofs.OutputLemmas.{good-all, after-good}

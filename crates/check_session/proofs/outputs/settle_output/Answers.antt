@@ -1,6 +1,5 @@
-use Rattle.std.proofs.Common.{◌≡◌, ◌≢◌, None, List, subst, sym, ap}
+use Rattle.std.proofs.Common.{◌≢◌, None, subst, sym}
 use Rattle.lemma_book.specs.Entry.{Entries, about}
-use Rattle.lemma_book.specs.declared.entry.Entry.{Entry}
 use Rattle.check_session.specs.Outputs.{SeeMerges}
 use Rattle.check_session.proofs.OutputLemmas.{about-last, see-more, on-ok}
 use Rattle.check_session.proofs.outputs.settle_output.Goals as goal

@@ -1,8 +1,5 @@
-use Rattle.std.proofs.Common.{◌≡◌, ◌≢◌, ℕ, ◌<◌, ◌+◌, None, inl, inr, subst, sym, arith}
-use Rattle.std.proofs.Math.Nat.{eq-or-lt_of_le}
-use Rattle.lemma_book.specs.Entry.{about}
-use Rattle.check_session.specs.Outputs.{AreSettledBelow, is_of_output}
-use Rattle.check_session.proofs.OutputLemmas.{settled-more, grows-twice, settled-next}
+use Rattle.check_session.specs.Outputs.{is_of_output}
+use Rattle.check_session.proofs.OutputLemmas.{grows-twice, settled-next}
 use Rattle.check_session.proofs.outputs.settle_outputs.Goals as goal
 
 pub loop-output-preserved : goal.loop-output-preserved

@@ -1,5 +1,3 @@
-use Rattle.std.proofs.Common.{◌≡◌}
-use Rattle.lemma_book.specs.Book.{IsLegal}
 use Rattle.check_session.specs.Growth.{Grows}
 use Rattle.check_session.specs.Outputs.{AreSettledBelow, SeeMerges, is_of_output}
 use Rattle.check_session.proofs.outputs.settle_outputs.Given as goal

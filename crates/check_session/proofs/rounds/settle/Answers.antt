@@ -1,4 +1,3 @@
-use Rattle.std.proofs.Common.{◌≡◌}
 use Rattle.check_session.proofs.RoundLemmas.{settles-put, whole-input, extends-more, fits-more, on-ok-both}
 use Rattle.check_session.proofs.rounds.settle.Goals as goal
 

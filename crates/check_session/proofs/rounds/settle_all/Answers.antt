@@ -1,4 +1,3 @@
-use Rattle.std.proofs.Common.{◌≡◌}
 use Rattle.check_session.specs.Growth.{is_of_pair}
 use Rattle.check_session.proofs.OutputLemmas.{grows-twice}
 use Rattle.check_session.proofs.RoundLemmas.{extends-twice}

@@ -1,4 +1,4 @@
-use Rattle.std.proofs.Common.{◌≡◌, drop}
+use Rattle.std.proofs.Common.{drop}
 use Rattle.check_session.specs.Growth.{Grows, is_of_pair}
 use Rattle.check_session.specs.Rounds.{Extends, Fits, AreAsked}
 use Rattle.check_session.proofs.rounds.settle_all.Given as goal

@@ -1,4 +1,3 @@
-use Rattle.std.proofs.Common.{◌≡◌}
 use Rattle.sig_classes.specs.Kept.{AreKept}
 use Rattle.check_session.specs.Growth.{Grows, is_of_pair}
 use Rattle.check_session.specs.Rounds.{Fits}

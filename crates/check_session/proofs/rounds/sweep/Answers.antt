@@ -1,4 +1,3 @@
-use Rattle.std.proofs.Common.{◌≡◌}
 use Rattle.check_session.proofs.SweptLemmas.{grows-merges, grows-on}
 use Rattle.check_session.proofs.rounds.sweep.Goals as goal
 

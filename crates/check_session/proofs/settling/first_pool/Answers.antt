@@ -1,4 +1,4 @@
-use Rattle.std.proofs.Common.{◌≡◌, List, ℕ, length, ap, ◌∙◌}
+use Rattle.std.proofs.Common.{List, ℕ, length, ap, ◌∙◌}
 use Rattle.netlist.specs.Circuit.{Aig}
 use Rattle.check_session.proofs.SweptLemmas.{fits-if_ok}
 use Rattle.check_session.proofs.settling.first_pool.Goals as goal

@@ -1,4 +1,4 @@
-use Rattle.std.proofs.Common.{◌≡◌, ap}
+use Rattle.std.proofs.Common.{ap}
 use Rattle.lemma_book.specs.Entry.{Entries}
 use Rattle.check_session.proofs.SweptLemmas.{sweep-seen, found-by_sweep}
 use Rattle.check_session.proofs.settling.settle_by_sweep.Goals as goal

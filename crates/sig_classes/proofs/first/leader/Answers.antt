@@ -1,8 +1,8 @@
-use Rattle.std.proofs.Common.{◌≡◌, ◌∙◌, ℕ, ◌<◌, ◌≤◌, ◌&&◌, Bool, true, false, Some, List, length, sym, ap, subst, arith}
+use Rattle.std.proofs.Common.{◌≡◌, ◌∙◌, ◌<◌, ◌&&◌, Bool, true, false, Some, length, sym, subst, arith}
 use Rattle.std.proofs.lemmas.Bool.{and_parts}
 use Rattle.lits.specs.declared.node.Node.{Node}
 use Rattle.lits.specs.declared.literal.Lit.{Lit}
-use Rattle.netlist.specs.Net.{nodes_of, node_at, position_of}
+use Rattle.netlist.specs.Net.{nodes_of, position_of}
 use Rattle.netlist.proofs.Facts.{node-at}
 use Rattle.sig_classes.specs.Leader.{IsLeader}
 use Rattle.sig_classes.specs.Chains.{are_alike}

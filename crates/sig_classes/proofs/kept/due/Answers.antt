@@ -1,9 +1,9 @@
-use Rattle.std.proofs.Common.{◌≡◌, ◌∙◌, ◌+◌, ◌<◌, None, List, length, sym, subst, arith}
+use Rattle.std.proofs.Common.{◌+◌, ◌<◌, None, List, length, sym, subst, arith}
 use Rattle.netlist.specs.Net.{nodes_of}
 use Rattle.lemma_book.specs.declared.entry.Task.{Task}
 use Rattle.sig_classes.specs.Pass.{IsNextTask}
 use Rattle.sig_classes.proofs.KeptLemmas.{next-led}
-use Rattle.sig_classes.proofs.TaskLemmas.{AreTasksBefore, before-none, before-same, before-more, before-all}
+use Rattle.sig_classes.proofs.TaskLemmas.{AreTasksBefore, before-same, before-more, before-all}
 use Rattle.sig_classes.proofs.kept.due.Goals.{in-Some+in_ok-push, in_default}
 use Rattle.sig_classes.proofs.kept.due.Goals as goal
 

@@ -1,4 +1,4 @@
-use Rattle.std.proofs.Common.{◌≡◌, refl, arith}
+use Rattle.std.proofs.Common.{refl, arith}
 use Rattle.sig_classes.specs.Alike.{row_of}
 use Rattle.sig_classes.specs.Chains.{is_first, with_member}
 use Rattle.sig_classes.specs.Kept.{every}

@@ -1,4 +1,4 @@
-use Rattle.std.proofs.Common.{◌≡◌, ◌∙◌}
+use Rattle.std.proofs.Common.{◌∙◌}
 use Rattle.check_session.proofs.OutputLemmas.{different-here}
 use Rattle.check_session.proofs.verdict.Verdict.at.Goals as goal
 

@@ -1,8 +1,8 @@
-use Rattle.std.proofs.Common.{◌≡◌, ℕ, ◌<◌, ◌+◌, Option, List, length, filter, arith, sym, subst}
+use Rattle.std.proofs.Common.{◌≡◌, ℕ, Option, length, filter, arith, sym, subst}
 use Rattle.std.specs.List.{range_with_len}
 use Rattle.check_session.specs.declared.verdict.Verdict.{Verdict}
 use Rattle.proof_stitch.specs.Derivation.{has_spent}
-use Rattle.check_session.specs.Finding.{Finds, has_apart}
+use Rattle.check_session.specs.Finding.{Finds}
 use Rattle.check_session.specs.Outputs.{Looks, finding_of}
 use Rattle.check_session.proofs.OutputLemmas.{finds-rest, kept-next, none-next}
 use Rattle.check_session.proofs.verdict.Verdict.of.Goals as goal

@@ -1,4 +1,4 @@
-use Rattle.std.proofs.Common.{◌≡◌, ◌∙◌, ◌+◌, ◌-◌, ◌*◌, ◌/◌, ◌≤◌, ℕ, List, length, sym, ap, subst}
+use Rattle.std.proofs.Common.{◌≡◌, ◌∙◌, ◌+◌, ◌-◌, ◌*◌, ℕ, length, sym, ap, subst}
 use native.Mathlib.Omega.{arith}
 use Rattle.word_sim.specs.Patterns.{Patterns, words_of}
 use Rattle.word_sim.specs.Storage.{AreBlocks, IsClear}
