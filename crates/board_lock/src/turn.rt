@@ -54,8 +54,9 @@ fn wait_over<N: Over, R: Wait>(rt: &R, lock: &Lock, place: &mut Place)
     }
 }
 
-/// Waits while the line is full, before it joins it. Tickets are served in their order, so with more threads than processors a pass
-/// in line whose thread doesn't run would hold up all those behind it, and each of them would be woken to find that.
+/// Waits while the line is full, before it joins it. Tickets are served in their order: with
+/// more threads than processors, a pass in line whose thread doesn't run would hold up all behind
+/// it, and each of them would be woken to find that.
 fn wait_for_room<R: Wait>(rt: &R, lock: &Lock)
     requires words { lock.now.shared.table_id.words ≡ 4 }
 {
