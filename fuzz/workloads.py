@@ -2,7 +2,7 @@
 """The files of workloads, compared byte by byte with those of another generator, tools/workload.py; and `cec self`, compared
 with `cec check` of those files.
 
-Usage: workloads.py [--most N] [--every N] [--cec PROGRAM]
+Usage: workloads.py [PROGRAM] [--most N] [--every N]
 
 A small program over the crate workload_gen, built by LLVM at -O2 with no proof, writes them, since `cec self` shows only counts and a
 verdict. Each kind is compared for each number up to --most (64), and for each --every (251) up to 4096. For some numbers up
@@ -83,9 +83,9 @@ def checked(program, folder, kind, n):
 
 def main():
     parser = argparse.ArgumentParser(description=__doc__, formatter_class=argparse.RawDescriptionHelpFormatter)
+    parser.add_argument("program", nargs="?")
     parser.add_argument("--most", type=int, default=64)
     parser.add_argument("--every", type=int, default=251)
-    parser.add_argument("--cec", metavar="PROGRAM")
     words = parser.parse_args()
     numbers = sorted({*range(1, words.most + 1), *range(words.every, MOST, words.every), MOST})
     wrong = 0
@@ -98,7 +98,7 @@ def main():
                     wrong += 1
                     print(f"{kind} {n}: the bytes differ")
         print(f"{len(workload.KINDS) * len(numbers)} pairs of files, {wrong} wrong")
-        cec, own_wrong = house.program(words.cec), 0
+        cec, own_wrong = house.program(words.program), 0
         for kind in workload.KINDS:
             for n in CHECKED:
                 own, expected = checked(cec, Path(folder), kind, n)
