@@ -73,31 +73,48 @@ fn literals_of_numbers(rt: HostRuntime) -> Result<(), Fail> {
     Ok(())
 }
 
+const GATE: Lit = Lit {
+    node: Node::Gate(Side::B, 3),
+    neg: true,
+};
+
+const INPUT: Lit = Lit {
+    node: Node::Input(0),
+    neg: false,
+};
+
+fn gate_or_input(alloc: Global) -> Result<Clause<Lit>, Fail> {
+    Ok(Clause::of(alloc, &[GATE, INPUT, GATE]).map_err(|_| "a clause")?)
+}
+
 #[test]
 fn clause_of_nodes(rt: HostRuntime) -> Result<(), Fail> {
     let alloc = rt.alloc();
-    let gate = Lit {
-        node: Node::Gate(Side::B, 3),
-        neg: true,
-    };
-    let input = Lit {
-        node: Node::Input(0),
-        neg: false,
-    };
-    let clause = Clause::of(alloc, &[gate, input, gate]).map_err(|_| "a clause")?;
-    let copy = clause.copy()?;
-    assert_eq!(rt;
-        Clause::from_slice(alloc, &[gate])?.lits(),
-        [gate].as_slice()
-    );
-    assert_eq!(rt; copy.lits(), [gate, input].as_slice());
-    assert!(rt; copy.has(input));
-    assert!(rt; !copy.has(input.not()));
-    assert!(rt; copy.holds(&[gate.not(), input]));
-    assert!(rt; !copy.holds(&[gate.not()]));
+    let copy = gate_or_input(alloc)?.copy()?;
+    assert_eq!(rt; copy.lits(), [GATE, INPUT].as_slice());
+    let unit = Clause::from_slice(alloc, &[GATE])?;
+    assert_eq!(rt; unit.lits(), [GATE].as_slice());
+    Ok(())
+}
 
+#[test]
+fn literals_of_a_clause(rt: HostRuntime) -> Result<(), Fail> {
+    let clause = gate_or_input(rt.alloc())?;
+    assert!(rt; clause.has(INPUT));
+    assert!(rt; !clause.has(INPUT.not()));
+    assert!(rt; clause.holds(&[GATE.not(), INPUT]));
+    assert!(rt; !clause.holds(&[GATE.not()]));
+    Ok(())
+}
+
+#[test]
+fn hints_of_a_step(rt: HostRuntime) -> Result<(), Fail> {
+    let alloc = rt.alloc();
     let by = Ref::Axiom(Node::Gate(Side::B, 3), 1);
-    let named = Named { clause, by };
+    let named = Named {
+        clause: gate_or_input(alloc)?,
+        by,
+    };
     let hints = Listed::of(vec![in alloc; named.by, Ref::Own(0)]?);
     let step = Step {
         clause: named.clause,
@@ -110,29 +127,47 @@ fn clause_of_nodes(rt: HostRuntime) -> Result<(), Fail> {
     Ok(())
 }
 
-#[test]
-fn literal_sets(rt: HostRuntime) -> Result<(), Fail> {
-    let alloc = rt.alloc();
+fn set_of_three(rt: &impl Abort, alloc: Global) -> Result<LiteralSet<Dim>, Fail> {
     let mut set = LiteralSet::new(alloc);
-    for dim in dims(&rt, alloc, &[5, -2, 7])? {
+    for dim in dims(rt, alloc, &[5, -2, 7])? {
         assert!(rt; !set.has(dim));
         if !set.has(dim) {
             set.push(dim)?;
         }
     }
-    let probes = dims(&rt, alloc, &[5, -5, -2, 2])?;
+    Ok(set)
+}
+
+#[test]
+fn literal_sets(rt: HostRuntime) -> Result<(), Fail> {
+    let alloc = rt.alloc();
+    let set = set_of_three(&rt, alloc)?;
     assert_eq!(rt; set.place(Dim::new(7, false)), Some(2));
     assert_eq!(rt; set.place(Dim::new(7, true)), None);
-    set.add(Dim::new(5, false))?;
+    let probes = dims(&rt, alloc, &[5, -5, -2, 2])?;
     let found = probes
         .iter()
         .map(|dim| set.has(*dim))
         .collect::<Vec<bool>>(alloc)?;
     assert_eq!(rt; found.as_slice(), [true, false, true, false].as_slice());
+    Ok(())
+}
+
+#[test]
+fn sets_that_are_cleared(rt: HostRuntime) -> Result<(), Fail> {
+    let alloc = rt.alloc();
+    let mut set = set_of_three(&rt, alloc)?;
+    set.add(Dim::new(5, false))?;
     assert_eq!(rt; set.lits(), dims(&rt, alloc, &[5, -2, 7])?.as_slice());
     set.clear();
     assert!(rt; set.lits().is_empty());
     assert!(rt; set.into_vec().is_empty());
+    Ok(())
+}
+
+#[test]
+fn sets_of_repeated_literals(rt: HostRuntime) -> Result<(), Fail> {
+    let alloc = rt.alloc();
     let twice = dims(&rt, alloc, &[5, -2, 5, 2, -2])?;
     let set = LiteralSet::of(alloc, twice.as_slice())?;
     assert_eq!(rt; set.lits(), dims(&rt, alloc, &[5, -2, 2])?.as_slice());

@@ -126,12 +126,14 @@ fn faults_of_steps(rt: HostRuntime) -> Result<(), Fail> {
     )
 }
 
-#[test]
-fn steps_over_nodes(rt: HostRuntime) -> Result<(), Fail> {
-    let alloc = rt.alloc();
-    let lit = |node: Node| Lit { node, neg: false };
+/// The node as a literal.
+fn lit(node: Node) -> Lit {
+    Lit { node, neg: false }
+}
+
+/// Clauses from which gate `b` implies gate `a`, both the AND of the first two inputs.
+fn implying(alloc: Global, a: Lit, b: Lit) -> Result<Vec<Clause<Lit>>, Fail> {
     let (x, y) = (lit(Node::Input(0)), lit(Node::Input(1)));
-    let (a, b) = (lit(Node::Gate(Side::A, 3)), lit(Node::Gate(Side::B, 3)));
     let mut axioms = Vec::new(alloc);
     for lits in [
         [b.not(), y].as_slice(),
@@ -140,16 +142,33 @@ fn steps_over_nodes(rt: HostRuntime) -> Result<(), Fail> {
     ] {
         axioms.push(Clause::of(alloc, lits).map_err(|_| "a clause")?)?;
     }
+    Ok(axioms)
+}
+
+#[test]
+fn steps_over_nodes(rt: HostRuntime) -> Result<(), Fail> {
+    let alloc = rt.alloc();
+    let (a, b) = (lit(Node::Gate(Side::A, 3)), lit(Node::Gate(Side::B, 3)));
+    let axioms = implying(alloc, a, b)?;
     let mut check = StepCheck::new(alloc);
     check.begin(&[b.not(), a]).map_err(|_| "the clause")?;
     for axiom in &axioms {
         check.hint(axiom.lits()).map_err(|_| "a hint")?;
     }
     assert_eq!(rt; check.end(), Ok(()));
+    Ok(())
+}
+
+#[test]
+fn close_under_nodes(rt: HostRuntime) -> Result<(), Fail> {
+    let alloc = rt.alloc();
+    let (a, b) = (lit(Node::Gate(Side::A, 3)), lit(Node::Gate(Side::B, 3)));
+    let axioms = implying(alloc, a, b)?;
     let found = match unit_prop::close_under(alloc, axioms.as_slice(), &[b])? {
         Closure::Clash => return Err("a clash".into()),
         Closure::Free(lits) => lits.into_vec(),
     };
+    let (x, y) = (lit(Node::Input(0)), lit(Node::Input(1)));
     assert_eq!(rt; found.as_slice(), [b, y, x, a].as_slice());
     Ok(())
 }
@@ -206,7 +225,6 @@ fn scanned(
 #[test]
 fn hints_of_twin_gates(rt: HostRuntime) -> Result<(), Fail> {
     let alloc = rt.alloc();
-    let lit = |node: Node| Lit { node, neg: false };
     let (x, y) = (lit(Node::Input(0)), lit(Node::Input(1)));
     let (a, b) = (lit(Node::Gate(Side::A, 3)), lit(Node::Gate(Side::B, 3)));
     let base = twin_gates(alloc, a, b, x, y)?;
