@@ -201,12 +201,21 @@ def write(kind, lines, seed, cnf, proof):
     return writer.most
 
 
-def measure(program, reference, kind, lines, words, folder):
+def files_of(kind, lines, folder):
+    """The paths of the formula and of its proof."""
+    return [os.path.join(folder, f"{kind}-{lines}.{form}") for form in ("cnf", "lrat")]
+
+
+def written(asked, seed, folder):
+    """How many literals are live at most in each of the files that are asked for, which processes of their own write side by side: what a
+    process used counts in the peak memory of those that it starts."""
+    with multiprocessing.Pool() as pool:
+        return pool.starmap(write, [(kind, lines, seed, *files_of(kind, lines, folder)) for kind, lines in asked], 1)
+
+
+def measure(program, reference, kind, lines, most, words, folder):
     """Prints a row, and says whether both answers are right."""
-    cnf, proof = os.path.join(folder, f"{kind}.cnf"), os.path.join(folder, f"{kind}.lrat")
-    # A process of its own writes the files: what a process used counts in the peak memory of those that it starts.
-    with multiprocessing.Pool(1) as pool:
-        most = pool.apply(write, (kind, lines, words.seed, cnf, proof))
+    cnf, proof = files_of(kind, lines, folder)
     runs = [(run([program, "lrat", cnf, proof], folder), run([reference, cnf, proof], folder)) for _ in range(words.rounds)]
     ours, theirs = (min(seconds for _, seconds, _ in side) for side in zip(*runs))
     peak = min(peak for (_, _, peak), _ in runs)
@@ -230,12 +239,15 @@ def main():
     parser.add_argument("--folder", help="where the files are made (else a folder that is removed)")
     words = parser.parse_args()
     program = house.program(words.program)
+    print(f"seed {words.seed}")
     print(f"{'kind':>9} {'lines':>8} {'MB':>8} {'seconds':>8} {'reference':>10} {'ratio':>6} {'literals':>9} {'peak B/lit':>10}"
           "  answer")
     with tempfile.TemporaryDirectory() as made:
         reference = house.compiled(made, words.reference)
         folder = words.folder or made
-        right = [measure(program, reference, kind, lines, words, folder) for kind in words.kinds for lines in words.lines]
+        asked = [(kind, lines) for kind in words.kinds for lines in words.lines]
+        live = written(asked, words.seed, folder)
+        right = [measure(program, reference, *each, most, words, folder) for each, most in zip(asked, live)]
     sys.exit(0 if all(right) else 1)
 
 

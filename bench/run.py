@@ -53,6 +53,7 @@ def forms(size):
 
 def big_pairs(program, sizes, folder):
     abc = shutil.which("berkeley-abc")
+    print(f"seed {SEED}")
     print(f"{'gates a side':>12} {'form':>7} {'bytes of A':>11} {'read A s':>8} {'MB/s':>7} {'Mgates/s':>8} {'wc -c s':>8} {'wc -l s':>8} "
           f"{'ABC s':>7} {'check s':>8} {'peak B/gate':>12}  verdict")
     for size in sizes:
