@@ -145,3 +145,24 @@ fn a_search_without_choices_gives_up(rt: HostRuntime) -> Result<(), Fail> {
     assert!(rt; dropped == 0);
     Ok(())
 }
+
+/// The AND and the first input without the second differ exactly where the first input is true.
+#[test]
+fn a_pattern_shows_outputs_that_differ(rt: HostRuntime) -> Result<(), Fail> {
+    let alloc = rt.alloc();
+    let net = net_of(alloc, and(alloc)?, without(alloc)?)?;
+    let mut search = Search::new(alloc, &net, 1, 1)?;
+    let input = search.difference(alloc, &net)?.ok_or("no pattern")?;
+    assert!(rt; input.len() == 2);
+    assert!(rt; input.first() == Some(&true));
+    Ok(())
+}
+
+#[test]
+fn no_pattern_shows_equal_outputs_to_differ(rt: HostRuntime) -> Result<(), Fail> {
+    let alloc = rt.alloc();
+    let net = net_of(alloc, equal(alloc)?, not_one(alloc)?)?;
+    let mut search = Search::new(alloc, &net, 1, 1)?;
+    assert!(rt; search.difference(alloc, &net)?.is_none());
+    Ok(())
+}
