@@ -6,8 +6,8 @@ Usage: memory.py [PROGRAM] [--runs N] [--seed N]
 PROGRAM is the repository's own where it is left out. tools/fail_alloc.c is compiled and preloaded. Each command below is run
 once with memory enough. Then each of its allocations is refused in turn, of a run that has more of them N that are drawn
 (200), and for some that are drawn all from them on. Such a run must answer what the whole run does, in status, streams and
-files; or it ends with status 7, says nothing, warns `cec: out of memory` or, where there is none for the line, nothing at
-all, and leaves of each file that it writes nothing or a first part, and of the proof only what stands beside a whole CNF.
+files; or it ends with status 7, says nothing (or, of `cec self`, what its circuits are), warns `cec: out of memory` or, where
+there is none for the line, nothing at all, and leaves of each file that it writes nothing or a first part, and of the proof only what stands beside a whole CNF.
 Files that are read stay as they are. Status 1 where anything is wrong.
 """
 import os
@@ -77,6 +77,11 @@ def range_of(first, last):
     return {"FAIL_ALLOC_FROM": str(first), "FAIL_ALLOC_LAST": str(last)}
 
 
+def counts_in(said):
+    """The lines that `cec self` says of its circuits before it checks them."""
+    return "".join(line for line in said.splitlines(keepends=True) if line.startswith(("kind ", "gates ", "outputs ")))
+
+
 def fault_in(whole, run):
     """What is wrong with a run in which memory was refused, beside the run in which it wasn't."""
     if run == whole:
@@ -84,7 +89,7 @@ def fault_in(whole, run):
     status, said, warned, files = run
     if status != 7:
         return "another answer"
-    if said or warned not in ("", SHORT):
+    if said not in ("", counts_in(whole[1])) or warned not in ("", SHORT):
         return "out of memory, with more words"
     right = whole[3]
     if [name for name in right if name not in WRITTEN and files.get(name) != right[name]] or set(files) - set(right):
