@@ -85,7 +85,7 @@ def answers(name, lines):
 
 def main():
     words = argparse.ArgumentParser(description=__doc__, formatter_class=argparse.RawDescriptionHelpFormatter)
-    words.add_argument("--runs", type=int, default=200)
+    words.add_argument("--runs", type=int, default=100)
     words.add_argument("--seed", type=int, default=SEED)
     words.add_argument("--edit", nargs="+", default=sorted(file.stem for file in EDITS.glob("*.edit")))
     asked = words.parse_args()
