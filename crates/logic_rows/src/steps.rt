@@ -4,23 +4,12 @@ ghost use Rattle.std.specs.List.{list_any};
 ghost use Rattle.unit_prop.specs.HintScan.{IsNamed};
 ghost use Rattle.unit_prop.specs.Log.{same_name};
 
+use crate::literals::dims;
 use lits::{Clause, Dim, Lit, Literal, Named, Node, Ref, Side};
 use std::alloc::Global;
 use std::process::Abort;
 use std::test::Fail;
 use unit_prop::{BadStep, Clauses, Closure, StepCheck, Why};
-
-fn dims(rt: &impl Abort, alloc: Global, numbers: &[i32]) -> Result<Vec<Dim>, Fail> {
-    let mut dims = Vec::new(alloc);
-    for number in numbers {
-        let dim = Dim::of(*number);
-        assert!(rt; dim.is_some(), "{number} is no literal");
-        if let Some(dim) = dim {
-            dims.push(dim)?;
-        }
-    }
-    Ok(dims)
-}
 
 fn clauses(rt: &impl Abort, alloc: Global, lists: &[&[i32]]) -> Result<Vec<Clause<Dim>>, Fail> {
     let mut clauses = Vec::new(alloc);
