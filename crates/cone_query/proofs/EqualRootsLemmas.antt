@@ -8,6 +8,7 @@ use Rattle.std.proofs.lemmas.List.{map-append}
 use Rattle.std.proofs.lemmas.List.Folds.{list_any-append}
 use Rattle.std.proofs.lemmas.Bool.{or_left, or_right}
 use Rattle.std.proofs.lemmas.Option.{none-some, same_Some}
+use Rattle.std.proofs.Math.Seq.{take-length}
 use Rattle.lits.specs.Clause.{has}
 use Rattle.lits.specs.Same.{same_node, same_lit, opposite}
 use Rattle.lits.specs.declared.node.Side.TheVariants.{A, B}
@@ -29,20 +30,19 @@ use Rattle.netlist.proofs.Facts.{output_lit, output_of-below, variables-outputs}
 use Rattle.unit_prop.specs.Closure.{IsOpen}
 use Rattle.unit_prop.specs.Log.{base_clause, base_clauses, with_own, IsStepAfter, IsChain}
 use Rattle.unit_prop.specs.Step.{IsStep}
-use Rattle.unit_prop.proofs.Facts.{contrary, lit_laws, step-more, AreNamed, base_clause-is, named-all}
+use Rattle.unit_prop.proofs.Facts.{contrary, lit_laws, step-more, AreNamed, base_clause-is, named-all, Takes, take-second}
 use Rattle.lemma_book.specs.declared.entry.Entry.{Entry}
 use Rattle.lemma_book.specs.declared.entry.Entry.TheVariants.{Out}
 use Rattle.lemma_book.specs.Cone.{AreThere, clauses_on, nodes_in}
 use Rattle.lemma_book.specs.Entry.{Entries, equal_clause}
 use Rattle.lemma_book.specs.Good.{AreOver, EndsIn, out_clause}
 use Rattle.lemma_book.specs.Root.{merge_of, passed_by, root_of, IsRoot}
-use Rattle.lemma_book.proofs.Facts.{good-out, root-opposite, is_some-variable, apart-lits, on-named, HasItsName}
+use Rattle.lemma_book.proofs.Facts.{good-out, root-opposite, is_some-variable, apart-lits, on-named, HasItsName, Covers, takes-axioms, covers-opposite, passed-there, together}
 use Rattle.cone_query.specs.Answered.{IsOutput, SettlesOutput}
 use Rattle.cone_query.specs.EqualRoots.{with_first, AreShown, HaveOtherRoots, IsWayTo, Shows}
 use Rattle.cone_query.proofs.GateOrder.{node_of-no_xor}
-use Rattle.cone_query.proofs.LogLemmas.{take-whole}
 use Rattle.cone_query.proofs.OutputLemmas.{output-unsettled, xor-there, xor-variable, not-merged, axioms-are}
-use Rattle.cone_query.proofs.PathLemmas.{Takes, Covers, take-second, xor-other, xor-same, takes-axioms, covers-opposite, passed-there, together}
+use Rattle.cone_query.proofs.XorPropagation.{xor-other, xor-same}
 
 -- ---- the nodes on a way
 has-more : (xs ys : List Lit) (n : Node) → has same_node (nodes_in (xs ++ ys)) n ≡ (has same_node (nodes_in xs) n || has same_node (nodes_in ys) n)
@@ -125,7 +125,7 @@ module _ (net : AigPair) (book : Entries) (j : ℕ) (asks : IsOutput net book j)
       (covers-self (passed_by book.entries b))
 
   root : IsRoot book.entries x
-  root = subst (λ (es : List Entry). merge_of es x ≡ None) (take-whole book.entries) (not-merged net book j asks)
+  root = subst (λ (es : List Entry). merge_of es x ≡ None) (take-length book.entries) (not-merged net book j asks)
 
   module _ (same : root_of book.entries a ≡ root_of book.entries b) where
     -- they aren't complements of each other
@@ -291,7 +291,7 @@ module _ (net : AigPair) (book : Entries) (j : ℕ) (asks : IsOutput net book j)
       base-is : ms ≡ base net book j asks
       base-is =
           clauses ∙ (ap (λ (ls : List Lit). clauses_on net (take seen book.entries) (nodes_in ls)) lits-way
-          ∙ ap (λ (es : List Entry). clauses_on net es (nodes_in (way net book j asks))) (ap (λ (n : ℕ). take n book.entries) count ∙ take-whole book.entries))
+          ∙ ap (λ (es : List Entry). clauses_on net es (nodes_in (way net book j asks))) (ap (λ (n : ℕ). take n book.entries) count ∙ take-length book.entries))
 
       pub lits-way_to : IsWayTo ms x d.left
       lits-way_to =

@@ -11,5 +11,5 @@ mod ValueLemmas
 mod SetLemmas
 mod StartLemmas
 mod OutputLemmas
-mod PathLemmas
+mod XorPropagation
 mod EqualRootsLemmas

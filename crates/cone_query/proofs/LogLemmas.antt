@@ -1,9 +1,8 @@
 -- What logs over a cone are over the whole book: chains over what steps may cite, and over nodes that the miter has
 -- variables for.
-use Rattle.std.proofs.Common.{◌≡◌, ℕ, ◌+◌, Bool, true, false, ◌||◌, Option, Some, None, List, [], ◌∷◌, ◌++◌, length, take, refl, sym, ap, ◌∙◌, subst, arith}
+use Rattle.std.proofs.Common.{◌≡◌, ℕ, ◌+◌, Bool, true, false, ◌||◌, Option, Some, None, List, [], ◌∷◌, ◌++◌, take, refl, sym, ap, ◌∙◌, subst}
 use Rattle.std.specs.Option.{IsSome, is_some, option_map_or}
 use Rattle.std.specs.List.{AllByRecursion}
-use Rattle.std.proofs.lemmas.List.{take_all}
 use Rattle.lits.specs.Clause.{has}
 use Rattle.lits.specs.declared.node.Node.{Node}
 use Rattle.lits.specs.declared.node.Node.TheVariants.{Const, Input, Gate, Xor}
@@ -73,10 +72,6 @@ module _ (P : Node → Type 0) where
       each : (ls : List Lit) → AllByRecursion (λ l. occurs same_lit opposite (clauses_of base before) l ≡ true) ls → AllByRecursion (λ l. P l.node) ls
       each [] all = tt
       each (l ∷ ls) all = (occurs-over (clauses_of base before) l (clauses_of-over base before b s) all.0, each ls all.1)
-
--- the entries of a whole book
-pub take-whole : {X : Type 0} (xs : List X) → take (length xs) xs ≡ xs
-take-whole xs = take_all (length xs) xs (omega arith)
 
 module _ (net : AigPair) (is : IsNet net) (book : Entries) (legal : IsLegal net book) (seen : ℕ) (seeds : List Node) (cone : List Named)
     (is_cone : IsCone net (take seen book.entries) seeds cone) where

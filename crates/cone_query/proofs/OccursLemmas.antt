@@ -3,6 +3,7 @@ use Rattle.std.proofs.Common.{◌≡◌, ℕ, Bool, true, false, not, ◌||◌, 
 use Rattle.std.specs.Bool.{OnTrue, OnFalse}
 use Rattle.std.specs.List.{list_any, AllByRecursion}
 use Rattle.std.proofs.lemmas.Bool.{or_left}
+use Rattle.std.proofs.Math.Seq.{take-length}
 use Rattle.lits.specs.Clause.{has, has_pair, firsts}
 use Rattle.lits.specs.declared.node.Side.{Side}
 use Rattle.lits.specs.declared.node.Node.{Node}
@@ -25,7 +26,6 @@ use Rattle.lemma_book.specs.Good.{IsBefore}
 use Rattle.lemma_book.specs.Root.{MergeAt, merge_of}
 use Rattle.cone_query.specs.Query.{IsUnnamed}
 use Rattle.cone_query.specs.Asked.{IsNamedInput}
-use Rattle.cone_query.proofs.LogLemmas.{take-whole}
 use Rattle.cone_query.proofs.ConeModel.{cone-at, cone-from}
 use Rattle.cone_query.proofs.GateOrder.{found-var, left-earlier}
 
@@ -133,7 +133,7 @@ module _ (net : AigPair) (book : Entries) (task : Task) (cone : List Named)
     (is_cone : IsCone net (take (length book.entries) book.entries) (task.node ∷ []) cone) (named : Bool)
     (is : named ≡ list_any (λ m. speaks_of task.lit m.clause) cone) where
   is_whole : IsCone net book.entries (task.node ∷ []) cone
-  is_whole = subst (λ (es : List Entry). IsCone net es (task.node ∷ []) cone) (take-whole book.entries) is_cone
+  is_whole = subst (λ (es : List Entry). IsCone net es (task.node ∷ []) cone) (take-length book.entries) is_cone
 
   pub unnamed-yes : (k : ℕ) → task.lit.node ≡ Input k → OnTrue (not named) (IsUnnamed net book.entries task)
   unnamed-yes k e = go named is

@@ -5,6 +5,7 @@ use Rattle.std.specs.Option.{IsSome, is_some, option_and_then, option_to_list}
 use Rattle.std.specs.List.{list_any, find, AllByRecursion}
 use Rattle.std.proofs.lemmas.Bool.{and_parts}
 use Rattle.std.proofs.lemmas.Option.{none-some}
+use Rattle.std.proofs.Math.Seq.{take-length}
 use Rattle.lits.specs.Assignment.{Holds, Meets}
 use Rattle.lits.specs.Clause.{has, has_pair, firsts}
 use Rattle.lits.specs.declared.node.Side.{Side}
@@ -45,7 +46,7 @@ use Rattle.cone_query.proofs.ConeModel.{agree-lit, meets-base, cone-at, named-me
 use Rattle.cone_query.proofs.GateClauses.{xor_from_axioms}
 use Rattle.cone_query.proofs.GateOrder.{xor-nowhere, node_of-no_xor}
 use Rattle.cone_query.proofs.InputLemmas.{length-input_from, input_from-at}
-use Rattle.cone_query.proofs.LogLemmas.{take-whole, log-over, over-there, out-found, log-chain}
+use Rattle.cone_query.proofs.LogLemmas.{log-over, over-there, out-found, log-chain}
 use Rattle.cone_query.proofs.ModelLiterals.{true_in, true-clauses, false-literal}
 use Rattle.cone_query.proofs.OccursLemmas.{speaks_of, occurs-at}
 use Rattle.cone_query.proofs.ReachedLemmas.{false-outside}
@@ -193,7 +194,7 @@ module _ (net : AigPair) (book : Entries) (j : ℕ) (asks : IsOutput net book j)
 
           found : (name : Ref) (c : List Lit) → base_clause cone name ≡ Some c → out_clause net book.entries name ≡ Some c
           found =
-              subst (λ (l : List Entry). (name : Ref) (c : List Lit) → base_clause cone name ≡ Some c → out_clause net l name ≡ Some c) (take-whole book.entries)
+              subst (λ (l : List Entry). (name : Ref) (c : List Lit) → base_clause cone name ≡ Some c → out_clause net l name ≡ Some c) (take-length book.entries)
               (out-found net asks.net_is book asks.legal (length book.entries) (Xor j ∷ []) cone is_cone)
 
           shown : IsStep same_lit opposite (with_own (base_clause cone) log) (equal_clause j) hints
@@ -214,7 +215,7 @@ module _ (net : AigPair) (book : Entries) (j : ℕ) (asks : IsOutput net book j)
         seen = tt;
         outside = record {
           reached = is_cone.reached;
-          reach = subst (λ (l : List Entry). IsReach (next_of net l) (Xor j ∷ []) is_cone.reached) (take-whole book.entries) is_cone.reach;
+          reach = subst (λ (l : List Entry). IsReach (next_of net l) (Xor j ∷ []) is_cone.reached) (take-length book.entries) is_cone.reach;
           outside = false-outside net es (Xor j ∷ []) cone is_cone model m.within;
         };
         within = tt;
@@ -284,7 +285,7 @@ module _ (net : AigPair) (book : Entries) (j : ℕ) (asks : IsOutput net book j)
         outside = tt;
         within = record {
           cone = cone;
-          is_cone = subst (λ (l : List Entry). IsCone net l (Xor j ∷ []) cone) (take-whole book.entries) is_cone;
+          is_cone = subst (λ (l : List Entry). IsCone net l (Xor j ∷ []) cone) (take-length book.entries) is_cone;
           holds = law cone book.out_budget log spent;
         };
       })

@@ -5,6 +5,7 @@ use Rattle.std.specs.Option.{IsSome, option_map}
 use Rattle.std.specs.List.{list_all, AllByRecursion}
 use Rattle.std.proofs.lemmas.Bool.{and_parts}
 use Rattle.std.proofs.lemmas.Option.{none-some, slice_get_within}
+use Rattle.std.proofs.Math.Seq.{take-length}
 use Rattle.lits.specs.Assignment.{Holds}
 use Rattle.lits.specs.Clause.{has}
 use Rattle.lits.specs.declared.node.Node.{Node}
@@ -42,7 +43,7 @@ use Rattle.cone_query.specs.declared.pair_query.Asked.TheVariants.{Shown as Asks
 use Rattle.cone_query.specs.Asked.{IsPair, IsQuery, IsImplication, IsShown, IsAsked, Settles, seeds_of, forth, back}
 use Rattle.cone_query.proofs.ConeModel.{agree, agree-lit, meets-base}
 use Rattle.cone_query.proofs.InputLemmas.{length-input_from, input_from-at}
-use Rattle.cone_query.proofs.LogLemmas.{take-whole, log-over, over-there, node-found, log-chain}
+use Rattle.cone_query.proofs.LogLemmas.{log-over, over-there, node-found, log-chain}
 use Rattle.cone_query.proofs.ModelLiterals.{true_in, true-clauses, false-literal}
 use Rattle.cone_query.proofs.ReachedLemmas.{false-outside}
 
@@ -152,7 +153,7 @@ module _ (net : AigPair) (book : Entries) (task : Task) (pair : IsPair net book 
         seen = tt;
         outside = record {
           reached = query.cone.reached;
-          reach = subst (λ (es : List Entry). IsReach (next_of net es) (seeds_of task) query.cone.reached) (take-whole book.entries) query.cone.reach;
+          reach = subst (λ (es : List Entry). IsReach (next_of net es) (seeds_of task) query.cone.reached) (take-length book.entries) query.cone.reach;
           outside = false-outside net (take (length book.entries) book.entries) (seeds_of task) base query.cone model m.within;
         };
         within = tt;
@@ -218,7 +219,7 @@ module _ (net : AigPair) (book : Entries) (task : Task) (pair : IsPair net book 
         outside = tt;
         within = record {
           cone = base;
-          is_cone = subst (λ (es : List Entry). IsCone net es (seeds_of task) base) (take-whole book.entries) query.cone;
+          is_cone = subst (λ (es : List Entry). IsCone net es (seeds_of task) base) (take-length book.entries) query.cone;
           holds = law base book.sweep_budget log' spent;
         };
       })
@@ -285,7 +286,7 @@ module _ (net : AigPair) (book : Entries) (task : Task) (pair : IsPair net book 
 
       found : (name : Ref) (c : List Lit) → base_clause base name ≡ Some c → node_clause net book.entries name ≡ Some c
       found =
-          subst (λ (es : List Entry). (name : Ref) (c : List Lit) → base_clause base name ≡ Some c → node_clause net es name ≡ Some c) (take-whole book.entries)
+          subst (λ (es : List Entry). (name : Ref) (c : List Lit) → base_clause base name ≡ Some c → node_clause net es name ≡ Some c) (take-length book.entries)
           (node-found net pair.net_is book pair.legal (length book.entries) (seeds_of task) base query.cone (pair-placed.0, (pair-placed.1, tt)))
 
       one : IsStepAfter (node_clause net book.entries) end there

@@ -6,6 +6,7 @@ use Rattle.std.proofs.lemmas.Bool.Decides.{nat_tests}
 use Rattle.std.proofs.lemmas.Bool.{cases_lt}
 use Rattle.std.proofs.lemmas.List.{get_or-replicate, length-replicate, get_or_past}
 use Rattle.std.proofs.Common.{inl, inr}
+use Rattle.std.proofs.Math.Seq.{take-length}
 use Rattle.lits.specs.Assignment.{Holds}
 use Rattle.lits.specs.Clause.{has}
 use Rattle.lits.specs.declared.node.Node.{Node}
@@ -28,7 +29,6 @@ use Rattle.cone_query.specs.Query.{IsUnnamed, IsSetAlone, IsGate}
 use Rattle.cone_query.specs.Asked.{IsPair, Settles, seeds_of}
 use Rattle.cone_query.proofs.ConeModel.{agree, values-meet_cone}
 use Rattle.cone_query.proofs.InputLemmas.{there-below}
-use Rattle.cone_query.proofs.LogLemmas.{take-whole}
 use Rattle.cone_query.proofs.OccursLemmas.{speaks_of, silent}
 use Rattle.cone_query.proofs.PairLemmas.{pair-there, pair-placed, pair-starts}
 
@@ -147,7 +147,7 @@ module _ (net : AigPair) (book : Entries) (task : Task) (pair : IsPair net book 
               (subst (λ (n : Node). same_node (Input i) n ≡ true) (ap Input same ∙ sym unnamed.is_input) (same-node_self (Input i))) e
 
   own_is : IsCone net (take (length book.entries) book.entries) (task.node ∷ []) unnamed.cone
-  own_is = subst (λ (es : List Entry). IsCone net es (task.node ∷ []) unnamed.cone) (sym (take-whole book.entries)) unnamed.is_cone
+  own_is = subst (λ (es : List Entry). IsCone net es (task.node ∷ []) unnamed.cone) (sym (take-length book.entries)) unnamed.is_cone
 
   apart_nodes : same_node task.node task.lit.node ≡ false
   apart_nodes = go task.node gate
@@ -190,7 +190,7 @@ module _ (net : AigPair) (book : Entries) (task : Task) (pair : IsPair net book 
     seen = tt;
     outside = record {
       reached = is_base.reached;
-      reach = subst (λ (es : List Entry). IsReach (next_of net es) (seeds_of task) is_base.reached) (take-whole book.entries) is_base.reach;
+      reach = subst (λ (es : List Entry). IsReach (next_of net es) (seeds_of task) is_base.reached) (take-length book.entries) is_base.reach;
       outside = λ i out. elsewhere i (λ same.
           contrary (is_base.reached (Input i))
           (subst (λ (n : Node). is_base.reached n ≡ true) (unnamed.is_input ∙ ap Input (sym same)) is_base.reach.closed.starts.1.0) out);

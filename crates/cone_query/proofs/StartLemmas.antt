@@ -2,6 +2,7 @@
 use Rattle.std.proofs.Common.{◌≡◌, ℕ, Bool, true, false, not, Option, Some, None, List, [], ◌∷◌, length, take, refl, sym, ap, ◌∙◌, subst, arith}
 use Rattle.std.specs.Prelude.{◌==◌}
 use Rattle.std.specs.Option.{IsSome, is_some}
+use Rattle.std.proofs.Math.Seq.{take-length}
 use Rattle.lits.specs.Clause.{has, IsClause}
 use Rattle.lits.specs.declared.node.Node.{Node}
 use Rattle.lits.specs.declared.node.Node.TheVariants.{Const, Input, Gate, Xor}
@@ -25,7 +26,6 @@ use Rattle.cone_query.specs.Query.{IsGate, IsUnnamed}
 use Rattle.cone_query.specs.Asked.{IsPair, IsQuery, IsNamedInput, seeds_of, forth, back}
 use Rattle.cone_query.proofs.ConeModel.{find-any}
 use Rattle.cone_query.proofs.GateOrder.{xor-nowhere}
-use Rattle.cone_query.proofs.LogLemmas.{take-whole}
 use Rattle.cone_query.proofs.OccursLemmas.{occurs-at, occurs-more, spoken-merge, spoken-const, spoken-gate}
 use Rattle.cone_query.proofs.PairLemmas.{pair-placed, pair-starts, over-opposite}
 
@@ -74,7 +74,7 @@ module _ (net : AigPair) (book : Entries) (task : Task) (pair : IsPair net book 
   named-occurs named k e =
       let own = named k e in
       let own_is : IsCone net (take (length book.entries) book.entries) (task.node ∷ []) own.cone =
-      subst (λ (l : List Entry). IsCone net l (task.node ∷ []) own.cone) (sym (take-whole book.entries)) own.is_cone in
+      subst (λ (l : List Entry). IsCone net l (task.node ∷ []) own.cone) (sym (take-length book.entries)) own.is_cone in
       let within : IsClosed (next_of net (take (length book.entries) book.entries)) (task.node ∷ []) is_base.reached =
       record { starts = (is_base.reach.closed.starts.0, tt); nexts = is_base.reach.closed.nexts } in
       occurs-more net (take (length book.entries) book.entries) (task.node ∷ []) own.cone own_is (seeds_of task) base is_base

@@ -47,3 +47,13 @@ pub use Rattle.lemma_book.proofs.ThereLemmas.{variables-distinct}
 pub use Rattle.lemma_book.proofs.RootLemmas.{carried-opposite, root-opposite}
 -- what holds of each entry holds of the one about an output
 pub use Rattle.lemma_book.proofs.IndexLemmas.{about-all}
+-- ---- unit propagation over the clauses of a few nodes, a set of literals being closed under it
+
+-- the nodes have those of the literals
+pub use Rattle.lemma_book.proofs.AlongMerges.{Covers, covers-opposite}
+-- the set is closed under the axioms of an unmerged node
+pub use Rattle.lemma_book.proofs.AlongMerges.{takes-axioms}
+-- what is passed on the path to a root has a variable
+pub use Rattle.lemma_book.proofs.AlongMerges.{passed-there}
+-- a literal is in the set exactly where its root is, so two with one root are in it together
+pub use Rattle.lemma_book.proofs.AlongMerges.{along, together}

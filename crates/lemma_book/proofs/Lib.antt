@@ -23,3 +23,4 @@ mod NewClauses
 mod Judged
 mod PartLemmas
 mod ConeValueLemmas
+mod AlongMerges

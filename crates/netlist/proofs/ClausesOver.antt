@@ -172,3 +172,15 @@ module _ (net : AigPair) (is : IsNet net) where
             (λ n h. list_any-append (λ y. same_node y n) (nodes_of net) (xors_of net) ∙ or_right (has same_node (nodes_of net) n) (has same_node (xors_of net) n) h)),
         tt,
       )
+
+-- what holds of the clauses that stay holds of the first where it stays, without its repeated literals, and of those after it
+pub kept-head : (P : List Lit → Type 0) (c : List Lit) (cs : List (List Lit)) → has_pair same_lit opposite c ≡ false
+    → AllByRecursion P (kept (c ∷ cs)) → P (firsts same_lit c)
+kept-head P c cs stays all = let both : AllByRecursion P (firsts same_lit c ∷ kept cs) = rw stays at all in both.0
+
+pub kept-rest : (P : List Lit → Type 0) (c : List Lit) (cs : List (List Lit)) → AllByRecursion P (kept (c ∷ cs)) → AllByRecursion P (kept cs)
+kept-rest P c cs all = go (has_pair same_lit opposite c) refl
+  where
+    go : (b : Bool) → has_pair same_lit opposite c ≡ b → AllByRecursion P (kept cs)
+    go true e = rw e at all
+    go false e = let both : AllByRecursion P (firsts same_lit c ∷ kept cs) = rw e at all in both.1

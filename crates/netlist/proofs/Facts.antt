@@ -43,6 +43,8 @@ pub use Rattle.netlist.proofs.ClausesOver.{AreOver}
 pub use Rattle.netlist.proofs.ClausesOver.{all-members}
 -- a clause keeps to the set when its repeated literals are dropped, and so do the clauses that stay
 pub use Rattle.netlist.proofs.ClausesOver.{over-kept}
+-- what holds of the clauses that stay, of the first and of those after it
+pub use Rattle.netlist.proofs.ClausesOver.{kept-head, kept-rest}
 -- the clauses that define a node of the set are over the set
 pub use Rattle.netlist.proofs.ClausesOver.{over-axioms}
 -- so are those with CNF variables, which have also each XOR's outputs

@@ -1,5 +1,5 @@
 mod MergeLemmas
-mod Propagation
+mod GatePropagation
 mod GateFacts
 mod ShowsLemmas
 mod WayLemmas

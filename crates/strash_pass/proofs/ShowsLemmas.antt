@@ -14,16 +14,16 @@ use Rattle.netlist.specs.Net.{AigPair}
 use Rattle.netlist.specs.Miter.{positive, negative, gate_clauses, kept}
 use Rattle.unit_prop.specs.Closure.{IsOpen}
 use Rattle.unit_prop.specs.Log.{base_clauses}
-use Rattle.unit_prop.proofs.Facts.{lit_laws}
+use Rattle.unit_prop.proofs.Facts.{lit_laws, Takes, take-one}
 use Rattle.lemma_book.specs.declared.entry.Entry.{Entry}
 use Rattle.lemma_book.specs.Entry.{Entries}
 use Rattle.lemma_book.specs.Root.{root_of, IsRoot}
 use Rattle.lemma_book.specs.Cone.{clauses_on, nodes_in}
 use Rattle.lemma_book.specs.Book.{IsLegal}
-use Rattle.lemma_book.proofs.Facts.{root-opposite, is_some-variable, placed-there}
+use Rattle.lemma_book.proofs.Facts.{root-opposite, is_some-variable, placed-there, takes-axioms, along}
 use Rattle.strash_pass.specs.Strash.{folded, AreTwins}
 use Rattle.strash_pass.specs.Pass.{Reaches, Shows, ShowsMerge}
-use Rattle.strash_pass.proofs.Propagation.{twice, Takes, take-one, gate-left, gate-right, gate-both, takes-axioms, along}
+use Rattle.strash_pass.proofs.GatePropagation.{twice, gate-left, gate-right, gate-both}
 use Rattle.strash_pass.proofs.GateFacts.{IsGate, apart-placed}
 
 same-self : (l : Lit) → same_lit l l ≡ true
@@ -93,7 +93,7 @@ module _ (net : AigPair) (book : Entries) (legal : IsLegal net book) (nodes : Li
     takes-gate : AllByRecursion (Takes is.set) (kept (gate_clauses d))
     takes-gate =
         subst (AllByRecursion (Takes is.set)) gate.axioms
-        (takes-axioms net book.entries nodes given is d.node reaches.inside (sym (is_some-variable net d.node) ∙ placed-there net d.node (rw gate.node refl)) reaches.unmerged)
+        (takes-axioms net book.entries nodes is.set is.closed.units d.node reaches.inside (sym (is_some-variable net d.node) ∙ placed-there net d.node (rw gate.node refl)) reaches.unmerged)
 
     far-left : same_node d.node d.left.node ≡ false
     far-left = apart-placed net d.node d.left.node (1 + length net.a.inputs + k) gate.left.0 gate.node gate.left.1 gate.left.2
@@ -104,25 +104,25 @@ module _ (net : AigPair) (book : Entries) (legal : IsLegal net book) (nodes : Li
     -- where the gate is true the roots of its fanins are
     down-left : is.set (positive d.node) ≡ true → is.set (root_of book.entries d.left) ≡ true
     down-left h =
-        (along net book legal nodes given is (length book.entries) d.left reaches.left).0 (gate-left is.set d.node d.left d.right far-left far-right takes-gate h)
+        (along net book legal nodes is.set is.closed.units (length book.entries) d.left reaches.left).0 (gate-left is.set d.node d.left d.right far-left far-right takes-gate h)
 
     down-right : is.set (positive d.node) ≡ true → is.set (root_of book.entries d.right) ≡ true
     down-right h =
-        (along net book legal nodes given is (length book.entries) d.right reaches.right).0 (gate-right is.set d.node d.left d.right far-left far-right takes-gate h)
+        (along net book legal nodes is.set is.closed.units (length book.entries) d.right reaches.right).0 (gate-right is.set d.node d.left d.right far-left far-right takes-gate h)
 
     -- and the other way round
     both-up : same_lit (root_of book.entries d.left) (opposite (root_of book.entries d.right)) ≡ false
         → is.set (root_of book.entries d.left) ≡ true → is.set (root_of book.entries d.right) ≡ true → is.set (positive d.node) ≡ true
     both-up apart e f =
         gate-both is.set d.node d.left d.right far-left far-right takes-gate (apart-fanins book.entries d.left d.right apart)
-        ((along net book legal nodes given is (length book.entries) d.left reaches.left).1 e)
-        ((along net book legal nodes given is (length book.entries) d.right reaches.right).1 f)
+        ((along net book legal nodes is.set is.closed.units (length book.entries) d.left reaches.left).1 e)
+        ((along net book legal nodes is.set is.closed.units (length book.entries) d.right reaches.right).1 f)
 
   -- the constant is true, where the nodes have it
   const-true : has same_node nodes Const ≡ true → IsRoot book.entries Const → is.set (positive Const) ≡ true
   const-true inside root =
       take-one is.set (positive Const)
-      (takes-axioms net book.entries nodes given is Const inside refl root).0
+      (takes-axioms net book.entries nodes is.set is.closed.units Const inside refl root).0
 
 -- what is given is true
 given-first : (x y : Lit) → has same_lit (x ∷ y ∷ []) x ≡ true

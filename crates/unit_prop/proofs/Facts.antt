@@ -39,3 +39,9 @@ pub use Rattle.unit_prop.proofs.AssignmentLemmas.{step-more}
 pub use Rattle.unit_prop.proofs.NameLemmas.{AreNamed, base_clause-is, named-all}
 -- a clause in front whose name no other has
 pub use Rattle.unit_prop.proofs.NameLemmas.{named-cons}
+-- ---- sets of literals that are closed under unit propagation by a clause
+
+-- also where its repeated literals are written
+pub use Rattle.unit_prop.proofs.ClosedSets.{Takes, takes-firsts}
+-- the literal that a clause of one, two or three gives
+pub use Rattle.unit_prop.proofs.ClosedSets.{take-one, take-first, take-second, take-head, take-third}

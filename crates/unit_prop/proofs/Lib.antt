@@ -13,3 +13,4 @@ mod CountLemmas
 mod BudgetLemmas
 mod HintScanLemmas
 mod NameLemmas
+mod ClosedSets

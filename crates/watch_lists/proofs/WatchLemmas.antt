@@ -94,6 +94,21 @@ has_watch-next list at i h = elim (decide h.place at) [
   | inr other ↦ inr (record { place = h.place; after = let a = h.after in omega arith; before = h.before; is = h.is })
 ]
 
+-- a watch stays where one is pushed anywhere
+pub has_watch-pushed : (lists : List (List Watch)) (l k i : ℕ) (w : Watch) → HasWatch (list_at lists k) 0 i → HasWatch (list_at (pushed lists l w) k) 0 i
+has_watch-pushed lists l k i w h = elim (decide k l) [
+  | inr apart ↦ subst (λ (z : List Watch). HasWatch z 0 i) (sym (get_or-set_other lists l k (list_at lists l ++ w ∷ []) [] apart)) h
+  | inl same ↦ elim (within l (length lists)) [
+    | inl lt ↦ subst (λ (j : ℕ). HasWatch (list_at (set lists l (list_at lists l ++ w ∷ [])) j) 0 i) (sym same)
+        (subst (λ (z : List Watch). HasWatch z 0 i) (sym (get_or-set_same lists l (list_at lists l ++ w ∷ []) [] lt))
+        (has_watch-push (list_at lists l) w 0 i (subst (λ (j : ℕ). HasWatch (list_at lists j) 0 i) same h)))
+    | inr past ↦ subst (λ (z : List (List Watch)). HasWatch (list_at z k) 0 i) (sym (set_past lists l (list_at lists l ++ w ∷ []) past)) h
+  ]
+]
+  where
+    within : (a b : ℕ) → (a < b) ⊎ (b ≤ a)
+    within a b = grind arith
+
 module _ {clauses : List (List ℕ)} {pairs : List Pair} {lists : List (List Watch)} {trail : List ℕ} {levels : List Level} {head : ℕ}
     (watched : AreWatched clauses pairs lists trail levels head) where
   -- a watch is pushed
@@ -101,26 +116,15 @@ module _ {clauses : List (List ℕ)} {pairs : List Pair} {lists : List (List Wat
       → AreWatched clauses pairs (slice_set lists l (list_at lists l ++ w ∷ [])) trail levels head
   watched-push l w is = record {
     most = watched.most;
-    linked = λ i h. record { first = more (pair_at pairs i).first i (watched.linked i h).first; second = more (pair_at pairs i).second i (watched.linked i h).second };
+    linked = λ i h. record {
+      first = has_watch-pushed lists l (pair_at pairs i).first i w (watched.linked i h).first;
+      second = has_watch-pushed lists l (pair_at pairs i).second i w (watched.linked i h).second;
+    };
     watches = each-set (λ (list : List Watch). All (IsWatch clauses (length pairs)) list) lists l (list_at lists l ++ w ∷ []) [] watched.watches
         (All-push (IsWatch clauses (length pairs)) (list_at lists l) w (watched.watches l) is);
     guards = watched.guards;
     bounds = watched.bounds;
   }
-    where
-      more : (k i : ℕ) → HasWatch (list_at lists k) 0 i → HasWatch (list_at (slice_set lists l (list_at lists l ++ w ∷ [])) k) 0 i
-      more k i h = elim (decide k l) [
-        | inr apart ↦ subst (λ (z : List Watch). HasWatch z 0 i) (sym (get_or-set_other lists l k (list_at lists l ++ w ∷ []) [] apart)) h
-        | inl same ↦ elim (within l (length lists)) [
-          | inl lt ↦ subst (λ (j : ℕ). HasWatch (list_at (set lists l (list_at lists l ++ w ∷ [])) j) 0 i) (sym same)
-              (subst (λ (z : List Watch). HasWatch z 0 i) (sym (get_or-set_same lists l (list_at lists l ++ w ∷ []) [] lt))
-              (has_watch-push (list_at lists l) w 0 i (subst (λ (j : ℕ). HasWatch (list_at lists j) 0 i) same h)))
-          | inr past ↦ subst (λ (z : List (List Watch)). HasWatch (list_at z k) 0 i) (sym (set_past lists l (list_at lists l ++ w ∷ []) past)) h
-        ]
-      ]
-        where
-          within : (a b : ℕ) → (a < b) ⊎ (b ≤ a)
-          within a b = grind arith
 
   -- a pair is changed
   pub watched-pair : (j : ℕ) (pair : Pair) → j < length pairs → IsLinked lists j pair
@@ -195,21 +199,7 @@ pushed-back lists l w h =
     let back : take (length (list_at lists l ++ w ∷ []) - 1) (list_at lists l ++ w ∷ []) ≡ list_at lists l = take_at (list_at lists l) (w ∷ []) _ (omega (arith, length_push (list_at lists l) w)) in
     rw (there, back) (set-set lists l (list_at lists l ++ w ∷ []) (list_at lists l) ∙ set-get_or lists l [])
 
--- a watch stays where one is pushed anywhere
-pub has_watch-pushed : (lists : List (List Watch)) (l k i : ℕ) (w : Watch) → HasWatch (list_at lists k) 0 i → HasWatch (list_at (pushed lists l w) k) 0 i
-has_watch-pushed lists l k i w h = elim (decide k l) [
-  | inr apart ↦ subst (λ (z : List Watch). HasWatch z 0 i) (sym (get_or-set_other lists l k (list_at lists l ++ w ∷ []) [] apart)) h
-  | inl same ↦ elim (within l (length lists)) [
-    | inl lt ↦ subst (λ (j : ℕ). HasWatch (list_at (set lists l (list_at lists l ++ w ∷ [])) j) 0 i) (sym same)
-        (subst (λ (z : List Watch). HasWatch z 0 i) (sym (get_or-set_same lists l (list_at lists l ++ w ∷ []) [] lt))
-        (has_watch-push (list_at lists l) w 0 i (subst (λ (j : ℕ). HasWatch (list_at lists j) 0 i) same h)))
-    | inr past ↦ subst (λ (z : List (List Watch)). HasWatch (list_at z k) 0 i) (sym (set_past lists l (list_at lists l ++ w ∷ []) past)) h
-  ]
-]
-  where
-    within : (a b : ℕ) → (a < b) ⊎ (b ≤ a)
-    within a b = grind arith
-
+-- the pushed one is there
 pub has_watch-new : (lists : List (List Watch)) (l : ℕ) (w : Watch) → l < length lists → HasWatch (list_at (pushed lists l w) l) 0 w.clause
 has_watch-new lists l w h = subst (λ (z : List Watch). HasWatch z 0 w.clause) (sym (get_or-set_same lists l (list_at lists l ++ w ∷ []) [] h)) (has_watch-last (list_at lists l) w)
 

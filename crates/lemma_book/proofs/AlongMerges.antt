@@ -1,108 +1,31 @@
--- Unit propagation over the clauses of a few nodes: along the merges on the path to a root, and through an XOR.
-use Rattle.std.proofs.Common.{◌≡◌, ℕ, zero, suc, ◌+◌, Bool, true, false, ◌||◌, Option, Some, None, List, [], ◌∷◌, filter, length, refl, sym, ap, ◌∙◌}
+-- Unit propagation over the clauses of a few nodes, along the merges on the path to a root.
+use Rattle.std.proofs.Common.{◌≡◌, ℕ, zero, suc, ◌+◌, Bool, true, false, Option, Some, None, List, [], ◌∷◌, filter, length, refl, sym, ap, ◌∙◌}
 use Rattle.std.specs.Option.{IsSome}
 use Rattle.std.specs.List.{AllByRecursion}
-use Rattle.std.proofs.lemmas.Bool.{or_left, or_right}
+use Rattle.std.proofs.Math.Seq.{take-length}
 use Rattle.std.proofs.lemmas.Map.Views.{any-filter_same}
-use Rattle.lits.specs.Clause.{has, has_pair, firsts}
-use Rattle.lits.specs.Same.{same_node, same_lit, opposite}
+use Rattle.lits.specs.Clause.{has}
+use Rattle.lits.specs.Same.{same_node, opposite}
 use Rattle.lits.specs.declared.node.Node.{Node}
 use Rattle.lits.specs.declared.literal.Lit.{Lit}
 use Rattle.lits.specs.declared.step.Ref.{Ref}
 use Rattle.lits.specs.declared.step.Ref.TheVariants.{Axiom, Entry as Shown}
 use Rattle.lits.specs.declared.step.Named.{Named}
 use Rattle.lits.specs.contracts.literal.LitLiteral.TheImpl.Laws as laws
-use Rattle.lits.proofs.Facts.{exact-node, has-firsts, eq-opposite}
+use Rattle.lits.proofs.Facts.{exact-node}
 use Rattle.netlist.specs.Net.{AigPair}
-use Rattle.netlist.specs.Miter.{axioms_of, variables_of, variable_of, positive, negative, xor_clauses, kept}
+use Rattle.netlist.specs.Miter.{axioms_of, variables_of, variable_of, positive, negative}
 use Rattle.netlist.proofs.Facts.{flat_map-member}
-use Rattle.unit_prop.specs.Closure.{forces}
 use Rattle.unit_prop.specs.Log.{base_clauses}
-use Rattle.unit_prop.proofs.Facts.{lit_laws, all-true, all-at}
+use Rattle.unit_prop.proofs.Facts.{Takes, take-first, take-second}
 use Rattle.lemma_book.specs.declared.entry.Entry.{Entry}
 use Rattle.lemma_book.specs.Entry.{Entries, merge_clauses}
 use Rattle.lemma_book.specs.Root.{MergeAt, merge_of, carried, follow, passed, passed_by, root_of, IsRoot}
 use Rattle.lemma_book.specs.Cone.{AreThere, named_from, named_clauses, clauses_on}
 use Rattle.lemma_book.specs.Book.{IsLegal}
-use Rattle.lemma_book.proofs.Facts.{carried-opposite, merge-placed, placed-there, is_some-variable, apart-lits}
-use Rattle.cone_query.proofs.LogLemmas.{take-whole}
-
-self : (l : Lit) → same_lit l l ≡ true
-self = lit_laws.equivalence.refl
-
-twice : (l : Lit) → opposite (opposite l) ≡ l
-twice = laws.twice-law
-
--- ---- clauses
--- the set is closed under unit propagation by the clause
-abbrev pub Takes : (Lit → Bool) → List Lit → Type 0
-Takes p c = (l : Lit) → has same_lit c l ≡ true → forces same_lit opposite p c l ≡ true → p l ≡ true
-
-module _ (p : Lit → Bool) where
-  -- also where repeated literals are written
-  takes-firsts : (c : List Lit) → Takes p (firsts same_lit c) → Takes p c
-  takes-firsts c takes l inside all =
-      takes l (has-firsts lit_laws c l ∙ inside) (
-      all-true lit_laws (λ m. same_lit m l || p (opposite m)) (firsts same_lit c)
-      (λ m h. all-at lit_laws (λ k. same_lit k l || p (opposite k)) c m all (sym (has-firsts lit_laws c m) ∙ h))
-      )
-
-  -- of two literals, and of three
-  pub take-second : (x y : Lit) → Takes p (x ∷ y ∷ []) → p (opposite x) ≡ true → p y ≡ true
-  take-second x y takes e =
-      takes y (or_right (same_lit x y) _ (or_left _ false (self y)))
-      (rw (or_right (same_lit x y) (p (opposite x)) e, or_left (same_lit y y) (p (opposite y)) (self y)) refl)
-
-  take-first : (x y : Lit) → Takes p (x ∷ y ∷ []) → p (opposite y) ≡ true → p x ≡ true
-  take-first x y takes e =
-      takes x (or_left (same_lit x x) _ (self x))
-      (rw (or_left (same_lit x x) (p (opposite x)) (self x), or_right (same_lit y x) (p (opposite y)) e) refl)
-
-  take-third : (x y z : Lit) → Takes p (x ∷ y ∷ z ∷ []) → p (opposite x) ≡ true → p (opposite y) ≡ true → p z ≡ true
-  take-third x y z takes e f =
-      takes z (or_right (same_lit x z) _ (or_right (same_lit y z) _ (or_left _ false (self z))))
-      (rw (
-        or_right (same_lit x z) (p (opposite x)) e,
-        or_right (same_lit y z) (p (opposite y)) f,
-        or_left (same_lit z z) (p (opposite z)) (self z),
-      ) refl)
-
-  -- ---- the clauses that stay
-  kept-head : (c : List Lit) (cs : List (List Lit)) → has_pair same_lit opposite c ≡ false → AllByRecursion (Takes p) (kept (c ∷ cs)) → Takes p c
-  kept-head c cs stays all =
-      let both : AllByRecursion (Takes p) (firsts same_lit c ∷ kept cs) = rw stays at all in takes-firsts c both.0
-
-  kept-rest : (c : List Lit) (cs : List (List Lit)) → AllByRecursion (Takes p) (kept (c ∷ cs)) → AllByRecursion (Takes p) (kept cs)
-  kept-rest c cs all = go (has_pair same_lit opposite c) refl
-    where
-      go : (b : Bool) → has_pair same_lit opposite c ≡ b → AllByRecursion (Takes p) (kept cs)
-      go true e = rw e at all
-      go false e = let both : AllByRecursion (Takes p) (firsts same_lit c ∷ kept cs) = rw e at all in both.1
-
-  -- an XOR that is true: its outputs differ
-  module _ (x : Node) (a b : Lit) (far_a : same_node a.node x ≡ false) (far_b : same_node b.node x ≡ false) (apart : same_lit b (opposite a) ≡ false)
-      (all : AllByRecursion (Takes p) (kept (xor_clauses x a b))) (on : p (positive x) ≡ true) where
-    abbrev others : List (List Lit)
-    others = (positive x ∷ opposite a ∷ b ∷ []) ∷ (positive x ∷ a ∷ opposite b ∷ []) ∷ []
-
-    pub xor-other : p (opposite a) ≡ true → p b ≡ true
-    xor-other off =
-        take-third (negative x) a b (kept-head (negative x ∷ a ∷ b ∷ []) ((negative x ∷ opposite a ∷ opposite b ∷ []) ∷ others)
-        (rw (apart-lits a (positive x) far_a, apart-lits b (positive x) far_b, apart) refl) all) on off
-
-    pub xor-same : p a ≡ true → p (opposite b) ≡ true
-    xor-same h =
-        take-third (negative x) (opposite a) (opposite b) (kept-head (negative x ∷ opposite a ∷ opposite b ∷ []) others
-        (rw (apart-lits (opposite a) (positive x) far_a, apart-lits (opposite b) (positive x) far_b, flipped) refl)
-        (kept-rest (negative x ∷ a ∷ b ∷ []) ((negative x ∷ opposite a ∷ opposite b ∷ []) ∷ others) all)) on (ap p (twice a) ∙ h)
-      where
-        flipped : same_lit (opposite b) (opposite (opposite a)) ≡ false
-        flipped = ap (same_lit (opposite b)) (twice a) ∙ eq-flip
-          where
-            eq-flip : same_lit (opposite b) a ≡ false
-            eq-flip =
-                lit_laws.equivalence.symm (opposite b) a
-                ∙ eq-opposite lit_laws a b ∙ apart
+use Rattle.lemma_book.proofs.RootLemmas.{carried-opposite}
+use Rattle.lemma_book.proofs.MergedNodes.{merge-placed, placed-there}
+use Rattle.lemma_book.proofs.ThereLemmas.{is_some-variable}
 
 -- ---- over the clauses of some nodes
 -- the nodes have those of the literals
@@ -130,7 +53,7 @@ module _ (net : AigPair) (es : List Entry) (nodes : List Node) (p : Lit → Bool
     pub takes-axioms : IsRoot es n → AllByRecursion (Takes p) (axioms_of net n)
     takes-axioms root = plain (Axiom n) (axioms_of net n) 0 (rw root at at-node)
 
-    takes-merge : (m : MergeAt) → merge_of es n ≡ Some m → AllByRecursion (Takes p) (merge_clauses n m.lit)
+    pub takes-merge : (m : MergeAt) → merge_of es n ≡ Some m → AllByRecursion (Takes p) (merge_clauses n m.lit)
     takes-merge m e = plain (Shown m.entry) (merge_clauses n m.lit) 0 (rw e at at-node)
 
   -- a literal and its target are true together
@@ -151,7 +74,7 @@ module _ (net : AigPair) (es : List Entry) (nodes : List Node) (p : Lit → Bool
         go : (b : Bool) → l.neg ≡ b → p l ≡ true
         go false f =
             ap (λ (x : Bool). p (record { node = l.node; neg = x })) f
-            ∙ take-first p (positive l.node) (opposite m.lit) both.1.0 (ap p (twice m.lit) ∙ (ap (λ (x : Bool). p (carried x m.lit)) (sym f) ∙ h))
+            ∙ take-first p (positive l.node) (opposite m.lit) both.1.0 (ap p (laws.twice-law m.lit) ∙ (ap (λ (x : Bool). p (carried x m.lit)) (sym f) ∙ h))
         go true f =
             ap (λ (x : Bool). p (record { node = l.node; neg = x })) f
             ∙ take-first p (negative l.node) m.lit both.0 (ap (λ (x : Bool). p (carried x m.lit)) (sym f) ∙ h)
@@ -171,7 +94,7 @@ covers-opposite nodes (suc k) es l covers = go (merge_of es l.node) refl (λ t. 
 module _ (net : AigPair) (book : Entries) (legal : IsLegal net book) where
   merged-there : (n : Node) (m : MergeAt) → merge_of book.entries n ≡ Some m → IsSome (variable_of net n)
   merged-there n m e =
-      placed-there net n (merge-placed net book legal (length book.entries) n m (ap (λ (l : List Entry). merge_of l n) (take-whole book.entries) ∙ e)).0
+      placed-there net n (merge-placed net book legal (length book.entries) n m (ap (λ (l : List Entry). merge_of l n) (take-length book.entries) ∙ e)).0
 
   -- what is passed has a variable
   pub passed-there : (k : ℕ) (l : Lit) → AreThere net (passed k book.entries l)
