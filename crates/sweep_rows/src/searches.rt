@@ -1,69 +1,31 @@
 use circuit_search::{Caps, Search};
 use lemma_book::{Book, Entry, Task};
 use lits::{Lit, Node, Side};
-use netlist::{And, Circuit, Net};
+use netlist::{Circuit, Net};
 use std::alloc::{AllocError, Global};
 use std::test::Fail;
-use worked_circuits::two_input_circuit;
+use worked_circuits::{and as gate, one_gate, two_input_circuit};
 
 /// The AND of the inputs.
 fn and(alloc: Global) -> Result<Circuit, AllocError> {
-    let gate = And {
-        var: 3,
-        left: 2,
-        right: 4,
-    };
-    two_input_circuit(alloc, &[gate], 6)
+    one_gate(alloc, 2, 4)
 }
 
 /// The first input without the second.
 fn without(alloc: Global) -> Result<Circuit, AllocError> {
-    let gate = And {
-        var: 3,
-        left: 5,
-        right: 2,
-    };
-    two_input_circuit(alloc, &[gate], 6)
+    one_gate(alloc, 5, 2)
 }
 
 /// Whether the inputs are equal: neither is true without the other.
 fn equal(alloc: Global) -> Result<Circuit, AllocError> {
-    let first = And {
-        var: 3,
-        left: 2,
-        right: 5,
-    };
-    let second = And {
-        var: 4,
-        left: 3,
-        right: 4,
-    };
-    let last = And {
-        var: 5,
-        left: 7,
-        right: 9,
-    };
-    two_input_circuit(alloc, &[first, second, last], 10)
+    let gates = [gate(3, 2, 5), gate(4, 3, 4), gate(5, 7, 9)];
+    two_input_circuit(alloc, &gates, 10)
 }
 
 /// The same as what isn't true of one input alone: gate 5 has one of them, and not both.
 fn not_one(alloc: Global) -> Result<Circuit, AllocError> {
-    let none = And {
-        var: 3,
-        left: 3,
-        right: 5,
-    };
-    let both = And {
-        var: 4,
-        left: 2,
-        right: 4,
-    };
-    let last = And {
-        var: 5,
-        left: 7,
-        right: 9,
-    };
-    two_input_circuit(alloc, &[none, both, last], 11)
+    let gates = [gate(3, 3, 5), gate(4, 2, 4), gate(5, 7, 9)];
+    two_input_circuit(alloc, &gates, 11)
 }
 
 /// A net of two circuits.
