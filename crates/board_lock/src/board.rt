@@ -2,13 +2,14 @@
 ghost use Rattle.std.specs.Prelude.{◌≡◌, ◌≤◌, [], ◌∷◌, IfOk, IfErr, length};
 ghost use Rattle.lemma_book.specs.Book.{IsLegal};
 ghost use Rattle.board_lock.specs.Story.{Story};
+ghost use Rattle.board_lock.specs.Views.{opener};
 ghost use Rattle.board_lock.specs.Pass.{opened, IsWholePass};
 ghost use Rattle.board_lock.specs.Closed.{IsClosed};
 
 use crate::about::About;
 use crate::history::History;
 use crate::pass::Pass;
-use crate::plays::Lock;
+use crate::plays::{Lock, Place};
 use lemma_book::{Book, Turn};
 use lits::Listed;
 use netlist::Net;
@@ -63,22 +64,15 @@ impl Board {
         ensures pass { IfOk result (λ r. r.1 ≡ opened r.0) }
         ensures err { IfErr result (λ e. e.0 ≡ book) }
     {
-        let Ok(about) = about(alloc, net, &book) else {
-            return Err((book, AllocError));
-        };
         let Ok(seen) = book.copy(alloc) else {
             return Err((book, AllocError));
         };
-        let Ok(mut slots) = Vec::with_capacity(alloc, 1) else {
-            return Err((book, AllocError));
-        };
-        slots.push_reserved(History::of(alloc, book));
-        match Lock::new(alloc, &[0, 0, 0, 0], slots, &about) {
+        match table_over(alloc, net, book) {
             Ok((table, place)) => {
                 let pass = Pass::of(place, 0, seen, 1 << 62);
                 Ok((Board { table, tasks }, pass))
             }
-            Err(refused) => Err((book_in(refused.slots), AllocError)),
+            Err(book) => Err((book, AllocError)),
         }
     }
 
@@ -101,6 +95,29 @@ impl Board {
             drawn,
         };
         (book, record)
+    }
+}
+
+/// The table with the book's one history, which has no turn yet, and the first seat at it. Where memory is
+/// refused the book comes back.
+fn table_over(alloc: Global, net: &Net, book: Book) -> Result<(Lock, Place), Book>
+    requires { IsLegal net.now book }
+    ensures table { IfOk result (λ t. (t.0.shared.table_id.words ≡ 4) × (t.0.shared.table_id.slots ≡ 1)
+        × (t.0.shared.key ≡ record { net = net.now; opening = book })) }
+    ensures place { IfOk result (λ t. (t.1.table_id ≡ t.0.shared.table_id) × (t.1.id ≡ 0)
+        × (t.1.me ≡ (opener (record { net = net.now; opening = book }), []))) }
+    ensures err { IfErr result (λ b. b ≡ book) }
+{
+    let Ok(mut slots) = Vec::with_capacity(alloc, 1) else {
+        return Err(book);
+    };
+    let Ok(about) = about(alloc, net, &book) else {
+        return Err(book);
+    };
+    slots.push_reserved(History::of(alloc, book));
+    match Lock::new(alloc, &[0, 0, 0, 0], slots, &about) {
+        Ok(laid) => Ok(laid),
+        Err(refused) => Err(book_in(refused.slots)),
     }
 }
 

@@ -63,10 +63,13 @@ impl Net {
     pub fn copy(&self, alloc: Global) -> Result<Net, AllocError>
         ensures { IfOk result (λ n. n ≡ self.now) }
     {
+        let starts = self.starts.copy(alloc)?;
+        let fanins = Vec::from_slice(alloc, self.fanins.as_slice())?;
+        let pair = self.pair.copy(alloc)?;
         Ok(Net {
-            pair: self.pair.copy(alloc)?,
-            fanins: Vec::from_slice(alloc, self.fanins.as_slice())?,
-            starts: self.starts.copy(alloc)?,
+            pair,
+            fanins,
+            starts,
         })
     }
 
