@@ -60,13 +60,36 @@ pub fn pair<R: Refuter + Send>(
     }
     refuter.start(alloc, base.as_slice())?;
     let mut left = seen.sweep_budget();
+    both_ways(alloc, net, seen, task, refuter, &mut left)
+}
+
+/// Asks for both implications between the pair, over the cone that the refuter was started with.
+fn both_ways<R: Refuter + Send>(
+    alloc: Global,
+    net: &Net,
+    seen: &Book,
+    task: &Task,
+    refuter: &mut R,
+    left: &mut u64,
+) -> Result<Entry, AllocError>
+    requires pair { IsPair net.now seen.now task.now }
+    requires query { IsQuery net.now seen.now task.now
+        (R.Refuter.base_of refuter.old) (R.Refuter.log_of refuter.old) left.old }
+    requires ready { R.Refuter.is_ready refuter.old ≡ true }
+    requires budget { 1 ≤ left.old }
+    ensures { IfOk result (Settles net.now seen.now task.now) }
+{
+    let node = Lit {
+        node: task.node,
+        neg: false,
+    };
     let there = Clause::from_slice(alloc, &[node.not(), task.lit])?;
-    let first = match ask(alloc, net, seen, task, &there, refuter, &mut left)? {
+    let first = match ask(alloc, net, seen, task, &there, refuter, left)? {
         Asked::Shown(hints) => hints,
         Asked::Settled(entry) => return Ok(entry),
     };
     let again = Clause::from_slice(alloc, &[node, task.lit.not()])?;
-    match ask(alloc, net, seen, task, &again, refuter, &mut left)? {
+    match ask(alloc, net, seen, task, &again, refuter, left)? {
         Asked::Shown(second) => {
             let there = Step {
                 clause: there,

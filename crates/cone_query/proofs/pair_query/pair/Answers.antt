@@ -1,14 +1,11 @@
 -- The cone is a base, both nodes occur in it, and each answer settles the pair.
-use Rattle.std.proofs.Common.{List, [], ◌∷◌, ap, sym, ◌∙◌, subst}
-use Rattle.std.proofs.lemmas.Result.{IfOk-weaker}
-use Rattle.lits.specs.declared.literal.Lit.{Lit}
-use Rattle.netlist.specs.Miter.{positive}
+use Rattle.std.proofs.Common.{List, sym, ◌∙◌, subst}
 use Rattle.lits.specs.declared.step.Named.{Named}
 use Rattle.lits.specs.declared.step.Step.{Step}
 use Rattle.unit_prop.specs.Log.{IsBase}
 use Rattle.lemma_book.proofs.Facts.{cone-base}
 use Rattle.cone_query.specs.Asked.{IsQuery, seeds_of}
-use Rattle.cone_query.proofs.PairLemmas.{pair-there, merged-settles, if_ok-all, on_ok-all}
+use Rattle.cone_query.proofs.PairLemmas.{pair-there, if_ok-all, on_ok-all}
 use Rattle.cone_query.proofs.StartLemmas.{query-start, named-unnamed}
 use Rattle.cone_query.proofs.pair_query.pair.Goals as goal
 
@@ -22,8 +19,8 @@ start-requires g c =
     subst IsBase (sym c.as_slice-2.ensures.value)
     (cone-base c.args.net.now _ c.is_net.ensures (seeds_of c.args.task.now) c.in_ok-base.base.items c.in_ok-base.ensures)
 
-pub ask-requires-clause-query : goal.ask-requires-clause-query
-ask-requires-clause-query g c κs within =
+pub both_ways-requires-clause-query : goal.both_ways-requires-clause-query
+both_ways-requires-clause-query g c κs within =
     let cone = rw c.len.ensures at c.in_ok-base.ensures in
     let named = rw c.if-branch.false at c.in_ok-is_unnamed.ensures.no_ in
     subst (λ (b : List Named). IsQuery c.args.net.now c.args.seen.now c.args.task.now b (g.R.Refuter.log_of c.start.new.self) c.sweep_budget-left.result)
@@ -34,46 +31,12 @@ ask-requires-clause-query g c κs within =
     (record { net_is = c.is_net.ensures; legal = c.requires.legal; all_true = c.entries_are_true.ensures; root = c.requires.root; earlier = c.requires.earlier })
     c.in_ok-base.base.items cone c.requires.gate named c.sweep_budget-left.result c.sweep_budget-left.ensures.budget))
 
-pub returns-in-Settled-clause-alone : goal.returns-in-Settled-clause-alone
-returns-in-Settled-clause-alone g c =
-    let named = rw c.if-branch.false at c.in_ok-is_unnamed.ensures.no_ in
-    λ u. named-unnamed c.args.net.now c.args.seen.now.entries c.args.task.now named u
-
-pub returns-in-Settled-clause-unasked : goal.returns-in-Settled-clause-unasked
-returns-in-Settled-clause-unasked g c =
-    let named = rw c.if-branch.false at c.in_ok-is_unnamed.ensures.no_ in
-    λ u. named-unnamed c.args.net.now c.args.seen.now.entries c.args.task.now named u
-
-pub returns-in-Shown-2-clause-good : goal.returns-in-Shown-2-clause-good
-returns-in-Shown-2-clause-good g c =
-    IfOk-weaker c.merged.result _ _ (λ e s. s.good)
-    (merged-settles c.args.net.now c.args.seen.now c.args.task.now
-    (record { net_is = c.is_net.ensures; legal = c.requires.legal; all_true = c.entries_are_true.ensures; root = c.requires.root; earlier = c.requires.earlier })
-    (g.R.Refuter.base_of c.start.new.self) (g.R.Refuter.base_of c.ask.new.refuter) (g.R.Refuter.base_of c.ask-2.new.refuter)
-    (g.R.Refuter.log_of c.start.new.self) (g.R.Refuter.log_of c.ask.new.refuter) (g.R.Refuter.log_of c.ask-2.new.refuter) c.log.result.now
-    c.ask.new.left c.ask-2.new.left c.in_ok-there.there c.in_ok-again.again c.in_ok-hints.field-0 c.in_ok-second.field-0 c.in-Shown.hints c.in-Shown-2.second
-    c.merged.result c.in_ok-hints.ensures.base c.in_ok-second.ensures.base c.in_ok-hints.ensures.asked c.in-Shown.is
-    (c.in_ok-there.ensures ∙ ap (λ (l : Lit). l ∷ c.args.task.now.lit ∷ []) c.not.ensures)
-    c.in_ok-second.ensures.asked c.in-Shown-2.is
-    (c.in_ok-again.ensures ∙ ap (λ (l : Lit). positive c.args.task.now.node ∷ l ∷ []) c.not-2.ensures)
-    c.in_ok-second.ensures.query c.log.ensures c.merged.ensures)
-
-pub returns-in-Shown-2-clause-alone : goal.returns-in-Shown-2-clause-alone
-returns-in-Shown-2-clause-alone g c =
-    let named = rw c.if-branch.false at c.in_ok-is_unnamed.ensures.no_ in
-    if_ok-all _ c.merged.result (λ e u. named-unnamed c.args.net.now c.args.seen.now.entries c.args.task.now named u)
-
-pub returns-in-Shown-2-clause-unasked : goal.returns-in-Shown-2-clause-unasked
-returns-in-Shown-2-clause-unasked g c =
-    let named = rw c.if-branch.false at c.in_ok-is_unnamed.ensures.no_ in
-    on_ok-all _ c.merged.result (λ u. named-unnamed c.args.net.now c.args.seen.now.entries c.args.task.now named u)
-
 pub returns-clause-alone : goal.returns-clause-alone
 returns-clause-alone g c =
     let named = rw c.if-branch.false at c.in_ok-is_unnamed.ensures.no_ in
-    λ u. named-unnamed c.args.net.now c.args.seen.now.entries c.args.task.now named u
+    if_ok-all _ c.both_ways.result (λ e u. named-unnamed c.args.net.now c.args.seen.now.entries c.args.task.now named u)
 
 pub returns-clause-unasked : goal.returns-clause-unasked
 returns-clause-unasked g c =
     let named = rw c.if-branch.false at c.in_ok-is_unnamed.ensures.no_ in
-    λ u. named-unnamed c.args.net.now c.args.seen.now.entries c.args.task.now named u
+    on_ok-all _ c.both_ways.result (λ u. named-unnamed c.args.net.now c.args.seen.now.entries c.args.task.now named u)
