@@ -1,48 +1,81 @@
-ghost use Rattle.std.specs.Prelude.{◌≡◌};
-ghost use Rattle.std.specs.Bool.{OnTrue};
-ghost use Rattle.std.specs.List.{list_any};
-ghost use Rattle.unit_prop.specs.HintScan.{IsNamed};
-ghost use Rattle.unit_prop.specs.Log.{same_name};
-
-use crate::literals::dims;
-use lits::{Clause, Dim, Lit, Literal, Named, Node, Ref, Side};
+use crate::bases::{is_named, twin_gates};
+use crate::clauses::{A, B, X, Y, are, clause_of, dims};
+use lits::{Clause, Dim, Lit, Literal, Named, Ref};
 use std::alloc::Global;
 use std::process::Abort;
 use std::test::Fail;
 use unit_prop::{BadStep, Clauses, Closure, StepCheck, Why};
 
-fn clauses(rt: &impl Abort, alloc: Global, lists: &[&[i32]]) -> Result<Vec<Clause<Dim>>, Fail> {
+fn clauses(alloc: Global, lists: &[&[i32]]) -> Result<Vec<Clause<Dim>>, Fail> {
     let mut clauses = Vec::new(alloc);
     for list in lists {
-        let lits = dims(rt, alloc, list)?;
-        clauses.push(Clause::of(alloc, lits.as_slice()).map_err(|_| "a clause")?)?;
+        let lits = dims(alloc, list)?;
+        clauses.push(clause_of(alloc, lits.as_slice())?)?;
     }
     Ok(clauses)
 }
 
+/// Whether the closure has just the literals, or clashes where none are given.
+fn is_closure(alloc: Global, found: &Closure<Dim>, want: Option<&[i32]>) -> Result<bool, Fail> {
+    let Some(numbers) = want else {
+        return Ok(matches!(found, Closure::Clash));
+    };
+    match found {
+        Closure::Clash => Ok(false),
+        Closure::Free(lits) => are(alloc, lits.as_slice(), numbers),
+    }
+}
+
+/// Whether the clauses and the given literals have that closure.
+fn closes_to(
+    alloc: Global,
+    lists: &[&[i32]],
+    given: &[i32],
+    want: Option<&[i32]>,
+) -> Result<bool, Fail> {
+    let clauses = clauses(alloc, lists)?;
+    let given = dims(alloc, given)?;
+    let found = unit_prop::close_under(alloc, clauses.as_slice(), given.as_slice())?;
+    is_closure(alloc, &found, want)
+}
+
+/// A name, clauses, literals that are given, and their closure, unless it clashes.
+type Closed<'a> = (&'a str, &'a [&'a [i32]], &'a [i32], Option<&'a [i32]>);
+
+const CLOSURES: [Closed<'static>; 6] = [
+    ("a chain", &[&[1, -2], &[2]], &[], Some(&[2, 1])),
+    ("opposite units", &[&[1], &[-1]], &[], None),
+    (
+        "a chain against what is given",
+        &[&[1, -2], &[2]],
+        &[-1],
+        None,
+    ),
+    (
+        "opposite literals are given",
+        &[&[1, -2], &[2]],
+        &[3, -3],
+        None,
+    ),
+    (
+        "a literal is given twice",
+        &[&[-1, -2, 3], &[4, 5]],
+        &[1, 2, 1],
+        Some(&[1, 2, 3]),
+    ),
+    (
+        "nothing is forced",
+        &[&[-1, -2, 3], &[4, 5]],
+        &[],
+        Some(&[]),
+    ),
+];
+
 #[test]
 fn close_under(rt: HostRuntime) -> Result<(), Fail> {
-    let alloc = rt.alloc();
-    let chain = clauses(&rt, alloc, &[&[1, -2], &[2]])?;
-    let pair = clauses(&rt, alloc, &[&[1], &[-1]])?;
-    let wide = clauses(&rt, alloc, &[&[-1, -2, 3], &[4, 5]])?;
-    let cases: [(&[Clause<Dim>], &[i32], Option<&[i32]>); 6] = [
-        (chain.as_slice(), &[], Some(&[2, 1])),
-        (pair.as_slice(), &[], None),
-        (chain.as_slice(), &[-1], None),
-        (chain.as_slice(), &[3, -3], None),
-        (wide.as_slice(), &[1, 2, 1], Some(&[1, 2, 3])),
-        (wide.as_slice(), &[], Some(&[])),
-    ];
-    for (clauses, given, want) in cases {
-        let given = dims(&rt, alloc, given)?;
-        match unit_prop::close_under(alloc, clauses, given.as_slice())? {
-            Closure::Clash => assert!(rt; want.is_none()),
-            Closure::Free(lits) => {
-                let want = dims(&rt, alloc, want.ok_or("a clash")?)?;
-                assert_eq!(rt; lits.as_slice(), want.as_slice());
-            }
-        }
+    for row in CLOSURES.as_slice() {
+        let (name, lists, given, want) = *row;
+        assert!(rt; closes_to(rt.alloc(), lists, given, want)?, "{name}");
     }
     Ok(())
 }
@@ -64,19 +97,35 @@ impl Clauses<usize, Dim> for Hints<'_> {
     }
 }
 
-/// A step's clause, the clauses that its hints name, the hints, and the fault that is to be told.
-type Judged<'a> = (&'a [i32], &'a [&'a [i32]], &'a [usize], Option<(u64, Why)>);
+/// A name, a step's clause, the clauses that its hints name, the hints, and the fault that is to be told.
+type Judged<'a> = (
+    &'a str,
+    &'a [i32],
+    &'a [&'a [i32]],
+    &'a [usize],
+    Option<BadStep>,
+);
+
+/// Whether the step that adds the clause by the hints has the fault.
+fn has_fault(alloc: Global, check: &mut StepCheck<Dim>, case: &Judged) -> Result<bool, Fail> {
+    let (_, clause, lists, names, want) = *case;
+    let clause = dims(alloc, clause)?;
+    let hints = clauses(alloc, lists)?;
+    let fault = check.fault_of(&Hints(hints.as_slice()), clause.as_slice(), names)?;
+    Ok(fault == want)
+}
 
 fn judge(rt: &impl Abort, alloc: Global, cases: &[Judged]) -> Result<(), Fail> {
     let mut check = StepCheck::new(alloc);
-    for (clause, clauses_named, names, want) in cases {
-        let clause = dims(rt, alloc, clause)?;
-        let hints = clauses(rt, alloc, clauses_named)?;
-        let fault = check.fault_of(&Hints(hints.as_slice()), clause.as_slice(), names)?;
-        let want = want.map(|(hint, why)| BadStep { hint, why });
-        assert_eq!(rt; fault, want);
+    for case in cases {
+        assert!(rt; has_fault(alloc, &mut check, case)?, "{}", case.0);
     }
     Ok(())
+}
+
+/// The fault at that hint.
+fn bad(hint: u64, why: Why) -> Option<BadStep> {
+    Some(BadStep { hint, why })
 }
 
 /// Two gates that compute the same: the first step of their proof, the same without its last hint, and with
@@ -85,148 +134,126 @@ fn judge(rt: &impl Abort, alloc: Global, cases: &[Judged]) -> Result<(), Fail> {
 fn step_check(rt: HostRuntime) -> Result<(), Fail> {
     let twin: &[&[i32]] = &[&[-5, 3], &[4, -2, -3], &[-5, 2]];
     let cut: &[&[i32]] = &[&[-5, 3], &[4, -2, -3]];
+    let not_false = bad(0, Why::NotFalse);
     judge(
         &rt,
         rt.alloc(),
         &[
-            (&[], &[&[]], &[0], None),
-            (&[-5, 4], twin, &[0, 1, 2], None),
-            (&[-5, 4], cut, &[0, 1], Some((0, Why::NotFalse))),
-            (&[-5, 4, 4], twin, &[0, 1, 2], None),
+            ("the empty clause", &[], &[&[]], &[0], None),
+            ("twin gates", &[-5, 4], twin, &[0, 1, 2], None),
+            ("without the last hint", &[-5, 4], cut, &[0, 1], not_false),
+            ("a literal twice", &[-5, 4, 4], twin, &[0, 1, 2], None),
         ],
     )
 }
 
 #[test]
 fn faults_of_steps(rt: HostRuntime) -> Result<(), Fail> {
-    let not_false = Some((0, Why::NotFalse));
+    let not_false = bad(0, Why::NotFalse);
+    let tautology = bad(0, Why::Tautology);
+    let satisfied = bad(2, Why::Satisfied);
+    let two_free = bad(1, Why::TwoFree);
+    let after_false = bad(2, Why::AfterFalse);
+    let no_clause = bad(2, Why::NoClause);
     judge(
         &rt,
         rt.alloc(),
         &[
-            (&[1], &[], &[], not_false),
-            (&[1, -1], &[&[]], &[0], Some((0, Why::Tautology))),
-            (&[1], &[&[2], &[2, 3]], &[0, 1], Some((2, Why::Satisfied))),
-            (&[1], &[&[2, 3]], &[0], Some((1, Why::TwoFree))),
-            (&[1], &[&[1], &[2]], &[0, 1], Some((2, Why::AfterFalse))),
-            (&[1], &[&[2, 1], &[-2, 3]], &[0, 1], not_false),
-            (&[1], &[&[2, 1]], &[0, 1], Some((2, Why::NoClause))),
+            ("no hint", &[1], &[], &[], not_false),
+            ("a tautology", &[1, -1], &[&[]], &[0], tautology),
+            ("a true hint", &[1], &[&[2], &[2, 3]], &[0, 1], satisfied),
+            ("a wide hint", &[1], &[&[2, 3]], &[0], two_free),
+            ("a late hint", &[1], &[&[1], &[2]], &[0, 1], after_false),
+            (
+                "no false hint",
+                &[1],
+                &[&[2, 1], &[-2, 3]],
+                &[0, 1],
+                not_false,
+            ),
+            ("no such hint", &[1], &[&[2, 1]], &[0, 1], no_clause),
         ],
     )
 }
 
-/// The node as a literal.
-fn lit(node: Node) -> Lit {
-    Lit { node, neg: false }
-}
-
-/// Clauses from which gate `b` implies gate `a`, both the AND of the first two inputs.
-fn implying(alloc: Global, a: Lit, b: Lit) -> Result<Vec<Clause<Lit>>, Fail> {
-    let (x, y) = (lit(Node::Input(0)), lit(Node::Input(1)));
+/// Clauses from which gate B implies gate A, both the AND of the first two inputs.
+fn implying(alloc: Global) -> Result<Vec<Clause<Lit>>, Fail> {
+    let lists: [&[Lit]; 3] = [&[B.not(), Y], &[B.not(), X], &[A, X.not(), Y.not()]];
     let mut axioms = Vec::new(alloc);
-    for lits in [
-        [b.not(), y].as_slice(),
-        &[b.not(), x],
-        &[a, x.not(), y.not()],
-    ] {
-        axioms.push(Clause::of(alloc, lits).map_err(|_| "a clause")?)?;
+    for lits in &lists {
+        axioms.push(clause_of(alloc, lits)?)?;
     }
     Ok(axioms)
 }
 
 #[test]
 fn steps_over_nodes(rt: HostRuntime) -> Result<(), Fail> {
-    let alloc = rt.alloc();
-    let (a, b) = (lit(Node::Gate(Side::A, 3)), lit(Node::Gate(Side::B, 3)));
-    let axioms = implying(alloc, a, b)?;
-    let mut check = StepCheck::new(alloc);
-    check.begin(&[b.not(), a]).map_err(|_| "the clause")?;
+    let axioms = implying(rt.alloc())?;
+    let mut check = StepCheck::new(rt.alloc());
+    check.begin(&[B.not(), A])?;
     for axiom in &axioms {
-        check.hint(axiom.lits()).map_err(|_| "a hint")?;
+        check.hint(axiom.lits())?;
     }
-    assert_eq!(rt; check.end(), Ok(()));
+    check.end()?;
     Ok(())
+}
+
+/// Whether the closure has just the literals.
+fn has_just(found: &Closure<Lit>, lits: &[Lit]) -> bool {
+    match found {
+        Closure::Clash => false,
+        Closure::Free(found) => found.as_slice() == lits,
+    }
 }
 
 #[test]
 fn close_under_nodes(rt: HostRuntime) -> Result<(), Fail> {
-    let alloc = rt.alloc();
-    let (a, b) = (lit(Node::Gate(Side::A, 3)), lit(Node::Gate(Side::B, 3)));
-    let axioms = implying(alloc, a, b)?;
-    let found = match unit_prop::close_under(alloc, axioms.as_slice(), &[b])? {
-        Closure::Clash => return Err("a clash".into()),
-        Closure::Free(lits) => lits.into_vec(),
-    };
-    let (x, y) = (lit(Node::Input(0)), lit(Node::Input(1)));
-    assert_eq!(rt; found.as_slice(), [b, y, x, a].as_slice());
+    let axioms = implying(rt.alloc())?;
+    let found = unit_prop::close_under(rt.alloc(), axioms.as_slice(), &[B])?;
+    assert!(rt; has_just(&found, &[B, Y, X, A]));
     Ok(())
 }
 
-/// The axioms of two gates of one meaning, `a` and `b`, in order of position.
-fn twin_gates(alloc: Global, a: Lit, b: Lit, x: Lit, y: Lit) -> Result<Vec<Named>, Fail> {
-    let mut base = Vec::new(alloc);
-    let axioms: [(Node, u8, &[Lit]); 6] = [
-        (a.node, 0, &[a.not(), x]),
-        (a.node, 1, &[a.not(), y]),
-        (a.node, 2, &[a, x.not(), y.not()]),
-        (b.node, 0, &[b.not(), y]),
-        (b.node, 1, &[b.not(), x]),
-        (b.node, 2, &[b, y.not(), x.not()]),
-    ];
-    for (node, place, lits) in axioms {
-        let clause = Clause::of(alloc, lits).map_err(|_| "a clause")?;
-        let by = Ref::Axiom(node, place);
-        base.push(Named { clause, by })?;
+/// The hints that a scan of the base finds for the clause of the literals.
+fn scanned(alloc: Global, base: &[Named], lits: &[Lit]) -> Result<Option<Vec<Ref>>, Fail> {
+    if !is_named(base) {
+        return Err("a name stands twice".into());
     }
-    Ok(base)
+    let clause = clause_of(alloc, lits)?;
+    Ok(unit_prop::scan(alloc, base, &clause)?)
 }
 
-/// Whether each name stands once.
-fn is_named(base: &[Named]) -> bool
-    ensures { OnTrue result (IsNamed base.now) }
-{
-    let Some((first, rest)) = base.split_first() else {
-        return true;
-    };
-    if has_name(rest, first.by) {
-        return false;
-    }
-    is_named(rest)
-}
-
-fn has_name(base: &[Named], name: Ref) -> bool
-    ensures { result ≡ list_any (λ n. same_name n.by name) base.now }
-{
-    base.iter().any(|named| named.by == name)
-}
-
-fn scanned(
-    rt: &impl Abort,
+/// Whether the scan of the base for the clause of the literals finds these hints.
+fn scans_to(
     alloc: Global,
     base: &[Named],
     lits: &[Lit],
-) -> Result<Option<Vec<Ref>>, Fail> {
-    assert!(rt; is_named(base));
-    let clause = Clause::of(alloc, lits).map_err(|_| "a clause")?;
-    Ok(unit_prop::scan(alloc, base, &clause)?)
+    want: Option<&[Ref]>,
+) -> Result<bool, Fail> {
+    let Some(wanted) = want else {
+        return Ok(scanned(alloc, base, lits)?.is_none());
+    };
+    match scanned(alloc, base, lits)? {
+        Some(hints) => Ok(hints.as_slice() == wanted),
+        None => Ok(false),
+    }
 }
 
 #[test]
 fn hints_of_twin_gates(rt: HostRuntime) -> Result<(), Fail> {
-    let alloc = rt.alloc();
-    let (x, y) = (lit(Node::Input(0)), lit(Node::Input(1)));
-    let (a, b) = (lit(Node::Gate(Side::A, 3)), lit(Node::Gate(Side::B, 3)));
-    let base = twin_gates(alloc, a, b, x, y)?;
-    let of_a = |k| Ref::Axiom(a.node, k);
-    let of_b = |k| Ref::Axiom(b.node, k);
-    let cases: [(&[Lit], Option<&[Ref]>); 3] = [
-        (&[b.not(), a], Some(&[of_b(0), of_a(2), of_b(1)])),
-        (&[b, a.not()], Some(&[of_a(0), of_a(1), of_b(2)])),
-        (&[a.not()], None),
+    let base = twin_gates(rt.alloc())?;
+    let of_a = [
+        Ref::Axiom(B.node, 0),
+        Ref::Axiom(A.node, 2),
+        Ref::Axiom(B.node, 1),
     ];
-    for (lits, want) in cases {
-        let found = scanned(&rt, alloc, base.as_slice(), lits)?;
-        assert_eq!(rt; found.as_deref(), want);
-    }
+    let of_b = [
+        Ref::Axiom(A.node, 0),
+        Ref::Axiom(A.node, 1),
+        Ref::Axiom(B.node, 2),
+    ];
+    assert!(rt; scans_to(rt.alloc(), base.as_slice(), &[B.not(), A], Some(&of_a))?);
+    assert!(rt; scans_to(rt.alloc(), base.as_slice(), &[B, A.not()], Some(&of_b))?);
+    assert!(rt; scans_to(rt.alloc(), base.as_slice(), &[A.not()], None)?);
     Ok(())
 }

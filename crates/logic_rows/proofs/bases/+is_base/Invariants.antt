@@ -1,5 +1,5 @@
 use Rattle.std.proofs.Common.{length}
-use Rattle.solver_rows.proofs.solving.+is_base.Given as goal
+use Rattle.logic_rows.proofs.bases.+is_base.Given as goal
 
 abbrev pub decreases-is_base : goal.decreases-is_base
 decreases-is_base l = length l.base.now

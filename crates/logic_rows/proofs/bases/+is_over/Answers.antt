@@ -1,6 +1,6 @@
 use Rattle.std.proofs.Common.{sym, ◌∙◌}
 use Rattle.solver_plain.proofs.Facts.{over-cons}
-use Rattle.solver_rows.proofs.solving.+is_over.Goals as goal
+use Rattle.logic_rows.proofs.bases.+is_over.Goals as goal
 
 pub returns : goal.returns
 returns t c =

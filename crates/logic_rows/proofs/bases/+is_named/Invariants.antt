@@ -1,5 +1,5 @@
 use Rattle.std.proofs.Common.{length}
-use Rattle.logic_rows.proofs.steps.+is_named.Given as goal
+use Rattle.logic_rows.proofs.bases.+is_named.Given as goal
 
 abbrev pub decreases-is_named : goal.decreases-is_named
 decreases-is_named l = length l.base.now

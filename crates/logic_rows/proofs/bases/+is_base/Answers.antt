@@ -1,8 +1,8 @@
 use Rattle.std.proofs.Common.{sym, ◌∙◌}
 use Rattle.solver_plain.proofs.Facts.{base-cons}
-use Rattle.solver_rows.proofs.solving.+is_base.Goals as goal
+use Rattle.logic_rows.proofs.bases.+is_base.Goals as goal
 
 pub returns : goal.returns
 returns t c =
     base-cons c.is_base.result c.args.base.now c.in-Some.first.now c.in-Some.rest.now c.in-Some.ensures.cases.0
-    (sym c.is_own.ensures ∙ c.if-is_own.false) (sym c.is_named.ensures ∙ c.if-is_named.false) c.is_base.ensures
+    (sym c.is_own.ensures ∙ c.if-is_own.false) (sym c.has_name.ensures ∙ c.if-has_name.false) c.is_base.ensures

@@ -1,6 +1,6 @@
 use Rattle.std.proofs.Common.{sym, ◌∙◌}
 use Rattle.unit_prop.proofs.Facts.{named-cons}
-use Rattle.logic_rows.proofs.steps.+is_named.Goals as goal
+use Rattle.logic_rows.proofs.bases.+is_named.Goals as goal
 
 pub returns : goal.returns
 returns t c =

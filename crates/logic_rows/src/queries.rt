@@ -1,25 +1,42 @@
-//! Worked cases and small bases, for any solver.
-ghost use Rattle.std.specs.Prelude.{◌≡◌, true, OnOk};
+//! Worked cases and small formulas, for any solver.
+ghost use Rattle.std.specs.Prelude.{◌≡◌, true};
 
-use crate::solving::{
-    Row, base_of, check, clause, clause_of, cone_of_xor, drawn_base, has_answer, is_base, is_over,
-    one_gate, parity_chains, plus, solved, twin_gates,
+use crate::bases::{
+    base_of, cone_of_xor, drawn_base, is_base, one_gate, parity_chains, twin_gates,
 };
-use lits::{Clause, Lit, Named, Node};
+use crate::checks::{asked, solved, verdict};
+use crate::clauses::{A, B, DIFFER, clause, clause_of};
+use crate::formulas::Row;
+use lits::{Clause, Lit, Literal, Named};
 use std::alloc::Global;
 use std::process::Abort;
 use std::test::Fail;
 use unit_prop::{Refuted, Refuter};
 
+/// The query of the target over the base has that verdict; the units that are left.
+fn left_by<R: Refuter>(
+    rt: &impl Abort,
+    alloc: Global,
+    solver: &mut R,
+    base: Vec<Named>,
+    target: Clause<Lit>,
+    budget: u64,
+    wanted: Option<bool>,
+) -> Result<u64, Fail> {
+    let (answer, left) = solved(rt, alloc, solver, base.as_slice(), &target, budget)?;
+    assert!(rt; verdict(&answer) == wanted);
+    Ok(left)
+}
+
 /// Twin gates imply one another, which takes no unit and no learned clause.
 pub(crate) fn check_yes<R: Refuter>(
     rt: &impl Abort,
     alloc: Global,
-    solver: &mut R,
+    mut solver: R,
 ) -> Result<(), Fail> {
-    let (base, target) = twin_gates(alloc)?;
-    let (answer, left) = solved(rt, alloc, solver, base.as_slice(), &target, 100)?;
-    assert!(rt; has_answer(&answer, true));
+    let target = clause_of(alloc, &[B.not(), A])?;
+    let base = twin_gates(alloc)?;
+    let left = left_by(rt, alloc, &mut solver, base, target, 100, Some(true))?;
     assert!(rt; left == 100);
     assert!(rt; solver.log().is_empty());
     Ok(())
@@ -31,7 +48,8 @@ pub(crate) fn model_of_gate<R: Refuter>(
     alloc: Global,
     solver: &mut R,
 ) -> Result<(Vec<Lit>, u64), Fail> {
-    let (base, target) = one_gate(alloc)?;
+    let base = one_gate(alloc)?;
+    let target = clause_of(alloc, &[A.not()])?;
     let (answer, left) = solved(rt, alloc, solver, base.as_slice(), &target, 100)?;
     match answer {
         Refuted::No(model) => Ok((model.into_vec(), left)),
@@ -40,14 +58,8 @@ pub(crate) fn model_of_gate<R: Refuter>(
 }
 
 /// That the outputs of two XORs are equal.
-pub(crate) fn equal_outputs(alloc: Global) -> Result<Clause<Lit>, Fail> {
-    clause_of(
-        alloc,
-        &[Lit {
-            node: Node::Xor(0),
-            neg: true,
-        }],
-    )
+fn equal_outputs(alloc: Global) -> Result<Clause<Lit>, Fail> {
+    clause_of(alloc, &[DIFFER.not()])
 }
 
 /// A budget of one unit is spent for one clause.
@@ -56,10 +68,9 @@ pub(crate) fn check_spent<R: Refuter>(
     alloc: Global,
     solver: &mut R,
 ) -> Result<(), Fail> {
-    let base = cone_of_xor(alloc)?;
     let target = equal_outputs(alloc)?;
-    let (answer, left) = solved(rt, alloc, solver, base.as_slice(), &target, 1)?;
-    assert!(rt; matches!(answer, Refuted::Spent));
+    let base = cone_of_xor(alloc)?;
+    let left = left_by(rt, alloc, solver, base, target, 1, None)?;
     assert!(rt; left == 0);
     assert!(rt; solver.log().len() == 1);
     Ok(())
@@ -71,14 +82,12 @@ pub(crate) fn left_of_many<R: Refuter>(
     alloc: Global,
     solver: &mut R,
 ) -> Result<u64, Fail> {
-    let base = cone_of_xor(alloc)?;
     let target = equal_outputs(alloc)?;
-    let (answer, left) = solved(rt, alloc, solver, base.as_slice(), &target, 100_000)?;
-    assert!(rt; has_answer(&answer, true));
-    Ok(left)
+    let base = cone_of_xor(alloc)?;
+    left_by(rt, alloc, solver, base, target, 100_000, Some(true))
 }
 
-/// Asks a solver, which has the base, whether it implies the target; the units that are left of 100000.
+/// A solver that has the base says that it implies the target; the units that are left of 100000.
 fn left_again<R: Refuter>(
     rt: &impl Abort,
     alloc: Global,
@@ -89,11 +98,8 @@ fn left_again<R: Refuter>(
     requires ready { R.Refuter.is_ready solver.old ≡ true }
     requires base { R.Refuter.base_of solver.old ≡ base.now }
 {
-    assert!(rt; is_over(base, target.lits()));
-    let mut left = 100_000;
-    let answer = solver.refute(alloc, target, &mut left)?;
-    check(rt, alloc, base, solver.log(), target, &answer)?;
-    assert!(rt; has_answer(&answer, true));
+    let (answer, left) = asked(rt, alloc, solver, base, target, 100_000)?;
+    assert!(rt; verdict(&answer) == Some(true));
     Ok(left)
 }
 
@@ -131,11 +137,9 @@ pub(crate) fn left_of_row<R: Refuter>(
     row: &Row<'_>,
 ) -> Result<u64, Fail> {
     let (lists, target, implied, _) = *row;
-    let base = base_of(alloc, lists)?;
     let target = clause(alloc, target)?;
-    let (answer, left) = solved(rt, alloc, solver, base.as_slice(), &target, 100)?;
-    assert!(rt; has_answer(&answer, implied));
-    Ok(left)
+    let base = base_of(alloc, lists)?;
+    left_by(rt, alloc, solver, base, target, 100, Some(implied))
 }
 
 /// Just the units that a row takes are all spent.
@@ -146,20 +150,20 @@ pub(crate) fn check_spent_row<R: Refuter>(
     row: &Row<'_>,
 ) -> Result<(), Fail> {
     let (lists, target, _, units) = *row;
-    let base = base_of(alloc, lists)?;
     let target = clause(alloc, target)?;
-    let (answer, left) = solved(rt, alloc, solver, base.as_slice(), &target, units)?;
-    assert!(rt; matches!(answer, Refuted::Spent));
+    let base = base_of(alloc, lists)?;
+    let left = left_by(rt, alloc, solver, base, target, units, None)?;
     assert!(rt; left == 0);
     Ok(())
 }
 
-/// The signs of two parities of the same inputs in a clause, and whether it is implied.
-pub(crate) const CHAIN_TARGETS: [(bool, bool, bool); 3] = [
-    (true, false, true),
-    (false, true, true),
-    (false, false, false),
-];
+/// The literal, or its negation where that is asked for.
+fn turned(lit: Lit, neg: bool) -> Lit {
+    Lit {
+        node: lit.node,
+        neg: lit.neg != neg,
+    }
+}
 
 /// Two chains of XORs over so many inputs, from either end, have the same value; the units that are left.
 pub(crate) fn left_of_chains<R: Refuter>(
@@ -170,20 +174,11 @@ pub(crate) fn left_of_chains<R: Refuter>(
     target: (bool, bool, bool),
     budget: u64,
 ) -> Result<u64, Fail> {
-    let (base, first, second) = parity_chains(alloc, inputs)?;
     let (first_neg, second_neg, implied) = target;
-    let first = Lit {
-        node: first.node,
-        neg: first.neg != first_neg,
-    };
-    let second = Lit {
-        node: second.node,
-        neg: second.neg != second_neg,
-    };
-    let target = clause_of(alloc, &[first, second])?;
-    let (answer, left) = solved(rt, alloc, solver, base.as_slice(), &target, budget)?;
-    assert!(rt; has_answer(&answer, implied));
-    Ok(left)
+    let (base, first, second) = parity_chains(alloc, inputs)?;
+    let lits = [turned(first, first_neg), turned(second, second_neg)];
+    let target = clause_of(alloc, &lits)?;
+    left_by(rt, alloc, solver, base, target, budget, Some(implied))
 }
 
 /// Clauses that are drawn are unsatisfiable or not, as it is said; the units that are left of 100.
@@ -194,9 +189,7 @@ pub(crate) fn left_of_drawn<R: Refuter>(
     seed: u32,
     implied: bool,
 ) -> Result<u64, Fail> {
-    let base = drawn_base(alloc, seed)?;
     let empty = clause_of(alloc, &[])?;
-    let (answer, left) = solved(rt, alloc, solver, base.as_slice(), &empty, 100)?;
-    assert!(rt; has_answer(&answer, implied), "seed {seed}");
-    Ok(left)
+    let base = drawn_base(alloc, seed)?;
+    left_by(rt, alloc, solver, base, empty, 100, Some(implied))
 }

@@ -1,0 +1,112 @@
+//! What the cases make of `WatchSolver`. Each stands for any solver and takes its own, since a test that
+//! calls more than once while it owns one takes ten times as long to prove.
+use crate::clauses::{A, X, Y};
+use crate::formulas::{CHAIN_TARGETS, CHAINS, DRAWN, ROWS};
+use crate::queries::{
+    check_spent, check_start, check_yes, left_of_chains, left_of_drawn, left_of_many, left_of_row,
+    left_of_second_query, model_of_gate,
+};
+use lits::Lit;
+use solver_watch::WatchSolver;
+use std::alloc::Global;
+use std::process::Abort;
+use std::test::Fail;
+use unit_prop::Refuter;
+
+#[test]
+fn refuter_yes(rt: HostRuntime) -> Result<(), Fail> {
+    check_yes(&rt, rt.alloc(), WatchSolver::new(rt.alloc())?)
+}
+
+const MODEL: [Lit; 3] = [X, Y, A];
+
+fn check_model<R: Refuter>(rt: &impl Abort, alloc: Global, mut solver: R) -> Result<(), Fail> {
+    let (mut model, _) = model_of_gate(rt, alloc, &mut solver)?;
+    model.sort()?;
+    assert!(rt; model.as_slice() == MODEL.as_slice());
+    Ok(())
+}
+
+#[test]
+fn refuter_no(rt: HostRuntime) -> Result<(), Fail> {
+    check_model(&rt, rt.alloc(), WatchSolver::new(rt.alloc())?)
+}
+
+/// Whether so many units and the clauses learned are as many as there were.
+fn is_paid<R: Refuter>(solver: &R, left: u64, units: u64) -> bool {
+    left.saturating_add(solver.log().len() as u64) == units
+}
+
+fn check_paid<R: Refuter>(rt: &impl Abort, alloc: Global, mut solver: R) -> Result<(), Fail> {
+    check_spent(rt, alloc, &mut solver)?;
+    let left = left_of_many(rt, alloc, &mut solver)?;
+    assert!(rt; is_paid(&solver, left, 100_000));
+    Ok(())
+}
+
+/// A budget of one unit is spent for one clause; with units enough the outputs are equal, and each clause
+/// that was learned is new.
+#[test]
+fn refuter_spent(rt: HostRuntime) -> Result<(), Fail> {
+    check_paid(&rt, rt.alloc(), WatchSolver::new(rt.alloc())?)
+}
+
+fn check_queries<R: Refuter>(rt: &impl Abort, alloc: Global, mut solver: R) -> Result<(), Fail> {
+    let left = left_of_second_query(rt, alloc, &mut solver)?;
+    assert!(rt; is_paid(&solver, left, 100_001));
+    check_start(rt, alloc, &mut solver)
+}
+
+/// What was learned stays in the next query, until the next start.
+#[test]
+fn log_of_queries(rt: HostRuntime) -> Result<(), Fail> {
+    check_queries(&rt, rt.alloc(), WatchSolver::new(rt.alloc())?)
+}
+
+fn check_rows<R: Refuter>(rt: &impl Abort, alloc: Global, mut solver: R) -> Result<(), Fail> {
+    for row in ROWS.as_slice() {
+        left_of_row(rt, alloc, &mut solver, row)?;
+    }
+    Ok(())
+}
+
+#[test]
+fn small_bases(rt: HostRuntime) -> Result<(), Fail> {
+    check_rows(&rt, rt.alloc(), WatchSolver::new(rt.alloc())?)
+}
+
+fn check_targets<R: Refuter>(
+    rt: &impl Abort,
+    alloc: Global,
+    solver: &mut R,
+    inputs: u32,
+) -> Result<(), Fail> {
+    for target in CHAIN_TARGETS.as_slice() {
+        left_of_chains(rt, alloc, solver, inputs, *target, 1000)?;
+    }
+    Ok(())
+}
+
+fn check_chains<R: Refuter>(rt: &impl Abort, alloc: Global, mut solver: R) -> Result<(), Fail> {
+    for (inputs, _) in CHAINS.as_slice() {
+        check_targets(rt, alloc, &mut solver, *inputs)?;
+    }
+    Ok(())
+}
+
+#[test]
+fn parity_chains_agree(rt: HostRuntime) -> Result<(), Fail> {
+    check_chains(&rt, rt.alloc(), WatchSolver::new(rt.alloc())?)
+}
+
+fn check_drawn<R: Refuter>(rt: &impl Abort, alloc: Global, mut solver: R) -> Result<(), Fail> {
+    for (seed, implied, _) in DRAWN.as_slice() {
+        left_of_drawn(rt, alloc, &mut solver, *seed, *implied)?;
+    }
+    Ok(())
+}
+
+#[test]
+fn drawn_bases(rt: HostRuntime) -> Result<(), Fail> {
+    check_drawn(&rt, rt.alloc(), WatchSolver::new(rt.alloc())?)
+}
