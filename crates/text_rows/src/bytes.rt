@@ -23,6 +23,7 @@ fn check_line(rt: &impl Abort, scan: &mut Scan<'_>, line: Option<&[u8]>, at: u64
 #[test]
 fn bytes_numbers_and_lines(rt: HostRuntime) {
     let mut scan = Scan::new(b"007 x\n\n99999999999999999999\nlast");
+    assert_eq!(rt; scan.at(), 0);
     check_number(&rt, &mut scan, Some(7), 3);
     check_number(&rt, &mut scan, None, 3);
     check_byte(&rt, &mut scan, Some(b' '), 4);

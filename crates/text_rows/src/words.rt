@@ -299,20 +299,20 @@ fn told_asked(alloc: Global, asked: &Asked<'_>) -> Result<String, AllocError> {
     }
 }
 
-fn told_refusal(alloc: Global, refusal: &Refusal) -> Result<String, AllocError> {
+fn told_refusal(alloc: Global, refusal: &Refusal) -> Result<String, Fail> {
     match refusal {
-        Refusal::Help(text) => format!(in alloc; "help: {text}"),
-        Refusal::Usage(text) => format!(in alloc; "usage: {text}"),
-        Refusal::NoMemory => String::from_str(alloc, "out of memory"),
+        Refusal::Help(text) => Ok(format!(in alloc; "help: {text}")?),
+        Refusal::Usage(text) => Ok(format!(in alloc; "usage: {text}")?),
+        Refusal::NoMemory => Err(Fail::from("out of memory")),
     }
 }
 
 /// What `read` answers to the words of a line: the request, or the text of the refusal with its kind before
 /// it.
-fn told(alloc: Global, line: &str) -> Result<String, AllocError> {
+fn told(alloc: Global, line: &str) -> Result<String, Fail> {
     let words = words_of(alloc, line)?;
     match read(alloc, words.as_slice()) {
-        Ok(asked) => told_asked(alloc, &asked),
+        Ok(asked) => Ok(told_asked(alloc, &asked)?),
         Err(refusal) => told_refusal(alloc, &refusal),
     }
 }
