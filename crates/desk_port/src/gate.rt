@@ -15,22 +15,3 @@ pub struct OpenGate;
 impl Gate for OpenGate {
     fn pass(&self, _worker: u32, _task: u64) {}
 }
-
-#[cfg(test)]
-mod tests {
-    use super::*;
-
-    fn pass_all<G: Gate + Sync>(gate: &G, tasks: u64) -> u64 {
-        let mut passed = 0u64;
-        for task in 0..tasks {
-            gate.pass(0, task);
-            passed = passed.saturating_add(1);
-        }
-        passed
-    }
-
-    #[test]
-    fn open_gate_lets_all_pass(rt: HostRuntime) {
-        assert_eq!(rt; pass_all(&OpenGate, 3), 3);
-    }
-}

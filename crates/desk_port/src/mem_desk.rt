@@ -247,6 +247,3 @@ impl Desk for MemDesk {
         Ok(())
     }
 }
-
-#[cfg(test)]
-mod tests;

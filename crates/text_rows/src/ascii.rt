@@ -1,23 +1,25 @@
+use crate::circuits::{check_and, check_fault};
 use aiger_ascii::read;
 use byte_scan::{AigerErr, NUMBER_LIMIT};
-use netlist::And;
+use netlist::Circuit;
+use std::alloc::Global;
+use std::process::Abort;
 use std::test::*;
 
 const AND: &[u8] = b"aag 3 2 0 1 1\n2\n4\n6\n6 2 4\n";
 
+/// Reads each text, and compares its fault.
+fn check_faults(rt: &impl Abort, alloc: Global, rows: &[(&[u8], AigerErr)]) {
+    for (bytes, want) in rows {
+        check_fault(rt, bytes, read(alloc, bytes).err(), Some(*want));
+    }
+}
+
 #[test]
 fn one_gate(rt: HostRuntime) -> Result<(), Fail> {
-    for bytes in [AND, &AND[..25]] {
-        let circuit = read(rt.alloc(), bytes)?;
-        assert_eq!(rt; circuit.inputs(), [1, 2].as_slice());
-        let gate = And {
-            var: 3,
-            left: 2,
-            right: 4,
-        };
-        assert_eq!(rt; circuit.gates(), [gate].as_slice());
-        assert_eq!(rt; circuit.outputs(), [6].as_slice());
-    }
+    check_and(&rt, &read(rt.alloc(), AND)?, 2, 4);
+    // the last line feed may be missing
+    check_and(&rt, &read(rt.alloc(), &AND[..25])?, 2, 4);
     Ok(())
 }
 
@@ -29,11 +31,8 @@ fn cut_at_each_byte(rt: HostRuntime) {
             13..=24 => Some(AigerErr::Truncated(n)),
             _ => None,
         };
-        assert_eq!(rt;
-            read(rt.alloc(), &AND[..n as usize]).err(),
-            want,
-            "after {n} bytes"
-        );
+        let bytes = &AND[..n as usize];
+        check_fault(&rt, bytes, read(rt.alloc(), bytes).err(), want);
     }
 }
 
@@ -90,9 +89,7 @@ fn faults_of_header_and_lines(rt: HostRuntime) {
         (b"aag 2 1 0 0 1\n2\n4 2 ", AigerErr::Truncated(20)),
         (b"aag 2 1 0 0 1\n2\n4 2", AigerErr::Truncated(19)),
     ];
-    for (bytes, want) in rows {
-        assert_eq!(rt; read(rt.alloc(), bytes).err(), Some(want), "at {bytes:?}");
-    }
+    check_faults(&rt, rt.alloc(), &rows);
 }
 
 #[test]
@@ -127,9 +124,7 @@ fn faults_of_literals(rt: HostRuntime) {
             AigerErr::Cycle(6),
         ),
     ];
-    for (bytes, want) in rows {
-        assert_eq!(rt; read(rt.alloc(), bytes).err(), Some(want), "at {bytes:?}");
-    }
+    check_faults(&rt, rt.alloc(), &rows);
 }
 
 #[test]
@@ -147,7 +142,16 @@ fn faults_of_the_tail(rt: HostRuntime) {
     ];
     for (bytes, place) in rows {
         let want = Some(AigerErr::BadSymbol(place));
-        assert_eq!(rt; read(rt.alloc(), bytes).err(), want, "at {bytes:?}");
+        check_fault(&rt, bytes, read(rt.alloc(), bytes).err(), want);
+    }
+}
+
+/// Compares the variables of the gates, in their order.
+fn check_order(rt: &impl Abort, circuit: &Circuit, want: &[u32], name: &str) {
+    let gates = circuit.gates();
+    assert!(rt; gates.len() == want.len(), "{name}");
+    for i in 0..gates.len() {
+        assert_eq!(rt; gates[i].var, want[i], "{name}");
     }
 }
 
@@ -176,12 +180,7 @@ fn gates_by_level(rt: HostRuntime) -> Result<(), Fail> {
         ),
     ];
     for (name, bytes, want) in rows {
-        let circuit = read(rt.alloc(), bytes)?;
-        let mut vars = Vec::new(rt.alloc());
-        for gate in circuit.gates() {
-            vars.push(gate.var)?;
-        }
-        assert_eq!(rt; vars.as_slice(), want, "{name}");
+        check_order(&rt, &read(rt.alloc(), bytes)?, want, name);
     }
     Ok(())
 }

@@ -1,6 +1,6 @@
+use crate::circuits::{check_and, check_fault, check_gate};
 use aiger_binary::read;
 use byte_scan::AigerErr;
-use netlist::And;
 use std::test::*;
 
 /// Two inputs, and a gate that is their AND.
@@ -8,18 +8,10 @@ const AND: &[u8] = b"aig 3 2 0 1 1\n6\n\x02\x02";
 
 #[test]
 fn one_gate(rt: HostRuntime) -> Result<(), Fail> {
+    check_and(&rt, &read(rt.alloc(), AND)?, 4, 2);
     // a delta needn't be shortest: 82 00 is 2
-    for bytes in [AND, b"aig 3 2 0 1 1\n6\n\x82\x00\x02"] {
-        let circuit = read(rt.alloc(), bytes)?;
-        assert_eq!(rt; circuit.inputs(), [1, 2].as_slice());
-        let gate = And {
-            var: 3,
-            left: 4,
-            right: 2,
-        };
-        assert_eq!(rt; circuit.gates(), [gate].as_slice());
-        assert_eq!(rt; circuit.outputs(), [6].as_slice());
-    }
+    let bytes = b"aig 3 2 0 1 1\n6\n\x82\x00\x02";
+    check_and(&rt, &read(rt.alloc(), bytes)?, 4, 2);
     Ok(())
 }
 
@@ -31,11 +23,8 @@ fn cut_at_each_byte(rt: HostRuntime) {
             13..=17 => Some(AigerErr::Truncated(n)),
             _ => None,
         };
-        assert_eq!(rt;
-            read(rt.alloc(), &AND[..n as usize]).err(),
-            want,
-            "after {n} bytes"
-        );
+        let bytes = &AND[..n as usize];
+        check_fault(&rt, bytes, read(rt.alloc(), bytes).err(), want);
     }
 }
 
@@ -68,12 +57,7 @@ fn accepted(rt: HostRuntime) {
 fn a_delta_of_two_bytes(rt: HostRuntime) -> Result<(), Fail> {
     // 300 is ac 02: variable 151 is the gate, 302 - 300 = 2
     let circuit = read(rt.alloc(), b"aig 151 150 0 0 1\n\xac\x02\x00")?;
-    let gate = And {
-        var: 151,
-        left: 2,
-        right: 2,
-    };
-    assert_eq!(rt; circuit.gates(), [gate].as_slice());
+    check_gate(&rt, &circuit, 151, 2, 2);
     Ok(())
 }
 
@@ -102,6 +86,6 @@ fn faults(rt: HostRuntime) {
         (b"aig 3 2 0 1 1\n6\n\x02\x02i2 x\n", AigerErr::BadSymbol(18)),
     ];
     for (bytes, want) in rows {
-        assert_eq!(rt; read(rt.alloc(), bytes).err(), Some(want), "at {bytes:?}");
+        check_fault(&rt, bytes, read(rt.alloc(), bytes).err(), Some(want));
     }
 }

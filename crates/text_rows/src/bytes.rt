@@ -1,22 +1,45 @@
 use byte_scan::*;
+use std::process::Abort;
 use std::test::*;
+
+/// Reads a number, and compares it and the place behind it.
+fn check_number(rt: &impl Abort, scan: &mut Scan<'_>, number: Option<u64>, at: u64) {
+    assert_eq!(rt; scan.number(), number);
+    assert_eq!(rt; scan.at(), at);
+}
+
+/// Reads a byte, and compares it and the place behind it.
+fn check_byte(rt: &impl Abort, scan: &mut Scan<'_>, byte: Option<u8>, at: u64) {
+    assert_eq!(rt; scan.byte(), byte);
+    assert_eq!(rt; scan.at(), at);
+}
+
+/// Reads a line, and compares it and the place behind it.
+fn check_line(rt: &impl Abort, scan: &mut Scan<'_>, line: Option<&[u8]>, at: u64) {
+    assert_eq!(rt; scan.line(), line);
+    assert_eq!(rt; scan.at(), at);
+}
 
 #[test]
 fn bytes_numbers_and_lines(rt: HostRuntime) {
     let mut scan = Scan::new(b"007 x\n\n99999999999999999999\nlast");
     assert_eq!(rt; scan.at(), 0);
-    assert_eq!(rt; scan.number(), Some(7));
-    assert_eq!(rt; scan.number(), None);
-    assert_eq!(rt; scan.at(), 3);
-    assert_eq!(rt; scan.byte(), Some(b' '));
-    assert!(rt; matches!(scan.line(), Some([b'x'])));
-    assert!(rt; matches!(scan.line(), Some([])));
-    assert_eq!(rt; scan.number(), Some(1_000_000_000_000_000_000));
-    assert_eq!(rt; scan.byte(), Some(b'\n'));
-    assert!(rt; matches!(scan.line(), Some([b'l', b'a', b's', b't'])));
-    assert_eq!(rt; scan.at(), 32);
-    assert!(rt; scan.line().is_none());
-    assert_eq!(rt; scan.byte(), None);
+    check_number(&rt, &mut scan, Some(7), 3);
+    check_number(&rt, &mut scan, None, 3);
+    check_byte(&rt, &mut scan, Some(b' '), 4);
+    check_line(&rt, &mut scan, Some(b"x"), 6);
+    check_line(&rt, &mut scan, Some(b""), 7);
+    check_number(&rt, &mut scan, Some(1_000_000_000_000_000_000), 27);
+    check_byte(&rt, &mut scan, Some(b'\n'), 28);
+    check_line(&rt, &mut scan, Some(b"last"), 32);
+    check_line(&rt, &mut scan, None, 32);
+    check_byte(&rt, &mut scan, None, 32);
+}
+
+/// The numbers of a header of the text form.
+fn numbers(bytes: &[u8]) -> Result<[u32; 5], AigerErr> {
+    let header = header(&mut Scan::new(bytes), b'a')?;
+    Ok([header.m, header.i, header.l, header.o, header.a])
 }
 
 #[test]
@@ -46,9 +69,7 @@ fn headers(rt: HostRuntime) {
         (b"aag 1 1 0 0 9 0 0 0 1\n", Err(AigerErr::HasProperty(b'F'))),
     ];
     for (bytes, want) in rows {
-        let mut scan = Scan::new(bytes);
-        let got = header(&mut scan, b'a').map(|h| [h.m, h.i, h.l, h.o, h.a]);
-        assert_eq!(rt; got, want, "at {bytes:?}");
+        assert!(rt; numbers(bytes) == want, "at {bytes:?}");
     }
 }
 
@@ -59,28 +80,4 @@ fn header_of_a_binary_file(rt: HostRuntime) {
     assert_eq!(rt; scan.at(), 14);
     let mut scan = Scan::new(b"aig 4 2 0 1 1\n6\n");
     assert_eq!(rt; header(&mut scan, b'i'), Err(AigerErr::BadHeader));
-}
-
-#[test]
-fn texts_of_the_faults(rt: HostRuntime) -> Result<(), Fail> {
-    let rows = [
-        (AigerErr::BadHeader, "bad header"),
-        (AigerErr::TooLarge(16777217), "16777217 is above 16777216"),
-        (AigerErr::HasLatches(1), "1 latches"),
-        (AigerErr::HasProperty(b'C'), "section C is not supported"),
-        (AigerErr::BadNumber(14), "bad number at byte 14"),
-        (AigerErr::BadLiteral(3), "bad literal 3"),
-        (AigerErr::DefinedTwice(2), "literal 2 is defined twice"),
-        (AigerErr::Undefined(6), "literal 6 is undefined"),
-        (AigerErr::Cycle(6), "literal 6 is on or above a cycle"),
-        (AigerErr::BadDelta(0), "bad delta at gate 0"),
-        (AigerErr::Truncated(17), "ends too early at byte 17"),
-        (AigerErr::BadSymbol(16), "bad symbol line at byte 16"),
-        (AigerErr::NoMemory, "out of memory"),
-    ];
-    for (fault, want) in rows {
-        let text = format!(in rt.alloc(); "{fault}")?;
-        assert_eq!(rt; text.as_str(), want);
-    }
-    Ok(())
 }

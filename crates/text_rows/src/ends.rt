@@ -16,40 +16,65 @@ fn desk_failing(alloc: Global, fails: &[u64]) -> Result<MemDesk, Fail>
     Ok(MemDesk::new(alloc, BTreeMap::new(alloc), Vec::from_slice(alloc, fails)?)?)
 }
 
+/// Ends a command on a desk that fails at these calls, and compares its status and what it warns.
+fn check_end(
+    rt: &impl Abort,
+    alloc: Global,
+    stop: &Stop,
+    fails: &[u64],
+    code: u8,
+    line: &str,
+) -> Result<(), Fail> {
+    let mut desk = desk_failing(alloc, fails)?;
+    let status = end(alloc, &mut desk, &["A", "B"], stop);
+    assert_eq!(rt; status.code(), code, "{line}");
+    assert_eq!(rt; desk.warned(), line.as_bytes());
+    Ok(())
+}
+
+/// The same on a desk that fails nowhere, and on one where the warning fails: the status stays.
+fn check_both(
+    rt: &impl Abort,
+    alloc: Global,
+    stop: &Stop,
+    code: u8,
+    line: &str,
+) -> Result<(), Fail> {
+    check_end(rt, alloc, stop, &[], code, line)?;
+    check_end(rt, alloc, stop, &[0], code, "")
+}
+
 #[test]
 fn lines_and_statuses(rt: HostRuntime) -> Result<(), Fail> {
     let alloc = rt.alloc();
-    let cases = [
+    let rows = [
         (Stop::CannotRead(1), 5u8, "cec: B: cannot read\n"),
         (
             Stop::TooLong(0),
             4,
             "cec: A: longer than 1073741824 bytes\n",
         ),
-        (
-            Stop::BadFile(0, String::from_str(alloc, "bad header")?),
-            4,
-            "cec: A: bad header\n",
-        ),
-        (
-            Stop::NotAlike(String::from_str(alloc, "inputs 2 and 3 differ")?),
-            4,
-            "cec: inputs 2 and 3 differ\n",
-        ),
         (Stop::CannotWrite, 6, "cec: cannot write\n"),
         (Stop::OutOfMemory, 7, "cec: out of memory\n"),
     ];
-    for (stop, code, line) in cases {
-        let mut desk = desk_failing(alloc, &[])?;
-        let status = end(alloc, &mut desk, &["A", "B"], &stop);
-        assert_eq!(rt; status.code(), code);
-        assert_eq!(rt; desk.warned(), line.as_bytes());
-        // Where the warning fails, the status stays.
-        let mut desk = desk_failing(alloc, &[0])?;
-        assert_eq!(rt; end(alloc, &mut desk, &["A", "B"], &stop).code(), code);
+    for (stop, code, line) in &rows {
+        check_both(&rt, alloc, stop, *code, *line)?;
     }
-    assert_eq!(rt; READ_LIMIT, 1 << 30);
     Ok(())
+}
+
+#[test]
+fn lines_with_a_text(rt: HostRuntime) -> Result<(), Fail> {
+    let alloc = rt.alloc();
+    let stop = Stop::BadFile(0, String::from_str(alloc, "bad header")?);
+    check_both(&rt, alloc, &stop, 4, "cec: A: bad header\n")?;
+    let stop = Stop::NotAlike(String::from_str(alloc, "inputs 2 and 3 differ")?);
+    check_both(&rt, alloc, &stop, 4, "cec: inputs 2 and 3 differ\n")
+}
+
+#[test]
+fn greatest_length_of_a_file(rt: HostRuntime) {
+    assert_eq!(rt; READ_LIMIT, 1 << 30);
 }
 
 struct Letters;

@@ -1,3 +1,4 @@
+use crate::circuits::check_fault;
 use aiger_file::read;
 use byte_scan::AigerErr;
 use std::test::*;
@@ -18,6 +19,6 @@ fn the_first_four_bytes_choose(rt: HostRuntime) {
         (b"aig 1 0 0 0 0\n", Some(AigerErr::BadHeader)),
     ];
     for (bytes, want) in rows {
-        assert_eq!(rt; read(rt.alloc(), bytes).err(), want, "at {bytes:?}");
+        check_fault(&rt, bytes, read(rt.alloc(), bytes).err(), want);
     }
 }

@@ -3,9 +3,10 @@
 //!
 //! The tests of a crate stand here and not in it, since a crate with tests is proved twice. Modules: `bytes`
 //! is of `byte_scan`, `ascii` of `aiger_ascii`, `binary` of `aiger_binary`, `forms` of `aiger_file`,
-//! `formulas` of `dimacs_text`, `proof_lines` of `lrat_text`, `proof_checks` of `lrat_checker`, `proof_runs`
-//! of `lrat_run`, `ends` of `endings`, `words` of `command_line`, `workloads` of `workload_gen`. Begin to
-//! read at `bytes.rt`.
+//! `formulas` of `dimacs_text`, `proof_lines` of `lrat_text`, `proof_checks` of `lrat_checker`, `desks` of
+//! `desk_port`, `proof_runs` of `lrat_run`, `ends` of `endings`, `words` of `command_line`, `workloads` of
+//! `workload_gen`; `texts` has the texts of the faults of all, and `circuits` what the readers of circuits
+//! are compared by. Begin to read at `bytes.rt`.
 #![tactic(auto)]
 
 #[cfg(test)]
@@ -14,6 +15,10 @@ mod ascii;
 mod binary;
 #[cfg(test)]
 mod bytes;
+#[cfg(test)]
+mod circuits;
+#[cfg(test)]
+mod desks;
 #[cfg(test)]
 mod ends;
 #[cfg(test)]
@@ -26,6 +31,8 @@ mod proof_checks;
 mod proof_lines;
 #[cfg(test)]
 mod proof_runs;
+#[cfg(test)]
+mod texts;
 #[cfg(test)]
 mod words;
 #[cfg(test)]

@@ -26,37 +26,51 @@ const SWAPPED_AND: [&[i32]; 12] = [
 /// Each clause over two variables.
 const ALL_PAIRS: [&[i32]; 4] = [&[1, 2], &[-1, 2], &[1, -2], &[-1, -2]];
 
-fn clause(rt: &impl Abort, alloc: Global, numbers: &[i32]) -> Result<Listed<Dim>, Fail> {
+fn clause(alloc: Global, numbers: &[i32]) -> Result<Listed<Dim>, Fail> {
     let mut dims = Vec::new(alloc);
     for number in numbers {
-        let dim = Dim::of(*number);
-        assert!(rt; dim.is_some(), "{number} is no literal");
-        if let Some(dim) = dim {
-            dims.push(dim)?;
-        }
+        dims.push(literal(*number)?)?;
     }
     Ok(Listed::of(dims))
 }
 
+fn literal(number: i32) -> Result<Dim, Fail> {
+    match Dim::of(number) {
+        Some(dim) => Ok(dim),
+        None => Err(Fail::from("no literal")),
+    }
+}
+
+fn formula(alloc: Global, clauses: &[&[i32]]) -> Result<Cnf, Fail> {
+    let mut listed = Vec::new(alloc);
+    for numbers in clauses {
+        listed.push(clause(alloc, numbers)?)?;
+    }
+    Ok(Cnf {
+        variables: 6,
+        clauses: Listed::of(listed),
+    })
+}
+
 /// What the checker says of a formula and a proof text.
-fn verdict(
+fn verdict(alloc: Global, clauses: &[&[i32]], text: &str) -> Result<Verdict, Fail> {
+    let lines = lrat_text::read(alloc, text.as_bytes(), clauses.len() as u64)?;
+    Ok(check(alloc, &formula(alloc, clauses)?, lines.as_slice())?)
+}
+
+/// Checks the text that these parts make, and compares the verdict.
+fn check_verdict(
     rt: &impl Abort,
     alloc: Global,
-    formula: &[&[i32]],
-    text: &str,
-) -> Result<Verdict, Fail> {
-    let mut clauses = Vec::new(alloc);
-    for numbers in formula {
-        clauses.push(clause(rt, alloc, numbers)?)?;
-    }
-    let lines = lrat_text::read(alloc, text.as_bytes(), formula.len() as u64).map_err(
-        |_| "a proof text",
-    )?;
-    let cnf = Cnf {
-        variables: 6,
-        clauses: Listed::of(clauses),
-    };
-    Ok(check(alloc, &cnf, lines.as_slice())?)
+    clauses: &[&[i32]],
+    parts: [&str; 3],
+    want: Verdict,
+) -> Result<(), Fail> {
+    let [first, second, rest] = parts;
+    let text = format!(in alloc; "{first}{second}{rest}")?;
+    let found = verdict(alloc, clauses, text.as_str())?;
+    assert_eq!(rt; found, want, "{text}");
+    Ok(())
 }
 
 fn bad(line: u64, hint: u64, why: Why) -> Verdict {
@@ -69,9 +83,8 @@ fn bad(line: u64, hint: u64, why: Why) -> Verdict {
 #[test]
 fn lrat_check(rt: HostRuntime) -> Result<(), Fail> {
     let empty_circuits: [&[i32]; 2] = [&[1], &[]];
-    let found = verdict(&rt, rt.alloc(), &empty_circuits, "3 0 2 0\n")?;
-    assert_eq!(rt; found, Verdict::Refuted);
-    Ok(())
+    let proof = ["3 0 2 0\n", "", ""];
+    check_verdict(&rt, rt.alloc(), &empty_circuits, proof, Verdict::Refuted)
 }
 
 #[test]
@@ -84,9 +97,7 @@ fn hand_written_proofs(rt: HostRuntime) -> Result<(), Fail> {
         ("13 -4 5 0 2 3 7 0\n", "", Verdict::NoEmpty),
         ("13 -4 5 0 2 3 7 0\n13 d 99 0\n", rest, Verdict::Refuted),
     ] {
-        let text = format!(in rt.alloc(); "{first}{rest}")?;
-        let found = verdict(&rt, rt.alloc(), &SWAPPED_AND, text.as_str())?;
-        assert_eq!(rt; found, want, "{text}");
+        check_verdict(&rt, rt.alloc(), &SWAPPED_AND, [first, "", rest], want)?;
     }
     Ok(())
 }
@@ -102,9 +113,7 @@ fn deleted_clauses(rt: HostRuntime) -> Result<(), Fail> {
         // A clause of the formula.
         ("13 d 11 7 0\n", bad(3, 3, Why::NoClause)),
     ] {
-        let text = format!(in rt.alloc(); "{first}{between}{rest}")?;
-        let found = verdict(&rt, rt.alloc(), &SWAPPED_AND, text.as_str())?;
-        assert_eq!(rt; found, want, "{text}");
+        check_verdict(&rt, rt.alloc(), &SWAPPED_AND, [first, between, rest], want)?;
     }
     Ok(())
 }
@@ -121,8 +130,7 @@ fn lines_after_the_empty_clause(rt: HostRuntime) -> Result<(), Fail> {
         ("3 0 2 0\n4 1 0 9 0\n", bad(2, 1, Why::NoClause)),
         ("3 0 2 0\n4 2 0 1 0\n", bad(2, 0, Why::NotFalse)),
     ] {
-        let found = verdict(&rt, rt.alloc(), &formula, text)?;
-        assert_eq!(rt; found, want, "{text}");
+        check_verdict(&rt, rt.alloc(), &formula, [text, "", ""], want)?;
     }
     Ok(())
 }
@@ -151,8 +159,7 @@ fn first_bad_lines(rt: HostRuntime) -> Result<(), Fail> {
         // The first of two bad lines is told.
         ("5 2 0 1 2 0\n6 0 9 0\n7 0 1 0\n", bad(2, 1, Why::NoClause)),
     ] {
-        let found = verdict(&rt, rt.alloc(), &ALL_PAIRS, text)?;
-        assert_eq!(rt; found, want, "{text}");
+        check_verdict(&rt, rt.alloc(), &ALL_PAIRS, [text, "", ""], want)?;
     }
     Ok(())
 }
@@ -163,11 +170,11 @@ fn a_clause_of_a_million_literals(rt: HostRuntime) -> Result<(), Fail> {
     let alloc = rt.alloc();
     let cnf = Cnf {
         variables: 1_000_000,
-        clauses: Listed::of(vec![in alloc; wide(&rt, alloc)?]?),
+        clauses: Listed::of(vec![in alloc; wide(alloc)?]?),
     };
     let step = LratStep::Add {
         id: 9,
-        clause: wide(&rt, alloc)?,
+        clause: wide(alloc)?,
         hints: Listed::of(vec![in alloc; 1]?),
     };
     let lines = vec![in alloc; Line { at: 1, step }]?;
@@ -177,14 +184,10 @@ fn a_clause_of_a_million_literals(rt: HostRuntime) -> Result<(), Fail> {
 }
 
 /// The clause of the literals from 1 to 1000000.
-fn wide(rt: &impl Abort, alloc: Global) -> Result<Listed<Dim>, Fail> {
+fn wide(alloc: Global) -> Result<Listed<Dim>, Fail> {
     let mut dims = Vec::new(alloc);
     for number in 1..=1_000_000i32 {
-        let dim = Dim::of(number);
-        assert!(rt; dim.is_some());
-        if let Some(dim) = dim {
-            dims.push(dim)?;
-        }
+        dims.push(literal(number)?)?;
     }
     Ok(Listed::of(dims))
 }

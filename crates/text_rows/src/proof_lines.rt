@@ -1,74 +1,112 @@
 use lits::{Dim, Listed};
 use lrat_text::{Line, LratErr, LratStep, push_line, read};
-use std::alloc::Global;
+use std::alloc::{AllocError, Global};
 use std::process::Abort;
 use std::test::Fail;
 
+fn addition(alloc: Global, id: u64, clause: &[Dim], hints: &[u64]) -> Result<LratStep, AllocError> {
+    Ok(LratStep::Add {
+        id,
+        clause: Listed::of(Vec::from_slice(alloc, clause)?),
+        hints: Listed::of(Vec::from_slice(alloc, hints)?),
+    })
+}
+
+fn deletion(alloc: Global, ids: &[u64]) -> Result<LratStep, AllocError> {
+    Ok(LratStep::Del {
+        ids: Listed::of(Vec::from_slice(alloc, ids)?),
+    })
+}
+
+/// The id of the last addition behind a step.
+fn id_behind(last: u64, step: &LratStep) -> u64 {
+    match step {
+        LratStep::Add { id, .. } => *id,
+        LratStep::Del { .. } => last,
+    }
+}
+
 /// The steps written again, each with the last addition's id before it.
-fn written(alloc: Global, lines: &[Line]) -> Result<Vec<u8>, Fail> {
+fn written(alloc: Global, lines: &[Line]) -> Result<Vec<u8>, AllocError> {
     let mut text = Vec::new(alloc);
     let mut last = 0;
     for line in lines {
         push_line(&mut text, last, &line.step)?;
-        if let LratStep::Add { id, .. } = &line.step {
-            last = *id;
-        }
+        last = id_behind(last, &line.step);
     }
     Ok(text)
 }
 
-/// Reads a text and compares its steps with the text that they are written by, and the numbers of its lines.
+fn numbers(alloc: Global, lines: &[Line]) -> Result<Vec<u64>, AllocError> {
+    let mut numbers = Vec::new(alloc);
+    for line in lines {
+        numbers.push(line.at)?;
+    }
+    Ok(numbers)
+}
+
+/// Reads a text for a formula of so many clauses, and compares its steps with the text that they are written
+/// by, and the numbers of its lines.
+fn check_lines(
+    rt: &impl Abort,
+    alloc: Global,
+    clauses: u64,
+    text: &[u8],
+    again: &[u8],
+    at: &[u64],
+) -> Result<(), Fail> {
+    let lines = read(alloc, text, clauses)?;
+    assert!(rt;
+        numbers(alloc, lines.as_slice())?.as_slice() == at,
+        "at {text:?}"
+    );
+    assert_eq!(rt; written(alloc, lines.as_slice())?.as_slice(), again);
+    Ok(())
+}
+
+/// The same for a formula of 12 clauses.
 fn check_read(
     rt: &impl Abort,
     alloc: Global,
     text: &[u8],
     again: &[u8],
-    numbers: &[u64],
+    at: &[u64],
 ) -> Result<(), Fail> {
-    let lines = read(alloc, text, 12).map_err(|_| "a proof text")?;
-    let found = lines.iter().map(|line| line.at).collect::<Vec<u64>>(alloc)?;
-    assert_eq!(rt; found.as_slice(), numbers);
-    assert_eq!(rt; written(alloc, lines.as_slice())?.as_slice(), again);
-    Ok(())
+    check_lines(rt, alloc, 12, text, again, at)
+}
+
+/// Reads a text for a formula of so many clauses, and compares its fault.
+fn check_fault(rt: &impl Abort, alloc: Global, clauses: u64, text: &[u8], fault: LratErr) {
+    assert_eq!(rt;
+        read(alloc, text, clauses).err(),
+        Some(fault),
+        "at {text:?}"
+    );
 }
 
 #[test]
 fn lrat_line(rt: HostRuntime) -> Result<(), Fail> {
     let alloc = rt.alloc();
-    let step = LratStep::Add {
-        id: 3,
-        clause: Listed::of(Vec::new(alloc)),
-        hints: Listed::of(vec![in alloc; 2]?),
-    };
+    let line = b"3 0 2 0\n";
+    let step = addition(alloc, 3, &[], &[2])?;
     let mut text = Vec::new(alloc);
     push_line(&mut text, 0, &step)?;
-    assert_eq!(rt; text.as_slice(), b"3 0 2 0\n".as_slice());
-    let lines = read(alloc, text.as_slice(), 2).map_err(|_| "a proof text")?;
-    assert_eq!(rt; lines.len(), 1);
-    assert_eq!(rt;
-        written(alloc, lines.as_slice())?.as_slice(),
-        text.as_slice()
-    );
-    assert!(rt; matches!(read(alloc, text.as_slice(), 3), Err(LratErr::Order(1))));
+    assert!(rt; text.as_slice() == line.as_slice());
+    check_lines(&rt, alloc, 2, line, line, &[1])?;
+    check_fault(&rt, alloc, 3, line, LratErr::Order(1));
     Ok(())
 }
 
 #[test]
 fn written_steps(rt: HostRuntime) -> Result<(), Fail> {
     let alloc = rt.alloc();
-    let add = LratStep::Add {
-        id: 999_999_999_999_999_999,
-        clause: Listed::of(vec![in alloc; Dim::new(2_147_483_647, true), Dim::new(1, false)]?),
-        hints: Listed::of(vec![in alloc; 7, 12]?),
-    };
-    let del = LratStep::Del {
-        ids: Listed::of(vec![in alloc; 3, 99]?),
-    };
+    let clause = [Dim::new(2_147_483_647, true), Dim::new(1, false)];
+    let add = addition(alloc, 999_999_999_999_999_999, &clause, &[7, 12])?;
     let mut text = Vec::from_slice(alloc, b"kept ")?;
     push_line(&mut text, 5, &add)?;
-    push_line(&mut text, 13, &del)?;
+    push_line(&mut text, 13, &deletion(alloc, &[3, 99])?)?;
     let want = b"kept 999999999999999999 -2147483647 1 0 7 12 0\n13 d 3 99 0\n";
-    assert_eq!(rt; text.as_slice(), want.as_slice());
+    assert!(rt; text.as_slice() == want.as_slice());
     Ok(())
 }
 
@@ -91,11 +129,8 @@ fn read_texts(rt: HostRuntime) -> Result<(), Fail> {
 
 /// Reads each text, for a formula of 12 clauses, and compares its fault.
 fn check_faults(rt: &impl Abort, alloc: Global, rows: &[(&[u8], LratErr)]) {
-    for (i, (text, fault)) in rows.iter().enumerate() {
-        match read(alloc, *text, 12) {
-            Err(found) => assert_eq!(rt; found, *fault, "row {i}"),
-            Ok(_) => assert!(rt; false, "row {i} is read"),
-        }
+    for (text, fault) in rows {
+        check_fault(rt, alloc, 12, text, *fault);
     }
 }
 
@@ -151,18 +186,4 @@ fn faults_of_whole_lines(rt: HostRuntime) {
         (b"13 1 0 1 0\n14 2 0 1 -1 0\n", LratErr::Rat(2)),
     ];
     check_faults(&rt, rt.alloc(), rows.as_slice());
-}
-
-#[test]
-fn error_texts(rt: HostRuntime) -> Result<(), Fail> {
-    for (fault, text) in [
-        (LratErr::BadNumber(1), "line 1: bad number"),
-        (LratErr::Truncated(20), "line 20: ends too early"),
-        (LratErr::Order(3), "line 3: id out of order"),
-        (LratErr::Rat(4), "line 4: negative hint"),
-        (LratErr::NoMemory, "out of memory"),
-    ] {
-        assert_eq!(rt; fault.to_string(rt.alloc())?.as_str(), text);
-    }
-    Ok(())
 }

@@ -1,8 +1,9 @@
 //! What the command says and warns of files in memory. The CNF's file is `C`, the proof's `P`.
+use crate::desks::asked;
 use desk_port::MemDesk;
 use endings::Status;
 use lrat_run::run;
-use std::alloc::Global;
+use std::alloc::{AllocError, Global};
 use std::collections::BTreeMap;
 use std::process::Abort;
 use std::test::Fail;
@@ -16,85 +17,93 @@ const FIRST: &str = "13 -4 5 0 2 3 7 0\n";
 
 const OTHERS: &str = "14 4 -5 0 5 6 4 0\n15 -6 4 0 8 14 0\n16 -6 0 15 13 9 0\n17 0 16 12 0\n";
 
-/// A desk with these files that fails at the calls of these numbers.
-fn desk_with(
-    alloc: Global,
-    cnf: Option<&str>,
-    proof: Option<&str>,
-    fails: &[u64],
-) -> Result<MemDesk, Fail> {
-    let mut files = BTreeMap::new(alloc);
-    for (name, text) in [("C", cnf), ("P", proof)] {
-        if let Some(text) = text {
-            files.insert(
-                String::from_str(alloc, name)?,
-                Vec::from_slice(alloc, text.as_bytes())?,
-            )?;
-        }
-    }
-    Ok(MemDesk::new(alloc, files, Vec::from_slice(alloc, fails)?)?)
-}
-
-/// The status that the command should answer, what it should say and warn, and the names of the files that it
+/// A case: the CNF and the proof, or `None` where the file is missing; the calls of the desk that fail; the
+/// status that the command should answer, what it should say and warn, and the names of the files that it
 /// should read.
-#[derive(Drop)]
-struct Want<'a> {
+#[derive(Clone, Copy)]
+struct Row<'a> {
+    cnf: Option<&'a str>,
+    proof: Option<&'a str>,
+    fails: &'a [u64],
     status: Status,
     said: &'a str,
     warned: &'a str,
-    asked: &'a [&'a str],
+    asked: &'a str,
+}
+
+fn put_file(
+    alloc: Global,
+    files: &mut BTreeMap<String, Vec<u8>>,
+    name: &str,
+    text: Option<&str>,
+) -> Result<(), AllocError> {
+    if let Some(text) = text {
+        files.insert(
+            String::from_str(alloc, name)?,
+            Vec::from_slice(alloc, text.as_bytes())?,
+        )?;
+    }
+    Ok(())
+}
+
+fn desk_of(alloc: Global, row: &Row<'_>) -> Result<MemDesk, AllocError> {
+    let mut files = BTreeMap::new(alloc);
+    put_file(alloc, &mut files, "C", row.cnf)?;
+    put_file(alloc, &mut files, "P", row.proof)?;
+    MemDesk::new(alloc, files, Vec::from_slice(alloc, row.fails)?)
 }
 
 /// Runs the command and compares what it came to.
-fn check_run(rt: &impl Abort, alloc: Global, desk: &mut MemDesk, want: &Want<'_>) {
-    let status = run(alloc, desk, "C", "P");
-    assert_eq!(rt; desk.said(), want.said.as_bytes());
-    assert_eq!(rt; desk.warned(), want.warned.as_bytes());
-    assert!(rt; status == want.status);
-    assert_eq!(rt; desk.asked().len(), want.asked.len());
-    for (asked, name) in desk.asked().iter().zip(want.asked) {
-        assert_eq!(rt; asked.as_str(), *name);
-    }
+fn check_row(rt: &impl Abort, alloc: Global, row: &Row<'_>) -> Result<(), Fail> {
+    let mut desk = desk_of(alloc, row)?;
+    let status = run(alloc, &mut desk, "C", "P");
+    assert_eq!(rt; desk.said(), row.said.as_bytes());
+    assert_eq!(rt; desk.warned(), row.warned.as_bytes());
+    assert!(rt; status == row.status);
+    assert_eq!(rt; asked(alloc, &desk)?.as_str(), row.asked);
+    Ok(())
+}
+
+fn joined(alloc: Global, first: &str, others: &str) -> Result<String, AllocError> {
+    format!(in alloc; "{first}{others}")
+}
+
+/// A proof of the CNF, that is read.
+fn check_proof<'x>(
+    rt: &impl Abort,
+    alloc: Global,
+    proof: &'x str,
+    status: Status,
+    said: &'x str,
+    warned: &'x str,
+) -> Result<(), Fail> {
+    let row = Row {
+        cnf: Some(CNF),
+        proof: Some(proof),
+        fails: &[],
+        status,
+        said,
+        warned,
+        asked: "CP",
+    };
+    check_row(rt, alloc, &row)
 }
 
 #[test]
 fn hand_written_proofs(rt: HostRuntime) -> Result<(), Fail> {
-    let cases = [
-        (FIRST, OTHERS, Status::Done, "VERIFIED\n", ""),
-        (
-            "13 -4 5 0 2 2 3 7 0\n",
-            OTHERS,
-            Status::No,
-            "REFUSED line 1\n",
-            "",
-        ),
-        (
-            "13 -4 5 0 -2 3 7 0\n",
-            OTHERS,
-            Status::BadInput,
-            "",
-            "cec: P: line 1: negative hint\n",
-        ),
-        (FIRST, "", Status::No, "REFUSED no empty clause\n", ""),
-        (
-            "13 -4 5 0 2 3 7 0\n13 d 99 0\n",
-            OTHERS,
-            Status::Done,
-            "VERIFIED\n",
-            "",
-        ),
-    ];
-    for (first, others, status, said, warned) in cases {
-        let alloc = rt.alloc();
-        let proof = format!(in alloc; "{first}{others}")?;
-        let mut desk = desk_with(alloc, Some(CNF), Some(proof.as_str()), &[])?;
-        let want = Want {
-            status,
-            said,
-            warned,
-            asked: &["C", "P"],
-        };
-        check_run(&rt, alloc, &mut desk, &want);
+    let doubled = "13 -4 5 0 2 2 3 7 0\n";
+    let negative = "13 -4 5 0 -2 3 7 0\n";
+    let deleted = "13 -4 5 0 2 3 7 0\n13 d 99 0\n";
+    let (done, no, bad) = (Status::Done, Status::No, Status::BadInput);
+    for (first, others, status, said, warned) in [
+        (FIRST, OTHERS, done, "VERIFIED\n", ""),
+        (doubled, OTHERS, no, "REFUSED line 1\n", ""),
+        (negative, OTHERS, bad, "", "cec: P: line 1: negative hint\n"),
+        (FIRST, "", no, "REFUSED no empty clause\n", ""),
+        (deleted, OTHERS, done, "VERIFIED\n", ""),
+    ] {
+        let proof = joined(rt.alloc(), first, others)?;
+        check_proof(&rt, rt.alloc(), proof.as_str(), status, said, warned)?;
     }
     Ok(())
 }
@@ -102,88 +111,83 @@ fn hand_written_proofs(rt: HostRuntime) -> Result<(), Fail> {
 // A line without words has a number too.
 #[test]
 fn numbers_of_refused_lines(rt: HostRuntime) -> Result<(), Fail> {
-    let alloc = rt.alloc();
     for (proof, said) in [
         ("13 -4 5 0 2 3 7 0\n\n14 4 -5 0 5 6 0\n", "REFUSED line 3\n"),
         ("13 1 0 14 0\n", "REFUSED line 1\n"),
         ("", "REFUSED no empty clause\n"),
     ] {
-        let mut desk = desk_with(alloc, Some(CNF), Some(proof), &[])?;
-        let want = Want {
-            status: Status::No,
-            said,
-            warned: "",
-            asked: &["C", "P"],
-        };
-        check_run(&rt, alloc, &mut desk, &want);
+        check_proof(&rt, rt.alloc(), proof, Status::No, said, "")?;
     }
     Ok(())
 }
 
+/// The warning of a file with a fault. Where it is the CNF, the proof isn't read, so that it may be missing.
+fn check_warned<'x>(
+    rt: &impl Abort,
+    alloc: Global,
+    cnf: &'x str,
+    proof: Option<&'x str>,
+    warned: &'x str,
+    asked: &'x str,
+) -> Result<(), Fail> {
+    let row = Row {
+        cnf: Some(cnf),
+        proof,
+        fails: &[],
+        status: Status::BadInput,
+        said: "",
+        warned,
+        asked,
+    };
+    check_row(rt, alloc, &row)
+}
+
 #[test]
 fn faulty_formulas(rt: HostRuntime) -> Result<(), Fail> {
-    let alloc = rt.alloc();
-    for (cnf, text) in [
-        ("", "bad header"),
-        ("p dnf 1 1\n1 0\n", "bad header"),
-        ("p cnf 1 1\nx 0\n", "bad number at byte 10"),
-        ("p cnf 1 1\n2 0\n", "variable of 2 is too large"),
-        ("p cnf 1 2\n1 0\n", "2 clauses announced, 1 found"),
-        ("p cnf 1 1\n1", "ends too early at byte 11"),
+    for (cnf, warned) in [
+        ("", "cec: C: bad header\n"),
+        ("p dnf 1 1\n1 0\n", "cec: C: bad header\n"),
+        ("p cnf 1 1\nx 0\n", "cec: C: bad number at byte 10\n"),
+        ("p cnf 1 1\n2 0\n", "cec: C: variable of 2 is too large\n"),
+        ("p cnf 1 2\n1 0\n", "cec: C: 2 clauses announced, 1 found\n"),
+        ("p cnf 1 1\n1", "cec: C: ends too early at byte 11\n"),
     ] {
-        let line = format!(in alloc; "cec: C: {text}\n")?;
-        // The proof isn't read, so that it may be missing.
-        let mut desk = desk_with(alloc, Some(cnf), None, &[])?;
-        let want = Want {
-            status: Status::BadInput,
-            said: "",
-            warned: line.as_str(),
-            asked: &["C"],
-        };
-        check_run(&rt, alloc, &mut desk, &want);
+        check_warned(&rt, rt.alloc(), cnf, None, warned, "C")?;
     }
     Ok(())
 }
 
 #[test]
 fn faulty_proofs(rt: HostRuntime) -> Result<(), Fail> {
-    let alloc = rt.alloc();
-    for (proof, text) in [
-        ("13 x 0 0\n", "line 1: bad number"),
-        ("\n13 -4 5 0 2 3 7\n", "line 2: ends too early"),
-        ("12 -4 5 0 2 3 7 0\n", "line 1: id out of order"),
-        ("13 -4 5 0 2 3 -7 0\n", "line 1: negative hint"),
+    for (proof, warned) in [
+        ("13 x 0 0\n", "cec: P: line 1: bad number\n"),
+        ("\n13 -4 5 0 2 3 7\n", "cec: P: line 2: ends too early\n"),
+        ("12 -4 5 0 2 3 7 0\n", "cec: P: line 1: id out of order\n"),
+        ("13 -4 5 0 2 3 -7 0\n", "cec: P: line 1: negative hint\n"),
     ] {
-        let line = format!(in alloc; "cec: P: {text}\n")?;
-        let mut desk = desk_with(alloc, Some(CNF), Some(proof), &[])?;
-        let want = Want {
-            status: Status::BadInput,
-            said: "",
-            warned: line.as_str(),
-            asked: &["C", "P"],
-        };
-        check_run(&rt, alloc, &mut desk, &want);
+        check_warned(&rt, rt.alloc(), CNF, Some(proof), warned, "CP")?;
     }
     Ok(())
 }
 
 #[test]
 fn missing_files(rt: HostRuntime) -> Result<(), Fail> {
-    let alloc = rt.alloc();
-    let cases: [(Option<&str>, Option<&str>, &str, &[&str]); 3] = [
-        (None, None, "cec: C: cannot read\n", &["C"]),
-        (None, Some(FIRST), "cec: C: cannot read\n", &["C"]),
-        (Some(CNF), None, "cec: P: cannot read\n", &["C", "P"]),
+    let cases = [
+        (None, None, "cec: C: cannot read\n", "C"),
+        (None, Some(FIRST), "cec: C: cannot read\n", "C"),
+        (Some(CNF), None, "cec: P: cannot read\n", "CP"),
     ];
     for (cnf, proof, warned, asked) in cases {
-        let mut desk = desk_with(alloc, cnf, proof, &[])?;
-        let want = Want {
+        let row = Row {
+            cnf,
+            proof,
+            fails: &[],
             status: Status::CannotRead,
             said: "",
             warned,
             asked,
         };
-        check_run(&rt, alloc, &mut desk, &want);
+        check_row(&rt, rt.alloc(), &row)?;
     }
     Ok(())
 }
@@ -191,31 +195,28 @@ fn missing_files(rt: HostRuntime) -> Result<(), Fail> {
 // The calls are two reads, and what is said or warned.
 #[test]
 fn failing_calls(rt: HostRuntime) -> Result<(), Fail> {
-    let alloc = rt.alloc();
-    let proof = format!(in alloc; "{FIRST}{OTHERS}")?;
-    let both: &[&str] = &["C", "P"];
-    let cases: [(&str, &[u64], Status, &str, &[&str]); 5] = [
-        (
-            CNF,
-            &[0],
-            Status::CannotRead,
-            "cec: C: cannot read\n",
-            &["C"],
-        ),
-        (CNF, &[1], Status::CannotRead, "cec: P: cannot read\n", both),
-        (CNF, &[2], Status::CannotWrite, "cec: cannot write\n", both),
-        (CNF, &[2, 3], Status::CannotWrite, "", both),
-        ("p", &[1], Status::BadInput, "", &["C"]),
+    let proof = joined(rt.alloc(), FIRST, OTHERS)?;
+    let no_cnf = "cec: C: cannot read\n";
+    let no_proof = "cec: P: cannot read\n";
+    let not_said = "cec: cannot write\n";
+    let cases: [(&str, &[u64], Status, &str, &str); 5] = [
+        (CNF, &[0], Status::CannotRead, no_cnf, "C"),
+        (CNF, &[1], Status::CannotRead, no_proof, "CP"),
+        (CNF, &[2], Status::CannotWrite, not_said, "CP"),
+        (CNF, &[2, 3], Status::CannotWrite, "", "CP"),
+        ("p", &[1], Status::BadInput, "", "C"),
     ];
     for (cnf, fails, status, warned, asked) in cases {
-        let mut desk = desk_with(alloc, Some(cnf), Some(proof.as_str()), fails)?;
-        let want = Want {
+        let row = Row {
+            cnf: Some(cnf),
+            proof: Some(proof.as_str()),
+            fails,
             status,
             said: "",
             warned,
             asked,
         };
-        check_run(&rt, alloc, &mut desk, &want);
+        check_row(&rt, rt.alloc(), &row)?;
     }
     Ok(())
 }

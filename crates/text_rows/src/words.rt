@@ -1,5 +1,5 @@
-use command_line::{Asked, Refusal, read};
-use std::alloc::Global;
+use command_line::{Asked, CheckWords, Refusal, SelfWords, read};
+use std::alloc::{AllocError, Global};
 use std::process::Abort;
 use std::test::Fail;
 use workload_gen::Kind;
@@ -266,32 +266,55 @@ const REFUSED: [(&str, &str); 21] = [
     ),
 ];
 
-/// What `read` answers to the words of a line: the request, or the text of the refusal with its kind before
-/// it.
-fn told(alloc: Global, line: &str) -> Result<String, Fail> {
+fn words_of(alloc: Global, line: &str) -> Result<Vec<String>, AllocError> {
     let mut words = Vec::new(alloc);
     for word in line.split(' ') {
         words.push(String::from_str(alloc, word)?)?;
     }
-    let text = match read(alloc, words.as_slice()) {
-        Ok(Asked::Check(check)) => {
-            let out = check.out.unwrap_or("nowhere");
-            format!(in alloc;
-                "{} and {}, to {out}, by {}, {}, {} and {}",
-                check.a, check.b, check.seed, check.words, check.sweep_budget, check.budget
-            )?
-        }
-        Ok(Asked::Lrat(lrat)) => format!(in alloc; "{} of {}", lrat.proof, lrat.cnf)?,
-        Ok(Asked::SelfCheck(own)) => match own.kind {
-            Kind::Adder => format!(in alloc; "an adder of {}", own.n)?,
-            Kind::Parity => format!(in alloc; "a parity of {}", own.n)?,
-            Kind::Comparator => format!(in alloc; "a comparator of {}", own.n)?,
-        },
-        Err(Refusal::Help(text)) => format!(in alloc; "help: {text}")?,
-        Err(Refusal::Usage(text)) => format!(in alloc; "usage: {text}")?,
-        Err(Refusal::NoMemory) => return Err(Fail::from("out of memory")),
+    Ok(words)
+}
+
+fn told_check(alloc: Global, check: &CheckWords<'_>) -> Result<String, AllocError> {
+    let out = check.out.unwrap_or("nowhere");
+    format!(in alloc;
+        "{} and {}, to {out}, by {}, {}, {} and {}",
+        check.a, check.b, check.seed, check.words, check.sweep_budget, check.budget
+    )
+}
+
+fn told_self(alloc: Global, own: &SelfWords) -> Result<String, AllocError> {
+    let kind = match own.kind {
+        Kind::Adder => "an adder",
+        Kind::Parity => "a parity",
+        Kind::Comparator => "a comparator",
     };
-    Ok(text)
+    format!(in alloc; "{kind} of {}", own.n)
+}
+
+fn told_asked(alloc: Global, asked: &Asked<'_>) -> Result<String, AllocError> {
+    match asked {
+        Asked::Check(check) => told_check(alloc, check),
+        Asked::Lrat(lrat) => format!(in alloc; "{} of {}", lrat.proof, lrat.cnf),
+        Asked::SelfCheck(own) => told_self(alloc, own),
+    }
+}
+
+fn told_refusal(alloc: Global, refusal: &Refusal) -> Result<String, Fail> {
+    match refusal {
+        Refusal::Help(text) => Ok(format!(in alloc; "help: {text}")?),
+        Refusal::Usage(text) => Ok(format!(in alloc; "usage: {text}")?),
+        Refusal::NoMemory => Err(Fail::from("out of memory")),
+    }
+}
+
+/// What `read` answers to the words of a line: the request, or the text of the refusal with its kind before
+/// it.
+fn told(alloc: Global, line: &str) -> Result<String, Fail> {
+    let words = words_of(alloc, line)?;
+    match read(alloc, words.as_slice()) {
+        Ok(asked) => Ok(told_asked(alloc, &asked)?),
+        Err(refusal) => told_refusal(alloc, &refusal),
+    }
 }
 
 fn check_told(rt: &impl Abort, alloc: Global, line: &str, expected: &str) -> Result<(), Fail> {
@@ -317,18 +340,23 @@ fn help_and_usage_texts(rt: HostRuntime) -> Result<(), Fail> {
 
 #[test]
 fn taken_words(rt: HostRuntime) -> Result<(), Fail> {
-    for (line, expected) in TAKEN {
+    for (line, expected) in &TAKEN {
         check_told(&rt, rt.alloc(), line, expected)?;
     }
     Ok(())
 }
 
+fn check_refused(rt: &impl Abort, alloc: Global, line: &str, expected: &str) -> Result<(), Fail> {
+    let text = told(alloc, line)?;
+    let start = format!(in alloc; "usage: error: {expected}")?;
+    assert!(rt; text.as_str().starts_with(start.as_str()), "{line}: {text}");
+    Ok(())
+}
+
 #[test]
 fn refused_words(rt: HostRuntime) -> Result<(), Fail> {
-    for (line, expected) in REFUSED {
-        let text = told(rt.alloc(), line)?;
-        let cause = text.as_str().strip_prefix("usage: error: ").unwrap_or("");
-        assert!(rt; cause.starts_with(expected), "{line}: {text}");
+    for (line, expected) in &REFUSED {
+        check_refused(&rt, rt.alloc(), line, expected)?;
     }
     Ok(())
 }
