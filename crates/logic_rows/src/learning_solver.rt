@@ -1,5 +1,5 @@
-//! What the cases make of `WatchSolver`. Each stands for any solver and takes its own, since a test that
-//! calls more than once while it owns one takes ten times as long to prove.
+//! What the cases make of `WatchSolver`. Each stands for any solver and takes its own: a test that calls more
+//! than once while it owns a `WatchSolver` takes fifteen seconds and more to prove, in place of one.
 use crate::clauses::{A, X, Y};
 use crate::formulas::{CHAIN_TARGETS, CHAINS, DRAWN, ROWS};
 use crate::queries::{

@@ -1,5 +1,5 @@
-//! What the cases make of `PlainSolver`. Each stands for any solver and takes its own, since a test that
-//! calls more than once while it owns one takes ten times as long to prove.
+//! What the cases make of `PlainSolver`. Each stands for any solver and takes its own, as in
+//! `learning_solver`.
 use crate::clauses::{A, X, Y};
 use crate::formulas::{CHAIN_TARGETS, CHAINS, DRAWN, ROWS, Row};
 use crate::queries::{

@@ -1,5 +1,4 @@
-//! Tests of `Trail`. The cases borrow the trail: a test that calls more than once while it owns one takes ten
-//! times as long to prove.
+//! Tests of `Trail`. The cases borrow the trail, so that a test which owns one calls once.
 use crate::clauses::{clause, input};
 use std::alloc::Global;
 use std::process::Abort;
