@@ -2,8 +2,10 @@ ghost use Rattle.std.specs.Prelude.{◌≡◌, IfOk, length};
 ghost use Rattle.netlist.specs.Net.{nodes_of};
 ghost use Rattle.lemma_book.specs.Book.{IsLegal};
 
+use crate::entries;
+use crate::pairs::{gate, net_of, two_xors};
 use lemma_book::{Book, Entry, Offered, Task};
-use lits::{Clause, Listed, Lit, Literal, Node, Ref, Side, Step};
+use lits::{Lit, Node, Side};
 use netlist::Net;
 use sig_classes::{leader, tasks};
 use std::alloc::Global;
@@ -11,12 +13,6 @@ use std::process::Abort;
 use std::test::Fail;
 use word_sim::{Pool, Sigs, signatures};
 use worked_circuits::{and, two_input_circuit};
-
-/// Two XORs by other gates, whose outputs are a gate and the negation of one.
-fn two_xors(alloc: Global) -> Result<Net, Fail> {
-    let (a, b) = worked_circuits::two_xors(alloc)?;
-    Ok(Net::of(alloc, a, b).map_err(|_| "a net")?)
-}
 
 /// A seeded pool and all four inputs.
 fn pool(alloc: Global) -> Result<Pool, Fail>
@@ -39,18 +35,24 @@ fn rows(rt: &impl Abort, alloc: Global, net: &Net) -> Result<Sigs, Fail>
     Ok(signatures(alloc, net, &pool)?)
 }
 
-/// What is to be asked where the book is empty.
-fn tasks_on(rt: &impl Abort, alloc: Global, net: &Net) -> Result<Vec<Task>, Fail> {
+/// Whether this is what is to be asked over the book.
+fn are_tasks(
+    rt: &impl Abort,
+    alloc: Global,
+    net: &Net,
+    book: &Book,
+    expected: &[Task],
+) -> Result<bool, Fail> {
     let sigs = rows(rt, alloc, net)?;
-    let book = Book::new(alloc, 1, 1);
-    Ok(tasks(alloc, net, &sigs, &book)?)
+    let found = tasks(alloc, net, &sigs, book)?;
+    Ok(found.as_slice() == expected)
 }
 
-fn gate(side: Side, var: u32) -> Lit {
-    Lit {
-        node: Node::Gate(side, var),
-        neg: false,
-    }
+/// Checks what is to be asked where the book is empty.
+fn check_tasks(rt: &impl Abort, alloc: Global, net: &Net, expected: &[Task]) -> Result<(), Fail> {
+    let are_expected = are_tasks(rt, alloc, net, &Book::new(alloc, 1, 1), expected)?;
+    assert!(rt; are_expected);
+    Ok(())
 }
 
 const A5: Node = Node::Gate(Side::A, 5);
@@ -68,43 +70,12 @@ const PAIR: Task = Task {
 
 #[test]
 fn tasks_of_two_xors(rt: HostRuntime) -> Result<(), Fail> {
-    let alloc = rt.alloc();
-    let net = two_xors(alloc)?;
-    let found = tasks_on(&rt, alloc, &net)?;
-    assert!(rt; found.as_slice() == [PAIR].as_slice());
-    Ok(())
+    let net = two_xors(rt.alloc())?;
+    check_tasks(&rt, rt.alloc(), &net, &[PAIR])
 }
 
-const HINTS: [Ref; 4] = [
-    Ref::Axiom(B5, 1),
-    Ref::Axiom(Node::Gate(Side::B, 4), 2),
-    Ref::Axiom(A5, 1),
-    Ref::Axiom(Node::Gate(Side::A, 4), 2),
-];
-
-/// Where both gates are true, so is x.
-fn learned(alloc: Global) -> Result<Step, Fail> {
-    let x = Lit {
-        node: Node::Input(0),
-        neg: false,
-    };
-    let lits = [gate(Side::B, 5).not(), gate(Side::A, 5).not(), x];
-    let clause = Clause::of(alloc, &lits).map_err(|_| "a clause")?;
-    let hints = Listed::of(Vec::from_slice(alloc, &HINTS)?);
-    Ok(Step { clause, hints })
-}
-
-/// What a query with a budget of one clause learned of the pair.
-fn spent(alloc: Global) -> Result<Entry, Fail> {
-    let mut log = Vec::new(alloc);
-    log.push(learned(alloc)?)?;
-    Ok(Entry::Spent {
-        node: PAIR.node,
-        lit: PAIR.lit,
-        seen: 0,
-        log: Listed::of(log),
-    })
-}
+/// What a query with a budget of one clause learned of the pair: where both gates are true, so is x.
+const SPENT: &str = "spent b5 -a5 0: -b5 -a5 i0 by b5.1 b4.2 a5.1 a4.2";
 
 /// Whether the entry becomes the book's first.
 fn is_first(alloc: Global, net: &Net, book: &mut Book, entry: Entry) -> bool
@@ -113,17 +84,31 @@ fn is_first(alloc: Global, net: &Net, book: &mut Book, entry: Entry) -> bool
     matches!(book.offer(alloc, net, entry), Ok(Offered::At(0)))
 }
 
+/// The book of the log.
+fn spent(rt: &impl Abort, alloc: Global, net: &Net) -> Result<Book, Fail> {
+    let mut book = Book::new(alloc, 1, 1);
+    let entry = entries::entry(alloc, SPENT)?;
+    assert!(rt; is_first(alloc, net, &mut book, entry));
+    Ok(book)
+}
+
 /// A pair whose budget was spent is no task again.
 #[test]
 fn spent_pair(rt: HostRuntime) -> Result<(), Fail> {
-    let alloc = rt.alloc();
-    let net = two_xors(alloc)?;
-    let sigs = rows(&rt, alloc, &net)?;
-    let mut book = Book::new(alloc, 1, 1);
-    let entry = spent(alloc)?;
-    assert!(rt; is_first(alloc, &net, &mut book, entry));
-    let found = tasks(alloc, &net, &sigs, &book)?;
-    assert!(rt; found.is_empty());
+    let net = two_xors(rt.alloc())?;
+    let book = spent(&rt, rt.alloc(), &net)?;
+    let are_none = are_tasks(&rt, rt.alloc(), &net, &book, &[])?;
+    assert!(rt; are_none);
+    Ok(())
+}
+
+fn check_leaders(rt: &impl Abort, alloc: Global, net: &Net) -> Result<(), Fail> {
+    let sigs = rows(rt, alloc, net)?;
+    let book = Book::new(alloc, 1, 1);
+    assert!(rt; net.position(A5).is_some());
+    assert!(rt; net.position(B5).is_some());
+    assert!(rt; leader(net, &sigs, &book, B5) == PAIR.lit);
+    assert!(rt; leader(net, &sigs, &book, A5) == gate(Side::A, 5));
     Ok(())
 }
 
@@ -131,22 +116,15 @@ fn spent_pair(rt: HostRuntime) -> Result<(), Fail> {
 /// leads itself.
 #[test]
 fn leaders(rt: HostRuntime) -> Result<(), Fail> {
-    let alloc = rt.alloc();
-    let net = two_xors(alloc)?;
-    let sigs = rows(&rt, alloc, &net)?;
-    let book = Book::new(alloc, 1, 1);
-    assert!(rt; net.position(A5).is_some());
-    assert!(rt; net.position(B5).is_some());
-    assert!(rt; leader(&net, &sigs, &book, B5) == PAIR.lit);
-    assert!(rt; leader(&net, &sigs, &book, A5) == gate(Side::A, 5));
-    Ok(())
+    let net = two_xors(rt.alloc())?;
+    check_leaders(&rt, rt.alloc(), &net)
 }
 
 /// A gate that is an input, its negation, and false.
 fn complements(alloc: Global) -> Result<Net, Fail> {
     let a = two_input_circuit(alloc, &[and(3, 4, 4), and(4, 2, 3)], 6)?;
     let b = two_input_circuit(alloc, &[and(3, 5, 1)], 6)?;
-    Ok(Net::of(alloc, a, b).map_err(|_| "a net")?)
+    net_of(alloc, a, b)
 }
 
 const OF_COMPLEMENTS: [Task; 3] = [
@@ -176,9 +154,6 @@ const OF_COMPLEMENTS: [Task; 3] = [
 /// Gates that are an input, its negation and false: their classes begin with the input and with the constant.
 #[test]
 fn classes_with_complements(rt: HostRuntime) -> Result<(), Fail> {
-    let alloc = rt.alloc();
-    let net = complements(alloc)?;
-    let found = tasks_on(&rt, alloc, &net)?;
-    assert!(rt; found.as_slice() == OF_COMPLEMENTS.as_slice());
-    Ok(())
+    let net = complements(rt.alloc())?;
+    check_tasks(&rt, rt.alloc(), &net, &OF_COMPLEMENTS)
 }

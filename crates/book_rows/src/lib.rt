@@ -1,13 +1,18 @@
-//! Tests of the crates of circuits, patterns, classes and lemmas, from outside: each public call once and
-//! worked cases. It has no code of its own.
+//! Tests of the crates of the sweep, from circuits to sessions and proofs, from outside: each public call
+//! once and worked cases. It has no code of its own.
 //!
-//! The tests of a crate stand here and not in it, since a crate with tests is proved twice. Modules:
-//! `nets` is of `netlist`, `patterns` of `word_sim`, `classes` of `sig_classes`, `lemmas` of `lemma_book`,
-//! `machine` of `sweep_core`. Begin to read at `nets.rt`.
+//! The tests of a crate stand here and not in it, since a crate with tests is proved twice, and all in one
+//! crate, since what each value drops is proved once in a crate. What they share: `pairs` has the nets that
+//! most cases are about, `entries` reads an entry of a book from a line of text. Tests: `nets` is of
+//! `netlist`, `patterns` of `word_sim`, `classes` of `sig_classes`, `lemmas` of `lemma_book`, `machine` of
+//! `sweep_core`, `structure` of `strash_pass`, `searches` of `circuit_search`, `queries` of `cone_query`,
+//! `sessions` of `check_session`, `stitching` of `proof_stitch`. Begin to read at `nets.rt`.
 #![tactic(auto)]
 
 #[cfg(test)]
 mod classes;
+#[cfg(test)]
+mod entries;
 #[cfg(test)]
 mod lemmas;
 #[cfg(test)]
@@ -15,4 +20,16 @@ mod machine;
 #[cfg(test)]
 mod nets;
 #[cfg(test)]
+mod pairs;
+#[cfg(test)]
 mod patterns;
+#[cfg(test)]
+mod queries;
+#[cfg(test)]
+mod searches;
+#[cfg(test)]
+mod sessions;
+#[cfg(test)]
+mod stitching;
+#[cfg(test)]
+mod structure;

@@ -1,6 +1,7 @@
 ghost use Rattle.std.specs.Prelude.{◌≡◌};
 ghost use Rattle.worked_circuits.specs.Worked.{one_gate};
 
+use crate::pairs::{self, swapped_ands};
 use lits::{Clause, Dim, Lit, Node, Side};
 use netlist::{And, Circuit, Definition, Fanins, Net, Placed, Unlike, VariableTable, laws};
 use std::alloc::{AllocError, Global};
@@ -34,7 +35,7 @@ fn is_miter(
     b: Circuit,
     expected: &str,
 ) -> Result<(), Fail> {
-    let net = Net::of(alloc, a, b).map_err(|_| "a net")?;
+    let net = pairs::net_of(alloc, a, b)?;
     let miter = net.miter(alloc)?;
     let text = lines(alloc, miter.as_slice())?;
     assert!(rt; text.as_str() == expected, "{text}");
@@ -116,20 +117,19 @@ fn merged_to_input_and_false(rt: HostRuntime) -> Result<(), Fail> {
     is_miter(&rt, alloc, a, circuit(alloc, &[1], &[], &[2, 0])?, expected)
 }
 
-/// The net of the two ANDs with swapped fanins.
-fn swapped_net(alloc: Global) -> Result<Net, Fail> {
-    Ok(Net::of(alloc, one_gate(alloc, 2, 4)?, one_gate(alloc, 4, 2)?).map_err(|_| "a net")?)
-}
-
 const GATE: Node = Node::Gate(Side::B, 3);
 
-#[test]
-fn net_of(rt: HostRuntime) -> Result<(), Fail> {
-    let net = swapped_net(rt.alloc())?;
+fn check_positions(rt: &impl Abort, net: &Net) {
     assert!(rt; net.position(GATE) == Some(4));
     assert!(rt; net.position(Node::Gate(Side::B, 2)).is_none());
     assert!(rt; net.position(Node::Input(1)) == Some(2));
     assert!(rt; net.position(Node::Xor(0)).is_none());
+}
+
+#[test]
+fn net_of(rt: HostRuntime) -> Result<(), Fail> {
+    let net = swapped_ands(rt.alloc())?;
+    check_positions(&rt, &net);
     Ok(())
 }
 
@@ -143,6 +143,7 @@ fn check_numbers(rt: &impl Abort, net: &Net) {
     assert!(rt; net.clause_number(GATE, 3).is_none());
     assert!(rt; net.clause_number(Node::Xor(0), 0) == Some(8));
     assert!(rt; net.cnf_number(NOT_GATE) == Dim::of(-5));
+    assert!(rt; has_axiom(net));
 }
 
 /// Whether it is the gate's first axiom that begins with its negation.
@@ -161,9 +162,8 @@ fn check_copy(rt: &impl Abort, net: &Net, copy: &Net) {
 
 #[test]
 fn miter_of_n1(rt: HostRuntime) -> Result<(), Fail> {
-    let net = swapped_net(rt.alloc())?;
+    let net = swapped_ands(rt.alloc())?;
     check_numbers(&rt, &net);
-    assert!(rt; has_axiom(&net));
     let copy = net.copy(rt.alloc())?;
     check_copy(&rt, &net, &copy);
     Ok(())
@@ -181,6 +181,11 @@ const DEFINITION: Definition = Definition {
     },
 };
 
+fn check_definitions(rt: &impl Abort, net: &Net) {
+    assert!(rt; net.definition(GATE) == Some(DEFINITION));
+    assert!(rt; net.definition(Node::Const).is_none());
+}
+
 fn check_axioms(rt: &impl Abort, net: &Net) {
     assert!(rt; net.axioms(Node::Const).as_slice().len() == 1);
     assert!(rt; net.axioms(Node::Input(0)).as_slice().is_empty());
@@ -190,9 +195,8 @@ fn check_axioms(rt: &impl Abort, net: &Net) {
 
 #[test]
 fn what_defines_a_node(rt: HostRuntime) -> Result<(), Fail> {
-    let net = swapped_net(rt.alloc())?;
-    assert!(rt; net.definition(GATE) == Some(DEFINITION));
-    assert!(rt; net.definition(Node::Const).is_none());
+    let net = swapped_ands(rt.alloc())?;
+    check_definitions(&rt, &net);
     check_axioms(&rt, &net);
     Ok(())
 }
@@ -220,15 +224,27 @@ const FANINS: [Fanins; 2] = [
     },
 ];
 
-#[test]
-fn fanins_by_position(rt: HostRuntime) -> Result<(), Fail> {
-    let alloc = rt.alloc();
-    let net = Net::of(alloc, one_gate(alloc, 2, 4)?, one_gate(alloc, 1, 5)?).map_err(|_| "a net")?;
+fn check_fanins(rt: &impl Abort, net: &Net) {
     assert!(rt; net.fanins(0) == Some(FANINS[0]));
     assert!(rt; net.fanins(1) == Some(FANINS[1]));
     assert!(rt; net.fanins(2).is_none());
     assert!(rt; net.all_fanins() == FANINS.as_slice());
+}
+
+#[test]
+fn fanins_by_position(rt: HostRuntime) -> Result<(), Fail> {
+    let alloc = rt.alloc();
+    let net = pairs::net_of(alloc, one_gate(alloc, 2, 4)?, one_gate(alloc, 1, 5)?)?;
+    check_fanins(&rt, &net);
     Ok(())
+}
+
+fn check_places(rt: &impl Abort, table: &VariableTable) {
+    assert!(rt; table.place(0) == Some(0));
+    assert!(rt; table.place(5) == Some(1));
+    assert!(rt; table.place(2) == Some(2));
+    assert!(rt; table.place(3).is_none());
+    assert!(rt; table.place(6).is_none());
 }
 
 #[test]
@@ -237,11 +253,7 @@ fn table_of_variables(rt: HostRuntime) -> Result<(), Fail> {
     let mut table = VariableTable::new(alloc);
     table.add(5)?;
     table.add(2)?;
-    assert!(rt; table.place(0) == Some(0));
-    assert!(rt; table.place(5) == Some(1));
-    assert!(rt; table.place(2) == Some(2));
-    assert!(rt; table.place(3).is_none());
-    assert!(rt; table.place(6).is_none());
+    check_places(&rt, &table);
     Ok(())
 }
 
@@ -268,7 +280,7 @@ fn check_side(rt: &impl Abort, net: &Net) {
 
 #[test]
 fn literals_and_sizes(rt: HostRuntime) -> Result<(), Fail> {
-    let net = swapped_net(rt.alloc())?;
+    let net = swapped_ands(rt.alloc())?;
     check_literals(&rt, &net);
     check_sizes(&rt, &net);
     check_side(&rt, &net);

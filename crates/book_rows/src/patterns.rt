@@ -1,6 +1,7 @@
 ghost use Rattle.std.specs.Prelude.{◌≡◌, ◌≤◌, length};
 ghost use Rattle.std.specs.Bool.{OnTrue};
 
+use crate::pairs::{net_of, swapped_ands};
 use lits::Side;
 use netlist::Net;
 use std::alloc::{AllocError, Global};
@@ -53,17 +54,23 @@ fn check_rows(rt: &impl Abort, sigs: &Sigs)
     assert!(rt; sigs.row(4) == ROWS[4].as_slice());
 }
 
+fn check_signatures(rt: &impl Abort, alloc: Global, net: &Net, pool: &Pool) -> Result<(), Fail>
+    requires { pool.now.inputs ≡ length net.now.a.inputs }
+{
+    let sigs = signatures(alloc, net, pool)?;
+    assert!(rt; sigs.patterns() == 65);
+    assert!(rt; net.positions() >= 5);
+    check_rows(rt, &sigs);
+    Ok(())
+}
+
 #[test]
 fn rows_of_swapped_ands(rt: HostRuntime) -> Result<(), Fail> {
     let alloc = rt.alloc();
-    let net = Net::of(alloc, one_gate(alloc, 2, 4)?, one_gate(alloc, 4, 2)?).map_err(|_| "a net")?;
+    let net = swapped_ands(alloc)?;
     let pool = pool(alloc)?;
     assert!(rt; fits(&net, &pool));
-    let sigs = signatures(alloc, &net, &pool)?;
-    assert!(rt; sigs.patterns() == 65);
-    assert!(rt; net.positions() >= 5);
-    check_rows(&rt, &sigs);
-    Ok(())
+    check_signatures(&rt, alloc, &net, &pool)
 }
 
 const ROWS_OF_COMPLEMENTS: [u64; 10] = [
@@ -93,7 +100,7 @@ fn filled(alloc: Global, net: &Net, pool: &Pool) -> Result<Vec<u64>, AllocError>
 #[test]
 fn rows_of_complements(rt: HostRuntime) -> Result<(), Fail> {
     let alloc = rt.alloc();
-    let net = Net::of(alloc, one_gate(alloc, 3, 5)?, one_gate(alloc, 1, 5)?).map_err(|_| "a net")?;
+    let net = net_of(alloc, one_gate(alloc, 3, 5)?, one_gate(alloc, 1, 5)?)?;
     let pool = pool(alloc)?;
     assert!(rt; fits(&net, &pool));
     let rows = filled(alloc, &net, &pool)?;

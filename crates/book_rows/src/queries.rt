@@ -4,34 +4,16 @@ ghost use Rattle.lemma_book.specs.Book.{IsLegal};
 ghost use Rattle.lemma_book.specs.Good.{IsEarlier};
 ghost use Rattle.cone_query.specs.Query.{IsGate};
 
+use crate::entries::{MERGE, entry};
+use crate::pairs::{gate, swapped_ands, two_xors};
 use cone_query::{output, pair};
 use lemma_book::{Book, Entry, Task};
-use lits::{Clause, Listed, Lit, Literal, Node, Ref, Side, Step};
+use lits::{Lit, Literal, Node, Ref, Side, Step};
 use netlist::Net;
 use solver_plain::PlainSolver;
 use std::alloc::Global;
 use std::process::Abort;
 use std::test::Fail;
-
-/// The AND of two inputs on both sides, with the fanins swapped.
-fn swapped_and(alloc: Global) -> Result<Net, Fail> {
-    let (a, b) = worked_circuits::swapped_ands(alloc)?;
-    Ok(Net::of(alloc, a, b).map_err(|_| "a net")?)
-}
-
-/// The XOR of two inputs on both sides, by other gates.
-fn two_xors(alloc: Global) -> Result<Net, Fail> {
-    let (a, b) = worked_circuits::two_xors(alloc)?;
-    Ok(Net::of(alloc, a, b).map_err(|_| "a net")?)
-}
-
-fn plus(node: Node) -> Lit {
-    Lit { node, neg: false }
-}
-
-const A3: Node = Node::Gate(Side::A, 3);
-
-const B3: Node = Node::Gate(Side::B, 3);
 
 /// Whether the literal's node is earlier than the task's.
 fn is_earlier(net: &Net, task: &Task) -> bool
@@ -68,35 +50,52 @@ fn answer_of_output(rt: &impl Abort, alloc: Global, net: &Net, seen: &Book) -> R
     Ok(output(alloc, net, seen, 0, &mut PlainSolver::new(alloc))?)
 }
 
+const LAST_GATES: Task = Task {
+    node: Node::Gate(Side::B, 5),
+    lit: Lit {
+        node: Node::Gate(Side::A, 5),
+        neg: true,
+    },
+};
+
+/// Whether the entry merges the pair.
+fn merges(entry: &Entry, task: &Task) -> bool {
+    match entry {
+        Entry::Merge { node, lit, .. } => *node == task.node && *lit == task.lit,
+        _ => false,
+    }
+}
+
 #[test]
 fn pair_merge(rt: HostRuntime) -> Result<(), Fail> {
     let net = two_xors(rt.alloc())?;
-    let task = Task {
-        node: Node::Gate(Side::B, 5),
-        lit: plus(Node::Gate(Side::A, 5)).not(),
-    };
-    let entry = answer_of_pair(&rt, rt.alloc(), &net, &task, 100_000)?;
-    let Entry::Merge { node, lit, .. } = entry else {
-        return Err("no merge".into());
-    };
-    assert!(rt; node == task.node);
-    assert!(rt; lit == task.lit);
+    let entry = answer_of_pair(&rt, rt.alloc(), &net, &LAST_GATES, 100_000)?;
+    assert!(rt; merges(&entry, &LAST_GATES));
     Ok(())
+}
+
+const AND_AND_INPUT: Task = Task {
+    node: Node::Gate(Side::A, 3),
+    lit: Lit {
+        node: Node::Input(0),
+        neg: false,
+    },
+};
+
+/// Whether the entry tells a pair apart by the input 10.
+fn is_apart(entry: &Entry) -> bool {
+    match entry {
+        Entry::Apart { input, .. } => matches!(input.as_slice(), [true, false]),
+        _ => false,
+    }
 }
 
 /// The AND of both inputs is the first one but where the second is false.
 #[test]
 fn pair_apart(rt: HostRuntime) -> Result<(), Fail> {
-    let net = swapped_and(rt.alloc())?;
-    let task = Task {
-        node: A3,
-        lit: plus(Node::Input(0)),
-    };
-    let entry = answer_of_pair(&rt, rt.alloc(), &net, &task, 1000)?;
-    let Entry::Apart { input, .. } = entry else {
-        return Err("no input".into());
-    };
-    assert!(rt; input.as_slice() == [true, false].as_slice());
+    let net = swapped_ands(rt.alloc())?;
+    let entry = answer_of_pair(&rt, rt.alloc(), &net, &AND_AND_INPUT, 1000)?;
+    assert!(rt; is_apart(&entry));
     Ok(())
 }
 
@@ -126,34 +125,11 @@ fn output_query(rt: HostRuntime) -> Result<(), Fail> {
     Ok(())
 }
 
-fn step(alloc: Global, lits: &[Lit], hints: &[Ref]) -> Result<Step, Fail> {
-    let clause = Clause::of(alloc, lits).map_err(|_| "a clause")?;
-    let hints = Listed::of(Vec::from_slice(alloc, hints)?);
-    Ok(Step { clause, hints })
-}
-
-const BELOW: [Ref; 3] = [Ref::Axiom(B3, 0), Ref::Axiom(B3, 1), Ref::Axiom(A3, 2)];
-
-const ABOVE: [Ref; 3] = [Ref::Axiom(A3, 0), Ref::Axiom(A3, 1), Ref::Axiom(B3, 2)];
-
-/// The merge of the two swapped ANDs.
-fn merge(alloc: Global) -> Result<Entry, Fail> {
-    let (a, b) = (plus(A3), plus(B3));
-    let mut steps = Vec::new(alloc);
-    steps.push(step(alloc, &[b.not(), a], &BELOW)?)?;
-    steps.push(step(alloc, &[b, a.not()], &ABOVE)?)?;
-    Ok(Entry::Merge {
-        node: B3,
-        lit: a,
-        steps: Listed::of(steps),
-    })
-}
-
 /// The answer about the swapped ANDs over the book of their merge.
 fn answer_of_merged(rt: &impl Abort, alloc: Global) -> Result<Entry, Fail> {
-    let net = swapped_and(alloc)?;
+    let net = swapped_ands(alloc)?;
     let mut seen = Book::new(alloc, 1, 1);
-    assert!(rt; seen.offer(alloc, &net, merge(alloc)?).is_ok());
+    assert!(rt; seen.offer(alloc, &net, entry(alloc, MERGE)?).is_ok());
     answer_of_output(rt, alloc, &net, &seen)
 }
 
@@ -170,22 +146,25 @@ const EQUAL: Lit = Lit {
     neg: true,
 };
 
-fn check_steps(rt: &impl Abort, steps: &[Step]) -> Result<(), Fail> {
-    let [first, second] = steps else {
-        return Err("not two steps".into());
-    };
-    assert!(rt; is_step(first, &[EQUAL, plus(A3)], &FIRST_HINTS));
-    assert!(rt; is_step(second, &[EQUAL], &SECOND_HINTS));
-    Ok(())
+/// Whether these are the two steps over the merge and the XOR: by the merge's first clause a false output
+/// of A makes that of B false, and by its second a true one makes it true, so where the XOR is true
+/// neither can be.
+fn are_steps(steps: &[Step]) -> bool {
+    match steps {
+        [first, second] => {
+            is_step(first, &[EQUAL, gate(Side::A, 3)], &FIRST_HINTS)
+                && is_step(second, &[EQUAL], &SECOND_HINTS)
+        }
+        _ => false,
+    }
 }
 
-/// Two steps over the merge and the XOR: by the merge's first clause a false output of A makes that of B
-/// false, and by its second a true one makes it true, so where the XOR is true neither can be.
 #[test]
 fn output_of_equal_roots(rt: HostRuntime) -> Result<(), Fail> {
     let entry = answer_of_merged(&rt, rt.alloc())?;
     let Entry::Out { steps, .. } = entry else {
         return Err("not out".into());
     };
-    check_steps(&rt, steps.as_slice())
+    assert!(rt; are_steps(steps.as_slice()));
+    Ok(())
 }

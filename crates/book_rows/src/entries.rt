@@ -6,27 +6,36 @@
 
 use lemma_book::Entry;
 use lits::{Clause, Listed, Lit, Node, Ref, Side, Step};
-use std::alloc::Global;
+use std::alloc::{AllocError, Global};
 use std::test::Fail;
+
+/// Merges b3 to a3, two ANDs of the same inputs.
+pub(crate) const MERGE: &str = "merge b3 a3: -b3 a3 by b3.0 b3.1 a3.2; b3 -a3 by a3.0 a3.1 b3.2";
+
+/// Shows, after that merge, that the outputs, which are these gates, are equal.
+pub(crate) const OUT: &str = "out 0: -d0 a3 by d0.0 e0.0; -d0 by s0 d0.1 e0.1";
+
+fn words(alloc: Global, text: &str) -> Result<Vec<&str>, AllocError> {
+    let mut words = Vec::new(alloc);
+    for word in text.split_whitespace() {
+        words.push(word)?;
+    }
+    Ok(words)
+}
 
 /// The entry of a line.
 pub(crate) fn entry(alloc: Global, line: &str) -> Result<Entry, Fail> {
-    let (head, body) = line.split_once(':').ok_or("a colon is missing")?;
-    let words: Vec<&str> = head.split_whitespace().collect(alloc)?;
+    let Some((head, body)) = line.split_once(':') else {
+        return Err("a colon is missing".into());
+    };
+    let words = words(alloc, head)?;
     match words.as_slice() {
-        [kind, output] => of_output(alloc, kind, u32::from(number(output)), "", body),
-        ["outspent", output, seen] => {
-            of_output(alloc, "outspent", u32::from(number(output)), seen, body)
-        }
+        ["outspent", output, seen] => of_output(alloc, "outspent", number(output), seen, body),
+        [kind, output] => of_output(alloc, kind, number(output), "", body),
         [kind, node, target] => of_pair(alloc, kind, lit(node)?.node, lit(target)?, "", body),
-        [kind, node, target, seen] => of_pair(
-            alloc,
-            kind,
-            lit(node)?.node,
-            lit(target)?,
-            seen,
-            body,
-        ),
+        [kind, node, target, seen] => {
+            of_pair(alloc, kind, lit(node)?.node, lit(target)?, seen, body)
+        }
         _ => Err("another number of words".into()),
     }
 }
@@ -61,24 +70,18 @@ fn of_pair(
 }
 
 /// An entry about an output.
-fn of_output(
-    alloc: Global,
-    kind: &str,
-    output: u32,
-    seen: &str,
-    body: &str,
-) -> Result<Entry, Fail> {
+fn of_output(alloc: Global, kind: &str, output: u8, seen: &str, body: &str) -> Result<Entry, Fail> {
     Ok(match kind {
         "out" => Entry::Out {
-            output,
+            output: u32::from(output),
             steps: steps(alloc, body)?,
         },
         "outapart" => Entry::OutApart {
-            output,
+            output: u32::from(output),
             input: input(alloc, body)?,
         },
         _ => Entry::OutSpent {
-            output,
+            output: u32::from(output),
             seen: u64::from(number(seen)),
             log: steps(alloc, body)?,
         },
@@ -87,8 +90,11 @@ fn of_output(
 
 fn input(alloc: Global, text: &str) -> Result<Listed<bool>, Fail> {
     let mut values = Vec::new(alloc);
-    for byte in text.trim().bytes() {
-        values.push(byte == b'1')?;
+    for byte in text.as_bytes() {
+        match byte {
+            b' ' => {}
+            _ => values.push(*byte == b'1')?,
+        }
     }
     Ok(Listed::of(values))
 }
@@ -104,19 +110,26 @@ fn steps(alloc: Global, text: &str) -> Result<Listed<Step>, Fail> {
 }
 
 fn step(alloc: Global, clause: &str, hints: &str) -> Result<Step, Fail> {
+    Ok(Step {
+        clause: of_clause(alloc, clause)?,
+        hints: of_hints(alloc, hints)?,
+    })
+}
+
+fn of_clause(alloc: Global, text: &str) -> Result<Clause<Lit>, Fail> {
     let mut lits = Vec::new(alloc);
-    for word in clause.split_whitespace() {
+    for word in text.split_whitespace() {
         lits.push(lit(word)?)?;
     }
-    let clause = Clause::of(alloc, lits.as_slice()).map_err(|_| "a clause")?;
+    Ok(Clause::of(alloc, lits.as_slice())?)
+}
+
+fn of_hints(alloc: Global, text: &str) -> Result<Listed<Ref>, Fail> {
     let mut names = Vec::new(alloc);
-    for word in hints.split_whitespace() {
+    for word in text.split_whitespace() {
         names.push(name(word)?)?;
     }
-    Ok(Step {
-        clause,
-        hints: Listed::of(names),
-    })
+    Ok(Listed::of(names))
 }
 
 fn lit(word: &str) -> Result<Lit, Fail> {
@@ -152,8 +165,10 @@ fn name(word: &str) -> Result<Ref, Fail> {
 }
 
 fn of_axiom(word: &str) -> Result<Ref, Fail> {
-    let (node_word, k) = word.split_once('.').ok_or("no hint")?;
-    Ok(Ref::Axiom(node(node_word)?, number(k)))
+    match word.split_once('.') {
+        Some((node_word, k)) => Ok(Ref::Axiom(node(node_word)?, number(k))),
+        None => Err("no hint".into()),
+    }
 }
 
 /// The value of a digit.
