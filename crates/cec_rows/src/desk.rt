@@ -1,6 +1,6 @@
 use cec_top::{Kept, Status, run};
 use desk_port::{MemDesk, OpenGate};
-use std::alloc::Global;
+use std::alloc::{AllocError, Global};
 use std::collections::BTreeMap;
 use std::sync::Wait;
 use std::test::Fail;
@@ -14,6 +14,28 @@ pub(crate) struct Ran {
     pub(crate) kept: Vec<Kept>,
 }
 
+fn files_named(
+    alloc: Global,
+    files: &[(&str, &[u8])],
+) -> Result<BTreeMap<String, Vec<u8>>, AllocError> {
+    let mut named = BTreeMap::new(alloc);
+    for (name, bytes) in files {
+        named.insert(
+            String::from_str(alloc, name)?,
+            Vec::from_slice(alloc, bytes)?,
+        )?;
+    }
+    Ok(named)
+}
+
+fn words_with_program(alloc: Global, words: &[&str]) -> Result<Vec<String>, AllocError> {
+    let mut all = vec![in alloc; String::from_str(alloc, "cec")?]?;
+    for word in words {
+        all.push(String::from_str(alloc, word)?)?;
+    }
+    Ok(all)
+}
+
 /// Runs the program on these words behind its name, over a desk with these files that fails at these calls.
 pub(crate) fn run_words(
     rt: &(impl Threads + Wait),
@@ -22,18 +44,14 @@ pub(crate) fn run_words(
     words: &[&str],
     fails: &[u64],
 ) -> Result<Ran, Fail> {
-    let mut named = BTreeMap::new(alloc);
-    for (name, bytes) in files {
-        named.insert(
-            String::from_str(alloc, name)?,
-            Vec::from_slice(alloc, bytes)?,
-        )?;
-    }
-    let mut all = vec![in alloc; String::from_str(alloc, "cec")?]?;
-    for word in words {
-        all.push(String::from_str(alloc, word)?)?;
-    }
-    let mut desk = MemDesk::new(alloc, named, Vec::from_slice(alloc, fails)?)?;
-    let (status, kept) = run(rt, alloc, all.as_slice(), &mut desk, &OpenGate);
-    Ok(Ran { status, desk, kept })
+    let words = words_with_program(alloc, words)?;
+    let fails = Vec::from_slice(alloc, fails)?;
+    let files = files_named(alloc, files)?;
+    let desk = MemDesk::new(alloc, files, fails)?;
+    Ok(run_on(rt, alloc, words.as_slice(), desk))
+}
+
+fn run_on(rt: &(impl Threads + Wait), alloc: Global, words: &[String], mut desk: MemDesk) -> Ran {
+    let (status, kept) = run(rt, alloc, words, &mut desk, &OpenGate);
+    Ran { status, desk, kept }
 }

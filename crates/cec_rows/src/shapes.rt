@@ -1,0 +1,107 @@
+//! Checks whose answers have shapes that the small cases don't reach: entries of two kinds in one book, an
+//! input outside a cone, a chain of a thousand merges.
+use crate::desk::run_words;
+use crate::files::{TIGHT, WORDS};
+use cec_top::Status;
+use std::alloc::{AllocError, Global};
+use std::test::Fail;
+
+/// Output 0 is an XOR, in another way on each side, and output 1 is input 0.
+///
+/// The proof has the step of output 1, whose XOR is variable 11 with the clauses 24 and 25, and then the log
+/// of output 0.
+#[test]
+fn one_output_open_and_one_shown(rt: HostRuntime) -> Result<(), Fail> {
+    let files = [
+        (
+            "A",
+            b"aag 5 2 0 2 3\n2\n4\n11\n2\n6 2 5\n8 3 4\n10 7 9\n".as_slice(),
+        ),
+        (
+            "B",
+            b"aag 5 2 0 2 3\n2\n4\n10\n2\n6 2 4\n8 3 5\n10 7 9\n".as_slice(),
+        ),
+    ];
+    let ran = run_words(&rt, rt.alloc(), &files, &TIGHT, &[])?;
+    assert!(rt; ran.status == Status::Undecided);
+    assert_eq!(rt;
+        ran.desk.said(),
+        b"UNDECIDED\noutput 0 lines 28-28\n".as_slice()
+    );
+    let proof = ran.desk.file("p.0.lrat").unwrap_or(b"");
+    assert!(rt; proof.starts_with(b"27 -11 0 24 25 0\n28 "));
+    assert!(rt; proof.ends_with(b" 0\n"));
+    assert_eq!(rt; proof.iter().filter(|byte| **byte == b'\n').count(), 2);
+    Ok(())
+}
+
+/// The AND of inputs 0 and 2 of three against the constant false: no gate reads input 1.
+#[test]
+fn input_outside_the_cone(rt: HostRuntime) -> Result<(), Fail> {
+    let files = [
+        ("A", b"aag 4 3 0 1 1\n2\n4\n6\n8\n8 2 6\n".as_slice()),
+        ("B", b"aag 3 3 0 1 0\n2\n4\n6\n0\n".as_slice()),
+    ];
+    let ran = run_words(&rt, rt.alloc(), &files, &WORDS, &[])?;
+    assert!(rt; ran.status == Status::No);
+    assert_eq!(rt;
+        ran.desk.said(),
+        b"DIFFERENT\noutput 0\ninput 101\n".as_slice()
+    );
+    Ok(())
+}
+
+/// A chain of AND gates over one input, each of the one before and the input, and last the AND of the chain
+/// and false.
+fn chain(alloc: Global, gates: u32) -> Result<String, AllocError> {
+    let last = 2 * (gates as u64 + 2);
+    let mut text = format!(in alloc; "aag {} 1 0 1 {}\n2\n{last}\n", last / 2, gates as u64 + 1)?;
+    for gate in 0..gates as u64 {
+        write!(text, "{} {} 2\n", 2 * gate + 4, 2 * gate + 2)?;
+    }
+    write!(text, "{last} {} 0\n", last - 2)?;
+    Ok(text)
+}
+
+/// Both sides have 1,001 gates, each of which is merged with the input or with false.
+#[test]
+fn chain_of_a_thousand_merges(rt: HostRuntime) -> Result<(), Fail> {
+    let text = chain(rt.alloc(), 1000)?;
+    let files = [("A", text.as_bytes()), ("B", text.as_bytes())];
+    let ran = run_words(&rt, rt.alloc(), &files, &WORDS, &[])?;
+    assert!(rt; ran.status == Status::Done);
+    assert_eq!(rt; ran.desk.said(), b"EQUIVALENT\n".as_slice());
+    let header = ran.desk.file("p.0.cnf").and_then(|cnf| cnf.get(..16));
+    assert_eq!(rt; header, Some(b"p cnf 2005 6012\n".as_slice()));
+    Ok(())
+}
+
+/// Output 0 is an XOR, in another way on each side. Output 1 is the AND of both inputs, gate 6 in A and gate
+/// 3 in B, over which B's XOR is; they are merged, so the merge's clauses show it, whatever the budget.
+/// Output 2 is input 0.
+///
+/// The miter has 33 clauses. The proof has the two steps of the merge, two of output 1, since from its XOR
+/// alone unit propagation goes nowhere, one of output 2, and output 0's log of one clause.
+#[test]
+fn open_output_over_a_merge(rt: HostRuntime) -> Result<(), Fail> {
+    let files = [
+        (
+            "A",
+            b"aag 6 2 0 3 4\n2\n4\n11\n12\n2\n6 2 5\n8 3 4\n10 7 9\n12 2 4\n".as_slice(),
+        ),
+        (
+            "B",
+            b"aag 5 2 0 3 3\n2\n4\n10\n6\n2\n6 2 4\n8 3 5\n10 7 9\n".as_slice(),
+        ),
+    ];
+    let ran = run_words(&rt, rt.alloc(), &files, &TIGHT, &[])?;
+    assert!(rt; ran.status == Status::Undecided);
+    assert_eq!(rt;
+        ran.desk.said(),
+        b"UNDECIDED\noutput 0 lines 39-39\n".as_slice()
+    );
+    let proof = ran.desk.file("p.0.lrat").unwrap_or(b"");
+    assert!(rt; proof.starts_with(b"34 -8 7 0 "));
+    assert_eq!(rt; proof.iter().filter(|byte| **byte == b'\n').count(), 6);
+    Ok(())
+}
