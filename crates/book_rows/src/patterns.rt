@@ -95,15 +95,28 @@ fn filled(alloc: Global, net: &Net, pool: &Pool) -> Result<Vec<u64>, AllocError>
     Ok(rows)
 }
 
+fn check_filled(rt: &impl Abort, alloc: Global, net: &Net, pool: &Pool) -> Result<(), Fail>
+    requires { pool.now.inputs ≡ length net.now.a.inputs }
+{
+    let rows = filled(alloc, net, pool)?;
+    assert!(rt; rows.as_slice() == ROWS_OF_COMPLEMENTS.as_slice());
+    Ok(())
+}
+
+/// Gates over complements and over the constant.
+fn complements(alloc: Global) -> Result<Net, Fail> {
+    let a = one_gate(alloc, 3, 5)?;
+    let b = one_gate(alloc, 1, 5)?;
+    net_of(alloc, a, b)
+}
+
 /// Rows of gates over complements and over the constant, in one buffer; the bits behind pattern 64 are
 /// cleared.
 #[test]
 fn rows_of_complements(rt: HostRuntime) -> Result<(), Fail> {
     let alloc = rt.alloc();
-    let net = net_of(alloc, one_gate(alloc, 3, 5)?, one_gate(alloc, 1, 5)?)?;
+    let net = complements(alloc)?;
     let pool = pool(alloc)?;
     assert!(rt; fits(&net, &pool));
-    let rows = filled(alloc, &net, &pool)?;
-    assert!(rt; rows.as_slice() == ROWS_OF_COMPLEMENTS.as_slice());
-    Ok(())
+    check_filled(&rt, alloc, &net, &pool)
 }

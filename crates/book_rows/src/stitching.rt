@@ -10,6 +10,7 @@ use netlist::Net;
 use proof_stitch::{Span, StitchErr, derivation, refutation};
 use std::alloc::{AllocError, Global};
 use std::collections::BTreeMap;
+use std::process::Abort;
 use std::test::Fail;
 use worked_circuits::circuit;
 
@@ -92,18 +93,31 @@ fn merged(alloc: Global, net: &Net) -> Result<Book, Fail>
     Ok(book)
 }
 
+/// Checks the derivation's bytes, and the spans of open outputs.
+fn check_derivation(
+    rt: &impl Abort,
+    alloc: Global,
+    net: &Net,
+    book: &Book,
+    spans: &[Span],
+    text: &[u8],
+) -> Result<(), Fail>
+    requires { IsLegal net.now book.now }
+{
+    let mut desk = desk(alloc)?;
+    let found = derived(alloc, net, book, &mut desk)?;
+    assert!(rt; found.as_slice() == spans);
+    assert!(rt; has_proof(&desk, text));
+    Ok(())
+}
+
 /// The steps of a merge and of its output, in the numbers of the CNF: 1 to 12 are its clauses.
 #[test]
 fn stitched_entries(rt: HostRuntime) -> Result<(), Fail> {
-    let alloc = rt.alloc();
-    let net = swapped_ands(alloc)?;
-    let book = merged(alloc, &net)?;
-    let mut desk = desk(alloc)?;
-    let spans = derived(alloc, &net, &book, &mut desk)?;
-    assert!(rt; spans.is_empty());
+    let net = swapped_ands(rt.alloc())?;
+    let book = merged(rt.alloc(), &net)?;
     let text = b"13 -5 4 0 5 6 4 0\n14 5 -4 0 2 3 7 0\n15 -6 4 0 8 13 0\n16 -6 0 15 9 14 0\n";
-    assert!(rt; has_proof(&desk, text));
-    Ok(())
+    check_derivation(&rt, rt.alloc(), &net, &book, &[], text)
 }
 
 /// What a query of two XORs learned with a budget of one clause: where the output differs and A's gate is
@@ -128,13 +142,8 @@ const SPAN: Span = Span {
 /// The log of an output that was left open, in the numbers of a CNF of 24 clauses.
 #[test]
 fn stitched_log(rt: HostRuntime) -> Result<(), Fail> {
-    let alloc = rt.alloc();
-    let net = two_xors(alloc)?;
-    let book = spent(alloc, &net)?;
-    let mut desk = desk(alloc)?;
-    let spans = derived(alloc, &net, &book, &mut desk)?;
-    assert!(rt; spans.as_slice() == [SPAN].as_slice());
+    let net = two_xors(rt.alloc())?;
+    let book = spent(rt.alloc(), &net)?;
     let text = b"25 -10 6 2 0 21 11 19 15 6 10 2 0\n";
-    assert!(rt; has_proof(&desk, text));
-    Ok(())
+    check_derivation(&rt, rt.alloc(), &net, &book, &[SPAN], text)
 }
