@@ -47,11 +47,7 @@ pub(crate) fn run_words(
     let words = words_with_program(alloc, words)?;
     let fails = Vec::from_slice(alloc, fails)?;
     let files = files_named(alloc, files)?;
-    let desk = MemDesk::new(alloc, files, fails)?;
-    Ok(run_on(rt, alloc, words.as_slice(), desk))
-}
-
-fn run_on(rt: &(impl Threads + Wait), alloc: Global, words: &[String], mut desk: MemDesk) -> Ran {
-    let (status, kept) = run(rt, alloc, words, &mut desk, &OpenGate);
-    Ran { status, desk, kept }
+    let mut desk = MemDesk::new(alloc, files, fails)?;
+    let (status, kept) = run(rt, alloc, words.as_slice(), &mut desk, &OpenGate);
+    Ok(Ran { status, desk, kept })
 }
