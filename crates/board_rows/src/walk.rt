@@ -90,17 +90,12 @@ fn board_walk(rt: HostRuntime) -> Result<(), Fail> {
     let Some((answers, book, record)) = walked(&rt, alloc, &net, Book::new(alloc, 1, 1)) else {
         return Err("no memory".into());
     };
-    assert_eq!(rt; answers.tasks, (Some(0), None));
-    assert_eq!(rt;
-        answers.offers,
-        (Some(Offered::At(0)), Some(Offered::Already(0)))
-    );
-    assert_eq!(rt; answers.looks, (Some(1), Some(1)));
+    assert!(rt; answers.tasks == (Some(0), None));
+    assert!(rt; answers.offers == (Some(Offered::At(0)), Some(Offered::Already(0))));
+    assert!(rt; answers.looks == (Some(1), Some(1)));
     assert!(rt; matches!(book.entry(0), Some(Entry::Merge { .. })));
-    assert_eq!(rt; book.len(), 1);
-    assert_eq!(rt;
-        (record.turns.len(), record.missed, record.drawn),
-        (4, 0, 2)
-    );
+    assert!(rt; book.len() == 1);
+    assert!(rt; record.turns.len() == 4);
+    assert!(rt; record.missed == 0 && record.drawn == 2);
     Ok(())
 }

@@ -1,10 +1,9 @@
 ghost use Rattle.std.specs.Prelude.{◌≡◌, IfOk, length};
 ghost use Rattle.netlist.specs.Net.{nodes_of};
-ghost use Rattle.lemma_book.specs.Book.{IsLegal};
 
-use crate::entries;
+use crate::lemmas::{Row, book_of};
 use crate::pairs::{gate, net_of, two_xors};
-use lemma_book::{Book, Entry, Offered, Task};
+use lemma_book::{Book, Task};
 use lits::{Lit, Node, Side};
 use netlist::Net;
 use sig_classes::{leader, tasks};
@@ -70,34 +69,25 @@ const PAIR: Task = Task {
 
 #[test]
 fn tasks_of_two_xors(rt: HostRuntime) -> Result<(), Fail> {
-    let net = two_xors(rt.alloc())?;
-    check_tasks(&rt, rt.alloc(), &net, &[PAIR])
+    check_tasks(&rt, rt.alloc(), &two_xors(rt.alloc())?, &[PAIR])
 }
 
 /// What a query with a budget of one clause learned of the pair: where both gates are true, so is x.
-const SPENT: &str = "spent b5 -a5 0: -b5 -a5 i0 by b5.1 b4.2 a5.1 a4.2";
+const SPENT: [Row<'static>; 1] = [(
+    "spent b5 -a5 0: -b5 -a5 i0 by b5.1 b4.2 a5.1 a4.2",
+    "Ok(At(0))",
+)];
 
-/// Whether the entry becomes the book's first.
-fn is_first(alloc: Global, net: &Net, book: &mut Book, entry: Entry) -> bool
-    requires { IsLegal net.now book.old }
-{
-    matches!(book.offer(alloc, net, entry), Ok(Offered::At(0)))
-}
-
-/// The book of the log.
-fn spent(rt: &impl Abort, alloc: Global, net: &Net) -> Result<Book, Fail> {
-    let mut book = Book::new(alloc, 1, 1);
-    let entry = entries::entry(alloc, SPENT)?;
-    assert!(rt; is_first(alloc, net, &mut book, entry));
-    Ok(book)
+/// Whether nothing is to be asked over the book of the log.
+fn are_none(rt: &impl Abort, alloc: Global, net: &Net) -> Result<bool, Fail> {
+    let book = book_of(rt, alloc, net, 1, &SPENT)?;
+    are_tasks(rt, alloc, net, &book, &[])
 }
 
 /// A pair whose budget was spent is no task again.
 #[test]
 fn spent_pair(rt: HostRuntime) -> Result<(), Fail> {
-    let net = two_xors(rt.alloc())?;
-    let book = spent(&rt, rt.alloc(), &net)?;
-    let are_none = are_tasks(&rt, rt.alloc(), &net, &book, &[])?;
+    let are_none = are_none(&rt, rt.alloc(), &two_xors(rt.alloc())?)?;
     assert!(rt; are_none);
     Ok(())
 }
@@ -116,8 +106,7 @@ fn check_leaders(rt: &impl Abort, alloc: Global, net: &Net) -> Result<(), Fail> 
 /// leads itself.
 #[test]
 fn leaders(rt: HostRuntime) -> Result<(), Fail> {
-    let net = two_xors(rt.alloc())?;
-    check_leaders(&rt, rt.alloc(), &net)
+    check_leaders(&rt, rt.alloc(), &two_xors(rt.alloc())?)
 }
 
 /// A gate that is an input, its negation, and false.
@@ -154,6 +143,5 @@ const OF_COMPLEMENTS: [Task; 3] = [
 /// Gates that are an input, its negation and false: their classes begin with the input and with the constant.
 #[test]
 fn classes_with_complements(rt: HostRuntime) -> Result<(), Fail> {
-    let net = complements(rt.alloc())?;
-    check_tasks(&rt, rt.alloc(), &net, &OF_COMPLEMENTS)
+    check_tasks(&rt, rt.alloc(), &complements(rt.alloc())?, &OF_COMPLEMENTS)
 }

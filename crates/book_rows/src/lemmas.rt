@@ -13,7 +13,7 @@ use std::process::Abort;
 use std::test::Fail;
 
 /// An entry, as `entries` reads it, and the answer to it.
-type Row<'a> = (&'a str, &'a str);
+pub(crate) type Row<'a> = (&'a str, &'a str);
 
 /// What the book answers to the entry.
 fn answer(
@@ -62,21 +62,37 @@ fn offer_all(
     Ok(())
 }
 
-/// Offers the entries to an empty book over the swapped ANDs.
-fn offer_to_ands(rt: &impl Abort, alloc: Global, rows: &[Row<'_>]) -> Result<(), Fail> {
-    let net = swapped_ands(alloc)?;
-    let mut book = Book::new(alloc, 1, 1);
-    offer_all(rt, alloc, &net, &mut book, rows)
+/// The book to which these entries were offered, with so many clauses for each query of an output, and one
+/// for each of a pair.
+pub(crate) fn book_of(
+    rt: &impl Abort,
+    alloc: Global,
+    net: &Net,
+    budget: u64,
+    rows: &[Row<'_>],
+) -> Result<Book, Fail>
+    requires some { 1 ≤ budget }
+    requires range { budget ≤ 1000000000 }
+    ensures { IfOk result (IsLegal net.now) }
+{
+    let mut book = Book::new(alloc, 1, budget);
+    offer_all(rt, alloc, net, &mut book, rows)?;
+    Ok(book)
 }
 
-/// Offers the entries to an empty book over the XORs, with so many clauses for each query.
-fn offer_to_xors(rt: &impl Abort, alloc: Global, budget: u64, rows: &[Row<'_>]) -> Result<(), Fail>
+/// Offers the entries to an empty book over a net, with so many clauses for each query.
+fn offer_to(
+    rt: &impl Abort,
+    alloc: Global,
+    net: &Net,
+    budget: u64,
+    rows: &[Row<'_>],
+) -> Result<(), Fail>
     requires some { 1 ≤ budget }
     requires range { budget ≤ 1000000000 }
 {
-    let net = two_xors(alloc)?;
     let mut book = Book::new(alloc, budget, budget);
-    offer_all(rt, alloc, &net, &mut book, rows)
+    offer_all(rt, alloc, net, &mut book, rows)
 }
 
 /// A merge without a hint, with node and target exchanged, whole, and once more.
@@ -95,7 +111,7 @@ const OFFERS: [Row<'static>; 4] = [
 
 #[test]
 fn offers(rt: HostRuntime) -> Result<(), Fail> {
-    offer_to_ands(&rt, rt.alloc(), &OFFERS)
+    offer_to(&rt, rt.alloc(), &swapped_ands(rt.alloc())?, 1, &OFFERS)
 }
 
 /// Each cause that is found without looking at steps.
@@ -165,7 +181,13 @@ const NAMES_AND_SIZES: [Row<'static>; 27] = [
 
 #[test]
 fn faults_of_names_and_sizes(rt: HostRuntime) -> Result<(), Fail> {
-    offer_to_ands(&rt, rt.alloc(), &NAMES_AND_SIZES)
+    offer_to(
+        &rt,
+        rt.alloc(),
+        &swapped_ands(rt.alloc())?,
+        1,
+        &NAMES_AND_SIZES,
+    )
 }
 
 /// Each cause that is found in steps.
@@ -231,7 +253,7 @@ const STEPS: [Row<'static>; 15] = [
 
 #[test]
 fn faults_of_steps(rt: HostRuntime) -> Result<(), Fail> {
-    offer_to_ands(&rt, rt.alloc(), &STEPS)
+    offer_to(&rt, rt.alloc(), &swapped_ands(rt.alloc())?, 1, &STEPS)
 }
 
 /// Two causes stand, and the earlier is told.
@@ -277,7 +299,7 @@ const PAIRS: [Row<'static>; 16] = [
 
 #[test]
 fn earlier_of_two_faults(rt: HostRuntime) -> Result<(), Fail> {
-    offer_to_ands(&rt, rt.alloc(), &PAIRS)
+    offer_to(&rt, rt.alloc(), &swapped_ands(rt.alloc())?, 1, &PAIRS)
 }
 
 /// A merge, its output, and what comes after them.
@@ -313,7 +335,7 @@ const SETTLED: [Row<'static>; 14] = [
 
 #[test]
 fn settled_entries(rt: HostRuntime) -> Result<(), Fail> {
-    offer_to_ands(&rt, rt.alloc(), &SETTLED)
+    offer_to(&rt, rt.alloc(), &swapped_ands(rt.alloc())?, 1, &SETTLED)
 }
 
 /// Logs of one clause.
@@ -359,7 +381,7 @@ const LOGS: [Row<'static>; 10] = [
 
 #[test]
 fn logs_of_queries(rt: HostRuntime) -> Result<(), Fail> {
-    offer_to_xors(&rt, rt.alloc(), 1, &LOGS)
+    offer_to(&rt, rt.alloc(), &two_xors(rt.alloc())?, 1, &LOGS)
 }
 
 /// Logs of two clauses, and a merge by two learned clauses.
@@ -390,17 +412,7 @@ const LONGER_LOGS: [Row<'static>; 4] = [
 
 #[test]
 fn longer_logs(rt: HostRuntime) -> Result<(), Fail> {
-    offer_to_xors(&rt, rt.alloc(), 2, &LONGER_LOGS)
-}
-
-/// The book whose one entry merges b3 to a3, and the net.
-fn merged(rt: &impl Abort, alloc: Global) -> Result<(Net, Book), Fail>
-    ensures { IfOk result (λ p. IsLegal p.0 p.1) }
-{
-    let net = swapped_ands(alloc)?;
-    let mut book = Book::new(alloc, 1, 2);
-    offer_all(rt, alloc, &net, &mut book, &OFFERS)?;
-    Ok((net, book))
+    offer_to(&rt, rt.alloc(), &two_xors(rt.alloc())?, 2, &LONGER_LOGS)
 }
 
 const A3: Node = Node::Gate(Side::A, 3);
@@ -443,14 +455,10 @@ fn names_in_cone(alloc: Global, net: &Net, book: &Book) -> Result<Vec<Ref>, Fail
     names_of(alloc, cone.as_slice())
 }
 
-fn check_root(rt: &impl Abort, alloc: Global, book: &Book) -> Result<(), Fail> {
-    let a3 = Lit {
-        node: A3,
-        neg: false,
-    };
-    assert!(rt; book.root(B3) == a3);
-    let path = book.path(alloc, B3)?;
-    assert!(rt; path.as_slice() == [0].as_slice());
+fn check_names(rt: &impl Abort, alloc: Global, net: &Net) -> Result<(), Fail> {
+    let book = book_of(rt, alloc, net, 1, &OFFERS)?;
+    let names = names_in_cone(alloc, net, &book)?;
+    assert!(rt; names.as_slice() == NAMES_IN_CONE.as_slice());
     Ok(())
 }
 
@@ -458,27 +466,38 @@ fn check_root(rt: &impl Abort, alloc: Global, book: &Book) -> Result<(), Fail> {
 /// of its own.
 #[test]
 fn book_readers(rt: HostRuntime) -> Result<(), Fail> {
-    let alloc = rt.alloc();
-    let (net, book) = merged(&rt, alloc)?;
-    check_root(&rt, alloc, &book)?;
-    let names = names_in_cone(alloc, &net, &book)?;
-    assert!(rt; names.as_slice() == NAMES_IN_CONE.as_slice());
+    check_names(&rt, rt.alloc(), &swapped_ands(rt.alloc())?)
+}
+
+fn check_root(rt: &impl Abort, alloc: Global, net: &Net) -> Result<(), Fail> {
+    let book = book_of(rt, alloc, net, 1, &OFFERS)?;
+    assert!(rt; book.root(B3).node == A3);
+    let path = book.path(alloc, B3)?;
+    assert!(rt; path.as_slice() == [0].as_slice());
     Ok(())
 }
 
-fn check_copy(rt: &impl Abort, book: &Book, copy: &Book) {
+#[test]
+fn root_and_path(rt: HostRuntime) -> Result<(), Fail> {
+    check_root(&rt, rt.alloc(), &swapped_ands(rt.alloc())?)
+}
+
+/// The copy of a book with one entry, and with other numbers of clauses for pairs and for outputs.
+fn copied(rt: &impl Abort, alloc: Global, net: &Net) -> Result<Book, Fail> {
+    Ok(book_of(rt, alloc, net, 2, &OFFERS)?.copy(alloc)?)
+}
+
+fn check_copy(rt: &impl Abort, copy: &Book) {
     assert!(rt; copy.len() == 1);
     assert!(rt; copy.sweep_budget() == 1);
     assert!(rt; copy.out_budget() == 2);
-    assert!(rt; copy.root(B3) == book.root(B3));
+    assert!(rt; copy.root(B3).node == A3);
     assert!(rt; matches!(copy.entry(0), Some(Entry::Merge { .. })));
 }
 
 #[test]
 fn copy_of_a_book(rt: HostRuntime) -> Result<(), Fail> {
-    let alloc = rt.alloc();
-    let (_, book) = merged(&rt, alloc)?;
-    let copy = book.copy(alloc)?;
-    check_copy(&rt, &book, &copy);
+    let copy = copied(&rt, rt.alloc(), &swapped_ands(rt.alloc())?)?;
+    check_copy(&rt, &copy);
     Ok(())
 }

@@ -128,8 +128,7 @@ fn check_positions(rt: &impl Abort, net: &Net) {
 
 #[test]
 fn net_of(rt: HostRuntime) -> Result<(), Fail> {
-    let net = swapped_ands(rt.alloc())?;
-    check_positions(&rt, &net);
+    check_positions(&rt, &swapped_ands(rt.alloc())?);
     Ok(())
 }
 
@@ -154,18 +153,16 @@ fn has_axiom(net: &Net) -> bool {
     }
 }
 
-fn check_copy(rt: &impl Abort, net: &Net, copy: &Net) {
-    assert!(rt; copy.circuit(Side::A).gates() == net.circuit(Side::A).gates());
-    assert!(rt; copy.circuit(Side::B).gates() == net.circuit(Side::B).gates());
-    assert!(rt; copy.clause_number(GATE, 2) == Some(7));
+#[test]
+fn miter_of_n1(rt: HostRuntime) -> Result<(), Fail> {
+    check_numbers(&rt, &swapped_ands(rt.alloc())?);
+    Ok(())
 }
 
 #[test]
-fn miter_of_n1(rt: HostRuntime) -> Result<(), Fail> {
-    let net = swapped_ands(rt.alloc())?;
-    check_numbers(&rt, &net);
-    let copy = net.copy(rt.alloc())?;
-    check_copy(&rt, &net, &copy);
+fn copy_of_a_net(rt: HostRuntime) -> Result<(), Fail> {
+    let copy = swapped_ands(rt.alloc())?.copy(rt.alloc())?;
+    check_numbers(&rt, &copy);
     Ok(())
 }
 
@@ -195,9 +192,13 @@ fn check_axioms(rt: &impl Abort, net: &Net) {
 
 #[test]
 fn what_defines_a_node(rt: HostRuntime) -> Result<(), Fail> {
-    let net = swapped_ands(rt.alloc())?;
-    check_definitions(&rt, &net);
-    check_axioms(&rt, &net);
+    check_definitions(&rt, &swapped_ands(rt.alloc())?);
+    Ok(())
+}
+
+#[test]
+fn axioms_of_a_node(rt: HostRuntime) -> Result<(), Fail> {
+    check_axioms(&rt, &swapped_ands(rt.alloc())?);
     Ok(())
 }
 
@@ -224,6 +225,11 @@ const FANINS: [Fanins; 2] = [
     },
 ];
 
+/// The AND of the inputs, and one over a constant and a complement.
+fn one_and_another(alloc: Global) -> Result<Net, Fail> {
+    pairs::net_of(alloc, one_gate(alloc, 2, 4)?, one_gate(alloc, 1, 5)?)
+}
+
 fn check_fanins(rt: &impl Abort, net: &Net) {
     assert!(rt; net.fanins(0) == Some(FANINS[0]));
     assert!(rt; net.fanins(1) == Some(FANINS[1]));
@@ -233,9 +239,7 @@ fn check_fanins(rt: &impl Abort, net: &Net) {
 
 #[test]
 fn fanins_by_position(rt: HostRuntime) -> Result<(), Fail> {
-    let alloc = rt.alloc();
-    let net = pairs::net_of(alloc, one_gate(alloc, 2, 4)?, one_gate(alloc, 1, 5)?)?;
-    check_fanins(&rt, &net);
+    check_fanins(&rt, &one_and_another(rt.alloc())?);
     Ok(())
 }
 
@@ -279,11 +283,20 @@ fn check_side(rt: &impl Abort, net: &Net) {
 }
 
 #[test]
-fn literals_and_sizes(rt: HostRuntime) -> Result<(), Fail> {
-    let net = swapped_ands(rt.alloc())?;
-    check_literals(&rt, &net);
-    check_sizes(&rt, &net);
-    check_side(&rt, &net);
+fn sizes(rt: HostRuntime) -> Result<(), Fail> {
+    check_sizes(&rt, &swapped_ands(rt.alloc())?);
+    Ok(())
+}
+
+#[test]
+fn literals_by_number(rt: HostRuntime) -> Result<(), Fail> {
+    check_literals(&rt, &swapped_ands(rt.alloc())?);
+    Ok(())
+}
+
+#[test]
+fn circuit_of_a_side(rt: HostRuntime) -> Result<(), Fail> {
+    check_side(&rt, &swapped_ands(rt.alloc())?);
     Ok(())
 }
 

@@ -54,10 +54,10 @@ fn check_rows(rt: &impl Abort, sigs: &Sigs)
     assert!(rt; sigs.row(4) == ROWS[4].as_slice());
 }
 
-fn check_signatures(rt: &impl Abort, alloc: Global, net: &Net, pool: &Pool) -> Result<(), Fail>
-    requires { pool.now.inputs ≡ length net.now.a.inputs }
-{
-    let sigs = signatures(alloc, net, pool)?;
+fn check_signatures(rt: &impl Abort, alloc: Global, net: &Net) -> Result<(), Fail> {
+    let pool = pool(alloc)?;
+    assert!(rt; fits(net, &pool));
+    let sigs = signatures(alloc, net, &pool)?;
     assert!(rt; sigs.patterns() == 65);
     assert!(rt; net.positions() >= 5);
     check_rows(rt, &sigs);
@@ -66,11 +66,7 @@ fn check_signatures(rt: &impl Abort, alloc: Global, net: &Net, pool: &Pool) -> R
 
 #[test]
 fn rows_of_swapped_ands(rt: HostRuntime) -> Result<(), Fail> {
-    let alloc = rt.alloc();
-    let net = swapped_ands(alloc)?;
-    let pool = pool(alloc)?;
-    assert!(rt; fits(&net, &pool));
-    check_signatures(&rt, alloc, &net, &pool)
+    check_signatures(&rt, rt.alloc(), &swapped_ands(rt.alloc())?)
 }
 
 const ROWS_OF_COMPLEMENTS: [u64; 10] = [
@@ -95,10 +91,10 @@ fn filled(alloc: Global, net: &Net, pool: &Pool) -> Result<Vec<u64>, AllocError>
     Ok(rows)
 }
 
-fn check_filled(rt: &impl Abort, alloc: Global, net: &Net, pool: &Pool) -> Result<(), Fail>
-    requires { pool.now.inputs ≡ length net.now.a.inputs }
-{
-    let rows = filled(alloc, net, pool)?;
+fn check_filled(rt: &impl Abort, alloc: Global, net: &Net) -> Result<(), Fail> {
+    let pool = pool(alloc)?;
+    assert!(rt; fits(net, &pool));
+    let rows = filled(alloc, net, &pool)?;
     assert!(rt; rows.as_slice() == ROWS_OF_COMPLEMENTS.as_slice());
     Ok(())
 }
@@ -114,9 +110,5 @@ fn complements(alloc: Global) -> Result<Net, Fail> {
 /// cleared.
 #[test]
 fn rows_of_complements(rt: HostRuntime) -> Result<(), Fail> {
-    let alloc = rt.alloc();
-    let net = complements(alloc)?;
-    let pool = pool(alloc)?;
-    assert!(rt; fits(&net, &pool));
-    check_filled(&rt, alloc, &net, &pool)
+    check_filled(&rt, rt.alloc(), &complements(rt.alloc())?)
 }

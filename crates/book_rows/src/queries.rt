@@ -4,7 +4,8 @@ ghost use Rattle.lemma_book.specs.Book.{IsLegal};
 ghost use Rattle.lemma_book.specs.Good.{IsEarlier};
 ghost use Rattle.cone_query.specs.Query.{IsGate};
 
-use crate::entries::{MERGE, entry};
+use crate::entries::MERGE;
+use crate::lemmas::book_of;
 use crate::pairs::{gate, swapped_ands, two_xors};
 use cone_query::{output, pair};
 use lemma_book::{Book, Entry, Task};
@@ -68,8 +69,13 @@ fn merges(entry: &Entry, task: &Task) -> bool {
 
 #[test]
 fn pair_merge(rt: HostRuntime) -> Result<(), Fail> {
-    let net = two_xors(rt.alloc())?;
-    let entry = answer_of_pair(&rt, rt.alloc(), &net, &LAST_GATES, 100_000)?;
+    let entry = answer_of_pair(
+        &rt,
+        rt.alloc(),
+        &two_xors(rt.alloc())?,
+        &LAST_GATES,
+        100_000,
+    )?;
     assert!(rt; merges(&entry, &LAST_GATES));
     Ok(())
 }
@@ -93,8 +99,13 @@ fn is_apart(entry: &Entry) -> bool {
 /// The AND of both inputs is the first one but where the second is false.
 #[test]
 fn pair_apart(rt: HostRuntime) -> Result<(), Fail> {
-    let net = swapped_ands(rt.alloc())?;
-    let entry = answer_of_pair(&rt, rt.alloc(), &net, &AND_AND_INPUT, 1000)?;
+    let entry = answer_of_pair(
+        &rt,
+        rt.alloc(),
+        &swapped_ands(rt.alloc())?,
+        &AND_AND_INPUT,
+        1000,
+    )?;
     assert!(rt; is_apart(&entry));
     Ok(())
 }
@@ -118,19 +129,22 @@ fn answer_of_xors(rt: &impl Abort, alloc: Global, budget: u64) -> Result<Entry, 
 
 #[test]
 fn output_query(rt: HostRuntime) -> Result<(), Fail> {
-    let entry = answer_of_xors(&rt, rt.alloc(), 1)?;
-    assert!(rt; is_spent(&entry));
     let entry = answer_of_xors(&rt, rt.alloc(), 100_000)?;
     assert!(rt; matches!(entry, Entry::Out { output: 0, .. }));
     Ok(())
 }
 
+#[test]
+fn output_query_within_one_clause(rt: HostRuntime) -> Result<(), Fail> {
+    let entry = answer_of_xors(&rt, rt.alloc(), 1)?;
+    assert!(rt; is_spent(&entry));
+    Ok(())
+}
+
 /// The answer about the swapped ANDs over the book of their merge.
-fn answer_of_merged(rt: &impl Abort, alloc: Global) -> Result<Entry, Fail> {
-    let net = swapped_ands(alloc)?;
-    let mut seen = Book::new(alloc, 1, 1);
-    assert!(rt; seen.offer(alloc, &net, entry(alloc, MERGE)?).is_ok());
-    answer_of_output(rt, alloc, &net, &seen)
+fn answer_of_merged(rt: &impl Abort, alloc: Global, net: &Net) -> Result<Entry, Fail> {
+    let seen = book_of(rt, alloc, net, 1, &[(MERGE, "Ok(At(0))")])?;
+    answer_of_output(rt, alloc, net, &seen)
 }
 
 fn is_step(step: &Step, lits: &[Lit], hints: &[Ref]) -> bool {
@@ -161,7 +175,7 @@ fn are_steps(steps: &[Step]) -> bool {
 
 #[test]
 fn output_of_equal_roots(rt: HostRuntime) -> Result<(), Fail> {
-    let entry = answer_of_merged(&rt, rt.alloc())?;
+    let entry = answer_of_merged(&rt, rt.alloc(), &swapped_ands(rt.alloc())?)?;
     let Entry::Out { steps, .. } = entry else {
         return Err("not out".into());
     };

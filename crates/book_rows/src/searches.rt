@@ -70,32 +70,28 @@ fn of_output(alloc: Global, net: &Net) -> Result<&'static str, AllocError> {
 
 #[test]
 fn two_forms_of_an_xor_are_merged(rt: HostRuntime) -> Result<(), Fail> {
-    let net = equal(rt.alloc())?;
-    let found = of_pair(rt.alloc(), &net, 5, true, 10)?;
+    let found = of_pair(rt.alloc(), &equal(rt.alloc())?, 5, true, 10)?;
     assert!(rt; found == "merge");
     Ok(())
 }
 
 #[test]
 fn two_forms_of_an_output_are_equal(rt: HostRuntime) -> Result<(), Fail> {
-    let net = equal(rt.alloc())?;
-    let found = of_output(rt.alloc(), &net)?;
+    let found = of_output(rt.alloc(), &equal(rt.alloc())?)?;
     assert!(rt; found == "out");
     Ok(())
 }
 
 #[test]
 fn gates_that_differ_are_apart(rt: HostRuntime) -> Result<(), Fail> {
-    let net = different(rt.alloc())?;
-    let found = of_pair(rt.alloc(), &net, 3, false, 10)?;
+    let found = of_pair(rt.alloc(), &different(rt.alloc())?, 3, false, 10)?;
     assert!(rt; found == "apart");
     Ok(())
 }
 
 #[test]
 fn a_search_without_choices_gives_up(rt: HostRuntime) -> Result<(), Fail> {
-    let net = equal(rt.alloc())?;
-    let found = of_pair(rt.alloc(), &net, 5, true, 0)?;
+    let found = of_pair(rt.alloc(), &equal(rt.alloc())?, 5, true, 0)?;
     assert!(rt; found == "none");
     Ok(())
 }
@@ -119,16 +115,14 @@ fn where_first_is_true(input: &[bool]) -> &'static str {
 /// The AND and the first input without the second differ exactly where the first input is true.
 #[test]
 fn a_pattern_shows_outputs_that_differ(rt: HostRuntime) -> Result<(), Fail> {
-    let net = different(rt.alloc())?;
-    let shown = difference(rt.alloc(), &net)?;
+    let shown = difference(rt.alloc(), &different(rt.alloc())?)?;
     assert!(rt; shown == "first of two is true");
     Ok(())
 }
 
 #[test]
 fn no_pattern_shows_equal_outputs_to_differ(rt: HostRuntime) -> Result<(), Fail> {
-    let net = equal(rt.alloc())?;
-    let shown = difference(rt.alloc(), &net)?;
+    let shown = difference(rt.alloc(), &equal(rt.alloc())?)?;
     assert!(rt; shown == "none");
     Ok(())
 }

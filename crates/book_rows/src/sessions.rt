@@ -30,14 +30,14 @@ fn words_of(verdict: &Verdict) -> &'static str {
     }
 }
 
-/// A session of the circuits after its check, whose verdict is this.
+/// The book of the circuits' session after its check, whose verdict is this.
 fn checked(
     rt: &impl Abort,
     alloc: Global,
     pair: (Circuit, Circuit),
     options: Options,
     expected: &str,
-) -> Result<Session, Fail>
+) -> Result<Book, Fail>
     requires { AreInRange options }
 {
     let Ok(mut session) = Session::open(alloc, pair.0, pair.1, options) else {
@@ -45,7 +45,34 @@ fn checked(
     };
     let verdict = session.check(alloc)?;
     assert!(rt; words_of(&verdict) == expected);
-    Ok(session)
+    assert!(rt; session.book().sweep_budget() == options.sweep_budget);
+    Ok(session.into_book())
+}
+
+/// What the book says first, and of output 0.
+fn words_of_book(book: &Book) -> &'static str {
+    match (book.entry(0), book.about(0)) {
+        (Some(Entry::Merge { .. }), Some(Entry::Out { .. })) if book.len() == 2 => "merged, equal",
+        (Some(Entry::Spent { .. }), Some(Entry::Out { .. })) => "given up, equal",
+        (_, Some(Entry::OutApart { .. })) if book.len() == 1 => "apart",
+        (_, Some(Entry::OutSpent { log, .. })) if log.len() == 1 => "a log of one clause",
+        _ => "another book",
+    }
+}
+
+/// Checks the circuits, and compares the verdict and what the book has.
+fn check_pair(
+    rt: &impl Abort,
+    alloc: Global,
+    pair: (Circuit, Circuit),
+    options: Options,
+    expected: (&str, &str),
+) -> Result<(), Fail>
+    requires { AreInRange options }
+{
+    let book = checked(rt, alloc, pair, options, expected.0)?;
+    assert!(rt; words_of_book(&book) == expected.1);
+    Ok(())
 }
 
 #[test]
@@ -57,24 +84,12 @@ fn unlike_circuits(rt: HostRuntime) -> Result<(), Fail> {
     Ok(())
 }
 
-fn check_merge_and_output(rt: &impl Abort, book: &Book) {
-    assert!(rt; book.len() == 2);
-    assert!(rt; matches!(book.entry(0), Some(Entry::Merge { .. })));
-    assert!(rt; matches!(book.about(0), Some(Entry::Out { .. })));
-}
-
 /// The structural pass merges the one gate, and the output needs no search.
 #[test]
 fn equal_by_structure(rt: HostRuntime) -> Result<(), Fail> {
     let pair = swapped_ands(rt.alloc())?;
-    let session = checked(&rt, rt.alloc(), pair, DEFAULTS, "equivalent")?;
-    check_merge_and_output(&rt, &session.into_book());
-    Ok(())
-}
-
-fn check_difference(rt: &impl Abort, book: &Book) {
-    assert!(rt; book.len() == 1);
-    assert!(rt; matches!(book.about(0), Some(Entry::OutApart { .. })));
+    let expected = ("equivalent", "merged, equal");
+    check_pair(&rt, rt.alloc(), pair, DEFAULTS, expected)
 }
 
 /// An AND, and false.
@@ -86,21 +101,16 @@ fn and_and_false(alloc: Global) -> Result<(Circuit, Circuit), AllocError> {
 #[test]
 fn different_by_a_pattern(rt: HostRuntime) -> Result<(), Fail> {
     let pair = and_and_false(rt.alloc())?;
-    let session = checked(&rt, rt.alloc(), pair, DEFAULTS, "different at 0 on 11")?;
-    check_difference(&rt, &session.into_book());
-    Ok(())
-}
-
-fn check_round(rt: &impl Abort, book: &Book) {
-    assert!(rt; book.root(gate(Side::B, 5)) == gate(Side::A, 5).not());
+    let expected = ("different at 0 on 11", "apart");
+    check_pair(&rt, rt.alloc(), pair, DEFAULTS, expected)
 }
 
 /// No gate is a twin of another; a round merges the last one to the complement of A's.
 #[test]
 fn equal_by_a_round(rt: HostRuntime) -> Result<(), Fail> {
     let pair = two_xors(rt.alloc())?;
-    let session = checked(&rt, rt.alloc(), pair, DEFAULTS, "equivalent")?;
-    check_round(&rt, session.book());
+    let book = checked(&rt, rt.alloc(), pair, DEFAULTS, "equivalent")?;
+    assert!(rt; book.root(gate(Side::B, 5)) == gate(Side::A, 5).not());
     Ok(())
 }
 
@@ -115,9 +125,8 @@ const ENOUGH_FOR_OUTPUTS: Options = Options {
 #[test]
 fn equal_by_its_output(rt: HostRuntime) -> Result<(), Fail> {
     let pair = two_xors(rt.alloc())?;
-    let session = checked(&rt, rt.alloc(), pair, ENOUGH_FOR_OUTPUTS, "equivalent")?;
-    assert!(rt; matches!(session.book().about(0), Some(Entry::Out { .. })));
-    Ok(())
+    let expected = ("equivalent", "given up, equal");
+    check_pair(&rt, rt.alloc(), pair, ENOUGH_FOR_OUTPUTS, expected)
 }
 
 const ONE_CLAUSE: Options = Options {
@@ -127,19 +136,10 @@ const ONE_CLAUSE: Options = Options {
     out_budget: 1,
 };
 
-/// Whether the book has a log of one clause of output 0.
-fn has_log(book: &Book) -> bool {
-    match book.about(0) {
-        Some(Entry::OutSpent { log, .. }) => log.len() == 1,
-        _ => false,
-    }
-}
-
 /// With a budget of one clause for the output too it stays open.
 #[test]
 fn undecided_within_budgets(rt: HostRuntime) -> Result<(), Fail> {
     let pair = two_xors(rt.alloc())?;
-    let session = checked(&rt, rt.alloc(), pair, ONE_CLAUSE, "undecided at 0")?;
-    assert!(rt; has_log(session.book()));
-    Ok(())
+    let expected = ("undecided at 0", "a log of one clause");
+    check_pair(&rt, rt.alloc(), pair, ONE_CLAUSE, expected)
 }

@@ -2,10 +2,11 @@ ghost use Rattle.std.specs.Prelude.{◌≡◌, None, IfOk, length};
 ghost use Rattle.desk_port.specs.MemDesk.{state_of};
 ghost use Rattle.lemma_book.specs.Book.{IsLegal};
 
-use crate::entries::{MERGE, OUT, entry};
+use crate::entries::{MERGE, OUT};
+use crate::lemmas::{Row, book_of};
 use crate::pairs::{net_of, swapped_ands, two_xors};
 use desk_port::{Desk, MemDesk};
-use lemma_book::{Book, Entry};
+use lemma_book::Book;
 use netlist::Net;
 use proof_stitch::{Span, StitchErr, derivation, refutation};
 use std::alloc::{AllocError, Global};
@@ -42,14 +43,23 @@ fn derived<D: Desk>(
     derivation(alloc, net, book, desk)
 }
 
-/// Starts a file and writes the refutation of a pair without outputs.
-fn refuted<D: Desk>(alloc: Global, net: &Net, book: &Book, desk: &mut D) -> Result<u64, StitchErr>
+/// Starts a file and writes the refutation of a pair without outputs, from an empty book.
+fn refuted<D: Desk>(alloc: Global, net: &Net, desk: &mut D) -> Result<u64, StitchErr>
     requires quiet { (D.state desk.old).started ≡ None }
-    requires legal { IsLegal net.now book.now }
     requires outputs { length net.now.a.outputs ≡ 0 }
 {
     desk.start("p")?;
-    refutation(alloc, net, book, desk)
+    refutation(alloc, net, &Book::new(alloc, 1, 1), desk)
+}
+
+/// Checks the bytes of a refutation of one line.
+fn check_refutation(rt: &impl Abort, alloc: Global, net: &Net, text: &[u8]) -> Result<(), Fail> {
+    assert!(rt; net.outputs() == 0);
+    let mut desk = desk(alloc)?;
+    let lines = refuted(alloc, net, &mut desk)?;
+    assert!(rt; lines == 1);
+    assert!(rt; has_proof(&desk, text));
+    Ok(())
 }
 
 /// Circuits without inputs and outputs.
@@ -62,50 +72,21 @@ fn nothing(alloc: Global) -> Result<Net, Fail> {
 /// The miter's last clause is empty.
 #[test]
 fn stitched_from_nothing(rt: HostRuntime) -> Result<(), Fail> {
-    let alloc = rt.alloc();
-    let net = nothing(alloc)?;
-    assert!(rt; net.outputs() == 0);
-    let mut desk = desk(alloc)?;
-    let lines = refuted(alloc, &net, &Book::new(alloc, 1, 1), &mut desk)?;
-    assert!(rt; lines == 1);
-    assert!(rt; has_proof(&desk, b"3 0 2 0\n"));
-    Ok(())
+    check_refutation(&rt, rt.alloc(), &nothing(rt.alloc())?, b"3 0 2 0\n")
 }
 
-/// Puts the entry into the book.
-fn put(alloc: Global, net: &Net, book: &mut Book, entry: Entry) -> Result<(), Fail>
-    requires { IsLegal net.now book.old }
-    ensures { IsLegal net.now book.new }
-{
-    match book.offer(alloc, net, entry) {
-        Ok(_) => Ok(()),
-        Err(_) => Err("a good entry".into()),
-    }
-}
-
-/// The book of a merge and of its output.
-fn merged(alloc: Global, net: &Net) -> Result<Book, Fail>
-    ensures { IfOk result (λ book. IsLegal net.now book) }
-{
-    let mut book = Book::new(alloc, 1, 1);
-    put(alloc, net, &mut book, entry(alloc, MERGE)?)?;
-    put(alloc, net, &mut book, entry(alloc, OUT)?)?;
-    Ok(book)
-}
-
-/// Checks the derivation's bytes, and the spans of open outputs.
+/// Checks the bytes of the derivation from these entries, and the spans of open outputs.
 fn check_derivation(
     rt: &impl Abort,
     alloc: Global,
     net: &Net,
-    book: &Book,
+    rows: &[Row<'_>],
     spans: &[Span],
     text: &[u8],
-) -> Result<(), Fail>
-    requires { IsLegal net.now book.now }
-{
+) -> Result<(), Fail> {
+    let book = book_of(rt, alloc, net, 1, rows)?;
     let mut desk = desk(alloc)?;
-    let found = derived(alloc, net, book, &mut desk)?;
+    let found = derived(alloc, net, &book, &mut desk)?;
     assert!(rt; found.as_slice() == spans);
     assert!(rt; has_proof(&desk, text));
     Ok(())
@@ -114,24 +95,24 @@ fn check_derivation(
 /// The steps of a merge and of its output, in the numbers of the CNF: 1 to 12 are its clauses.
 #[test]
 fn stitched_entries(rt: HostRuntime) -> Result<(), Fail> {
-    let net = swapped_ands(rt.alloc())?;
-    let book = merged(rt.alloc(), &net)?;
+    let rows = [(MERGE, "Ok(At(0))"), (OUT, "Ok(At(1))")];
     let text = b"13 -5 4 0 5 6 4 0\n14 5 -4 0 2 3 7 0\n15 -6 4 0 8 13 0\n16 -6 0 15 9 14 0\n";
-    check_derivation(&rt, rt.alloc(), &net, &book, &[], text)
+    check_derivation(
+        &rt,
+        rt.alloc(),
+        &swapped_ands(rt.alloc())?,
+        &rows,
+        &[],
+        text,
+    )
 }
 
 /// What a query of two XORs learned with a budget of one clause: where the output differs and A's gate is
 /// false, x is true.
-const SPENT: &str = "outspent 0 0: -d0 a5 i0 by d0.1 b3.0 b5.2 b4.1 a4.1 a5.2 a3.0";
-
-/// The book of the log.
-fn spent(alloc: Global, net: &Net) -> Result<Book, Fail>
-    ensures { IfOk result (λ book. IsLegal net.now book) }
-{
-    let mut book = Book::new(alloc, 1, 1);
-    put(alloc, net, &mut book, entry(alloc, SPENT)?)?;
-    Ok(book)
-}
+const SPENT: [Row<'static>; 1] = [(
+    "outspent 0 0: -d0 a5 i0 by d0.1 b3.0 b5.2 b4.1 a4.1 a5.2 a3.0",
+    "Ok(At(0))",
+)];
 
 const SPAN: Span = Span {
     output: 0,
@@ -142,8 +123,13 @@ const SPAN: Span = Span {
 /// The log of an output that was left open, in the numbers of a CNF of 24 clauses.
 #[test]
 fn stitched_log(rt: HostRuntime) -> Result<(), Fail> {
-    let net = two_xors(rt.alloc())?;
-    let book = spent(rt.alloc(), &net)?;
     let text = b"25 -10 6 2 0 21 11 19 15 6 10 2 0\n";
-    check_derivation(&rt, rt.alloc(), &net, &book, &[SPAN], text)
+    check_derivation(
+        &rt,
+        rt.alloc(),
+        &two_xors(rt.alloc())?,
+        &SPENT,
+        &[SPAN],
+        text,
+    )
 }

@@ -1,4 +1,4 @@
-use crate::pairs::{self, gate, net_of};
+use crate::pairs::{gate, net_of, swapped_ands, two_xors};
 use lemma_book::{Book, Entry};
 use lits::{Lit, Literal, Node, Side};
 use netlist::Net;
@@ -17,6 +17,21 @@ fn passed(rt: &impl Abort, alloc: Global, net: &Net, merges: u64) -> Result<Book
     Ok(book)
 }
 
+/// Runs the pass, which merges so many gates, and compares roots.
+fn check_roots(
+    rt: &impl Abort,
+    alloc: Global,
+    net: &Net,
+    merges: u64,
+    roots: &[(Lit, Lit)],
+) -> Result<(), Fail> {
+    let book = passed(rt, alloc, net, merges)?;
+    for (lit, root) in roots {
+        assert!(rt; book.root(*lit) == *root);
+    }
+    Ok(())
+}
+
 const X: Lit = Lit {
     node: Node::Input(0),
     neg: false,
@@ -27,6 +42,12 @@ const YES: Lit = Lit {
     neg: false,
 };
 
+#[test]
+fn strash_of_swapped_ands(rt: HostRuntime) -> Result<(), Fail> {
+    let roots = [(gate(Side::B, 3), gate(Side::A, 3))];
+    check_roots(&rt, rt.alloc(), &swapped_ands(rt.alloc())?, 1, &roots)
+}
+
 /// Whether the book's first entry is a merge of two steps.
 fn begins_with_two_steps(book: &Book) -> bool {
     match book.entry(0) {
@@ -36,10 +57,8 @@ fn begins_with_two_steps(book: &Book) -> bool {
 }
 
 #[test]
-fn strash_of_swapped_ands(rt: HostRuntime) -> Result<(), Fail> {
-    let net = pairs::swapped_ands(rt.alloc())?;
-    let book = passed(&rt, rt.alloc(), &net, 1)?;
-    assert!(rt; book.root(gate(Side::B, 3)) == gate(Side::A, 3));
+fn steps_of_a_twin(rt: HostRuntime) -> Result<(), Fail> {
+    let book = passed(&rt, rt.alloc(), &swapped_ands(rt.alloc())?, 1)?;
     assert!(rt; begins_with_two_steps(&book));
     Ok(())
 }
@@ -47,10 +66,8 @@ fn strash_of_swapped_ands(rt: HostRuntime) -> Result<(), Fail> {
 /// Two XORs by other gates: no gate has a twin.
 #[test]
 fn strash_of_two_xors(rt: HostRuntime) -> Result<(), Fail> {
-    let net = pairs::two_xors(rt.alloc())?;
-    let book = passed(&rt, rt.alloc(), &net, 0)?;
-    assert!(rt; book.root(gate(Side::B, 5)) == gate(Side::B, 5));
-    Ok(())
+    let roots = [(gate(Side::B, 5), gate(Side::B, 5))];
+    check_roots(&rt, rt.alloc(), &two_xors(rt.alloc())?, 0, &roots)
 }
 
 /// In A an AND of one literal twice, of a literal and its negation, of an input and true; in B one of true
@@ -63,26 +80,18 @@ fn folds(alloc: Global) -> Result<Net, Fail> {
     net_of(alloc, a, b)
 }
 
-fn check_folds_of_a(rt: &impl Abort, book: &Book) {
-    assert!(rt; book.root(gate(Side::A, 2)) == X);
-    assert!(rt; book.root(gate(Side::A, 3)) == YES.not());
-    assert!(rt; book.root(gate(Side::A, 4)) == X);
-}
-
-fn check_folds_of_b(rt: &impl Abort, book: &Book) {
-    assert!(rt; book.root(gate(Side::B, 2)) == X.not());
-    assert!(rt; book.root(gate(Side::B, 3)) == YES.not());
-    assert!(rt; book.root(gate(Side::B, 4)) == YES.not());
-}
-
 /// Gates that merge are merged to what they fold to.
 #[test]
 fn folded_gates(rt: HostRuntime) -> Result<(), Fail> {
-    let net = folds(rt.alloc())?;
-    let book = passed(&rt, rt.alloc(), &net, 6)?;
-    check_folds_of_a(&rt, &book);
-    check_folds_of_b(&rt, &book);
-    Ok(())
+    let roots = [
+        (gate(Side::A, 2), X),
+        (gate(Side::A, 3), YES.not()),
+        (gate(Side::A, 4), X),
+        (gate(Side::B, 2), X.not()),
+        (gate(Side::B, 3), YES.not()),
+        (gate(Side::B, 4), YES.not()),
+    ];
+    check_roots(&rt, rt.alloc(), &folds(rt.alloc())?, 6, &roots)
 }
 
 /// Gates 4 are twins, over gates 3 that are twins too.
@@ -96,8 +105,6 @@ fn two_levels(alloc: Global) -> Result<Net, Fail> {
 /// its first.
 #[test]
 fn twins_by_their_roots(rt: HostRuntime) -> Result<(), Fail> {
-    let net = two_levels(rt.alloc())?;
-    let book = passed(&rt, rt.alloc(), &net, 2)?;
-    assert!(rt; book.root(gate(Side::B, 4).not()) == gate(Side::A, 4).not());
-    Ok(())
+    let roots = [(gate(Side::B, 4).not(), gate(Side::A, 4).not())];
+    check_roots(&rt, rt.alloc(), &two_levels(rt.alloc())?, 2, &roots)
 }

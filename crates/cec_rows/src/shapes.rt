@@ -1,6 +1,7 @@
 //! Checks whose answers have shapes that the small cases don't reach: entries of two kinds in one book, an
 //! input outside a cone, a chain of a thousand merges.
-use crate::desk::run_words;
+use crate::desk::Holds::{Begins, Ends, Lines};
+use crate::desk::{check, equivalent, verdict};
 use crate::files::{TIGHT, WORDS};
 use cec_top::Status;
 use std::alloc::{AllocError, Global};
@@ -17,22 +18,15 @@ fn one_output_open_and_one_shown(rt: HostRuntime) -> Result<(), Fail> {
             "A",
             b"aag 5 2 0 2 3\n2\n4\n11\n2\n6 2 5\n8 3 4\n10 7 9\n".as_slice(),
         ),
-        (
-            "B",
-            b"aag 5 2 0 2 3\n2\n4\n10\n2\n6 2 4\n8 3 5\n10 7 9\n".as_slice(),
-        ),
+        ("B", b"aag 5 2 0 2 3\n2\n4\n10\n2\n6 2 4\n8 3 5\n10 7 9\n"),
     ];
-    let ran = run_words(&rt, rt.alloc(), &files, &TIGHT, &[])?;
-    assert!(rt; ran.status == Status::Undecided);
-    assert_eq!(rt;
-        ran.desk.said(),
-        b"UNDECIDED\noutput 0 lines 28-28\n".as_slice()
-    );
-    let proof = ran.desk.file("p.0.lrat").unwrap_or(b"");
-    assert!(rt; proof.starts_with(b"27 -11 0 24 25 0\n28 "));
-    assert!(rt; proof.ends_with(b" 0\n"));
-    assert_eq!(rt; proof.iter().filter(|byte| **byte == b'\n').count(), 2);
-    Ok(())
+    let end = verdict(Status::Undecided, "UNDECIDED\noutput 0 lines 28-28\n");
+    let left = [
+        ("p.0.lrat", Begins(b"27 -11 0 24 25 0\n28 ")),
+        ("p.0.lrat", Ends(b" 0\n")),
+        ("p.0.lrat", Lines(2)),
+    ];
+    check(&rt, &files, &TIGHT, end, &left)
 }
 
 /// The AND of inputs 0 and 2 of three against the constant false: no gate reads input 1.
@@ -40,15 +34,10 @@ fn one_output_open_and_one_shown(rt: HostRuntime) -> Result<(), Fail> {
 fn input_outside_the_cone(rt: HostRuntime) -> Result<(), Fail> {
     let files = [
         ("A", b"aag 4 3 0 1 1\n2\n4\n6\n8\n8 2 6\n".as_slice()),
-        ("B", b"aag 3 3 0 1 0\n2\n4\n6\n0\n".as_slice()),
+        ("B", b"aag 3 3 0 1 0\n2\n4\n6\n0\n"),
     ];
-    let ran = run_words(&rt, rt.alloc(), &files, &WORDS, &[])?;
-    assert!(rt; ran.status == Status::No);
-    assert_eq!(rt;
-        ran.desk.said(),
-        b"DIFFERENT\noutput 0\ninput 101\n".as_slice()
-    );
-    Ok(())
+    let end = verdict(Status::No, "DIFFERENT\noutput 0\ninput 101\n");
+    check(&rt, &files, &WORDS, end, &[])
 }
 
 /// A chain of AND gates over one input, each of the one before and the input, and last the AND of the chain
@@ -68,12 +57,8 @@ fn chain(alloc: Global, gates: u32) -> Result<String, AllocError> {
 fn chain_of_a_thousand_merges(rt: HostRuntime) -> Result<(), Fail> {
     let text = chain(rt.alloc(), 1000)?;
     let files = [("A", text.as_bytes()), ("B", text.as_bytes())];
-    let ran = run_words(&rt, rt.alloc(), &files, &WORDS, &[])?;
-    assert!(rt; ran.status == Status::Done);
-    assert_eq!(rt; ran.desk.said(), b"EQUIVALENT\n".as_slice());
-    let header = ran.desk.file("p.0.cnf").and_then(|cnf| cnf.get(..16));
-    assert_eq!(rt; header, Some(b"p cnf 2005 6012\n".as_slice()));
-    Ok(())
+    let left = [("p.0.cnf", Begins(b"p cnf 2005 6012\n"))];
+    check(&rt, &files, &WORDS, equivalent(), &left)
 }
 
 /// Output 0 is an XOR, in another way on each side. Output 1 is the AND of both inputs, gate 6 in A and gate
@@ -91,17 +76,10 @@ fn open_output_over_a_merge(rt: HostRuntime) -> Result<(), Fail> {
         ),
         (
             "B",
-            b"aag 5 2 0 3 3\n2\n4\n10\n6\n2\n6 2 4\n8 3 5\n10 7 9\n".as_slice(),
+            b"aag 5 2 0 3 3\n2\n4\n10\n6\n2\n6 2 4\n8 3 5\n10 7 9\n",
         ),
     ];
-    let ran = run_words(&rt, rt.alloc(), &files, &TIGHT, &[])?;
-    assert!(rt; ran.status == Status::Undecided);
-    assert_eq!(rt;
-        ran.desk.said(),
-        b"UNDECIDED\noutput 0 lines 39-39\n".as_slice()
-    );
-    let proof = ran.desk.file("p.0.lrat").unwrap_or(b"");
-    assert!(rt; proof.starts_with(b"34 -8 7 0 "));
-    assert_eq!(rt; proof.iter().filter(|byte| **byte == b'\n').count(), 6);
-    Ok(())
+    let end = verdict(Status::Undecided, "UNDECIDED\noutput 0 lines 39-39\n");
+    let left = [("p.0.lrat", Begins(b"34 -8 7 0 ")), ("p.0.lrat", Lines(6))];
+    check(&rt, &files, &TIGHT, end, &left)
 }

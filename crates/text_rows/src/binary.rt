@@ -28,28 +28,29 @@ fn cut_at_each_byte(rt: HostRuntime) {
     }
 }
 
+const ACCEPTED: [(&str, &[u8]); 8] = [
+    ("empty circuit", b"aig 0 0 0 0 0\n"),
+    ("header without line feed", b"aig 0 0 0 0 0"),
+    ("constant outputs", b"aig 0 0 0 2 0\n0\n1"),
+    (
+        "symbols and a comment",
+        b"aig 3 2 0 1 1\n6\n\x02\x02i0 x\no0 y\nc",
+    ),
+    ("a comment", b"aig 3 2 0 1 1\n6\n\x02\x02cABC"),
+    // the second delta may be 0: rhs0 is rhs1
+    ("twice a fanin", b"aig 3 2 0 1 1\n6\n\x02\x00"),
+    // five bytes, all but the last with the top bit set
+    (
+        "a long delta",
+        b"aig 3 2 0 1 1\n6\n\x82\x80\x80\x80\x00\x02",
+    ),
+    ("constant fanins", b"aig 1 0 0 0 1\n\x01\x01"),
+];
+
 #[test]
 fn accepted(rt: HostRuntime) {
-    let rows: [(&str, &[u8]); 8] = [
-        ("empty circuit", b"aig 0 0 0 0 0\n"),
-        ("header without line feed", b"aig 0 0 0 0 0"),
-        ("constant outputs", b"aig 0 0 0 2 0\n0\n1"),
-        (
-            "symbols and a comment",
-            b"aig 3 2 0 1 1\n6\n\x02\x02i0 x\no0 y\nc",
-        ),
-        ("a comment", b"aig 3 2 0 1 1\n6\n\x02\x02cABC"),
-        // the second delta may be 0: rhs0 is rhs1
-        ("twice a fanin", b"aig 3 2 0 1 1\n6\n\x02\x00"),
-        // five bytes, all but the last with the top bit set
-        (
-            "a long delta",
-            b"aig 3 2 0 1 1\n6\n\x82\x80\x80\x80\x00\x02",
-        ),
-        ("constant fanins", b"aig 1 0 0 0 1\n\x01\x01"),
-    ];
-    for (name, bytes) in rows {
-        assert_eq!(rt; read(rt.alloc(), bytes).err(), None, "{name}");
+    for (name, bytes) in &ACCEPTED {
+        assert!(rt; read(rt.alloc(), bytes).is_ok(), "{name}");
     }
 }
 
@@ -61,31 +62,32 @@ fn a_delta_of_two_bytes(rt: HostRuntime) -> Result<(), Fail> {
     Ok(())
 }
 
+const FAULTS: [(&[u8], AigerErr); 14] = [
+    (b"aag 3 2 0 1 1\n2\n4\n6\n6 2 4\n", AigerErr::BadHeader),
+    // M is exactly the number of inputs and gates
+    (b"aig 4 2 0 1 1\n6\n\x02\x02", AigerErr::BadHeader),
+    (b"aig 1 0 1 0 0\n3\n", AigerErr::HasLatches(1)),
+    (b"aig 3 2 0 1 1\n8\n\x02\x02", AigerErr::BadLiteral(8)),
+    (b"aig 3 2 0 1 1\n6 \n\x02\x02", AigerErr::BadNumber(15)),
+    (b"aig 3 2 0 1 1\n6\n\x02", AigerErr::Truncated(17)),
+    (b"aig 3 2 0 1 1\n6\n\x00\x02", AigerErr::BadDelta(0)),
+    // the first delta is judged before the second is read
+    (b"aig 3 2 0 1 1\n6\n\x00", AigerErr::BadDelta(0)),
+    (b"aig 3 2 0 1 1\n6\n\x07\x00", AigerErr::BadDelta(0)),
+    (b"aig 3 2 0 1 1\n6\n\x02\x05", AigerErr::BadDelta(0)),
+    // the fifth byte has its top bit set
+    (
+        b"aig 3 2 0 1 1\n6\n\x82\x80\x80\x80\x80\x00\x02",
+        AigerErr::BadDelta(0),
+    ),
+    (b"aig 3 2 0 1 1\n6\n\x82\x80", AigerErr::Truncated(18)),
+    (b"aig 4 2 0 0 2\n\x02\x02\x09\x00", AigerErr::BadDelta(1)),
+    (b"aig 3 2 0 1 1\n6\n\x02\x02i2 x\n", AigerErr::BadSymbol(18)),
+];
+
 #[test]
 fn faults(rt: HostRuntime) {
-    let rows: [(&[u8], AigerErr); 14] = [
-        (b"aag 3 2 0 1 1\n2\n4\n6\n6 2 4\n", AigerErr::BadHeader),
-        // M is exactly the number of inputs and gates
-        (b"aig 4 2 0 1 1\n6\n\x02\x02", AigerErr::BadHeader),
-        (b"aig 1 0 1 0 0\n3\n", AigerErr::HasLatches(1)),
-        (b"aig 3 2 0 1 1\n8\n\x02\x02", AigerErr::BadLiteral(8)),
-        (b"aig 3 2 0 1 1\n6 \n\x02\x02", AigerErr::BadNumber(15)),
-        (b"aig 3 2 0 1 1\n6\n\x02", AigerErr::Truncated(17)),
-        (b"aig 3 2 0 1 1\n6\n\x00\x02", AigerErr::BadDelta(0)),
-        // the first delta is judged before the second is read
-        (b"aig 3 2 0 1 1\n6\n\x00", AigerErr::BadDelta(0)),
-        (b"aig 3 2 0 1 1\n6\n\x07\x00", AigerErr::BadDelta(0)),
-        (b"aig 3 2 0 1 1\n6\n\x02\x05", AigerErr::BadDelta(0)),
-        // the fifth byte has its top bit set
-        (
-            b"aig 3 2 0 1 1\n6\n\x82\x80\x80\x80\x80\x00\x02",
-            AigerErr::BadDelta(0),
-        ),
-        (b"aig 3 2 0 1 1\n6\n\x82\x80", AigerErr::Truncated(18)),
-        (b"aig 4 2 0 0 2\n\x02\x02\x09\x00", AigerErr::BadDelta(1)),
-        (b"aig 3 2 0 1 1\n6\n\x02\x02i2 x\n", AigerErr::BadSymbol(18)),
-    ];
-    for (bytes, want) in rows {
-        check_fault(&rt, bytes, read(rt.alloc(), bytes).err(), Some(want));
+    for (bytes, want) in &FAULTS {
+        check_fault(&rt, bytes, read(rt.alloc(), bytes).err(), Some(*want));
     }
 }

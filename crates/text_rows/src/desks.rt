@@ -91,5 +91,5 @@ fn pass_all<G: Gate + Sync>(gate: &G, tasks: u64) -> u64 {
 
 #[test]
 fn open_gate_lets_all_pass(rt: HostRuntime) {
-    assert_eq!(rt; pass_all(&OpenGate, 3), 3);
+    assert!(rt; pass_all(&OpenGate, 3) == 3);
 }

@@ -16,7 +16,7 @@ fn dimacs_print(rt: HostRuntime) -> Result<(), Fail> {
     desk.start("cnf")?;
     print(alloc, &mut desk, 1, clauses.as_slice())?;
     desk.close()?;
-    assert_eq!(rt; desk.file("cnf"), Some(b"p cnf 1 2\n1 0\n0\n".as_slice()));
+    assert!(rt; desk.file("cnf") == Some(b"p cnf 1 2\n1 0\n0\n".as_slice()));
     Ok(())
 }
 
@@ -46,14 +46,14 @@ fn check_read(
     clauses: &[i64],
 ) -> Result<(), Fail> {
     let cnf = read(alloc, text)?;
-    assert_eq!(rt; cnf.variables, variables);
-    assert_eq!(rt; numbers(alloc, &cnf)?.as_slice(), clauses);
+    assert!(rt; cnf.variables == variables);
+    assert!(rt; numbers(alloc, &cnf)?.as_slice() == clauses);
     Ok(())
 }
 
 /// Reads a text, and compares its fault.
 fn check_fault(rt: &impl Abort, alloc: Global, text: &[u8], fault: CnfErr) {
-    assert_eq!(rt; read(alloc, text).err(), Some(fault), "at {text:?}");
+    assert!(rt; read(alloc, text).err() == Some(fault), "at {text:?}");
 }
 
 /// Reads each text, and compares its fault.
@@ -62,6 +62,12 @@ fn check_faults(rt: &impl Abort, alloc: Global, rows: &[(&[u8], CnfErr)]) {
         check_fault(rt, alloc, text, *fault);
     }
 }
+
+const FAULTS: [(&[u8], CnfErr); 3] = [
+    (b"p cnf 1 1\n2 0\n", CnfErr::Var(2)),
+    (b"p cnf 1 2\n1 0\n", CnfErr::Count(2, 1)),
+    (b"p cnf 1 1\n1", CnfErr::Truncated(11)),
+];
 
 #[test]
 fn dimacs_read(rt: HostRuntime) -> Result<(), Fail> {
@@ -73,12 +79,7 @@ fn dimacs_read(rt: HostRuntime) -> Result<(), Fail> {
         -4, -5, 0, 6, -4, 5, 0, 6, 4, -5, 0, 6, 0,
     ];
     check_read(&rt, alloc, text, 6, &clauses)?;
-    let rows: [(&[u8], CnfErr); 3] = [
-        (b"p cnf 1 1\n2 0\n", CnfErr::Var(2)),
-        (b"p cnf 1 2\n1 0\n", CnfErr::Count(2, 1)),
-        (b"p cnf 1 1\n1", CnfErr::Truncated(11)),
-    ];
-    check_faults(&rt, alloc, rows.as_slice());
+    check_faults(&rt, alloc, &FAULTS);
     Ok(())
 }
 
@@ -122,77 +123,80 @@ fn wide_clause(rt: HostRuntime) -> Result<(), Fail> {
     check_read(&rt, alloc, text.as_slice(), 50, clause.as_slice())
 }
 
+const BAD_HEADERS: [&[u8]; 17] = [
+    b"",
+    b"c only a comment\n",
+    b"p",
+    b"p cnf\n",
+    b"p cnf 1\n",
+    b"p cnf 1\nc 1\n",
+    b"p cnf 2147483648 0\n",
+    b"p cnf 0 2147483648\n",
+    b"p cnf 100000000000000000000 0\n",
+    b"p cnf -1 0\n",
+    b"p cnf +1 0\n",
+    b"p cnf 1 -0\n",
+    b"p cnf 1 x\n",
+    b"p dnf 1 0\n",
+    b"pcnf 1 0\n",
+    b"1 0\np cnf 1 1\n",
+    // This `cnf` begins a comment.
+    b"p\ncnf 1 0\n",
+];
+
 #[test]
 fn bad_headers(rt: HostRuntime) {
-    let texts: [&[u8]; 17] = [
-        b"",
-        b"c only a comment\n",
-        b"p",
-        b"p cnf\n",
-        b"p cnf 1\n",
-        b"p cnf 1\nc 1\n",
-        b"p cnf 2147483648 0\n",
-        b"p cnf 0 2147483648\n",
-        b"p cnf 100000000000000000000 0\n",
-        b"p cnf -1 0\n",
-        b"p cnf +1 0\n",
-        b"p cnf 1 -0\n",
-        b"p cnf 1 x\n",
-        b"p dnf 1 0\n",
-        b"pcnf 1 0\n",
-        b"1 0\np cnf 1 1\n",
-        // This `cnf` begins a comment.
-        b"p\ncnf 1 0\n",
-    ];
-    for text in texts {
+    for text in &BAD_HEADERS {
         check_fault(&rt, rt.alloc(), text, CnfErr::BadHeader);
     }
 }
 
+const BAD_NUMBERS: [(&[u8], CnfErr); 12] = [
+    (b"p cnf 1 1\n-0 0\n", CnfErr::BadNumber(10)),
+    (b"p cnf 1 1\n1 -00\n", CnfErr::BadNumber(12)),
+    (b"p cnf 1 1\n1 +1 0\n", CnfErr::BadNumber(12)),
+    (b"p cnf 1 1\n1\n- 1 0\n", CnfErr::BadNumber(12)),
+    (b"p cnf 1 1\n--1 0\n", CnfErr::BadNumber(10)),
+    (b"p cnf 1 1\n1-1 0\n", CnfErr::BadNumber(10)),
+    (b"p cnf 1 1\n1 0x\n", CnfErr::BadNumber(12)),
+    (b"p cnf 1 1\n1 0\n%\n0\n", CnfErr::BadNumber(14)),
+    (b"p cnf 1 1 1\x0b0\n", CnfErr::BadNumber(10)),
+    (b"c\np cnf 1 1\r\n\t 1 0 x", CnfErr::BadNumber(19)),
+    // Only at the front of a line does `c` begin a comment.
+    (b"p cnf 1 1\n1 c 0\n", CnfErr::BadNumber(12)),
+    (b"p cnf 1 1\n1\n c\n0\n", CnfErr::BadNumber(13)),
+];
+
 #[test]
 fn bad_numbers(rt: HostRuntime) {
-    let rows: [(&[u8], CnfErr); 12] = [
-        (b"p cnf 1 1\n-0 0\n", CnfErr::BadNumber(10)),
-        (b"p cnf 1 1\n1 -00\n", CnfErr::BadNumber(12)),
-        (b"p cnf 1 1\n1 +1 0\n", CnfErr::BadNumber(12)),
-        (b"p cnf 1 1\n1\n- 1 0\n", CnfErr::BadNumber(12)),
-        (b"p cnf 1 1\n--1 0\n", CnfErr::BadNumber(10)),
-        (b"p cnf 1 1\n1-1 0\n", CnfErr::BadNumber(10)),
-        (b"p cnf 1 1\n1 0x\n", CnfErr::BadNumber(12)),
-        (b"p cnf 1 1\n1 0\n%\n0\n", CnfErr::BadNumber(14)),
-        (b"p cnf 1 1 1\x0b0\n", CnfErr::BadNumber(10)),
-        (b"c\np cnf 1 1\r\n\t 1 0 x", CnfErr::BadNumber(19)),
-        // Only at the front of a line does `c` begin a comment.
-        (b"p cnf 1 1\n1 c 0\n", CnfErr::BadNumber(12)),
-        (b"p cnf 1 1\n1\n c\n0\n", CnfErr::BadNumber(13)),
-    ];
-    check_faults(&rt, rt.alloc(), rows.as_slice());
+    check_faults(&rt, rt.alloc(), &BAD_NUMBERS);
 }
+
+const LATER_FAULTS: [(&[u8], CnfErr); 14] = [
+    (b"p cnf 0 1\n1 0\n", CnfErr::Var(1)),
+    (b"p cnf 3 1\n3 -4 0\n", CnfErr::Var(4)),
+    (
+        b"p cnf 2147483647 1\n2147483648 0\n",
+        CnfErr::Var(2_147_483_648),
+    ),
+    (
+        b"p cnf 3 1\n-99999999999999999999 0\n",
+        CnfErr::Var(1_000_000_000_000_000_000),
+    ),
+    (b"p cnf 1 1\n1 0 1\n", CnfErr::Truncated(16)),
+    (b"p cnf 1 1\n1\nc 0\n", CnfErr::Truncated(16)),
+    (b"p cnf 1 0\n1 0\n", CnfErr::Count(0, 1)),
+    (b"p cnf 1 1 ", CnfErr::Count(1, 0)),
+    (b"p cnf 1 3\n1 0 0\n", CnfErr::Count(3, 2)),
+    // The first word that is wrong counts, then the end, and then the number of clauses.
+    (b"p cnf 1 9\n2 x\n", CnfErr::Var(2)),
+    (b"p cnf 1 9\nx 2\n", CnfErr::BadNumber(10)),
+    (b"p cnf 1 9\n1 0 1 x", CnfErr::BadNumber(16)),
+    (b"p cnf 1 9\n1 0 1", CnfErr::Truncated(15)),
+    (b"p cnf 1 0\n1 0 2 0\n", CnfErr::Var(2)),
+];
 
 #[test]
 fn later_faults(rt: HostRuntime) {
-    let rows: [(&[u8], CnfErr); 14] = [
-        (b"p cnf 0 1\n1 0\n", CnfErr::Var(1)),
-        (b"p cnf 3 1\n3 -4 0\n", CnfErr::Var(4)),
-        (
-            b"p cnf 2147483647 1\n2147483648 0\n",
-            CnfErr::Var(2_147_483_648),
-        ),
-        (
-            b"p cnf 3 1\n-99999999999999999999 0\n",
-            CnfErr::Var(1_000_000_000_000_000_000),
-        ),
-        (b"p cnf 1 1\n1 0 1\n", CnfErr::Truncated(16)),
-        (b"p cnf 1 1\n1\nc 0\n", CnfErr::Truncated(16)),
-        (b"p cnf 1 0\n1 0\n", CnfErr::Count(0, 1)),
-        (b"p cnf 1 1 ", CnfErr::Count(1, 0)),
-        (b"p cnf 1 3\n1 0 0\n", CnfErr::Count(3, 2)),
-        // The first word that is wrong counts, then the end, and then the number of clauses.
-        (b"p cnf 1 9\n2 x\n", CnfErr::Var(2)),
-        (b"p cnf 1 9\nx 2\n", CnfErr::BadNumber(10)),
-        (b"p cnf 1 9\n1 0 1 x", CnfErr::BadNumber(16)),
-        (b"p cnf 1 9\n1 0 1", CnfErr::Truncated(15)),
-        (b"p cnf 1 0\n1 0 2 0\n", CnfErr::Var(2)),
-    ];
-    check_faults(&rt, rt.alloc(), rows.as_slice());
+    check_faults(&rt, rt.alloc(), &LATER_FAULTS);
 }

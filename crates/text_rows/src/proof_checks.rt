@@ -69,7 +69,7 @@ fn check_verdict(
     let [first, second, rest] = parts;
     let text = format!(in alloc; "{first}{second}{rest}")?;
     let found = verdict(alloc, clauses, text.as_str())?;
-    assert_eq!(rt; found, want, "{text}");
+    assert!(rt; found == want, "{text}");
     Ok(())
 }
 
@@ -179,7 +179,7 @@ fn a_clause_of_a_million_literals(rt: HostRuntime) -> Result<(), Fail> {
     };
     let lines = vec![in alloc; Line { at: 1, step }]?;
     let found = check(alloc, &cnf, lines.as_slice())?;
-    assert_eq!(rt; found, Verdict::NoEmpty);
+    assert!(rt; found == Verdict::NoEmpty);
     Ok(())
 }
 

@@ -57,10 +57,10 @@ fn desk_of(alloc: Global, row: &Row<'_>) -> Result<MemDesk, AllocError> {
 fn check_row(rt: &impl Abort, alloc: Global, row: &Row<'_>) -> Result<(), Fail> {
     let mut desk = desk_of(alloc, row)?;
     let status = run(alloc, &mut desk, "C", "P");
-    assert_eq!(rt; desk.said(), row.said.as_bytes());
-    assert_eq!(rt; desk.warned(), row.warned.as_bytes());
+    assert!(rt; desk.said() == row.said.as_bytes());
+    assert!(rt; desk.warned() == row.warned.as_bytes());
     assert!(rt; status == row.status);
-    assert_eq!(rt; asked(alloc, &desk)?.as_str(), row.asked);
+    assert!(rt; asked(alloc, &desk)?.as_str() == row.asked);
     Ok(())
 }
 
@@ -89,33 +89,52 @@ fn check_proof<'x>(
     check_row(rt, alloc, &row)
 }
 
+/// The first line of a proof, the others, and what the command comes to.
+const HAND_WRITTEN: [(&str, &str, Status, &str, &str); 5] = [
+    (FIRST, OTHERS, Status::Done, "VERIFIED\n", ""),
+    (
+        "13 -4 5 0 2 2 3 7 0\n",
+        OTHERS,
+        Status::No,
+        "REFUSED line 1\n",
+        "",
+    ),
+    (
+        "13 -4 5 0 -2 3 7 0\n",
+        OTHERS,
+        Status::BadInput,
+        "",
+        "cec: P: line 1: negative hint\n",
+    ),
+    (FIRST, "", Status::No, "REFUSED no empty clause\n", ""),
+    (
+        "13 -4 5 0 2 3 7 0\n13 d 99 0\n",
+        OTHERS,
+        Status::Done,
+        "VERIFIED\n",
+        "",
+    ),
+];
+
 #[test]
 fn hand_written_proofs(rt: HostRuntime) -> Result<(), Fail> {
-    let doubled = "13 -4 5 0 2 2 3 7 0\n";
-    let negative = "13 -4 5 0 -2 3 7 0\n";
-    let deleted = "13 -4 5 0 2 3 7 0\n13 d 99 0\n";
-    let (done, no, bad) = (Status::Done, Status::No, Status::BadInput);
-    for (first, others, status, said, warned) in [
-        (FIRST, OTHERS, done, "VERIFIED\n", ""),
-        (doubled, OTHERS, no, "REFUSED line 1\n", ""),
-        (negative, OTHERS, bad, "", "cec: P: line 1: negative hint\n"),
-        (FIRST, "", no, "REFUSED no empty clause\n", ""),
-        (deleted, OTHERS, done, "VERIFIED\n", ""),
-    ] {
+    for (first, others, status, said, warned) in &HAND_WRITTEN {
         let proof = joined(rt.alloc(), first, others)?;
-        check_proof(&rt, rt.alloc(), proof.as_str(), status, said, warned)?;
+        check_proof(&rt, rt.alloc(), proof.as_str(), *status, said, warned)?;
     }
     Ok(())
 }
 
-// A line without words has a number too.
+/// Proofs that are refused. A line without words has a number too.
+const REFUSED: [(&str, &str); 3] = [
+    ("13 -4 5 0 2 3 7 0\n\n14 4 -5 0 5 6 0\n", "REFUSED line 3\n"),
+    ("13 1 0 14 0\n", "REFUSED line 1\n"),
+    ("", "REFUSED no empty clause\n"),
+];
+
 #[test]
 fn numbers_of_refused_lines(rt: HostRuntime) -> Result<(), Fail> {
-    for (proof, said) in [
-        ("13 -4 5 0 2 3 7 0\n\n14 4 -5 0 5 6 0\n", "REFUSED line 3\n"),
-        ("13 1 0 14 0\n", "REFUSED line 1\n"),
-        ("", "REFUSED no empty clause\n"),
-    ] {
+    for (proof, said) in &REFUSED {
         check_proof(&rt, rt.alloc(), proof, Status::No, said, "")?;
     }
     Ok(())
@@ -142,45 +161,51 @@ fn check_warned<'x>(
     check_row(rt, alloc, &row)
 }
 
+const FAULTY_FORMULAS: [(&str, &str); 6] = [
+    ("", "cec: C: bad header\n"),
+    ("p dnf 1 1\n1 0\n", "cec: C: bad header\n"),
+    ("p cnf 1 1\nx 0\n", "cec: C: bad number at byte 10\n"),
+    ("p cnf 1 1\n2 0\n", "cec: C: variable of 2 is too large\n"),
+    ("p cnf 1 2\n1 0\n", "cec: C: 2 clauses announced, 1 found\n"),
+    ("p cnf 1 1\n1", "cec: C: ends too early at byte 11\n"),
+];
+
 #[test]
 fn faulty_formulas(rt: HostRuntime) -> Result<(), Fail> {
-    for (cnf, warned) in [
-        ("", "cec: C: bad header\n"),
-        ("p dnf 1 1\n1 0\n", "cec: C: bad header\n"),
-        ("p cnf 1 1\nx 0\n", "cec: C: bad number at byte 10\n"),
-        ("p cnf 1 1\n2 0\n", "cec: C: variable of 2 is too large\n"),
-        ("p cnf 1 2\n1 0\n", "cec: C: 2 clauses announced, 1 found\n"),
-        ("p cnf 1 1\n1", "cec: C: ends too early at byte 11\n"),
-    ] {
+    for (cnf, warned) in &FAULTY_FORMULAS {
         check_warned(&rt, rt.alloc(), cnf, None, warned, "C")?;
     }
     Ok(())
 }
 
+const FAULTY_PROOFS: [(&str, &str); 4] = [
+    ("13 x 0 0\n", "cec: P: line 1: bad number\n"),
+    ("\n13 -4 5 0 2 3 7\n", "cec: P: line 2: ends too early\n"),
+    ("12 -4 5 0 2 3 7 0\n", "cec: P: line 1: id out of order\n"),
+    ("13 -4 5 0 2 3 -7 0\n", "cec: P: line 1: negative hint\n"),
+];
+
 #[test]
 fn faulty_proofs(rt: HostRuntime) -> Result<(), Fail> {
-    for (proof, warned) in [
-        ("13 x 0 0\n", "cec: P: line 1: bad number\n"),
-        ("\n13 -4 5 0 2 3 7\n", "cec: P: line 2: ends too early\n"),
-        ("12 -4 5 0 2 3 7 0\n", "cec: P: line 1: id out of order\n"),
-        ("13 -4 5 0 2 3 -7 0\n", "cec: P: line 1: negative hint\n"),
-    ] {
+    for (proof, warned) in &FAULTY_PROOFS {
         check_warned(&rt, rt.alloc(), CNF, Some(proof), warned, "CP")?;
     }
     Ok(())
 }
 
+/// The CNF, the proof, the warning and the files that are read.
+const MISSING: [(Option<&str>, Option<&str>, &str, &str); 3] = [
+    (None, None, "cec: C: cannot read\n", "C"),
+    (None, Some(FIRST), "cec: C: cannot read\n", "C"),
+    (Some(CNF), None, "cec: P: cannot read\n", "CP"),
+];
+
 #[test]
 fn missing_files(rt: HostRuntime) -> Result<(), Fail> {
-    let cases = [
-        (None, None, "cec: C: cannot read\n", "C"),
-        (None, Some(FIRST), "cec: C: cannot read\n", "C"),
-        (Some(CNF), None, "cec: P: cannot read\n", "CP"),
-    ];
-    for (cnf, proof, warned, asked) in cases {
+    for (cnf, proof, warned, asked) in &MISSING {
         let row = Row {
-            cnf,
-            proof,
+            cnf: *cnf,
+            proof: *proof,
             fails: &[],
             status: Status::CannotRead,
             said: "",
@@ -192,26 +217,25 @@ fn missing_files(rt: HostRuntime) -> Result<(), Fail> {
     Ok(())
 }
 
-// The calls are two reads, and what is said or warned.
+/// The CNF, the calls that fail, and what the command comes to. The calls are two reads, and what is said or
+/// warned.
+const FAILING: [(&str, &[u64], Status, &str, &str); 5] = [
+    (CNF, &[0], Status::CannotRead, "cec: C: cannot read\n", "C"),
+    (CNF, &[1], Status::CannotRead, "cec: P: cannot read\n", "CP"),
+    (CNF, &[2], Status::CannotWrite, "cec: cannot write\n", "CP"),
+    (CNF, &[2, 3], Status::CannotWrite, "", "CP"),
+    ("p", &[1], Status::BadInput, "", "C"),
+];
+
 #[test]
 fn failing_calls(rt: HostRuntime) -> Result<(), Fail> {
     let proof = joined(rt.alloc(), FIRST, OTHERS)?;
-    let no_cnf = "cec: C: cannot read\n";
-    let no_proof = "cec: P: cannot read\n";
-    let not_said = "cec: cannot write\n";
-    let cases: [(&str, &[u64], Status, &str, &str); 5] = [
-        (CNF, &[0], Status::CannotRead, no_cnf, "C"),
-        (CNF, &[1], Status::CannotRead, no_proof, "CP"),
-        (CNF, &[2], Status::CannotWrite, not_said, "CP"),
-        (CNF, &[2, 3], Status::CannotWrite, "", "CP"),
-        ("p", &[1], Status::BadInput, "", "C"),
-    ];
-    for (cnf, fails, status, warned, asked) in cases {
+    for (cnf, fails, status, warned, asked) in &FAILING {
         let row = Row {
             cnf: Some(cnf),
             proof: Some(proof.as_str()),
             fails,
-            status,
+            status: *status,
             said: "",
             warned,
             asked,

@@ -13,57 +13,63 @@ fn check_text<E: Display>(
     fault: &E,
     text: &str,
 ) -> Result<(), Fail> {
-    assert_eq!(rt; fault.to_string(alloc)?.as_str(), text);
+    assert!(rt; fault.to_string(alloc)?.as_str() == text);
     Ok(())
 }
+
+const CIRCUITS: [(AigerErr, &str); 13] = [
+    (AigerErr::BadHeader, "bad header"),
+    (AigerErr::TooLarge(16777217), "16777217 is above 16777216"),
+    (AigerErr::HasLatches(1), "1 latches"),
+    (AigerErr::HasProperty(b'C'), "section C is not supported"),
+    (AigerErr::BadNumber(14), "bad number at byte 14"),
+    (AigerErr::BadLiteral(3), "bad literal 3"),
+    (AigerErr::DefinedTwice(2), "literal 2 is defined twice"),
+    (AigerErr::Undefined(6), "literal 6 is undefined"),
+    (AigerErr::Cycle(6), "literal 6 is on or above a cycle"),
+    (AigerErr::BadDelta(0), "bad delta at gate 0"),
+    (AigerErr::Truncated(17), "ends too early at byte 17"),
+    (AigerErr::BadSymbol(16), "bad symbol line at byte 16"),
+    (AigerErr::NoMemory, "out of memory"),
+];
 
 #[test]
 fn of_circuits(rt: HostRuntime) -> Result<(), Fail> {
-    for (fault, text) in [
-        (AigerErr::BadHeader, "bad header"),
-        (AigerErr::TooLarge(16777217), "16777217 is above 16777216"),
-        (AigerErr::HasLatches(1), "1 latches"),
-        (AigerErr::HasProperty(b'C'), "section C is not supported"),
-        (AigerErr::BadNumber(14), "bad number at byte 14"),
-        (AigerErr::BadLiteral(3), "bad literal 3"),
-        (AigerErr::DefinedTwice(2), "literal 2 is defined twice"),
-        (AigerErr::Undefined(6), "literal 6 is undefined"),
-        (AigerErr::Cycle(6), "literal 6 is on or above a cycle"),
-        (AigerErr::BadDelta(0), "bad delta at gate 0"),
-        (AigerErr::Truncated(17), "ends too early at byte 17"),
-        (AigerErr::BadSymbol(16), "bad symbol line at byte 16"),
-        (AigerErr::NoMemory, "out of memory"),
-    ] {
-        check_text(&rt, rt.alloc(), &fault, text)?;
+    for (fault, text) in &CIRCUITS {
+        check_text(&rt, rt.alloc(), fault, text)?;
     }
     Ok(())
 }
+
+const FORMULAS: [(CnfErr, &str); 6] = [
+    (CnfErr::BadHeader, "bad header"),
+    (CnfErr::BadNumber(10), "bad number at byte 10"),
+    (CnfErr::Var(7), "variable of 7 is too large"),
+    (CnfErr::Count(2, 1), "2 clauses announced, 1 found"),
+    (CnfErr::Truncated(11), "ends too early at byte 11"),
+    (CnfErr::NoMemory, "out of memory"),
+];
 
 #[test]
 fn of_formulas(rt: HostRuntime) -> Result<(), Fail> {
-    for (fault, text) in [
-        (CnfErr::BadHeader, "bad header"),
-        (CnfErr::BadNumber(10), "bad number at byte 10"),
-        (CnfErr::Var(7), "variable of 7 is too large"),
-        (CnfErr::Count(2, 1), "2 clauses announced, 1 found"),
-        (CnfErr::Truncated(11), "ends too early at byte 11"),
-        (CnfErr::NoMemory, "out of memory"),
-    ] {
-        check_text(&rt, rt.alloc(), &fault, text)?;
+    for (fault, text) in &FORMULAS {
+        check_text(&rt, rt.alloc(), fault, text)?;
     }
     Ok(())
 }
 
+const PROOFS: [(LratErr, &str); 5] = [
+    (LratErr::BadNumber(1), "line 1: bad number"),
+    (LratErr::Truncated(20), "line 20: ends too early"),
+    (LratErr::Order(3), "line 3: id out of order"),
+    (LratErr::Rat(4), "line 4: negative hint"),
+    (LratErr::NoMemory, "out of memory"),
+];
+
 #[test]
 fn of_proofs(rt: HostRuntime) -> Result<(), Fail> {
-    for (fault, text) in [
-        (LratErr::BadNumber(1), "line 1: bad number"),
-        (LratErr::Truncated(20), "line 20: ends too early"),
-        (LratErr::Order(3), "line 3: id out of order"),
-        (LratErr::Rat(4), "line 4: negative hint"),
-        (LratErr::NoMemory, "out of memory"),
-    ] {
-        check_text(&rt, rt.alloc(), &fault, text)?;
+    for (fault, text) in &PROOFS {
+        check_text(&rt, rt.alloc(), fault, text)?;
     }
     Ok(())
 }

@@ -1,14 +1,19 @@
 //! Files in the folder where the tests run, and outputs that take nothing.
+ghost use Rattle.std.specs.Prelude.{◌≡◌, None, OnOk};
+
 use super::OsDesk;
 use desk_port::{Desk, PutErr, ReadErr};
+use std::alloc::Global;
 use std::io::{ErrorKind, Write};
+use std::process::Abort;
 use std::test::Fail;
 use std::{fs, io};
 
-#[test]
-fn real_files(rt: HostRuntime) -> Result<(), Fail> {
-    let alloc = rt.alloc();
-    let mut desk = OsDesk::new(alloc, &rt, rt.stdout(), rt.stderr());
+/// Writes a file, and a shorter one in its place, in pieces.
+fn put_twice<D: Desk>(desk: &mut D) -> Result<(), PutErr>
+    requires { (D.state desk.old).started ≡ None }
+    ensures { OnOk result ((D.state desk.new).started ≡ None) }
+{
     desk.start("pieces.txt")?;
     desk.write(b"old and longer")?;
     desk.close()?;
@@ -16,28 +21,43 @@ fn real_files(rt: HostRuntime) -> Result<(), Fail> {
     desk.write(b"ab")?;
     desk.write(b"")?;
     desk.write(b"c")?;
-    desk.close()?;
-    assert_eq!(rt; desk.write_faults, 0);
-    assert_eq!(rt; desk.start("missing/pieces.txt"), Err(PutErr::Failed));
-    assert_eq!(rt; desk.write_faults, 1);
+    desk.close()
+}
+
+/// How long the file is, which holds "abc".
+fn length_of<D: Desk>(
+    rt: &impl Abort,
+    alloc: Global,
+    desk: &mut D,
+    name: &str,
+    limit: u64,
+) -> Result<usize, ReadErr> {
+    let bytes = desk.read(alloc, name, limit)?;
+    assert!(rt; bytes.as_slice() == &b"abc"[..]);
+    Ok(bytes.len())
+}
+
+/// A file and the most that is read of it, what that comes to, and how many faults were counted then.
+const READS: [(&str, u64, Result<usize, ReadErr>, u64); 4] = [
+    ("pieces.txt", 3, Ok(3), 0),
+    ("pieces.txt", u64::MAX, Ok(3), 0),
+    ("pieces.txt", 2, Err(ReadErr::TooLong), 0),
+    ("missing.txt", 3, Err(ReadErr::Failed), 1),
+];
+
+#[test]
+fn real_files(rt: HostRuntime) -> Result<(), Fail> {
+    let alloc = rt.alloc();
+    let mut desk = OsDesk::new(alloc, &rt, rt.stdout(), rt.stderr());
+    put_twice(&mut desk)?;
+    assert!(rt; desk.write_faults == 0);
+    assert!(rt; desk.start("missing/pieces.txt") == Err(PutErr::Failed));
+    assert!(rt; desk.write_faults == 1);
     assert!(rt; desk.started.is_none());
-    let cases = [
-        ("pieces.txt", 3, Ok(3), 0),
-        ("pieces.txt", u64::MAX, Ok(3), 0),
-        ("pieces.txt", 2, Err(ReadErr::TooLong), 0),
-        ("missing.txt", 3, Err(ReadErr::Failed), 1),
-    ];
-    for (name, limit, answer, faults) in cases {
-        let read = desk.read(alloc, name, limit);
-        if let Ok(bytes) = &read {
-            assert_eq!(rt; bytes.as_slice(), &b"abc"[..], "{name} within {limit}");
-        }
-        assert_eq!(rt;
-            read.map(|bytes| bytes.len()),
-            answer,
-            "{name} within {limit}"
-        );
-        assert_eq!(rt; desk.read_faults, faults, "{name} within {limit}");
+    for (name, limit, answer, faults) in &READS {
+        let length = length_of(&rt, alloc, &mut desk, name, *limit);
+        assert!(rt; length == *answer, "{name} within {limit}");
+        assert!(rt; desk.read_faults == *faults, "{name} within {limit}");
     }
     fs::remove_file(&rt, "pieces.txt")?;
     Ok(())
@@ -65,10 +85,10 @@ impl Write for Shut {
 fn shut_outputs(rt: HostRuntime) {
     for closed in [true, false] {
         let mut desk = OsDesk::new(rt.alloc(), &rt, Shut(closed), Shut(closed));
-        assert_eq!(rt; desk.say(b"said"), Err(PutErr::Failed));
-        assert_eq!(rt; (desk.write_faults, desk.warn_faults), (1, 0));
-        assert_eq!(rt; desk.warn(b"warned"), Err(PutErr::Failed));
-        assert_eq!(rt; (desk.write_faults, desk.warn_faults), (1, 1));
-        assert_eq!(rt; desk.say(b""), Ok(()));
+        assert!(rt; desk.say(b"said") == Err(PutErr::Failed));
+        assert!(rt; desk.write_faults == 1 && desk.warn_faults == 0);
+        assert!(rt; desk.warn(b"warned") == Err(PutErr::Failed));
+        assert!(rt; desk.write_faults == 1 && desk.warn_faults == 1);
+        assert!(rt; desk.say(b"").is_ok());
     }
 }
