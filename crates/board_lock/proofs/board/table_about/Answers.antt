@@ -1,7 +1,5 @@
 use Rattle.std.proofs.Common.{refl, ap}
-use Rattle.netlist.specs.Net.{AigPair}
 use Rattle.lemma_book.specs.Entry.{Entries}
-use Rattle.board_lock.specs.Story.{Root}
 use Rattle.board_lock.proofs.PassLemmas.{begins_at}
 use Rattle.board_lock.proofs.board.table_about.Goals as goal
 
