@@ -1,6 +1,5 @@
 use Rattle.std.proofs.Common.{subst, ap, ◌∙◌}
 use Rattle.std.proofs.lemmas.Result.{IfOk-weaker}
-use Rattle.lits.specs.Dimacs.{DimacsLiteral}
 use Rattle.lrat_text.specs.Derivation.{formula_live}
 use Rattle.lrat_checker.specs.Verdict.{IsVerdict}
 use Rattle.lrat_checker.proofs.checking.check.Goals as goal
