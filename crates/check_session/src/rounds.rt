@@ -2,7 +2,6 @@ ghost use Rattle.std.specs.Prelude.{◌≡◌, ◌<◌, ◌≤◌, length, Some,
 ghost use Rattle.lemma_book.specs.Book.{IsLegal};
 ghost use Rattle.lemma_book.specs.Good.{IsGood};
 ghost use Rattle.cone_query.specs.Query.{task_of};
-ghost use Rattle.sig_classes.specs.Kept.{AreKept};
 ghost use Rattle.sig_classes.specs.Leader.{IsSwept};
 ghost use Rattle.check_session.specs.Growth.{Grows, is_of_pair};
 ghost use Rattle.check_session.specs.Rounds.{Extends, Fits, MayAsk, AreAsked, HasWholeInput, Joins, Settles};
@@ -33,8 +32,7 @@ pub(crate) fn sweep<R: Refuter + Send>(
     ensures swept { OnOk result (IsSwept net.now book.new.entries) }
 {
     strash_pass::run(alloc, net, book)?;
-    let mut classes = KeptClasses::new(alloc, net)?;
-    settle_rounds(alloc, net, &mut classes, book, pool, search, refuter)
+    settle_rounds(alloc, net, book, pool, search, refuter)
 }
 
 /// Settles pairs of nodes that no pattern tells apart, round after round, until simulation has no
@@ -46,7 +44,6 @@ pub(crate) fn sweep<R: Refuter + Send>(
 fn settle_rounds<R: Refuter + Send>(
     alloc: Global,
     net: &Net,
-    classes: &mut KeptClasses,
     book: &mut Book,
     pool: &mut Pool,
     search: &mut Search,
@@ -54,11 +51,11 @@ fn settle_rounds<R: Refuter + Send>(
 ) -> Result<(), AllocError>
     requires legal { IsLegal net.now book.old }
     requires fits { Fits net.now pool.old }
-    requires kept { AreKept net.now pool.old.patterns classes.old }
     ensures grows { OnOk result (Grows net.now is_of_pair book.old book.new) }
     ensures swept { OnOk result (IsSwept net.now book.new.entries) }
 {
     netlist::laws::is_net(net);
+    let mut classes = KeptClasses::new(alloc, net)?;
     for _ in 0..u64::MAX {
         let due = classes.tasks(alloc, net, pool, book)?;
         let pairs = due.as_slice();
@@ -114,7 +111,8 @@ fn settle<R: Refuter + Send>(
     ensures pool { OnOk result (Extends pool.old pool.new) }
 {
     let entry = entry_on(alloc, net, book, &task, search, refuter)?;
-    keep_input(net, &entry, pool, search)?;
+    note_input(net, &entry, search)?;
+    keep_input(&entry, pool)?;
     put(alloc, net, book, entry)
 }
 
@@ -147,22 +145,21 @@ pub(crate) fn caps(budget: u64) -> Caps {
     }
 }
 
-/// Lets the input of a counterexample join the patterns, and lets the search use it for the round's later
-/// pairs.
-fn keep_input(
-    net: &Net,
-    entry: &Entry,
-    pool: &mut Pool,
-    search: &mut Search,
-) -> Result<(), AllocError>
+/// Lets the search use the input of a counterexample for the round's later pairs.
+fn note_input(net: &Net, entry: &Entry, search: &mut Search) -> Result<(), AllocError> {
+    match entry {
+        Entry::Apart { input, .. } => search.note(net, input.as_slice()),
+        _ => Ok(()),
+    }
+}
+
+/// Lets the input of a counterexample join the patterns.
+fn keep_input(entry: &Entry, pool: &mut Pool) -> Result<(), AllocError>
     requires { HasWholeInput pool.old.inputs entry.now }
     ensures { OnOk result (Joins entry.now pool.old pool.new) }
 {
     match entry {
-        Entry::Apart { input, .. } => {
-            search.note(net, input.as_slice())?;
-            pool.add(input.as_slice())
-        }
+        Entry::Apart { input, .. } => pool.add(input.as_slice()),
         _ => Ok(()),
     }
 }
