@@ -108,17 +108,39 @@ fn table_over(alloc: Global, net: &Net, book: Book) -> Result<(Lock, Place), Boo
         × (t.1.me ≡ (opener (record { net = net.now; opening = book }), []))) }
     ensures err { IfErr result (λ b. b ≡ book) }
 {
-    let Ok(mut slots) = Vec::with_capacity(alloc, 1) else {
-        return Err(book);
-    };
     let Ok(about) = about(alloc, net, &book) else {
         return Err(book);
     };
-    slots.push_reserved(History::of(alloc, book));
-    match Lock::new(alloc, &[0, 0, 0, 0], slots, &about) {
+    table_about(alloc, &about, book)
+}
+
+/// The same, where net and book were copied.
+fn table_about(alloc: Global, about: &About, book: Book) -> Result<(Lock, Place), Book>
+    requires legal { IsLegal about.now.net book }
+    requires opening { about.now.opening ≡ book }
+    ensures table { IfOk result (λ t. (t.0.shared.table_id.words ≡ 4) × (t.0.shared.table_id.slots ≡ 1)
+        × (t.0.shared.key ≡ about.now)) }
+    ensures place { IfOk result (λ t. (t.1.table_id ≡ t.0.shared.table_id) × (t.1.id ≡ 0)
+        × (t.1.me ≡ (opener about.now, []))) }
+    ensures err { IfErr result (λ b. b ≡ book) }
+{
+    let slots = slots_of(alloc, book)?;
+    match Lock::new(alloc, &[0, 0, 0, 0], slots, about) {
         Ok(laid) => Ok(laid),
         Err(refused) => Err(book_in(refused.slots)),
     }
+}
+
+/// The slot with the book's one history. Where memory is refused the book comes back.
+fn slots_of(alloc: Global, book: Book) -> Result<Vec<History>, Book>
+    ensures slots { IfOk result (λ s. s.items ≡ record { book = book; turns = []; missed = 0 } ∷ []) }
+    ensures err { IfErr result (λ b. b ≡ book) }
+{
+    let Ok(mut slots) = Vec::with_capacity(alloc, 1) else {
+        return Err(book);
+    };
+    slots.push_reserved(History::of(alloc, book));
+    Ok(slots)
 }
 
 /// Copies of the net and of the book.

@@ -30,16 +30,64 @@ pub(crate) fn settle(alloc: Global, net: &Net, options: Options) -> Result<Settl
     requires { AreInRange options }
     ensures { IfOk result (λ s. IsFound net.now options s.book s.verdict) }
 {
-    let book = Book::new(alloc, options.sweep_budget, options.out_budget);
     let mut pool = first_pool(alloc, net, options)?;
-    if let Some(difference) = difference_in(alloc, net, &pool)? {
-        return settle_at_once(alloc, net, options, book, difference);
+    match difference_in(alloc, net, &pool)? {
+        Some(difference) => settle_at_once(
+            alloc,
+            net,
+            options,
+            first_book(alloc, options),
+            difference,
+        ),
+        None => settle_by_search(alloc, net, options, &mut pool),
     }
+}
+
+/// The same where no pattern of the first pool tells an output apart.
+fn settle_by_search(
+    alloc: Global,
+    net: &Net,
+    options: Options,
+    pool: &mut Pool,
+) -> Result<Settled, AllocError>
+    requires range { AreInRange options }
+    requires fits { Fits net.now pool.old }
+    ensures { IfOk result (λ s. IsFound net.now options s.book s.verdict) }
+{
     let mut search = Search::new(alloc, net, options.seed, options.words)?;
-    match difference_beside(alloc, net, &mut pool, &mut search)? {
-        Some(difference) => settle_at_once(alloc, net, options, book, difference),
-        None => settle_by_sweep(alloc, net, options, book, pool, search),
+    settle_with_search(alloc, net, options, pool, &mut search)
+}
+
+/// The same with a search: at once where one of its patterns tells an output apart.
+fn settle_with_search(
+    alloc: Global,
+    net: &Net,
+    options: Options,
+    pool: &mut Pool,
+    search: &mut Search,
+) -> Result<Settled, AllocError>
+    requires range { AreInRange options }
+    requires fits { Fits net.now pool.old }
+    ensures { IfOk result (λ s. IsFound net.now options s.book s.verdict) }
+{
+    match difference_beside(alloc, net, pool, search)? {
+        Some(difference) => settle_at_once(
+            alloc,
+            net,
+            options,
+            first_book(alloc, options),
+            difference,
+        ),
+        None => settle_by_sweep(alloc, net, options, pool, search),
     }
+}
+
+/// The book before anything is found.
+fn first_book(alloc: Global, options: Options) -> Book
+    requires { AreInRange options }
+    ensures { result ≡ empty_book options }
+{
+    Book::new(alloc, options.sweep_budget, options.out_budget)
 }
 
 /// The patterns that the seed draws for the pair's inputs.
@@ -112,17 +160,41 @@ fn settle_by_sweep(
     alloc: Global,
     net: &Net,
     options: Options,
-    mut book: Book,
-    mut pool: Pool,
-    mut search: Search,
+    pool: &mut Pool,
+    search: &mut Search,
 ) -> Result<Settled, AllocError>
-    requires book { book ≡ empty_book options }
-    requires fits { Fits net.now pool }
+    requires range { AreInRange options }
+    requires fits { Fits net.now pool.old }
     ensures { IfOk result (λ s. IsFound net.now options s.book s.verdict) }
 {
     let mut refuter = WatchSolver::new(alloc)?;
-    sweep(alloc, net, &mut book, &mut pool, &mut search, &mut refuter)?;
-    settle_outputs(alloc, net, &mut book, &mut search, &mut refuter)?;
+    settle_with_solver(
+        alloc,
+        net,
+        options,
+        first_book(alloc, options),
+        pool,
+        search,
+        &mut refuter,
+    )
+}
+
+/// The same with an empty book and a solver.
+fn settle_with_solver(
+    alloc: Global,
+    net: &Net,
+    options: Options,
+    mut book: Book,
+    pool: &mut Pool,
+    search: &mut Search,
+    refuter: &mut WatchSolver,
+) -> Result<Settled, AllocError>
+    requires book { book ≡ empty_book options }
+    requires fits { Fits net.now pool.old }
+    ensures { IfOk result (λ s. IsFound net.now options s.book s.verdict) }
+{
+    sweep(alloc, net, &mut book, pool, search, refuter)?;
+    settle_outputs(alloc, net, &mut book, search, refuter)?;
     let verdict = Verdict::of(alloc, net, &book)?;
     means(net, &book);
     is_within(net, &book);

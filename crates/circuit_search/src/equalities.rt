@@ -65,19 +65,30 @@ impl Equalities {
     }
 
     /// The steps of a proof, behind the steps of the equalities that they lead to.
-    pub(crate) fn proof(&self, alloc: Global, steps: Vec<Step>) -> Result<Vec<Step>, AllocError> {
+    pub(crate) fn proof(&self, alloc: Global, steps: &[Step]) -> Result<Vec<Step>, AllocError> {
         let mut numbers = vec![in alloc; 0; self.steps.len()]?;
-        let many = self.number(&mut numbers, &steps);
+        let many = self.number(&mut numbers, steps);
+        self.numbered(alloc, steps, &numbers, many)
+    }
+
+    /// The steps that have a number, of which there are so many, and behind them those of a proof.
+    fn numbered(
+        &self,
+        alloc: Global,
+        steps: &[Step],
+        numbers: &[u32],
+        many: u32,
+    ) -> Result<Vec<Step>, AllocError> {
         let mut proof = Vec::new(alloc);
         for place in 0..self.len() {
-            if at(&numbers, place) > 0 {
+            if at(numbers, place) > 0 {
                 if let Some(step) = self.steps.get(place as usize) {
-                    proof.push(self.renamed(alloc, step, &numbers, many)?)?;
+                    self.push_renamed(alloc, step, numbers, many, &mut proof)?;
                 }
             }
         }
-        for step in &steps {
-            proof.push(self.renamed(alloc, step, &numbers, many)?)?;
+        for step in steps {
+            self.push_renamed(alloc, step, numbers, many, &mut proof)?;
         }
         Ok(proof)
     }
@@ -104,21 +115,35 @@ impl Equalities {
         many
     }
 
-    /// The step with the names that its hints have in a proof, which has so many steps of equalities.
-    fn renamed(
+    /// Puts the step last, with the names that its hints have in a proof, which has so many steps of
+    /// equalities.
+    fn push_renamed(
         &self,
         alloc: Global,
         step: &Step,
         numbers: &[u32],
         many: u32,
-    ) -> Result<Step, AllocError> {
+        proof: &mut Vec<Step>,
+    ) -> Result<(), AllocError> {
+        let hints = Listed::of(self.names(alloc, step.hints.as_slice(), numbers, many)?);
         let clause = step.clause.copy()?;
-        let mut hints = Vec::with_capacity(alloc, step.hints.len())?;
-        for hint in step.hints.as_slice() {
-            hints.push(self.name(*hint, numbers, many))?;
+        proof.push(Step { clause, hints })?;
+        Ok(())
+    }
+
+    /// What the hints are called in a proof.
+    fn names(
+        &self,
+        alloc: Global,
+        hints: &[Ref],
+        numbers: &[u32],
+        many: u32,
+    ) -> Result<Vec<Ref>, AllocError> {
+        let mut names = Vec::with_capacity(alloc, hints.len())?;
+        for hint in hints {
+            names.push(self.name(*hint, numbers, many))?;
         }
-        let hints = Listed::of(hints);
-        Ok(Step { clause, hints })
+        Ok(names)
     }
 
     /// What a hint is called in a proof.

@@ -174,7 +174,7 @@ impl Engine {
         let both = Ref::Axiom(Node::Xor(output), 1);
         self.add_step(alloc, net, &[equal, first], &[one], back, &mut steps)?;
         self.add_step(alloc, net, &[equal], &[before, both], there, &mut steps)?;
-        let steps = Listed::of(self.equalities.proof(alloc, steps)?);
+        let steps = Listed::of(self.equalities.proof(alloc, &steps)?);
         Ok(Some(Entry::Out { output, steps }))
     }
 

@@ -63,21 +63,30 @@ impl Engine {
         hints: Hints,
         steps: &mut Vec<Step>,
     ) -> Result<(), AllocError> {
-        let clause = match Clause::of(alloc, lits) {
-            Ok(clause) => clause,
-            Err(ClauseErr::Tautology) => return Ok(()),
-            Err(ClauseErr::NoMemory) => return Err(AllocError),
-        };
-        let mut refs = Vec::with_capacity(alloc, names.len())?;
-        for name in names {
-            refs.push(*name)?;
+        let hints = Listed::of(self.refs(alloc, net, names, hints)?);
+        match Clause::of(alloc, lits) {
+            Ok(clause) => {
+                steps.push(Step { clause, hints })?;
+                Ok(())
+            }
+            Err(ClauseErr::Tautology) => Ok(()),
+            Err(ClauseErr::NoMemory) => Err(AllocError),
         }
+    }
+
+    /// These names, and behind them what the hints are called.
+    fn refs(
+        &self,
+        alloc: Global,
+        net: &Net,
+        names: &[Ref],
+        hints: Hints,
+    ) -> Result<Vec<Ref>, AllocError> {
+        let mut refs = Vec::from_slice(alloc, names)?;
         for clause in self.lessons.hints(hints) {
             refs.push(self.name_of(net, *clause))?;
         }
-        let hints = Listed::of(refs);
-        steps.push(Step { clause, hints })?;
-        Ok(())
+        Ok(refs)
     }
 
     /// What a clause is called in the entry's steps.

@@ -1,13 +1,16 @@
-ghost use Rattle.std.specs.Prelude.{◌≡◌, IfOk};
+ghost use Rattle.std.specs.Prelude.{◌≡◌, ℕ, List, IfOk};
 ghost use Rattle.lits.specs.Assignment.{IsSatisfiable};
+ghost use Rattle.lits.specs.Dimacs.{DimacsLiteral};
 ghost use Rattle.lits.specs.Same.{opposite_dim};
-ghost use Rattle.lrat_text.specs.Derivation.{adds_empty};
+ghost use Rattle.lrat_text.specs.Derivation.{adds_empty, formula_live};
+ghost use Rattle.lrat_checker.specs.Live.{clauses_of};
 ghost use Rattle.lrat_checker.specs.Verdict.{IsVerdict};
 
 use crate::judging::fault_over;
 use crate::live::LiveClauses;
 use crate::verdict::Verdict;
 use dimacs_text::Cnf;
+use lits::Dim;
 use lrat_text::{Line, LratStep, derived_lines};
 use std::alloc::{AllocError, Global};
 use unit_prop::StepCheck;
@@ -23,9 +26,23 @@ pub fn check(alloc: Global, cnf: &Cnf, lines: &[Line]) -> Result<Verdict, AllocE
     derived_lines();
     let mut live = LiveClauses::of(alloc, cnf.clauses.as_slice())?;
     let mut steps = StepCheck::new(alloc);
+    judge_all(&mut steps, &mut live, lines)
+}
+
+/// Judges the lines of a proof of a formula whose clauses are live.
+fn judge_all<'a>(
+    steps: &mut StepCheck<Dim>,
+    live: &mut LiveClauses<'a>,
+    lines: &'a [Line],
+) -> Result<Verdict, AllocError>
+    ensures { IfOk result (λ v. (formula : List (List DimacsLiteral)) →
+        ((id : ℕ) → clauses_of live.old id ≡ formula_live formula id) →
+        IsVerdict formula lines.now v) }
+{
+    derived_lines();
     let mut has_empty = false;
     for line in lines {
-        if let Some(fault) = fault_over(&mut steps, &live, &line.step)? {
+        if let Some(fault) = fault_over(steps, live, &line.step)? {
             return Ok(Verdict::Bad {
                 line: line.at,
                 fault,

@@ -1,7 +1,7 @@
 use Rattle.std.proofs.Common.{ap}
 use Rattle.lemma_book.specs.Entry.{Entries}
 use Rattle.check_session.proofs.SweptLemmas.{sweep-seen, found-by_sweep}
-use Rattle.check_session.proofs.settling.settle_by_sweep.Goals as goal
+use Rattle.check_session.proofs.settling.settle_with_solver.Goals as goal
 
 pub settle_outputs-requires-clause-seen : goal.settle_outputs-requires-clause-seen
 settle_outputs-requires-clause-seen c κs =
