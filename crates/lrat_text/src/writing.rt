@@ -40,6 +40,7 @@ fn append_line(buf: &mut Vec<u8>, last: u64, step: &LratStep) -> Result<(), Allo
     }
 }
 
+/// Appends the line of an addition: its id, the clause and a 0, then the hints.
 fn append_addition(
     buf: &mut Vec<u8>,
     id: u64,
@@ -57,8 +58,10 @@ fn append_addition(
     end_ids(buf, hints)
 }
 
+/// Appends the line of a deletion: the last addition's id, a `d`, then the ids.
 fn append_deletion(buf: &mut Vec<u8>, last: u64, ids: &[u64]) -> Result<(), AllocError>
-    ensures ok { OnOk result (buf.new.items ≡ buf.old.items ++ (decimal last ++ 32 ∷ 100 ∷ ended_ids ids.now)) }
+    ensures ok { OnOk result
+        (buf.new.items ≡ buf.old.items ++ (decimal last ++ 32 ∷ 100 ∷ ended_ids ids.now)) }
     ensures err { OnErr result (Begins buf.old.items buf.new.items) }
 {
     push_number(buf, last)?;
