@@ -1,5 +1,5 @@
 -- A draft whose uses are defined is a circuit once its gates are in order.
-use Rattle.std.proofs.Common.{◌≡◌, ℕ, zero, suc, ◌<◌, Bool, true, false, not, None, Some, List, [], ◌∷◌, ◌++◌, length, refl, sym, ◌∙◌, arith}
+use Rattle.std.proofs.Common.{◌≡◌, ℕ, Ok, zero, suc, ◌<◌, Bool, true, false, not, None, Some, List, [], ◌∷◌, ◌++◌, length, refl, sym, ◌∙◌, arith}
 use Rattle.std.specs.Prelude.{◌==◌, ◌&&◌, ◌||◌, cond, slice_index_or}
 use Rattle.std.specs.List.{find, flat_map, list_all}
 use Rattle.std.proofs.lemmas.Bool.Decides.{nat_tests}
@@ -8,11 +8,11 @@ use Rattle.std.proofs.lemmas.List.Folds.{list_any-append, list_all-append}
 use Rattle.lits.specs.Clause.{has, no_repeat}
 use Rattle.netlist.specs.declared.gate.And.{And}
 use Rattle.netlist.specs.Circuit.{Aig, IsCircuit, AreOrdered, gate_vars, variables_in, is_over, var_of}
-use Rattle.circuit_draft.specs.Levels.{is_in_order, by_level, on_cycle}
-use Rattle.std.specs.Prelude.{Ok}
+use Rattle.circuit_draft.specs.Levels.{is_in_order, on_cycle}
 use Rattle.std.proofs.lemmas.Bool.{and_parts, or_parts, not-true}
 use Rattle.circuit_draft.specs.Draft.{IsDraft, undefined_in, uses_in, finished}
-use Rattle.circuit_draft.specs.Steps.{AreDefined}
+use Rattle.circuit_draft.specs.Steps.{AreDefined, IsFinished}
+use Rattle.circuit_draft.proofs.InOrderLemmas.{no_cycle-order}
 
 -- ---- nothing is undefined
 
@@ -119,14 +119,8 @@ IsCircuit-order c draft none order = record {
 pub finished-order : (c : Aig) → undefined_in c ≡ None → on_cycle c ≡ None → is_in_order (0 ∷ c.inputs) c.gates ≡ true → finished c ≡ Ok c
 finished-order c none cycle order = rw (none, cycle, order) refl
 
-pub finished-levels : (c : Aig) → undefined_in c ≡ None → on_cycle c ≡ None → is_in_order (0 ∷ c.inputs) c.gates ≡ false
-    → finished c ≡ Ok (record c { gates = by_level c })
-finished-levels c none cycle order = rw (none, cycle, order) refl
-
--- the parts with the gates by level make a circuit
-pub with_gates : (c d : Aig) (gates : List And) → d ≡ c → gates ≡ by_level c → IsCircuit (record c { gates = by_level c })
-    → IsCircuit (record d { gates = gates })
-with_gates c d gates same is circuit = rw (is, same) circuit
-
-pub made_gates : (c d : Aig) (gates : List And) → d ≡ c → gates ≡ by_level c → (record d { gates = gates }) ≡ (record c { gates = by_level c })
-made_gates c d gates same is = rw (is, same) refl
+pub IsFinished-order : (c : Aig) → IsDraft c → undefined_in c ≡ None → is_in_order (0 ∷ c.inputs) c.gates ≡ true → IsFinished c c
+IsFinished-order c draft none order = record {
+  is_circuit = IsCircuit-order c draft none order;
+  finished = finished-order c none (no_cycle-order c draft.variables order) order;
+}

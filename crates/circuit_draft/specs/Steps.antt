@@ -1,9 +1,10 @@
 -- What the search for levels keeps: for each gate, by its place, its level, or 0 where that isn't known yet.
-use Rattle.std.specs.Prelude.{◌≡◌, ◌≢◌, ◌⊎◌, ℕ, true, ◌+◌, ◌<◌, ◌≤◌, ◌==◌, Some, List, [], ◌∷◌, length, slice_index, if◌then◌else◌}
+use Rattle.std.specs.Prelude.{◌≡◌, ◌≢◌, ◌⊎◌, ℕ, true, ◌+◌, ◌<◌, ◌≤◌, ◌==◌, Option, Some, None, Ok, List, [], ◌∷◌, length, slice_index, if◌then◌else◌}
 use Rattle.std.specs.List.{slice_index_or}
 use Rattle.netlist.specs.declared.gate.And.{And}
-use Rattle.netlist.specs.Circuit.{Aig, var_of, is_over, variables_in}
+use Rattle.netlist.specs.Circuit.{Aig, IsCircuit, var_of, is_over, variables_in}
 use Rattle.circuit_draft.specs.Levels.{level_of}
+use Rattle.circuit_draft.specs.Draft.{finished}
 use Rattle.circuit_draft.specs.declared.climb.Fanin.{Fanin}
 use Rattle.circuit_draft.specs.declared.climb.Fanin.TheVariants as fanin
 use Rattle.circuit_draft.specs.declared.climb.Step.{Step}
@@ -60,3 +61,13 @@ IsStep c levels p (step.First q) = IsOpen c levels q × Uses c p q
 pub record AreAllLevels (c : Aig) (levels : List ℕ) : Type 0 where
   pub count : length levels ≡ length c.gates
   pub each : (p : ℕ) → p < length c.gates → level_of c (gate_at c p).var ≡ Some (slice_index levels p)
+
+-- the draft with these gates, where there are some, and else with its own
+abbrev pub with_order : Aig → Option (List And) → Aig
+with_order c None = c
+with_order c (Some gates) = record c { gates = gates }
+
+-- the circuit that a draft becomes
+pub record IsFinished (c circuit : Aig) : Type 0 where
+  pub is_circuit : IsCircuit circuit
+  pub finished : finished c ≡ Ok circuit

@@ -1,8 +1,11 @@
-ghost use Rattle.std.specs.Prelude.{◌≡◌, ◌<◌, ◌≤◌, ◌++◌, ◌∷◌, ◌==◌, [], false, length, OnOk, OnErr};
+ghost use Rattle.std.specs.Prelude.{◌≡◌, ◌≢◌, ◌<◌, ◌≤◌, ◌++◌, ◌∷◌, ◌==◌, [], false, length, OnOk, OnErr, IfOk, IfErr, None, Err, option_map};
 ghost use Rattle.lits.specs.Clause.{has};
-ghost use Rattle.netlist.specs.Circuit.{most, variables_in};
+ghost use Rattle.netlist.specs.Circuit.{IsCircuit, most, variables_in};
 ghost use Rattle.byte_scan.specs.Reading.{Gives};
-ghost use Rattle.circuit_draft.specs.Draft.{finished};
+ghost use Rattle.byte_scan.specs.declared.errors.AigerErr.TheVariants.{NoMemory};
+ghost use Rattle.circuit_draft.specs.Draft.{IsDraft, finished, undefined_in};
+ghost use Rattle.circuit_draft.specs.Levels.{is_in_order};
+ghost use Rattle.circuit_draft.specs.Steps.{IsFinished, with_order};
 
 use crate::buckets::Buckets;
 use byte_scan::AigerErr;
@@ -99,26 +102,64 @@ impl Draft {
     pub fn finish(self, alloc: Global) -> Result<Circuit, AigerErr>
         ensures { Gives result (finished self) }
     {
+        match self.order(alloc)? {
+            Some(gates) => Ok(self.with_gates(alloc, gates)?),
+            None => Ok(self.as_it_stands()),
+        }
+    }
+
+    /// The gates by level, unless they stand in order already; or the first fault.
+    fn order(&self, alloc: Global) -> Result<Option<Vec<And>>, AigerErr>
+        requires { IsDraft self.now }
+        ensures ok { IfOk result (λ order.
+            IsFinished self.now (with_order self.now (option_map (λ v. v.items) order))) }
+        ensures err { IfErr result (λ e. e ≢ NoMemory → finished self.now ≡ Err e) }
+    {
         if let Some(lit) = self.undefined() {
             return Err(AigerErr::Undefined(u64::from(lit)));
         }
         if self.is_in_order() {
-            let Draft {
-                inputs,
-                gates,
-                outputs,
-                table,
-            } = self;
-            return Ok(Circuit::with_table(inputs, gates, outputs, table));
+            return Ok(None);
         }
+        Ok(Some(self.gates_by_level(alloc)?))
+    }
+
+    /// The gates by level; or the first gate that has none.
+    fn gates_by_level(&self, alloc: Global) -> Result<Vec<And>, AigerErr>
+        requires defined { undefined_in self.now ≡ None }
+        requires order { is_in_order (0 ∷ self.now.inputs) self.now.gates ≡ false }
+        ensures ok { IfOk result (λ v. IsFinished self.now (record self.now { gates = v.items })) }
+        ensures err { IfErr result (λ e. e ≢ NoMemory → finished self.now ≡ Err e) }
+    {
         let levels = self.levels(alloc)?;
-        let gates = Buckets::of(alloc, levels)?.sorted(alloc, self.gates.as_slice())?;
+        Ok(Buckets::sorted_by(alloc, levels, self.gates.as_slice())?)
+    }
+
+    /// The circuit of a draft whose gates are in order.
+    fn as_it_stands(self) -> Circuit
+        requires { IsCircuit self }
+        ensures { result ≡ self }
+    {
+        let Draft {
+            inputs,
+            gates,
+            outputs,
+            table,
+        } = self;
+        Circuit::with_table(inputs, gates, outputs, table)
+    }
+
+    /// The circuit of a draft with its gates in this order.
+    fn with_gates(self, alloc: Global, gates: Vec<And>) -> Result<Circuit, AllocError>
+        requires { IsCircuit (record self { gates = gates.items }) }
+        ensures { IfOk result (λ c. c ≡ record self { gates = gates.items }) }
+    {
         let Draft {
             inputs,
             gates: _,
             outputs,
             table: _,
         } = self;
-        Ok(Circuit::of(alloc, inputs, gates, outputs)?)
+        Circuit::of(alloc, inputs, gates, outputs)
     }
 }

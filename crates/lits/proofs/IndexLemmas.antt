@@ -3,6 +3,7 @@ use Rattle.std.proofs.Common.{◌≡◌, ◌≢◌, ℕ, ◌⊎◌, inl, inr, ze
 use Rattle.std.specs.Prelude.{Option, Some, None, IfSome, IfNone, is_some, ◌||◌, if◌then◌else◌, nat_le}
 use Rattle.std.specs.List.{slice_get}
 use Rattle.std.proofs.lemmas.Bool.{le-leb}
+use Rattle.std.proofs.lemmas.Option.{slice_get_read, get_or_from_slice_get}
 use Rattle.std.proofs.lemmas.List.{take_more, length-set, get_or-set_same, get_or-set_other, get_or_append_left, get_or_past}
 use Rattle.std.proofs.lemmas.Bool.Decides.{leb_tells, eqb_tells}
 use Rattle.std.proofs.Math.Seq.{get_or-append_seam}
@@ -75,6 +76,23 @@ module _ {L : Type 0} {eq : L → L → Bool} (exact : (x y : L) → eq x y ≡ 
       go true e =
           let found = has-place xs x e in
           elim (leads-nothing links found.0 name none (leads found.0 found.1)) [ ]
+
+-- an element that is read is that at its place, whatever stands for none
+pub read-else : {X : Type 0} (xs : List X) (i : ℕ) (x d : X) → i < length xs → x ≡ get_or xs i x → x ≡ get_or xs i d
+read-else xs i x d lt is = sym (get_or_from_slice_get xs i x d (slice_get_read xs _ i x refl lt is))
+
+-- a place of a literal is still ahead behind the place of another one
+pub leads-behind : {L : Type 0} (eq : L → L → Bool) → ((x : L) → eq x x ≡ true) → (links : List ℕ) (xs : List L) (x other : L) (name i next : ℕ)
+    → name ≡ i + 1 → i < length links → other ≡ get_or xs i other → eq other x ≡ false → next ≡ get_or links i next
+    → ((place : ℕ) → slice_get xs place ≡ Some x → Leads links place name) → (place : ℕ) → slice_get xs place ≡ Some x → Leads links place next
+leads-behind {L} eq self links xs x other name i next is below at differs read ahead place found =
+    subst (λ (n : ℕ). Leads links place n) (sym (read-else links i next 0 below read)) (leads-on links place name i is apart (ahead place found))
+  where
+    apart : place ≢ i
+    apart same =
+        let there : other ≡ x = at ∙ get_or_from_slice_get xs i x other (subst (λ (p : ℕ). slice_get xs p ≡ Some x) same found) in
+        let equal : eq other x ≡ true = subst (λ (y : L). eq y x ≡ true) (sym there) (self x) in
+        cc (equal, differs)
 
 slice_get-push : {L : Type 0} → (xs : List L) (x y : L) (place : ℕ) → slice_get (xs ++ x ∷ []) place ≡ Some y
     → ((place < length xs) × (slice_get xs place ≡ Some y)) ⊎ ((place ≡ length xs) × (x ≡ y))

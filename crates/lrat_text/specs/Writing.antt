@@ -6,7 +6,7 @@ use Rattle.lrat_text.specs.declared.step.LratStep.{LratStep}
 use Rattle.lrat_text.specs.declared.step.LratStep.TheVariants.{Add, Del}
 use Rattle.lrat_text.specs.Steps.{id_after}
 use Rattle.lrat_text.specs.Reading.{steps_from}
-use Rattle.tokens.specs.Text.{literal_text, joined, ended}
+use Rattle.tokens.specs.Text.{literal_text, spaced, joined, ended}
 use Rattle.byte_scan.specs.declared.scan.TheConstants.{NUMBER_LIMIT}
 pub use Rattle.tokens.specs.Text.{IsInRange}
 
@@ -27,6 +27,10 @@ step_text last step = joined (decimal (first_of last step) ∷ words_of step)
 
 abbrev pub line_text : ℕ → LratStep → List ℕ
 line_text last step = ended (step_text last step)
+
+-- the ids at the end of a line, and its end
+abbrev pub ended_ids : List ℕ → List ℕ
+ended_ids ids = spaced (map decimal ids) ++ 32 ∷ 48 ∷ 10 ∷ []
 
 -- The text of some steps, each in a line; `last` is the last addition's id before them.
 abbrev pub text_from : ℕ → List LratStep → List ℕ

@@ -2,7 +2,7 @@ ghost use Rattle.std.specs.Prelude.{◌≡◌, ◌++◌, [], ◌∷◌, OnOk, On
 ghost use Rattle.std.specs.List.{AllByRecursion};
 ghost use Rattle.lits.specs.Dimacs.{DimacsLiteral};
 ghost use Rattle.tokens.specs.Text.{literal_text, spaced, Begins, IsInRange};
-ghost use Rattle.lrat_text.specs.Writing.{line_text, LiteralsFit};
+ghost use Rattle.lrat_text.specs.Writing.{ended_ids, line_text, LiteralsFit};
 
 use crate::step::LratStep;
 use lits::Dim;
@@ -34,19 +34,48 @@ fn append_line(buf: &mut Vec<u8>, last: u64, step: &LratStep) -> Result<(), Allo
 {
     match step {
         LratStep::Add { id, clause, hints } => {
-            push_number(buf, *id)?;
-            push_literals(buf, clause.as_slice())?;
-            buf.extend_from_slice(b" 0")?;
-            push_ids(buf, hints.as_slice())?;
+            append_addition(buf, *id, clause.as_slice(), hints.as_slice())
         }
-        LratStep::Del { ids } => {
-            push_number(buf, last)?;
-            buf.extend_from_slice(b" d")?;
-            push_ids(buf, ids.as_slice())?;
-        }
+        LratStep::Del { ids } => append_deletion(buf, last, ids.as_slice()),
     }
-    buf.extend_from_slice(b" 0\n")?;
-    Ok(())
+}
+
+/// Appends the line of an addition: its id, the clause and a 0, then the hints.
+fn append_addition(
+    buf: &mut Vec<u8>,
+    id: u64,
+    clause: &[Dim],
+    hints: &[u64],
+) -> Result<(), AllocError>
+    ensures ok { OnOk result (buf.new.items ≡ buf.old.items ++ (decimal id
+        ++ (spaced (map literal_text clause.now) ++ 32 ∷ 48 ∷ ended_ids hints.now))) }
+    ensures err { OnErr result (Begins buf.old.items buf.new.items) }
+    ensures literals { OnOk result (AllByRecursion IsInRange clause.now) }
+{
+    push_number(buf, id)?;
+    push_literals(buf, clause)?;
+    buf.extend_from_slice(b" 0")?;
+    end_ids(buf, hints)
+}
+
+/// Appends the line of a deletion: the last addition's id, a `d`, then the ids.
+fn append_deletion(buf: &mut Vec<u8>, last: u64, ids: &[u64]) -> Result<(), AllocError>
+    ensures ok { OnOk result
+        (buf.new.items ≡ buf.old.items ++ (decimal last ++ 32 ∷ 100 ∷ ended_ids ids.now)) }
+    ensures err { OnErr result (Begins buf.old.items buf.new.items) }
+{
+    push_number(buf, last)?;
+    buf.extend_from_slice(b" d")?;
+    end_ids(buf, ids)
+}
+
+/// Appends the ids that end a line, and its end.
+fn end_ids(buf: &mut Vec<u8>, ids: &[u64]) -> Result<(), AllocError>
+    ensures ok { OnOk result (buf.new.items ≡ buf.old.items ++ ended_ids ids.now) }
+    ensures err { OnErr result (Begins buf.old.items buf.new.items) }
+{
+    push_ids(buf, ids)?;
+    buf.extend_from_slice(b" 0\n")
 }
 
 /// Appends the numbers, each behind a space.

@@ -1,6 +1,7 @@
 ghost use Rattle.std.specs.Prelude.{◌≡◌, ◌<◌, IfOk, IfSome, IfNone, MatchResult, length};
 ghost use Rattle.netlist.specs.Net.{IsNet, all_fanins, circuit_of, defined_by, fanins_at, lit_of, node_at, nodes_of, output_of, position_of};
 ghost use Rattle.netlist.specs.Miter.{axiom_of, axioms_of, clause_number_of, cnf_number_of, miter_of, variables_of};
+ghost use Rattle.netlist.specs.Starts.{AreStarts};
 ghost use Rattle.netlist.specs.Unlike.{unlike_of};
 
 use crate::axioms::Axioms;
@@ -49,9 +50,14 @@ impl Net {
         if let Some(unlike) = unlike_of(&a, &b) {
             return Err(unlike);
         }
-        let pair = CircuitPair::of(a, b);
-        let fanins = pair.all_fanins(alloc)?;
-        let starts = ClauseStarts::of(alloc, &pair)?;
+        Net::of_pair(alloc, CircuitPair::of(a, b))
+    }
+
+    /// The net of a pair.
+    fn of_pair(alloc: Global, pair: CircuitPair) -> Result<Net, Unlike>
+        ensures { MatchResult result (λ n. n ≡ pair) (λ e. e ≡ Unlike.NoMemory) }
+    {
+        let (fanins, starts) = tables(alloc, &pair)?;
         Ok(Net {
             pair,
             fanins,
@@ -228,4 +234,13 @@ fn unlike_of(a: &Circuit, b: &Circuit) -> Option<Unlike>
         return Some(Unlike::Outputs(outputs.0, outputs.1));
     }
     None
+}
+
+/// What a net keeps beside its pair.
+fn tables(alloc: Global, pair: &CircuitPair) -> Result<(Vec<Fanins>, ClauseStarts), AllocError>
+    ensures { IfOk result (λ t. (t.0.items ≡ all_fanins pair.now) × AreStarts pair.now t.1) }
+{
+    let starts = ClauseStarts::of(alloc, pair)?;
+    let fanins = pair.all_fanins(alloc)?;
+    Ok((fanins, starts))
 }

@@ -1,12 +1,16 @@
 -- How a set of literals grows into the closure.
-use Rattle.std.proofs.Common.{◌≡◌, ℕ, ◌+◌, ◌<◌, ◌≤◌, Bool, true, false, not, ◌||◌, List, [], ◌∷◌, ◌++◌, length, refl, sym, ap, ◌∙◌, subst, ◌⊎◌, inl, inr, arith}
+use Rattle.std.proofs.Common.{◌≡◌, ◌≢◌, ℕ, take, get_or, ◌+◌, ◌<◌, ◌≤◌, Bool, true, false, not, ◌||◌, List, [], ◌∷◌, ◌++◌, length, refl, sym, ap, ◌∙◌, subst, ◌⊎◌, inl, inr, arith}
 use Rattle.std.specs.Prelude.{filter}
 use Rattle.std.specs.List.{list_any, list_all, AllByRecursion}
+use Rattle.std.proofs.lemmas.List.{take_more, take_all}
+use Rattle.std.proofs.lemmas.List.Folds.{list_any_more, list_any_at}
 use Rattle.std.proofs.lemmas.Bool.{and_from, and_parts, or_cases, or_left, or_right}
 use Rattle.lits.specs.Clause.{has}
-use Rattle.lits.proofs.Facts.{IsLiteral, has-append, eq-opposite, list_any-more}
+use Rattle.lits.proofs.Facts.{IsLiteral, has-append, eq-opposite, list_any-more, all-append}
 use Rattle.unit_prop.specs.Closure.{forces, is_negated, IsClosed, Clashes, IsClosure, ClosureClashes}
-use Rattle.unit_prop.specs.Propagation.{IsConsistent, IsFree, IsSettled, is_forced_by}
+use Rattle.unit_prop.specs.Propagation.{IsConsistent, IsFree, IsSettled, AsksFor, IsFound, is_forced_by}
+use Rattle.unit_prop.specs.declared.propagation.Found.{Found}
+use Rattle.unit_prop.specs.declared.propagation.Found.TheVariants.{Clash, Unit as Forced, Nothing}
 use Rattle.unit_prop.proofs.LiteralLemmas.{contrary, alone}
 
 pub list_all-more : {X : Type 0} (p q : X → Bool) (xs : List X) → ((x : X) → p x ≡ true → q x ≡ true) → list_all p xs ≡ true
@@ -155,3 +159,28 @@ module _ {L : Type 0} {eq : L → L → Bool} {opposite : L → L} (laws : IsLit
 pub record IsScanned {L : Type 0} (eq : L → L → Bool) (opposite : L → L) (set : List L) (clauses : List (List L)) : Type 0 where
   pub quiet : list_any (is_negated opposite (has eq set)) clauses ≡ false
   pub settled : AllByRecursion (IsSettled eq opposite set) clauses
+
+-- one clause more that asks for nothing
+pub scanned-next : {L : Type 0} (eq : L → L → Bool) (opposite : L → L) (set : List L) (clauses : List (List L)) (i : ℕ) (clause d : List L) → i < length clauses
+    → clause ≡ get_or clauses i d → IsScanned eq opposite set (take i clauses) → AsksFor eq opposite set clause Nothing → IsScanned eq opposite set (take (i + 1) clauses)
+scanned-next {L} eq opposite set clauses i clause d lt is scanned asks =
+    let here : AsksFor eq opposite set (get_or clauses i d) Nothing = subst (λ (c : List L). AsksFor eq opposite set c Nothing) is asks in
+    record {
+      quiet = list_any_more (is_negated opposite (has eq set)) clauses i d lt ∙ rw (scanned.quiet, here.0) refl;
+      settled = rw (take_more clauses i d lt) (all-append (IsSettled eq opposite set) (take i clauses) (get_or clauses i d ∷ []) scanned.settled (here.1, tt));
+    }
+
+-- what a clause asks for is what some clause asks for
+pub found-here : {L : Type 0} (eq : L → L → Bool) (opposite : L → L) (set : List L) (clauses : List (List L)) (i : ℕ) (clause d : List L) (found : Found L) → i < length clauses
+    → clause ≡ get_or clauses i d → found ≢ Nothing → AsksFor eq opposite set clause found → IsFound eq opposite set clauses found
+found-here {L} eq opposite set clauses i clause d Clash lt is some asks =
+    list_any_at (is_negated opposite (has eq set)) clauses i d lt (subst (λ (c : List L). is_negated opposite (has eq set) c ≡ true) is asks)
+found-here {L} eq opposite set clauses i clause d (Forced lit) lt is some asks =
+    (asks.0, list_any_at (is_forced_by eq opposite set lit) clauses i d lt (subst (λ (c : List L). is_forced_by eq opposite set lit c ≡ true) is asks.1))
+found-here eq opposite set clauses i clause d Nothing lt is some asks = absurd (some refl)
+
+-- where all clauses are scanned, none asks for anything
+pub scanned-all : {L : Type 0} (eq : L → L → Bool) (opposite : L → L) (set : List L) (clauses : List (List L)) (i : ℕ) → length clauses ≤ i
+    → IsScanned eq opposite set (take i clauses) → IsFound eq opposite set clauses Nothing
+scanned-all {L} eq opposite set clauses i le scanned =
+    let all : IsScanned eq opposite set clauses = subst (λ (cs : List (List L)). IsScanned eq opposite set cs) (take_all i clauses le) scanned in (all.quiet, all.settled)

@@ -11,6 +11,20 @@ step-requires-clause-open c =
     let walk = subst (λ (ps : List ℕ). Walks c.args.self.now l.levels c.args.root ps) c.in-Some.ensures.items l.invariant.walk in
     Walks-last c.args.self.now l.levels c.args.root c.pop.new.self.items c.in-Some.gate walk
 
+pub step-requires-clause-left : goal.step-requires-clause-left
+step-requires-clause-left c =
+    let l = c.loop-gate in
+    let walk = subst (λ (ps : List ℕ). Walks c.args.self.now l.levels c.args.root ps) c.in-Some.ensures.items l.invariant.walk in
+    let here = Walks-last c.args.self.now l.levels c.args.root c.pop.new.self.items c.in-Some.gate walk in
+    c.requires.defined.left c.in-Some.gate here.within
+
+pub step-requires-clause-right : goal.step-requires-clause-right
+step-requires-clause-right c =
+    let l = c.loop-gate in
+    let walk = subst (λ (ps : List ℕ). Walks c.args.self.now l.levels c.args.root ps) c.in-Some.ensures.items l.invariant.walk in
+    let here = Walks-last c.args.self.now l.levels c.args.root c.pop.new.self.items c.in-Some.gate walk in
+    c.requires.defined.right c.in-Some.gate here.within
+
 pub bounds-levels-gate : goal.bounds-levels-gate
 bounds-levels-gate c =
     let l = c.loop-gate in

@@ -1,7 +1,17 @@
-use Rattle.std.proofs.Common.{arith}
+use Rattle.std.proofs.Common.{◌∙◌, sym, ap, arith}
+use Rattle.std.proofs.lemmas.List.{take_all}
 use Rattle.std.proofs.lemmas.Result.{err_from_is_err_and}
+use Rattle.lits.specs.Clause.{firsts, has_pair}
 use Rattle.lits.proofs.ClauseLemmas.{is_literal, kept-next, pair-next}
 use Rattle.lits.proofs.clause.Clause.of.Goals as goal
+
+pub returns-in_err-add-clause-kept : goal.returns-in_err-add-clause-kept
+returns-in_err-add-clause-kept g c =
+    let p = err_from_is_err_and c.from_residual.result c.from_residual.ensures.1 in rw p.1 tt
+
+pub returns-in_err-add-clause-clause : goal.returns-in_err-add-clause-clause
+returns-in_err-add-clause-clause g c =
+    let p = err_from_is_err_and c.from_residual.result c.from_residual.ensures.1 in rw p.1 tt
 
 pub returns-in_err-add-clause-tautology : goal.returns-in_err-add-clause-tautology
 returns-in_err-add-clause-tautology g c =
@@ -16,3 +26,16 @@ loop-lit-preserved g c =
       is_kept = kept-next laws _ _ _ _ _ (omega arith) c.lit-item.is c.loop-lit.invariant.is_kept c.in_ok-add.ensures.ok;
       ready = c.in_ok-add.ensures.ready;
     }
+
+pub invariant_of-result : goal.invariant_of-result
+invariant_of-result g c = c.loop-lit.invariant.is_kept.clause
+
+pub returns-clause-kept : goal.returns-clause-kept
+returns-clause-kept g c =
+    let all = take_all c.loop-lit.lit-index c.args.lits.now c.loop-lit-test.false in
+    c.loop-lit.invariant.is_kept.first ∙ ap (firsts g.L.PartialEq.eq) all
+
+pub returns-clause-clause : goal.returns-clause-clause
+returns-clause-clause g c =
+    let all = take_all c.loop-lit.lit-index c.args.lits.now c.loop-lit-test.false in
+    sym (ap (has_pair g.L.PartialEq.eq g.L.Literal.opposite) all) ∙ c.loop-lit.invariant.is_kept.apart
