@@ -7,13 +7,19 @@ use Rattle.lemma_book.specs.Root.{merge_of}
 use Rattle.strash_pass.specs.Pass.{IsWay}
 use Rattle.strash_pass.proofs.GateFacts.{is-gate}
 use Rattle.strash_pass.proofs.WayLemmas.{way-of}
-use Rattle.strash_pass.proofs.PassLemmas.{merged-grows, no-root, none-noted, pass-merged, pass-noted, pass-skipped, root-from, seen-twin}
+use Rattle.strash_pass.proofs.PassLemmas.{adds-none, merged-grows, no-root, none-noted, pass-merged, pass-noted, pass-skipped, root-from, seen-twin}
 use Rattle.strash_pass.proofs.visit.Pass.settle.Goals as goal
 
 pub returns-then-is_merged-clause-pass : goal.returns-then-is_merged-clause-pass
 returns-then-is_merged-clause-pass c =
     pass-skipped c.args.net.now c.args.book.now.entries c.args.self.now c.args.self.now.visited c.args.gate c.requires.gate c.requires.pass
     (no-root (merge_of c.args.book.now.entries c.args.gate.node) c.is_merged.result c.is_merged.ensures c.if-is_merged.true)
+
+pub returns-then-is_merged-clause-grows : goal.returns-then-is_merged-clause-grows
+returns-then-is_merged-clause-grows c = adds-none _
+
+pub returns-in_err-roots-clause-grows : goal.returns-in_err-roots-clause-grows
+returns-in_err-roots-clause-grows c = adds-none _
 
 pub merge_folded-requires-clause-way : goal.merge_folded-requires-clause-way
 merge_folded-requires-clause-way c =
@@ -67,3 +73,9 @@ returns-in_ok-insert-in-None-twin-clause-pass c =
     pass-noted c.args.net.now es c.args.self.now c.args.self.now.visited c.args.gate c.requires.gate c.requires.pass
     (record { gates = c.insert.new.self; visited = c.args.self.now.visited }) c.in_ok-roots.roots.left c.in_ok-roots.roots.right
     c.in_ok-roots.ensures.left c.in_ok-roots.ensures.right root (sym c.folded.ensures ∙ c.in-None.is) none.0 none.1 c.in_ok-insert-in-None-twin.ensures.updates.0
+
+pub returns-in_ok-insert-in-None-twin-clause-grows : goal.returns-in_ok-insert-in-None-twin-clause-grows
+returns-in_ok-insert-in-None-twin-clause-grows c = adds-none _
+
+pub returns-in_err-insert-in-None-twin-clause-grows : goal.returns-in_err-insert-in-None-twin-clause-grows
+returns-in_err-insert-in-None-twin-clause-grows c = adds-none _
