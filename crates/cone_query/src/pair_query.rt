@@ -50,6 +50,23 @@ pub fn pair<R: Refuter + Send>(
 {
     laws::is_net(net);
     entries_are_true(net, seen);
+    settle(alloc, net, seen, task, refuter)
+}
+
+/// Settles a pair by a query, or without one where no clause names its input.
+fn settle<R: Refuter + Send>(
+    alloc: Global,
+    net: &Net,
+    seen: &Book,
+    task: &Task,
+    refuter: &mut R,
+) -> Result<Entry, AllocError>
+    requires pair { IsPair net.now seen.now task.now }
+    requires gate { IsGate task.now.node }
+    ensures settles { IfOk result (Settles net.now seen.now task.now) }
+    ensures alone { IfOk result (λ e. IsUnnamed net.now seen.now.entries task.now → IsSetAlone e) }
+    ensures unasked { OnOk result (IsUnnamed net.now seen.now.entries task.now → refuter.new ≡ refuter.old) }
+{
     let node = Lit {
         node: task.node,
         neg: false,

@@ -1,27 +1,47 @@
--- The span is in the list of all.
+-- The clause's span is in the list of all codes.
 use Rattle.std.proofs.Common.{◌≡◌, ℕ, ◌-◌, ◌<◌, ◌≤◌, List, [], length, map, take, drop, get_or, ap, sym, subst, ◌∙◌, arith}
 use Rattle.std.proofs.lemmas.List.{get_or_read, get_or-map, length-map}
-use Rattle.watch_lists.specs.Flat.{piece, span_at, no_span}
+use Rattle.watch_lists.specs.Flat.{AreSpans, piece, span_at, no_span}
 use Rattle.watch_lists.specs.declared.flat.Span.{Span}
 use Rattle.watch_lists.proofs.flat.Flat.get.Goals as goal
 
+module _ (lits : List ℕ) (spans : List Span) (now : List (List ℕ)) (at : ℕ) (span : Span) (view : map (piece lits) spans ≡ now) (below : at < length now) where
+  inside : at < length spans
+  inside = omega (arith, below, ap length view, length-map spans (piece lits))
+
+  span-inside : AreSpans spans lits → span ≡ get_or spans at span → (span.start ≤ span.end) × (span.end ≤ length lits)
+  span-inside are read =
+      subst (λ (s : Span). (s.start ≤ s.end) × (s.end ≤ length lits)) (sym (get_or_read spans at span inside read no_span)) (are.within at inside)
+
+  span-piece : span ≡ get_or spans at span → piece lits span ≡ get_or now at []
+  span-piece read =
+      ap (piece lits) (get_or_read spans at span inside read no_span)
+      ∙ (sym (get_or-map (piece lits) spans at no_span [] inside) ∙ ap (λ (z : List (List ℕ)). get_or z at []) view)
+
 pub index-span-requires : goal.index-span-requires
 index-span-requires c =
-    omega (arith, c.requires, ap length c.self.view_is, length-map c.self.inside.spans.items (piece c.self.inside.lits.items), c.self.inside.spans.ok.0)
+    omega (arith, inside c.self.inside.lits.items c.self.inside.spans.items c.args.self.now c.args.at no_span c.self.view_is c.requires, c.self.inside.spans.ok.0)
+
+pub offset_bounds-as_slice-span : goal.offset_bounds-as_slice-span
+offset_bounds-as_slice-span c =
+    let here = span-inside c.self.inside.lits.items c.self.inside.spans.items c.args.self.now c.args.at c.index-span.result.now c.self.view_is c.requires c.self.invariant c.index-span.ensures in
+    omega (arith, here.0, here.1, ap length c.as_slice.ensures.value, c.as_slice.type_inv.1)
 
 pub slice_bounds-result-count : goal.slice_bounds-result-count
 slice_bounds-result-count c =
-    let spans = c.self.inside.spans.items in
-    let within : c.args.at < length spans = omega (arith, c.requires, ap length c.self.view_is, length-map c.self.inside.spans.items (piece c.self.inside.lits.items)) in
-    subst (λ (s : Span). s.start ≤ s.end) (sym (get_or_read spans c.args.at c.index-span.result.now within c.index-span.ensures no_span)) (c.self.invariant.within c.args.at within).0
+    (span-inside c.self.inside.lits.items c.self.inside.spans.items c.args.self.now c.args.at c.index-span.result.now c.self.view_is c.requires c.self.invariant c.index-span.ensures).0
+
+pub slice_bounds-result-start : goal.slice_bounds-result-start
+slice_bounds-result-start c =
+    (span-inside c.self.inside.lits.items c.self.inside.spans.items c.args.self.now c.args.at c.index-span.result.now c.self.view_is c.requires c.self.invariant c.index-span.ensures).0
+
+pub slice_bounds-result-end : goal.slice_bounds-result-end
+slice_bounds-result-end c =
+    subst (λ (l : List ℕ). c.index-span.result.now.end ≤ length l) (sym c.as_slice.ensures.value)
+    (span-inside c.self.inside.lits.items c.self.inside.spans.items c.args.self.now c.args.at c.index-span.result.now c.self.view_is c.requires c.self.invariant c.index-span.ensures).1
 
 pub returns : goal.returns
 returns c =
-    let lits = c.self.inside.lits.items in
-    let spans = c.self.inside.spans.items in
     let span = c.index-span.result.now in
-    let within : c.args.at < length spans = omega (arith, c.requires, ap length c.self.view_is, length-map c.self.inside.spans.items (piece c.self.inside.lits.items)) in
-    let there : get_or c.args.self.now c.args.at [] ≡ piece lits (span_at spans c.args.at) =
-    sym (ap (λ (z : List (List ℕ)). get_or z c.args.at []) c.self.view_is) ∙ get_or-map (piece lits) spans c.args.at no_span [] within in
     ap (λ (z : List ℕ). take (span.end - span.start) (drop span.start z)) c.as_slice.ensures.value
-    ∙ (ap (piece lits) (get_or_read spans c.args.at span within c.index-span.ensures no_span) ∙ sym there)
+    ∙ span-piece c.self.inside.lits.items c.self.inside.spans.items c.args.self.now c.args.at span c.self.view_is c.requires c.index-span.ensures
