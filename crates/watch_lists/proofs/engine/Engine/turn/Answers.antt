@@ -1,6 +1,6 @@
 -- A watch that stays is behind, one that goes shortens the list, and a clause that clashes ends the turn.
-use Rattle.std.proofs.Common.{ℕ, arith, subst, ap, length}
-use Rattle.watch_lists.specs.State.{IsTurn, IsVisited, list_at}
+use Rattle.std.proofs.Common.{ℕ, arith, subst}
+use Rattle.watch_lists.specs.State.{IsTurn, IsVisited}
 use Rattle.watch_lists.specs.declared.engine.Visit.{Visit}
 use Rattle.watch_lists.proofs.TurnLemmas.{holds-trans, holds_refl}
 use Rattle.watch_lists.proofs.engine.Engine.turn.Goals as goal

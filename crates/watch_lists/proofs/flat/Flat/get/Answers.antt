@@ -1,7 +1,7 @@
 -- The clause's span is in the list of all codes.
 use Rattle.std.proofs.Common.{◌≡◌, ℕ, ◌-◌, ◌<◌, ◌≤◌, List, [], length, map, take, drop, get_or, ap, sym, subst, ◌∙◌, arith}
 use Rattle.std.proofs.lemmas.List.{get_or_read, get_or-map, length-map}
-use Rattle.watch_lists.specs.Flat.{AreSpans, piece, span_at, no_span}
+use Rattle.watch_lists.specs.Flat.{AreSpans, piece, no_span}
 use Rattle.watch_lists.specs.declared.flat.Span.{Span}
 use Rattle.watch_lists.proofs.flat.Flat.get.Goals as goal
 
