@@ -296,25 +296,12 @@ module _ (net : AigPair) (book : Entries) (j : ℕ) (asks : IsOutput net book j)
           spent : IsBudgetLog cone book.out_budget log
           spent = record { whole = omega (arith, none, count); learned = learned }
 
--- the query as it was made: its base is the cone, its log was empty
-pub record IsMade (net : AigPair) (book : Entries) (j : ℕ) (cone base : List Named) (target : List Lit) (log : List Step) (budget : ℕ) : Type 0 where
-  pub is_cone : IsCone net (take (length book.entries) book.entries) (Xor j ∷ []) cone
-  pub base_is : base ≡ cone
-  pub target_is : target ≡ equal_clause j
-  pub log_is : log ≡ []
-  pub budget_is : budget ≡ book.out_budget
-
-module _ (net : AigPair) (book : Entries) (j : ℕ) (asks : IsOutput net book j) (cone base : List Named) (target : List Lit) (log : List Step) (budget : ℕ)
-    (made : IsMade net book j cone base target log budget) where
-  pub made-target : IsOver base target
-  made-target =
-      subst (λ (b : List Named). IsOver b target) (sym made.base_is)
-      (subst (IsOver cone) (sym made.target_is) (target-over net book j asks cone made.is_cone))
-
-  pub made-answer : (grown : List Step) (left : ℕ) (result : Refuted) → Answers base target log budget grown left result
-      → Answers cone (equal_clause j) [] book.out_budget grown left result
-  made-answer grown left result answers =
-      subst (λ (n : ℕ). Answers cone (equal_clause j) [] n grown left result) made.budget_is
-      (subst (λ (l : List Step). Answers cone (equal_clause j) l budget grown left result) made.log_is
-      (subst (λ (t : List Lit). Answers cone t log budget grown left result) made.target_is
-      (subst (λ (b : List Named). Answers b target log budget grown left result) made.base_is answers)))
+-- the query was made of the output's clause, with an empty log and the whole budget
+pub made-answer : (net : AigPair) (book : Entries) (j : ℕ) (cone : List Named) (target : List Lit) (log : List Step) (budget : ℕ)
+    → target ≡ equal_clause j → log ≡ [] → budget ≡ book.out_budget
+    → (grown : List Step) (left : ℕ) (result : Refuted) → Answers cone target log budget grown left result
+    → Answers cone (equal_clause j) [] book.out_budget grown left result
+made-answer net book j cone target log budget target_is log_is budget_is grown left result answers =
+    subst (λ (n : ℕ). Answers cone (equal_clause j) [] n grown left result) budget_is
+    (subst (λ (l : List Step). Answers cone (equal_clause j) l budget grown left result) log_is
+    (subst (λ (t : List Lit). Answers cone t log budget grown left result) target_is answers))

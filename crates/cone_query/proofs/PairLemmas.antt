@@ -250,10 +250,9 @@ module _ (net : AigPair) (book : Entries) (task : Task) (pair : IsPair net book 
 
   -- two implications that are shown make a merge
   pub shown-settles : (base : List Named) (log mid end : List Step) (left left' left'' : ℕ) (there again : Step) (e : Entry)
-      → there.clause ≡ forth task → again.clause ≡ back task
-      → IsShown base log there.clause mid left' there.hints → IsShown base mid again.clause end left'' again.hints
+      → IsShown base log (forth task) mid left' there → IsShown base mid (back task) end left'' again
       → IsQuery net book task base end left'' → e ≡ Merge task.node task.lit ((end ++ there ∷ []) ++ again ∷ []) → Settles net book task e
-  shown-settles base log mid end left left' left'' there again e there_is again_is first second query made = subst (Settles net book task) (sym made) (record {
+  shown-settles base log mid end left left' left'' there again e first second query made = subst (Settles net book task) (sym made) (record {
     about = refl;
     good = good-merge net book task.node task.lit steps pair-placed over (root-unsettled book.entries task.node pair.root) pair.earlier ends
         (omega (arith, query.spends, count)) chain;
@@ -273,7 +272,7 @@ module _ (net : AigPair) (book : Entries) (task : Task) (pair : IsPair net book 
         before = end;
         last = there ∷ again ∷ [];
         parts = append_assoc end (there ∷ []) (again ∷ []);
-        clauses_are = rw (there_is, again_is) refl;
+        clauses_are = rw (first.clause_is, second.clause_is) refl;
       }
 
       over : AreOver net steps
@@ -281,8 +280,8 @@ module _ (net : AigPair) (book : Entries) (task : Task) (pair : IsPair net book 
           all-append (λ s. AreThere net s.clause) (end ++ there ∷ []) (again ∷ [])
           (all-append (λ s. AreThere net s.clause) end (there ∷ [])
           (log-over net pair.net_is book pair.legal (length book.entries) (seeds_of task) base query.cone end query.learned)
-          (rw there_is (pair-there.0, (pair-there.1.0, tt)), tt))
-          (rw again_is (pair-there.0, (pair-there.1.0, tt)), tt)
+          (rw first.clause_is (pair-there.0, (pair-there.1.0, tt)), tt))
+          (rw second.clause_is (pair-there.0, (pair-there.1.0, tt)), tt)
 
       found : (name : Ref) (c : List Lit) → base_clause base name ≡ Some c → node_clause net book.entries name ≡ Some c
       found =
@@ -309,17 +308,17 @@ module _ (net : AigPair) (book : Entries) (task : Task) (pair : IsPair net book 
 
   -- the entry that is made of two implications that were shown
   pub merged-settles : {E : Type 0} (base base' base'' : List Named) (log mid end lent : List Step) (left' left'' : ℕ) (clause clause' : List Lit)
-      (a a' : Asked) (hints hints' : List Ref) (r : Result Entry E) → base' ≡ base → base'' ≡ base'
-      → IsAsked net book task base log clause mid left' a → a ≡ Asks_shown hints → clause ≡ forth task
-      → IsAsked net book task base' mid clause' end left'' a' → a' ≡ Asks_shown hints' → clause' ≡ back task
+      (a a' : Asked) (there again : Step) (r : Result Entry E) → base' ≡ base → base'' ≡ base'
+      → IsAsked net book task base log clause mid left' a → a ≡ Asks_shown there → clause ≡ forth task
+      → IsAsked net book task base' mid clause' end left'' a' → a' ≡ Asks_shown again → clause' ≡ back task
       → IsQuery net book task base'' end left'' → lent ≡ end
-      → IfOk r (λ e. e ≡ Merge task.node task.lit
-      ((lent ++ record { clause = clause; hints = hints } ∷ []) ++ record { clause = clause'; hints = hints' } ∷ []))
+      → IfOk r (λ e. e ≡ Merge task.node task.lit ((lent ++ there ∷ []) ++ again ∷ []))
       → IfOk r (Settles net book task)
-  merged-settles base base' base'' log mid end lent left' left'' clause clause' a a' hints hints' (Err e) same same' asked shown is asked' shown' is' query lend made = tt
-  merged-settles base base' base'' log mid end lent left' left'' clause clause' a a' hints hints' (Ok e) same same' asked shown is asked' shown' is' query lend made =
-      shown-settles base log mid end 0 left' left'' (record { clause = clause; hints = hints }) (record { clause = clause'; hints = hints' }) e is is'
-      (subst (λ (x : Asked). IsAsked net book task base log clause mid left' x) shown asked)
-      (subst (λ (b : List Named). IsShown b mid clause' end left'' hints') same (subst (λ (x : Asked). IsAsked net book task base' mid clause' end left'' x) shown' asked'))
+  merged-settles base base' base'' log mid end lent left' left'' clause clause' a a' there again (Err e) same same' asked shown is asked' shown' is' query lend made = tt
+  merged-settles base base' base'' log mid end lent left' left'' clause clause' a a' there again (Ok e) same same' asked shown is asked' shown' is' query lend made =
+      shown-settles base log mid end 0 left' left'' there again e
+      (subst (λ (c : List Lit). IsShown base log c mid left' there) is (subst (λ (x : Asked). IsAsked net book task base log clause mid left' x) shown asked))
+      (subst (λ (c : List Lit). IsShown base mid c end left'' again) is'
+      (subst (λ (b : List Named). IsShown b mid clause' end left'' again) same (subst (λ (x : Asked). IsAsked net book task base' mid clause' end left'' x) shown' asked')))
       (subst (λ (b : List Named). IsQuery net book task b end left'') (same' ∙ same) query)
-      (made ∙ ap (λ (l : List Step). Merge task.node task.lit ((l ++ record { clause = clause; hints = hints } ∷ []) ++ record { clause = clause'; hints = hints' } ∷ [])) lend)
+      (made ∙ ap (λ (l : List Step). Merge task.node task.lit ((l ++ there ∷ []) ++ again ∷ [])) lend)

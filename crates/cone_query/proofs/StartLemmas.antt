@@ -1,5 +1,5 @@
 -- Before the first implication of a pair is asked for: both nodes occur in their cone.
-use Rattle.std.proofs.Common.{◌≡◌, ℕ, Bool, true, false, not, Option, Some, None, List, [], ◌∷◌, length, take, refl, sym, ap, ◌∙◌, subst, arith}
+use Rattle.std.proofs.Common.{◌≡◌, ℕ, Bool, true, false, not, Option, Some, None, List, [], ◌∷◌, length, take, refl, sym, ap, ◌∙◌, subst, inl, inr, arith}
 use Rattle.std.specs.Prelude.{◌==◌}
 use Rattle.std.specs.Option.{IsSome, is_some}
 use Rattle.std.proofs.Math.Seq.{take-length}
@@ -23,7 +23,7 @@ use Rattle.lemma_book.specs.Good.{IsBefore}
 use Rattle.lemma_book.specs.Root.{MergeAt, merge_of}
 use Rattle.lemma_book.proofs.Facts.{reach-there, cone-one}
 use Rattle.cone_query.specs.Query.{IsGate, IsUnnamed}
-use Rattle.cone_query.specs.Asked.{IsPair, IsQuery, IsNamedInput, seeds_of, forth, back}
+use Rattle.cone_query.specs.Asked.{IsPair, IsQuery, IsImplication, IsNamedInput, seeds_of, forth, back}
 use Rattle.cone_query.proofs.ConeModel.{find-any}
 use Rattle.cone_query.proofs.GateOrder.{xor-nowhere}
 use Rattle.cone_query.proofs.OccursLemmas.{occurs-at, occurs-more, spoken-merge, spoken-const, spoken-gate}
@@ -131,17 +131,21 @@ module _ (net : AigPair) (book : Entries) (task : Task) (pair : IsPair net book 
           absurd (irreflexive (position_of net task.node)
           (subst (λ (n : Node). IsBefore (position_of net n) (position_of net task.node)) (exact-node task.lit.node task.node e) pair.earlier))
 
-  pub forth-clause : IsClause same_lit opposite (forth task)
+  forth-clause : IsClause same_lit opposite (forth task)
   forth-clause = record {
     once = rw (apart-back true task.lit.neg) refl;
     apart = rw (apart-back false task.lit.neg) refl;
   }
 
-  pub back-clause : IsClause same_lit opposite (back task)
+  back-clause : IsClause same_lit opposite (back task)
   back-clause = record {
     once = rw (apart-back false (not task.lit.neg)) refl;
     apart = rw (apart-back true (not task.lit.neg)) refl;
   }
+
+  pub implication-clause : (clause : List Lit) → IsImplication task clause → IsClause same_lit opposite clause
+  implication-clause clause (inl e) = subst (IsClause same_lit opposite) (sym e) forth-clause
+  implication-clause clause (inr e) = subst (IsClause same_lit opposite) (sym e) back-clause
 
 -- an input isn't both named and unnamed
 pub named-unnamed : {A : Type 0} (net : AigPair) (entries : List Entry) (task : Task) → IsNamedInput net entries task → IsUnnamed net entries task → A

@@ -6,7 +6,6 @@ use Rattle.lits.specs.declared.node.Node.TheVariants.{Input}
 use Rattle.lits.specs.declared.literal.Lit.{Lit}
 use Rattle.lits.specs.declared.step.Named.{Named}
 use Rattle.lits.specs.declared.step.Step.{Step}
-use Rattle.lits.specs.declared.step.Ref.{Ref}
 use Rattle.lits.specs.Same.{same_lit, opposite}
 use Rattle.netlist.specs.Net.{AigPair, IsNet}
 use Rattle.netlist.specs.Miter.{positive, negative}
@@ -67,14 +66,15 @@ pub record Settles (net : AigPair) (book : Entries) (task : Task) (e : Entry) : 
   pub outside : IsFalseOutside net book.entries e
   pub within : IsWithin net book e
 
--- the hints make the implication a step over the base and the log, which has grown
-pub record IsShown (base : List Named) (log : List Step) (clause : List Lit) (log' : List Step) (left' : ℕ) (hints : List Ref) : Type 0 where
+-- the step is one of the implication over the base and the log, which has grown
+pub record IsShown (base : List Named) (log : List Step) (clause : List Lit) (log' : List Step) (left' : ℕ) (shown : Step) : Type 0 where
   pub rest : List Step
   pub grows : log' ≡ log ++ rest
   pub budget : 1 ≤ left'
-  pub step : IsStep same_lit opposite (with_own (base_clause base) log') clause hints
+  pub clause_is : shown.clause ≡ clause
+  pub step : IsStep same_lit opposite (with_own (base_clause base) log') shown.clause shown.hints
 
 -- what an answer shows of the pair
 abbrev pub IsAsked : AigPair → Entries → Task → List Named → List Step → List Lit → List Step → ℕ → Asked → Type 0
-IsAsked net book task base log clause log' left' (Shown hints) = IsShown base log clause log' left' hints
+IsAsked net book task base log clause log' left' (Shown step) = IsShown base log clause log' left' step
 IsAsked net book task base log clause log' left' (Settled e) = Settles net book task e

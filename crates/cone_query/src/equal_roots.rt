@@ -1,4 +1,4 @@
-ghost use Rattle.std.specs.Prelude.{◌≡◌, [], ◌∷◌, map, IfOk, IfSome, IfNone};
+ghost use Rattle.std.specs.Prelude.{◌≡◌, [], ◌∷◌, ◌++◌, map, IfOk, IfSome, IfNone};
 ghost use Rattle.lits.specs.Clause.{IsClause};
 ghost use Rattle.lits.specs.Same.{same_lit, opposite};
 ghost use Rattle.unit_prop.specs.HintScan.{IsNamed};
@@ -43,8 +43,8 @@ pub(crate) fn entry_of_equal_roots(
     if left != right {
         return Ok(None);
     }
-    let base = seen.clauses_on(alloc, net, seen.len(), &way)?;
-    let steps = steps_to(alloc, base, differs.not(), xor.left)?;
+    let mut base = seen.clauses_on(alloc, net, seen.len(), &way)?;
+    let steps = steps_to(alloc, &mut base, differs.not(), xor.left)?;
     Ok(Some(Entry::Out {
         output: j,
         steps: Listed::of(steps),
@@ -52,18 +52,21 @@ pub(crate) fn entry_of_equal_roots(
 }
 
 /// The steps that show the literal from the base: one where unit propagation does it at once, else two, of
-/// which the first shows that `half` is true otherwise.
-fn steps_to(alloc: Global, base: Vec<Named>, lit: Lit, half: Lit) -> Result<Vec<Step>, AllocError>
-    requires { IsWayTo base.items lit half }
-    ensures { IfOk result (λ v. AreShown base.items lit half v.items) }
+/// which the first shows that `half` is true otherwise, and then has its clause in the base.
+fn steps_to(
+    alloc: Global,
+    base: &mut Vec<Named>,
+    lit: Lit,
+    half: Lit,
+) -> Result<Vec<Step>, AllocError>
+    requires { IsWayTo base.old.items lit half }
+    ensures { IfOk result (λ v. AreShown base.old.items lit half v.items) }
 {
     let clause = unit(alloc, lit)?;
-    match scan(alloc, &base, &clause)? {
+    match scan(alloc, base, &clause)? {
         Some(hints) => {
             let hints = Listed::of(hints);
-            let mut steps = Vec::new(alloc);
-            steps.push(Step { clause, hints })?;
-            Ok(steps)
+            with_last(Vec::new(alloc), Step { clause, hints })
         }
         None => two_steps_to(alloc, base, lit, half),
     }
@@ -72,23 +75,29 @@ fn steps_to(alloc: Global, base: Vec<Named>, lit: Lit, half: Lit) -> Result<Vec<
 /// The two steps: either literal is true, and so the first one is.
 fn two_steps_to(
     alloc: Global,
-    base: Vec<Named>,
+    base: &mut Vec<Named>,
     lit: Lit,
     half: Lit,
 ) -> Result<Vec<Step>, AllocError>
-    requires { IsWayTo base.items lit half }
-    ensures { IfOk result (λ v. AreShown base.items lit half v.items) }
+    requires { IsWayTo base.old.items lit half }
+    ensures { IfOk result (λ v. AreShown base.old.items lit half v.items) }
 {
-    let first = step(alloc, &base, &[lit, half])?;
-    let mut base = base;
+    let first = step(alloc, base, &[lit, half])?;
     base.push(Named {
         clause: first.clause.copy()?,
         by: Ref::Own(0),
     })?;
-    let second = step(alloc, &base, &[lit])?;
-    let mut steps = Vec::new(alloc);
-    steps.push(first)?;
-    steps.push(second)?;
+    let second = step(alloc, base, &[lit])?;
+    let steps = with_last(Vec::new(alloc), first)?;
+    with_last(steps, second)
+}
+
+/// The steps with one more.
+fn with_last(steps: Vec<Step>, last: Step) -> Result<Vec<Step>, AllocError>
+    ensures { IfOk result (λ v. v.items ≡ steps.items ++ last ∷ []) }
+{
+    let mut steps = steps;
+    steps.push(last)?;
     Ok(steps)
 }
 

@@ -1,9 +1,12 @@
-ghost use Rattle.std.specs.Prelude.{◌≡◌, ◌<◌, None, Some, length, IfOk};
+ghost use Rattle.std.specs.Prelude.{◌≡◌, ◌<◌, None, Some, true, [], ◌∷◌, ◌++◌, length, take, IfOk};
+ghost use Rattle.lits.specs.declared.node.Node.TheVariants.{Xor};
 ghost use Rattle.lemma_book.specs.Book.{IsLegal};
+ghost use Rattle.lemma_book.specs.Cone.{AreThere, IsCone};
 ghost use Rattle.lemma_book.specs.Entry.{about, subject_of};
 ghost use Rattle.lemma_book.specs.Good.{IsGood};
 ghost use Rattle.lemma_book.specs.declared.entry.Subject.TheVariants.{Output};
 ghost use Rattle.cone_query.specs.Answered.{IsOutput, SettlesOutput};
+ghost use Rattle.cone_query.specs.Input.{input_from};
 ghost use Rattle.cone_query.specs.Query.{SeesAll, IsFalseOutside, IsWithin};
 
 use crate::copies::{copied, one_more, unit};
@@ -11,7 +14,7 @@ use crate::equal_roots::entry_of_equal_roots;
 use crate::input::input_of;
 use lemma_book::laws::entries_are_true;
 use lemma_book::{Book, Entry};
-use lits::{Listed, Lit, Literal, Node, Step};
+use lits::{Clause, Listed, Lit, Literal, Node, Ref, Step};
 use netlist::{Net, laws};
 use std::alloc::{AllocError, Global};
 use unit_prop::laws::budget;
@@ -68,26 +71,66 @@ fn query<R: Refuter>(
     requires { IsOutput net.now seen.now j }
     ensures { IfOk result (SettlesOutput net.now seen.now j) }
 {
-    budget::budget_log_length();
     let differs = Lit {
         node: Node::Xor(j),
         neg: false,
     };
     let base = seen.cone(alloc, net, seen.len(), &[differs])?;
     refuter.start(alloc, base.as_slice())?;
+    ask(alloc, net, seen, j, refuter)
+}
+
+/// Asks whether the XOR is false, over the cone that the refuter was started with.
+fn ask<R: Refuter>(
+    alloc: Global,
+    net: &Net,
+    seen: &Book,
+    j: u32,
+    refuter: &mut R,
+) -> Result<Entry, AllocError>
+    requires output { IsOutput net.now seen.now j }
+    requires cone { IsCone net.now (take (length seen.now.entries) seen.now.entries)
+        (Xor j ∷ []) (R.Refuter.base_of refuter.old) }
+    requires empty { R.Refuter.log_of refuter.old ≡ [] }
+    requires ready { R.Refuter.is_ready refuter.old ≡ true }
+    ensures { IfOk result (SettlesOutput net.now seen.now j) }
+{
+    budget::budget_log_length();
+    let differs = Lit {
+        node: Node::Xor(j),
+        neg: false,
+    };
     let equal = unit(alloc, differs.not())?;
     let mut left = seen.out_budget();
     match refuter.refute(alloc, &equal, &mut left)? {
-        Refuted::Yes(hints) => {
-            let steps = one_more(alloc, refuter.log(), equal, hints)?;
-            Ok(Entry::Out { output: j, steps })
-        }
-        Refuted::No(model) => {
-            let input = input_of(alloc, net, model.as_slice())?;
-            Ok(Entry::OutApart { output: j, input })
-        }
+        Refuted::Yes(hints) => shown(alloc, j, refuter.log(), equal, hints),
+        Refuted::No(model) => apart(alloc, net, j, model.as_slice()),
         Refuted::Spent => spent(alloc, seen, j, refuter.log()),
     }
+}
+
+/// The entry of an output that is shown to be equal, by one step after these.
+fn shown(
+    alloc: Global,
+    j: u32,
+    log: &[Step],
+    equal: Clause<Lit>,
+    hints: Listed<Ref>,
+) -> Result<Entry, AllocError>
+    ensures { IfOk result
+        (λ e. e ≡ Entry.Out j (log.now ++ record { clause = equal; hints = hints } ∷ [])) }
+{
+    let steps = one_more(alloc, log, equal, hints)?;
+    Ok(Entry::Out { output: j, steps })
+}
+
+/// The entry of an output that differs in a model.
+fn apart(alloc: Global, net: &Net, j: u32, model: &[Lit]) -> Result<Entry, AllocError>
+    requires { AreThere net.now model.now }
+    ensures { IfOk result (λ e. e ≡ Entry.OutApart j (input_from net.now model.now)) }
+{
+    let input = input_of(alloc, net, model)?;
+    Ok(Entry::OutApart { output: j, input })
 }
 
 /// The entry of a query that spent its budget for these steps, over the whole book.

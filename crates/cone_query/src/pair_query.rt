@@ -17,7 +17,7 @@ use crate::copies::copied;
 use crate::input::{input_of, other_value, set};
 use lemma_book::laws::entries_are_true;
 use lemma_book::{Book, Entry, Task};
-use lits::{Clause, Listed, Lit, Literal, Named, Node, Ref, Side, Step};
+use lits::{Clause, Listed, Lit, Literal, Named, Node, Side, Step};
 use netlist::{Net, laws};
 use std::alloc::{AllocError, Global};
 use unit_prop::laws::budget;
@@ -50,6 +50,23 @@ pub fn pair<R: Refuter + Send>(
 {
     laws::is_net(net);
     entries_are_true(net, seen);
+    settle(alloc, net, seen, task, refuter)
+}
+
+/// Settles a pair by a query, or without one where no clause names its input.
+fn settle<R: Refuter + Send>(
+    alloc: Global,
+    net: &Net,
+    seen: &Book,
+    task: &Task,
+    refuter: &mut R,
+) -> Result<Entry, AllocError>
+    requires pair { IsPair net.now seen.now task.now }
+    requires gate { IsGate task.now.node }
+    ensures settles { IfOk result (Settles net.now seen.now task.now) }
+    ensures alone { IfOk result (λ e. IsUnnamed net.now seen.now.entries task.now → IsSetAlone e) }
+    ensures unasked { OnOk result (IsUnnamed net.now seen.now.entries task.now → refuter.new ≡ refuter.old) }
+{
     let node = Lit {
         node: task.node,
         neg: false,
@@ -83,24 +100,28 @@ fn both_ways<R: Refuter + Send>(
         node: task.node,
         neg: false,
     };
-    let there = Clause::from_slice(alloc, &[node.not(), task.lit])?;
-    let first = match ask(alloc, net, seen, task, &there, refuter, left)? {
-        Asked::Shown(hints) => hints,
+    let there = match ask(
+        alloc,
+        net,
+        seen,
+        task,
+        &[node.not(), task.lit],
+        refuter,
+        left,
+    )? {
+        Asked::Shown(step) => step,
         Asked::Settled(entry) => return Ok(entry),
     };
-    let again = Clause::from_slice(alloc, &[node, task.lit.not()])?;
-    match ask(alloc, net, seen, task, &again, refuter, left)? {
-        Asked::Shown(second) => {
-            let there = Step {
-                clause: there,
-                hints: first,
-            };
-            let back = Step {
-                clause: again,
-                hints: second,
-            };
-            merged(alloc, task, refuter.log(), there, back)
-        }
+    match ask(
+        alloc,
+        net,
+        seen,
+        task,
+        &[node, task.lit.not()],
+        refuter,
+        left,
+    )? {
+        Asked::Shown(back) => merged(alloc, task, refuter.log(), there, back),
         Asked::Settled(entry) => Ok(entry),
     }
 }
@@ -176,8 +197,8 @@ fn gate_value(alloc: Global, net: &Net, gate: Node, input: &[bool]) -> Result<bo
 
 /// What an answer shows of a pair.
 enum Asked {
-    /// The implication, by these hints.
-    Shown(Listed<Ref>),
+    /// The implication, by this step.
+    Shown(Step),
     /// All that the query is to answer.
     Settled(Entry),
 }
@@ -188,7 +209,7 @@ fn ask<R: Refuter + Send>(
     net: &Net,
     seen: &Book,
     task: &Task,
-    implication: &Clause<Lit>,
+    implication: &[Lit],
     refuter: &mut R,
     left: &mut u64,
 ) -> Result<Asked, AllocError>
@@ -206,44 +227,40 @@ fn ask<R: Refuter + Send>(
     ensures ready { OnOk result (R.Refuter.is_ready refuter.new ≡ true) }
 {
     budget::budget_log_length();
-    match refuter.refute(alloc, implication, left)? {
-        Refuted::Yes(hints) => Ok(Asked::Shown(hints)),
-        Refuted::No(model) => {
-            let entry = apart(alloc, net, task, model.as_slice())?;
-            Ok(Asked::Settled(entry))
-        }
-        Refuted::Spent => {
-            let entry = spent(alloc, seen, task, refuter.log())?;
-            Ok(Asked::Settled(entry))
-        }
+    let clause = Clause::from_slice(alloc, implication)?;
+    match refuter.refute(alloc, &clause, left)? {
+        Refuted::Yes(hints) => Ok(Asked::Shown(Step { clause, hints })),
+        Refuted::No(model) => apart(alloc, net, task, model.as_slice()),
+        Refuted::Spent => spent(alloc, seen, task, refuter.log()),
     }
 }
 
-/// The entry of a pair that differs in a model.
-fn apart(alloc: Global, net: &Net, task: &Task, model: &[Lit]) -> Result<Entry, AllocError>
+/// That the pair differs in a model, as its entry.
+fn apart(alloc: Global, net: &Net, task: &Task, model: &[Lit]) -> Result<Asked, AllocError>
     requires { AreThere net.now model.now }
-    ensures { IfOk result (λ e. e ≡ Entry.Apart task.now.node task.now.lit (input_from net.now model.now)) }
+    ensures { IfOk result (λ a.
+        a ≡ Asked.Settled (Entry.Apart task.now.node task.now.lit (input_from net.now model.now))) }
 {
     let input = input_of(alloc, net, model)?;
-    Ok(Entry::Apart {
+    Ok(Asked::Settled(Entry::Apart {
         node: task.node,
         lit: task.lit,
         input,
-    })
+    }))
 }
 
-/// The entry of a query that spent its budget for these steps, over the whole book.
-fn spent(alloc: Global, seen: &Book, task: &Task, log: &[Step]) -> Result<Entry, AllocError>
-    ensures { IfOk result
-        (λ e. e ≡ Entry.Spent task.now.node task.now.lit (length seen.now.entries) log.now) }
+/// That the query spent its budget for these steps, over the whole book, as its entry.
+fn spent(alloc: Global, seen: &Book, task: &Task, log: &[Step]) -> Result<Asked, AllocError>
+    ensures { IfOk result (λ a. a
+        ≡ Asked.Settled (Entry.Spent task.now.node task.now.lit (length seen.now.entries) log.now)) }
 {
     let log = copied(alloc, log)?;
-    Ok(Entry::Spent {
+    Ok(Asked::Settled(Entry::Spent {
         node: task.node,
         lit: task.lit,
         seen: seen.len(),
         log: Listed::of(log),
-    })
+    }))
 }
 
 /// The entry of a pair of which both implications are shown, after these steps.

@@ -7,11 +7,14 @@ use Rattle.netlist.proofs.Facts.{place_of-append, or_place, find-place, is_some-
 use Rattle.std.specs.Prelude.{slice_get, option_and_then, ◌||◌}
 use Rattle.std.specs.List.{list_any, AllByRecursion}
 use Rattle.std.proofs.lemmas.Option.{none-some, same_Some}
+use Rattle.std.proofs.lemmas.Bool.{and_parts}
+use Rattle.lits.specs.Same.{same_node, same_lit}
+use Rattle.lits.proofs.Facts.{exact-node, exact-lit}
 use Rattle.lits.specs.declared.node.Node.{Node}
 use Rattle.lits.specs.declared.literal.Lit.{Lit}
 use Rattle.lemma_book.specs.declared.entry.Entry.TheVariants.{Merge, Apart, Spent, Out, OutApart, OutSpent}
-use Rattle.lemma_book.specs.declared.entry.Subject.TheVariants.{Output}
-use Rattle.lemma_book.specs.declared.shelf.Key.TheVariants.{SpentOn}
+use Rattle.lemma_book.specs.declared.entry.Subject.TheVariants.{Merged, Output}
+use Rattle.lemma_book.specs.declared.shelf.Key.TheVariants.{On, SpentOn}
 use Rattle.lemma_book.specs.Entry.{place_on, is_on, about, is_spent_on, has_spent}
 use Rattle.lemma_book.specs.declared.entry.Entry.{Entry}
 use Rattle.lemma_book.specs.declared.shelf.Key.{Key}
@@ -65,7 +68,16 @@ pub about-at : (es : List Entry) (j : ℕ) (o : Option ℕ) → o ≡ place_on e
 about-at es j o e = ap (option_and_then (slice_get es)) e ∙ sym (find-place (is_on (Output j)) es)
 
 exact-key : (x y : Key) → same_key x y ≡ true → x ≡ y
-exact-key = search rules
+exact-key (On (Merged n)) (On (Merged m)) e = ap (λ (x : Node). On (Merged x)) (exact-node n m e)
+exact-key (On (Output j)) (On (Output k)) e = ap (λ (x : ℕ). On (Output x)) (search (rules, e))
+exact-key (On (Merged n)) (On (Output k)) e = cc
+exact-key (On (Output j)) (On (Merged m)) e = cc
+exact-key (SpentOn s) (SpentOn t) e =
+    let same = and_parts (same_node s.node t.node) (same_lit s.lit t.lit) e in
+    ap (λ (n : Node). SpentOn (record { node = n; lit = s.lit })) (exact-node s.node t.node same.0)
+    ∙ ap (λ (l : Lit). SpentOn (record { node = t.node; lit = l })) (exact-lit s.lit t.lit same.1)
+exact-key (On s) (SpentOn t) e = cc
+exact-key (SpentOn s) (On t) e = cc
 
 or_none : (o : Option ℕ) → o ≡ option_or o None
 or_none None = refl

@@ -1,6 +1,7 @@
 -- Answers that tell whether something holds.
-use Rattle.std.proofs.Common.{◌≡◌, ℕ, ◌-◌, ◌≤◌, ◌<◌, suc, Bool, true, false, ◌&&◌, List, [], ◌∷◌, map, length, take, drop, get_or, Option, None, Some, refl, sym, ap, ◌∙◌, subst, arith}
-use Rattle.std.specs.Prelude.{is_some}
+use Rattle.std.proofs.Common.{◌≡◌, ℕ, ◌-◌, ◌≤◌, ◌<◌, suc, Bool, true, false, not, ◌≢◌, ◌&&◌, List, [], ◌∷◌, map, length, take, drop, get_or, Option, None, Some, refl, sym, ap, ◌∙◌, subst, arith}
+use Rattle.std.specs.Prelude.{is_some, if◌then◌else◌}
+use Rattle.std.proofs.Math.Bool.{beq}
 use Rattle.std.specs.Option.{IsSome}
 use Rattle.std.specs.List.{list_all, AllByRecursion}
 use Rattle.std.specs.Bool.{Decides}
@@ -12,11 +13,12 @@ use Rattle.lits.specs.declared.literal.Lit.{Lit}
 use Rattle.lits.specs.declared.step.Step.{Step}
 use Rattle.lits.specs.Same.{same_lit}
 use Rattle.lits.proofs.Facts.{exact-lit}
-use Rattle.netlist.specs.Net.{AigPair}
+use Rattle.netlist.specs.Net.{AigPair, value_of, lit_holds}
+use Rattle.lits.specs.declared.node.Node.{Node}
 use Rattle.netlist.specs.Miter.{variable_of}
 use Rattle.unit_prop.proofs.Facts.{lit_laws}
 use Rattle.lemma_book.specs.Cone.{AreThere}
-use Rattle.lemma_book.specs.Good.{AreOver, EndsIn}
+use Rattle.lemma_book.specs.Good.{AreOver, EndsIn, IsApart}
 use Rattle.lemma_book.specs.Judging.{Tells}
 
 pub tells-yes : (P : Type 0) (b : Bool) → b ≡ true → Tells P b → P
@@ -124,3 +126,23 @@ last-two steps s t long first second =
     two-items (drop (length steps - 2) steps) s t (omega (arith, len))
     (first ∙ get_or-take (length steps - (length steps - 2)) (drop (length steps - 2) steps) 0 s (omega arith))
     (second ∙ get_or-take (length steps - (length steps - 2)) (drop (length steps - 2) steps) 1 t (omega arith))
+
+-- two truth values differ, or they don't
+tells-differ : (x y n : Bool) → Tells (x ≢ (if n then not y else y)) (not (beq x (not (beq y n))))
+tells-differ true true true = λ e. cc
+tells-differ true true false = λ f. f refl
+tells-differ true false true = λ f. f refl
+tells-differ true false false = λ e. cc
+tells-differ false true true = λ f. f refl
+tells-differ false true false = λ e. cc
+tells-differ false false true = λ e. cc
+tells-differ false false false = λ f. f refl
+
+-- whether the values of node and literal differ
+pub tells-apart : (net : AigPair) (node : Node) (lit : Lit) (input : List Bool) (x y : Bool) → length input ≡ length net.a.inputs
+    → x ≡ value_of net input node → y ≡ value_of net input lit.node → Tells (IsApart net node lit input) (not (beq x (not (beq y lit.neg))))
+tells-apart net node lit input x y whole first second =
+    tells-like (x ≢ (if lit.neg then not y else y)) (IsApart net node lit input) (not (beq x (not (beq y lit.neg))))
+    (λ f. record { whole = whole; apart = subst (λ (b : Bool). b ≢ lit_holds (value_of net input) lit) first (subst (λ (b : Bool). x ≢ (if lit.neg then not b else b)) second f) })
+    (λ a. subst (λ (b : Bool). x ≢ (if lit.neg then not b else b)) (sym second) (subst (λ (b : Bool). b ≢ lit_holds (value_of net input) lit) (sym first) a.apart))
+    (tells-differ x y lit.neg)

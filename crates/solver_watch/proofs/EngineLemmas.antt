@@ -1,5 +1,5 @@
 -- The steps of a search.
-use Rattle.std.proofs.Common.{◌≡◌, ◌<◌, ◌+◌, ◌*◌, ℕ, suc, arith, Bool, true, false, not, ◌||◌, ◌⊎◌, inl, inr, List, [], ◌∷◌, ◌++◌, get_or, take, length, append_assoc, Some, refl, sym, ap, subst, ◌∙◌, rules}
+use Rattle.std.proofs.Common.{◌≡◌, ◌<◌, ◌≤◌, ◌+◌, ◌*◌, ℕ, suc, arith, Bool, true, false, not, ◌||◌, ◌⊎◌, inl, inr, List, [], ◌∷◌, ◌++◌, get_or, take, length, append_assoc, length-append, Some, None, refl, sym, ap, subst, ◌∙◌, rules}
 use Rattle.std.specs.Prelude.{map}
 use Rattle.std.specs.List.{list_any, AllByRecursion}
 use Rattle.std.proofs.lemmas.List.{map-append}
@@ -21,13 +21,13 @@ use Rattle.solver_watch.proofs.AssumeLemmas.{assuming-propagates}
 use Rattle.unit_prop.proofs.Facts.{lit_laws, contrary, has-map-opposite, all-true, all-at, witness}
 use Rattle.solver_plain.specs.Formula.{Clauses}
 use Rattle.solver_plain.specs.Search.{IsLearnedFor}
-use Rattle.watch_lists.specs.Trail.{TrailState, IsTrail, IsComplete, IsConflict, IsGround, IsQuiet, Adds, Propagates, put_at, clause_at, lits_of, up_to, back_to}
+use Rattle.watch_lists.specs.Trail.{TrailState, IsTrail, IsComplete, IsConflict, IsGround, IsQuiet, Adds, Decides, Propagates, put_at, clause_at, lits_of, up_to, back_to}
 use Rattle.watch_lists.specs.declared.put.Put.{Put}
 use Rattle.solver_watch.specs.declared.formula.Formula.{Formula}
 use Rattle.solver_watch.specs.declared.learn.Lesson.{Lesson}
 use Rattle.solver_watch.specs.Assuming.{IsChosen, IsAssuming}
 use Rattle.solver_watch.specs.Known.{IsKnown, clauses_known}
-use Rattle.solver_watch.specs.Search.{IsLesson, IsState}
+use Rattle.solver_watch.specs.Search.{IsLesson, IsState, Advances}
 use Rattle.solver_watch.proofs.TrailLemmas.{has-at, place-before, place-up_to, up_to-up_to}
 use Rattle.solver_watch.specs.Choice.{AreTaken}
 use Rattle.solver_watch.specs.Marked.{IsRefuted}
@@ -321,4 +321,14 @@ answers-of first now target left left' result way answer = record {
   learned = way.learned;
   undecided = way.undecided;
   answer = answer;
+}
+
+-- one more decision
+pub advances : (old new : Engine) (l : Lit) → clauses_known new.formula ≡ clauses_known old.formula → Decides old.formula.trail l new.formula.trail
+    → new.formula.trail.nodes ≡ old.formula.trail.nodes → length new.formula.trail.puts ≤ 2 * length new.formula.trail.nodes → Advances old new
+advances old new l clauses decides nodes room = record {
+  clauses = clauses;
+  nodes = nodes;
+  more = omega (arith, ap length decides.puts, length-append old.formula.trail.puts (record { lit = l; level = old.formula.trail.last + 1; by = None } ∷ []));
+  room = room;
 }

@@ -1,5 +1,5 @@
 -- A merge by two steps over the clauses of some nodes is good.
-use Rattle.std.proofs.Common.{◌≡◌, ℕ, ◌+◌, ◌≤◌, true, false, Option, Some, None, List, [], ◌∷◌, length, take, refl, sym, ap, ◌∙◌, subst, arith}
+use Rattle.std.proofs.Common.{◌≡◌, ℕ, ◌+◌, ◌≤◌, Bool, true, false, not, Option, Some, None, List, [], ◌∷◌, ◌++◌, length, take, refl, sym, ap, ◌∙◌, subst, arith}
 use Rattle.std.specs.Option.{option_map_or}
 use Rattle.std.specs.List.{AllByRecursion}
 use Rattle.std.proofs.lemmas.Option.{none-some}
@@ -10,8 +10,10 @@ use Rattle.lits.specs.declared.step.Ref.{Ref}
 use Rattle.lits.specs.declared.step.Ref.TheVariants.{Axiom, Entry as Shown, Own}
 use Rattle.lits.specs.declared.step.Named.{Named}
 use Rattle.lits.specs.declared.step.Step.{Step}
-use Rattle.lits.specs.Same.{same_lit, opposite}
-use Rattle.netlist.specs.Net.{AigPair}
+use Rattle.lits.specs.Clause.{IsClause}
+use Rattle.lits.specs.Same.{same_lit, same_node, opposite}
+use Rattle.lits.proofs.Facts.{exact-node}
+use Rattle.netlist.specs.Net.{AigPair, position_of}
 use Rattle.netlist.specs.Miter.{positive, negative}
 use Rattle.unit_prop.specs.Step.{IsStep}
 use Rattle.unit_prop.specs.HintScan.{IsNamed}
@@ -23,10 +25,10 @@ use Rattle.lemma_book.specs.declared.entry.Subject.TheVariants.{Merged}
 use Rattle.lemma_book.specs.Entry.{Entries, first_entries, merge_clauses, place_on, with_last}
 use Rattle.lemma_book.specs.Root.{IsRoot}
 use Rattle.lemma_book.specs.Cone.{AreThere, clauses_on, nodes_in}
-use Rattle.lemma_book.specs.Good.{ArePlaced, AreOver, IsEarlier, EndsIn, IsGood, node_clause}
+use Rattle.lemma_book.specs.Good.{ArePlaced, AreOver, IsBefore, IsEarlier, EndsIn, IsGood, node_clause}
 use Rattle.lemma_book.specs.Book.{book_after}
 use Rattle.lemma_book.proofs.Facts.{good-merge, root-unsettled, placed-there, on-node-named, IsNoXor, HasNodeName}
-use Rattle.strash_pass.specs.Pass.{AreNotXors, is_xor, Merges}
+use Rattle.strash_pass.specs.Pass.{AreNotXors, is_xor, AreSteps, Merges}
 
 no-xors : (lits : List Lit) → AreNotXors lits → AllByRecursion IsNoXor (nodes_in lits)
 no-xors [] all = tt
@@ -62,19 +64,50 @@ pub whole : {X : Type 0} (xs : List X) → take (length xs) xs ≡ xs
 whole [] = refl
 whole (x ∷ xs) = ap (λ (l : List _). x ∷ l) (whole xs)
 
-module _ (net : AigPair) (book : Entries) (node : Node) (target : Lit) (steps : List Step) (unmerged : IsRoot book.entries node) where
+-- a node is no earlier than itself
+pub earlier-apart : (net : AigPair) (node : Node) (target : Lit) → IsEarlier net node target → same_node target.node node ≡ false
+earlier-apart net node target earlier = go (same_node target.node node) refl
+  where
+    irreflexive : (o : Option ℕ) → IsBefore o o → ⊥
+    irreflexive None h = h
+    irreflexive (Some p) h = absurd (omega arith)
+
+    go : (b : Bool) → same_node target.node node ≡ b → same_node target.node node ≡ false
+    go false e = e
+    go true e =
+        absurd (irreflexive (position_of net node)
+        (subst (λ (n : Node). IsBefore (position_of net n) (position_of net node)) (exact-node target.node node e) earlier))
+
+module _ (node : Node) (target : Lit) (apart : same_node target.node node ≡ false) where
+  differ : (a b : Bool) → same_lit (record { node = target.node; neg = b }) (record { node = node; neg = a }) ≡ false
+  differ a b = rw apart refl
+
+  pub below-clause : IsClause same_lit opposite (negative node ∷ target ∷ [])
+  below-clause = record { once = rw (differ true target.neg) refl; apart = rw (differ false target.neg) refl }
+
+  pub above-clause : IsClause same_lit opposite (positive node ∷ opposite target ∷ [])
+  above-clause = record { once = rw (differ false (not target.neg)) refl; apart = rw (differ true (not target.neg)) refl }
+
+  -- the steps that were put into an empty list
+  pub steps-are : (base : List Named) (l m : Lit) (below above : Step) (none one two : List Step) → l ≡ negative node → m ≡ opposite target
+      → none ≡ [] → one ≡ none ++ below ∷ [] → two ≡ one ++ above ∷ []
+      → (below.clause ≡ l ∷ target ∷ []) × IsStep same_lit opposite (base_clause base) below.clause below.hints
+      → (above.clause ≡ positive node ∷ m ∷ []) × IsStep same_lit opposite (base_clause base) above.clause above.hints
+      → AreSteps base node target two
+  steps-are base l m below above none one two l_is m_is e f g first second =
+      rw (g, f, e)
+      ((first.0 ∙ ap (λ (x : Lit). x ∷ target ∷ []) l_is, first.1), (second.0 ∙ ap (λ (x : Lit). positive node ∷ x ∷ []) m_is, second.1))
+
+module _ (net : AigPair) (book : Entries) (node : Node) (target : Lit) (unmerged : IsRoot book.entries node) where
   unsettled : place_on book.entries (Merged node) ≡ None
   unsettled = root-unsettled book.entries node unmerged
 
-  -- the merge is good
-  pub two-steps : ArePlaced net node target → IsEarlier net node target → (below above : Step) → steps ≡ below ∷ above ∷ []
+  two-steps : ArePlaced net node target → IsEarlier net node target → (below above : Step)
       → below.clause ≡ negative node ∷ target ∷ [] → above.clause ≡ positive node ∷ opposite target ∷ []
       → IsStepAfter (node_clause net book.entries) [] below → IsStepAfter (node_clause net book.entries) (below ∷ []) above
-      → (known : ℕ) → known ≡ length book.entries → IsGood net (first_entries known book) (Merge node target steps)
-  two-steps placed earlier below above are first second one two known count =
-      subst (λ (es : List Entry). IsGood net (record { sweep_budget = book.sweep_budget; out_budget = book.out_budget; entries = es }) (Merge node target steps))
-      (sym (ap (λ (n : ℕ). take n book.entries) count ∙ whole book.entries))
-      (subst (λ (ss : List Step). IsGood net book (Merge node target ss)) (sym are) good)
+      → IsGood net book (Merge node target (below ∷ above ∷ []))
+  two-steps placed earlier below above first second one two =
+      good-merge net book node target (below ∷ above ∷ []) placed there unsettled earlier ends few (one, (two, tt))
     where
       there : AreOver net (below ∷ above ∷ [])
       there =
@@ -93,9 +126,22 @@ module _ (net : AigPair) (book : Entries) (node : Node) (target : Lit) (steps : 
       few : length (below ∷ above ∷ []) ≤ book.sweep_budget + 2
       few = omega arith
 
-      good : IsGood net book (Merge node target (below ∷ above ∷ []))
-      good = good-merge net book node target (below ∷ above ∷ []) placed there unsettled earlier ends few (one, (two, tt))
+  -- the merge by two steps over the clauses of some nodes is good
+  pub steps-good : (way : List Lit) → AreNotXors way → (base : List Named) → base ≡ clauses_on net book.entries (nodes_in way)
+      → ArePlaced net node target → IsEarlier net node target → (steps : List Step) → AreSteps base node target steps → IsGood net book (Merge node target steps)
+  steps-good way none base is placed earlier [] all = absurd all
+  steps-good way none base is placed earlier (below ∷ []) all = absurd all
+  steps-good way none base is placed earlier (below ∷ above ∷ []) all =
+      two-steps placed earlier below above all.0.0 all.1.0
+      (step-own net book.entries way none base is [] below all.0.1) (step-own net book.entries way none base is (below ∷ []) above all.1.1)
+  steps-good way none base is placed earlier (below ∷ above ∷ more ∷ rest) all = absurd all
+
+  -- so it is over all entries
+  pub all-entries : (e : Entry) → IsGood net book e → (known : ℕ) → known ≡ length book.entries → IsGood net (first_entries known book) e
+  all-entries e good known count =
+      subst (λ (es : List Entry). IsGood net (record { sweep_budget = book.sweep_budget; out_budget = book.out_budget; entries = es }) e)
+      (sym (ap (λ (n : ℕ). take n book.entries) count ∙ whole book.entries)) good
 
   -- and it is put last
-  pub put-last : (new : Entries) → new ≡ book_after book (Merge node target steps) → Merges book new node target
-  put-last new e = record { steps = steps; last = e ∙ ap (λ (o : Option ℕ). option_map_or (λ i. book) o (with_last book (Merge node target steps))) unsettled }
+  pub put-last : (steps : List Step) (new : Entries) → new ≡ book_after book (Merge node target steps) → Merges book new node target
+  put-last steps new e = record { steps = steps; last = e ∙ ap (λ (o : Option ℕ). option_map_or (λ i. book) o (with_last book (Merge node target steps))) unsettled }

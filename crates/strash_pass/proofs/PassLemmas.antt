@@ -1,6 +1,6 @@
 -- How the pass goes on: a gate that was merged, merges now, or is noted.
 use Rattle.std.proofs.Common.{◌≡◌, ℕ, suc, ◌+◌, ◌<◌, ◌^◌, map, Bool, true, false, cond, Option, Some, None, List, [], ◌∷◌, ◌++◌, length, refl, sym, ap, ◌∙◌, subst, arith, length-append, append-nil, append_assoc, ◌⊎◌, inl, inr}
-use Rattle.std.specs.Prelude.{slice_get, nat_lt, ◌&&◌}
+use Rattle.std.specs.Prelude.{slice_get, nat_lt, ◌&&◌, Result, Ok, Err, OnOk, OnErr}
 use Rattle.std.specs.Option.{option_map, option_and_then, is_some, option_or}
 use Rattle.std.proofs.lemmas.Bool.Decides.{nat_tests}
 use Rattle.std.proofs.lemmas.Option.{none-some, same_Some, slice_get_within}
@@ -29,7 +29,7 @@ use Rattle.lemma_book.specs.Book.{IsLegal}
 use Rattle.lemma_book.proofs.Facts.{root-kept, root-unsettled}
 use Rattle.strash_pass.specs.declared.pair.Pair.{Pair}
 use Rattle.strash_pass.specs.declared.visit.Pass.{Pass}
-use Rattle.strash_pass.specs.Strash.{folded, AreTwins, IsPlain, ArePlainBelow, AddsMerges, IsMerge}
+use Rattle.strash_pass.specs.Strash.{folded, AreTwins, IsPlain, ArePlain, ArePlainBelow, AddsMerges, IsMerge}
 use Rattle.strash_pass.specs.Pass.{gates_before, same_pair, pair_of, IsSeen, IsPass, IsTwin, Merges}
 use Rattle.strash_pass.proofs.GateFacts.{IsGate, is-gate, gate-a, gate-b, apart-placed}
 
@@ -308,6 +308,27 @@ adds-more book mid new x y = record {
 
 pub adds-same : (book new : Entries) → new ≡ book → AddsMerges book new
 adds-same book new e = subst (AddsMerges book) (sym e) (adds-none book)
+
+-- whether the merge was put or refused
+pub merged-grows : {T E : Type 0} (book new : Entries) (node : Node) (target : Lit) (r : Result T E)
+    → OnOk r (Merges book new node target) → OnErr r (new ≡ book) → AddsMerges book new
+merged-grows book new node target (Ok t) m same = adds-one book new node target m
+merged-grows book new node target (Err e) m same = adds-same book new same
+
+-- where both sides were visited, all gates are plain
+pub all-plain : {T E : Type 0} (net : AigPair) (es : List Entry) (p : Pass) (r : Result T E) → OnOk r (IsPass net es p p.visited)
+    → OnOk r (p.visited ≡ gates_before net B + length (circuit_of net B).gates) → OnOk r (ArePlain net es)
+all-plain net es p (Ok t) pass visited =
+    λ k d below. pass.plain k d
+    (omega (
+      arith,
+      below,
+      visited,
+      length-append (map (definition_of A net.a) net.a.gates) (map (definition_of B net.b) net.b.gates),
+      length-map net.a.gates (definition_of A net.a),
+      length-map net.b.gates (definition_of B net.b),
+    ))
+all-plain net es p (Err e) pass visited = tt
 
 -- the pass begins with nothing
 pub pass-start : (net : AigPair) (es : List Entry) (p : Pass) → p.gates.entries ≡ [] → IsPass net es p 0

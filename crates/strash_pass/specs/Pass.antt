@@ -7,6 +7,7 @@ use Rattle.lits.specs.declared.node.Side.{Side}
 use Rattle.lits.specs.declared.node.Side.TheVariants.{A, B}
 use Rattle.lits.specs.declared.node.Node.{Node}
 use Rattle.lits.specs.declared.literal.Lit.{Lit}
+use Rattle.lits.specs.declared.step.Named.{Named}
 use Rattle.lits.specs.declared.step.Step.{Step}
 use Rattle.lits.specs.Clause.{has}
 use Rattle.lits.specs.Same.{same_lit, same_node, opposite}
@@ -15,7 +16,8 @@ use Rattle.netlist.specs.declared.gate.Definition.{Definition}
 use Rattle.netlist.specs.Net.{AigPair, definitions, position_of}
 use Rattle.netlist.specs.Miter.{positive, negative}
 use Rattle.unit_prop.specs.Closure.{IsOpen}
-use Rattle.unit_prop.specs.Log.{base_clauses}
+use Rattle.unit_prop.specs.Log.{base_clause, base_clauses}
+use Rattle.unit_prop.specs.Step.{IsStep}
 use Rattle.lemma_book.specs.declared.entry.Entry.{Entry}
 use Rattle.lemma_book.specs.declared.entry.Entry.TheVariants.{Merge}
 use Rattle.lemma_book.specs.Entry.{Entries, with_last}
@@ -88,14 +90,25 @@ is_const l = same_node l.node Const
 abbrev pub constant_among : Lit → Lit → Lit → List Lit
 constant_among a b t = if is_const a || (is_const b || is_const t) then positive Const ∷ [] else []
 
--- unit propagation over the clauses of these nodes alone shows the clause of the two literals
+-- unit propagation over these clauses shows the clause of the two literals
+abbrev pub ShowsOver : List (List Lit) → Lit → Lit → Type 0
+ShowsOver clauses a b = ¬ IsOpen same_lit opposite clauses (map opposite (a ∷ b ∷ []))
+
+-- so it does over the clauses of these nodes alone
 abbrev pub Shows : AigPair → List Entry → List Lit → Lit → Lit → Type 0
-Shows net entries way a b = ¬ IsOpen same_lit opposite (base_clauses (clauses_on net entries (nodes_in way))) (map opposite (a ∷ b ∷ []))
+Shows net entries way a b = ShowsOver (base_clauses (clauses_on net entries (nodes_in way))) a b
 
 -- and so both clauses of a merge
 pub record ShowsMerge (net : AigPair) (entries : List Entry) (way : List Lit) (node : Node) (target : Lit) : Type 0 where
   pub below : Shows net entries way (negative node) target
   pub above : Shows net entries way (positive node) (opposite target)
+
+-- one step over the base for each of the two clauses of a merge
+abbrev pub AreSteps : List Named → Node → Lit → List Step → Type 0
+AreSteps base node target (below ∷ above ∷ []) =
+    ((below.clause ≡ negative node ∷ target ∷ []) × IsStep same_lit opposite (base_clause base) below.clause below.hints)
+    × ((above.clause ≡ positive node ∷ opposite target ∷ []) × IsStep same_lit opposite (base_clause base) above.clause above.hints)
+AreSteps base node target _ = ⊥
 
 -- the book has one more entry, which merges the node
 pub record Merges (old new : Entries) (node : Node) (target : Lit) : Type 0 where

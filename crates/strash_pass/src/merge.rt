@@ -1,16 +1,17 @@
-ghost use Rattle.std.specs.Prelude.{◌≡◌, [], ◌∷◌, map, IfOk, OnOk, OnErr};
+ghost use Rattle.std.specs.Prelude.{◌≡◌, false, [], ◌∷◌, map, IfOk, OnOk, OnErr};
 ghost use Rattle.lits.specs.Clause.{IsClause};
-ghost use Rattle.lits.specs.Same.{same_lit, opposite};
+ghost use Rattle.lits.specs.Same.{same_lit, same_node, opposite};
 ghost use Rattle.netlist.specs.Net.{IsNet};
+ghost use Rattle.netlist.specs.Miter.{positive, negative};
 ghost use Rattle.unit_prop.specs.Closure.{IsOpen};
 ghost use Rattle.unit_prop.specs.HintScan.{IsNamed};
 ghost use Rattle.unit_prop.specs.Log.{base_clause, base_clauses};
 ghost use Rattle.unit_prop.specs.Step.{IsStep};
 ghost use Rattle.lemma_book.specs.Root.{IsRoot};
 ghost use Rattle.lemma_book.specs.Cone.{AreThere, nodes_in};
-ghost use Rattle.lemma_book.specs.Good.{ArePlaced, IsEarlier};
+ghost use Rattle.lemma_book.specs.Good.{ArePlaced, IsEarlier, IsGood};
 ghost use Rattle.lemma_book.specs.Book.{IsLegal};
-ghost use Rattle.strash_pass.specs.Pass.{ShowsMerge, Merges, AreNotXors};
+ghost use Rattle.strash_pass.specs.Pass.{ShowsMerge, ShowsOver, AreSteps, Merges, AreNotXors};
 
 use lemma_book::{Book, Entry};
 use lits::{Clause, Listed, Lit, Literal, Named, Node, Step};
@@ -43,12 +44,46 @@ pub fn merge(
     ensures err { OnErr result (book.new ≡ book.old) }
 {
     let base = book.clauses_on(alloc, net, book.len(), way)?;
+    let steps = both_steps(alloc, &base, node, target)?;
+    put(alloc, net, book, node, target, steps)
+}
+
+/// The steps that show the two clauses of the merge from the base.
+fn both_steps(
+    alloc: Global,
+    base: &[Named],
+    node: Node,
+    target: Lit,
+) -> Result<Vec<Step>, AllocError>
+    requires named { IsNamed base.now }
+    requires apart { same_node target.node node ≡ false }
+    requires below { ShowsOver (base_clauses base.now) (negative node) target }
+    requires above { ShowsOver (base_clauses base.now) (positive node) (opposite target) }
+    ensures { IfOk result (λ v. AreSteps base.now node target v.items) }
+{
     let lit = Lit { node, neg: false };
-    let below = step(alloc, &base, &[lit.not(), target])?;
-    let above = step(alloc, &base, &[lit, target.not()])?;
     let mut steps = Vec::new(alloc);
-    steps.push(below)?;
-    steps.push(above)?;
+    steps.push(step(alloc, base, &[lit.not(), target])?)?;
+    steps.push(step(alloc, base, &[lit, target.not()])?)?;
+    Ok(steps)
+}
+
+/// Puts the merge by these steps last.
+fn put(
+    alloc: Global,
+    net: &Net,
+    book: &mut Book,
+    node: Node,
+    target: Lit,
+    steps: Vec<Step>,
+) -> Result<(), AllocError>
+    requires legal { IsLegal net.now book.old }
+    requires unmerged { IsRoot book.old.entries node }
+    requires good { IsGood net.now book.old (Entry.Merge node target steps.items) }
+    ensures legal { IsLegal net.now book.new }
+    ensures ok { OnOk result (Merges book.old book.new node target) }
+    ensures err { OnErr result (book.new ≡ book.old) }
+{
     let entry = Entry::Merge {
         node,
         lit: target,

@@ -29,9 +29,22 @@ pub fn run(alloc: Global, net: &Net, book: &mut Book) -> Result<u64, AllocError>
         gates: IndexMap::with_hasher(alloc, NodeHasher::new()),
         visited: 0,
     };
-    visit_side(&mut pass, alloc, net, book, Side::A)?;
-    visit_side(&mut pass, alloc, net, book, Side::B)?;
+    visit_both(&mut pass, alloc, net, book)?;
     Ok(book.len() - before)
+}
+
+/// Visits the gates of both sides.
+fn visit_both(pass: &mut Pass, alloc: Global, net: &Net, book: &mut Book) -> Result<(), AllocError>
+    requires net { IsNet net.now }
+    requires legal { IsLegal net.now book.old }
+    requires pass { IsPass net.now book.old.entries pass.old pass.old.visited }
+    requires visited { pass.old.visited ≡ 0 }
+    ensures legal { IsLegal net.now book.new }
+    ensures grows { AddsMerges book.old book.new }
+    ensures plain { OnOk result (ArePlain net.now book.new.entries) }
+{
+    visit_side(pass, alloc, net, book, Side::A)?;
+    visit_side(pass, alloc, net, book, Side::B)
 }
 
 /// Visits the gates of one side.

@@ -1,7 +1,9 @@
-ghost use Rattle.std.specs.Prelude.{◌≡◌, ◌+◌, Some, slice_get, OnOk};
+ghost use Rattle.std.specs.Prelude.{◌≡◌, ◌+◌, ◌∷◌, ◌++◌, Some, slice_get, OnOk, IfOk};
 ghost use Rattle.std.specs.Option.{option_or};
 ghost use Rattle.netlist.specs.Net.{IsNet, definitions};
+ghost use Rattle.netlist.specs.Miter.{positive};
 ghost use Rattle.lemma_book.specs.Book.{IsLegal};
+ghost use Rattle.lemma_book.specs.Root.{passed_by, root_of};
 ghost use Rattle.strash_pass.specs.Strash.{AddsMerges};
 
 use crate::fold::folded;
@@ -67,25 +69,13 @@ impl Pass {
         if book.is_merged(gate.node) {
             return Ok(());
         }
-        let mut way = Vec::new(alloc);
-        way.push(Lit {
-            node: gate.node,
-            neg: false,
-        })?;
-        let left = book.root_by(gate.left, &mut way)?;
-        let right = book.root_by(gate.right, &mut way)?;
-        match folded(left, right) {
-            Some(target) => {
-                merge_folded(alloc, net, book, gate, Pair { left, right }, target, way)?;
-                Ok(())
-            }
-            None => match self.twin(left, right) {
-                Some(twin) => {
-                    merge_twin(alloc, net, book, gate, twin, way)?;
-                    Ok(())
-                }
+        let (roots, way) = roots_of(alloc, book, gate)?;
+        match folded(roots.left, roots.right) {
+            Some(target) => merge_folded(alloc, net, book, gate, roots, target, way),
+            None => match self.twin(roots.left, roots.right) {
+                Some(twin) => merge_twin(alloc, net, book, gate, twin, way),
                 None => {
-                    self.gates.insert(Pair { left, right }, gate)?;
+                    self.gates.insert(roots, gate)?;
                     Ok(())
                 }
             },
@@ -109,4 +99,21 @@ impl Pass {
                 .copied(),
         }
     }
+}
+
+/// The roots of a gate's fanins, and its way: the gate, and the merged nodes that its fanins pass.
+fn roots_of(alloc: Global, book: &Book, gate: Definition) -> Result<(Pair, Vec<Lit>), AllocError>
+    ensures left { IfOk result (λ r. r.0.left ≡ root_of book.now.entries gate.left) }
+    ensures right { IfOk result (λ r. r.0.right ≡ root_of book.now.entries gate.right) }
+    ensures way { IfOk result (λ r. r.1.items ≡ (positive gate.node ∷ passed_by book.now.entries gate.left)
+        ++ passed_by book.now.entries gate.right) }
+{
+    let mut way = Vec::new(alloc);
+    way.push(Lit {
+        node: gate.node,
+        neg: false,
+    })?;
+    let left = book.root_by(gate.left, &mut way)?;
+    let right = book.root_by(gate.right, &mut way)?;
+    Ok((Pair { left, right }, way))
 }

@@ -1,5 +1,5 @@
 -- Both implications are shown, or an answer settles the pair.
-use Rattle.std.proofs.Common.{[], ◌∷◌, ap, ◌∙◌}
+use Rattle.std.proofs.Common.{[], ◌∷◌, ap}
 use Rattle.lits.specs.declared.literal.Lit.{Lit}
 use Rattle.netlist.specs.Miter.{positive}
 use Rattle.cone_query.proofs.PairLemmas.{merged-settles}
@@ -10,9 +10,10 @@ returns-in-Shown-2 g c =
     merged-settles c.args.net.now c.args.seen.now c.args.task.now c.requires.pair
     (g.R.Refuter.base_of c.args.refuter.now) (g.R.Refuter.base_of c.ask.new.refuter) (g.R.Refuter.base_of c.ask-2.new.refuter)
     (g.R.Refuter.log_of c.args.refuter.now) (g.R.Refuter.log_of c.ask.new.refuter) (g.R.Refuter.log_of c.ask-2.new.refuter) c.log.result.now
-    c.ask.new.left c.ask-2.new.left c.in_ok-there.there c.in_ok-again.again c.in_ok-hints.field-0 c.in_ok-second.field-0 c.in-Shown.hints c.in-Shown-2.second
-    c.merged.result c.in_ok-hints.ensures.base c.in_ok-second.ensures.base c.in_ok-hints.ensures.asked c.in-Shown.is
-    (c.in_ok-there.ensures ∙ ap (λ (l : Lit). l ∷ c.args.task.now.lit ∷ []) c.not.ensures)
-    c.in_ok-second.ensures.asked c.in-Shown-2.is
-    (c.in_ok-again.ensures ∙ ap (λ (l : Lit). positive c.args.task.now.node ∷ l ∷ []) c.not-2.ensures)
-    c.in_ok-second.ensures.query c.log.ensures c.merged.ensures
+    c.ask.new.left c.ask-2.new.left (c.not.result ∷ c.args.task.now.lit ∷ []) (positive c.args.task.now.node ∷ c.not-2.result ∷ [])
+    c.in_ok-step.field-0 c.in_ok-back.field-0 c.in-Shown.step c.in-Shown-2.back
+    c.merged.result c.in_ok-step.ensures.base c.in_ok-back.ensures.base c.in_ok-step.ensures.asked c.in-Shown.is
+    (ap (λ (l : Lit). l ∷ c.args.task.now.lit ∷ []) c.not.ensures)
+    c.in_ok-back.ensures.asked c.in-Shown-2.is
+    (ap (λ (l : Lit). positive c.args.task.now.node ∷ l ∷ []) c.not-2.ensures)
+    c.in_ok-back.ensures.query c.log.ensures c.merged.ensures

@@ -1,42 +1,26 @@
--- The cone is a base, both nodes occur in it, and each answer settles the pair.
-use Rattle.std.proofs.Common.{List, sym, ◌∙◌, subst}
-use Rattle.lits.specs.declared.step.Named.{Named}
-use Rattle.lits.specs.declared.step.Step.{Step}
-use Rattle.unit_prop.specs.Log.{IsBase}
-use Rattle.lemma_book.proofs.Facts.{cone-base}
-use Rattle.cone_query.specs.Asked.{IsQuery, seeds_of}
-use Rattle.cone_query.proofs.PairLemmas.{pair-there, if_ok-all, on_ok-all}
-use Rattle.cone_query.proofs.StartLemmas.{query-start, named-unnamed}
+use Rattle.std.proofs.lemmas.Result.{IfOk-weaker}
 use Rattle.cone_query.proofs.pair_query.pair.Goals as goal
 
-pub cone-requires-clause-there : goal.cone-requires-clause-there
-cone-requires-clause-there g c =
-    pair-there c.args.net.now c.args.seen.now c.args.task.now
-    (record { net_is = c.is_net.ensures; legal = c.requires.legal; all_true = c.entries_are_true.ensures; root = c.requires.root; earlier = c.requires.earlier })
+pub settle-requires-clause-pair : goal.settle-requires-clause-pair
+settle-requires-clause-pair g c κs within = record {
+  net_is = c.is_net.ensures;
+  legal = c.requires.legal;
+  all_true = c.entries_are_true.ensures;
+  root = c.requires.root;
+  earlier = c.requires.earlier;
+}
 
-pub start-requires : goal.start-requires
-start-requires g c =
-    subst IsBase (sym c.as_slice-2.ensures.value)
-    (cone-base c.args.net.now _ c.is_net.ensures (seeds_of c.args.task.now) c.in_ok-base.base.items c.in_ok-base.ensures)
+pub returns-clause-about : goal.returns-clause-about
+returns-clause-about g c = IfOk-weaker c.settle.result _ _ (λ e s. s.about) c.settle.ensures.settles
 
-pub both_ways-requires-clause-query : goal.both_ways-requires-clause-query
-both_ways-requires-clause-query g c κs within =
-    let cone = rw c.len.ensures at c.in_ok-base.ensures in
-    let named = rw c.if-branch.false at c.in_ok-is_unnamed.ensures.no_ in
-    subst (λ (b : List Named). IsQuery c.args.net.now c.args.seen.now c.args.task.now b (g.R.Refuter.log_of c.start.new.self) c.sweep_budget-left.result)
-    (sym (c.in_ok-start.ensures.base ∙ c.as_slice-2.ensures.value))
-    (subst (λ (l : List Step). IsQuery c.args.net.now c.args.seen.now c.args.task.now c.in_ok-base.base.items l c.sweep_budget-left.result)
-    (sym c.in_ok-start.ensures.empty)
-    (query-start c.args.net.now c.args.seen.now c.args.task.now
-    (record { net_is = c.is_net.ensures; legal = c.requires.legal; all_true = c.entries_are_true.ensures; root = c.requires.root; earlier = c.requires.earlier })
-    c.in_ok-base.base.items cone c.requires.gate named c.sweep_budget-left.result c.sweep_budget-left.ensures.budget))
+pub returns-clause-good : goal.returns-clause-good
+returns-clause-good g c = IfOk-weaker c.settle.result _ _ (λ e s. s.good) c.settle.ensures.settles
 
-pub returns-clause-alone : goal.returns-clause-alone
-returns-clause-alone g c =
-    let named = rw c.if-branch.false at c.in_ok-is_unnamed.ensures.no_ in
-    if_ok-all _ c.both_ways.result (λ e u. named-unnamed c.args.net.now c.args.seen.now.entries c.args.task.now named u)
+pub returns-clause-seen : goal.returns-clause-seen
+returns-clause-seen g c = IfOk-weaker c.settle.result _ _ (λ e s. s.seen) c.settle.ensures.settles
 
-pub returns-clause-unasked : goal.returns-clause-unasked
-returns-clause-unasked g c =
-    let named = rw c.if-branch.false at c.in_ok-is_unnamed.ensures.no_ in
-    on_ok-all _ c.both_ways.result (λ u. named-unnamed c.args.net.now c.args.seen.now.entries c.args.task.now named u)
+pub returns-clause-outside : goal.returns-clause-outside
+returns-clause-outside g c = IfOk-weaker c.settle.result _ _ (λ e s. s.outside) c.settle.ensures.settles
+
+pub returns-clause-within : goal.returns-clause-within
+returns-clause-within g c = IfOk-weaker c.settle.result _ _ (λ e s. s.within) c.settle.ensures.settles

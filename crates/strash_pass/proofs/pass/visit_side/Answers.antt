@@ -1,10 +1,10 @@
 -- The next gate of a side is the next one of all.
-use Rattle.std.proofs.Common.{◌≡◌, ◌∙◌, ◌<◌, ℕ, List, Some, ap, sym, get_or, length}
+use Rattle.std.proofs.Common.{◌≡◌, ◌∙◌, ◌<◌, ℕ, List, Some, ap, sym, get_or, length, arith}
 use Rattle.std.specs.Prelude.{slice_get}
 use Rattle.std.proofs.lemmas.Option.{slice_get-get_or}
 use Rattle.netlist.specs.declared.gate.And.{And}
 use Rattle.netlist.specs.Circuit.{Aig}
-use Rattle.strash_pass.proofs.PassLemmas.{side-gate, side-defined}
+use Rattle.strash_pass.proofs.PassLemmas.{adds-more, adds-none, side-gate, side-defined}
 use Rattle.strash_pass.proofs.pass.visit_side.Goals as goal
 
 no_gate : And
@@ -27,3 +27,17 @@ unfolding no_gate
 unreachable-requires c =
     side-defined c.args.net.now c.requires.net c.loop-gate.gate-index (get_or c.gates-gate-items.result.now c.loop-gate.gate-index no_gate) c.args.side
     (gate-at _ _ _ _ no_gate c.gates-gate-items.ensures.gates c.circuit.ensures.circuit c.loop-gate-test.true) (sym c.definition.ensures ∙ c.in-None.is)
+
+pub loop-gate-init : goal.loop-gate-init
+loop-gate-init c = record { legal = c.requires.legal; grows = adds-none _; pass = c.requires.pass; visited = omega (arith, c.requires.visited) }
+
+pub loop-gate-preserved : goal.loop-gate-preserved
+loop-gate-preserved c = record {
+  legal = c.visit.ensures.legal;
+  grows = adds-more _ _ _ c.loop-gate.invariant.grows c.visit.ensures.grows;
+  pass = c.in_ok-visit-in-Some.ensures.pass;
+  visited = omega (arith, c.loop-gate.invariant.visited, c.in_ok-visit-in-Some.ensures.visited);
+}
+
+pub returns-in_err-visit-in-Some-clause-grows : goal.returns-in_err-visit-in-Some-clause-grows
+returns-in_err-visit-in-Some-clause-grows c = adds-more _ _ _ c.loop-gate.invariant.grows c.visit.ensures.grows

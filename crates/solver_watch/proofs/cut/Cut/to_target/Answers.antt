@@ -1,6 +1,7 @@
 use Rattle.std.proofs.Common.{◌≡◌, ◌≤◌, ◌-◌, ◌+◌, ℕ, arith, length, sym, subst, ◌∙◌}
-use Rattle.solver_watch.proofs.WalkLemmas.{blank-counted}
-use Rattle.solver_watch.proofs.TargetLemmas.{IsTracing, tracing-start, tracing-skip, tracing-end}
+use Rattle.watch_lists.specs.Trail.{clause_at}
+use Rattle.solver_watch.proofs.WalkLemmas.{blank-counted, areMet-keeps}
+use Rattle.solver_watch.proofs.TargetLemmas.{IsTracing, behind-forced, tracing-start, tracing-skip, tracing-next, tracing-end}
 use Rattle.solver_watch.proofs.cut.Cut.to_target.Goals as goal
 
 pub mark_clause-requires-clause-counted : goal.mark_clause-requires-clause-counted
@@ -31,3 +32,23 @@ pub returns : goal.returns
 returns c =
     tracing-end c.args.trail.now c.args.target.now c.args.conflict c.loop-place.place c.loop-place.self c.requires (omega arith)
     c.loop-place.invariant.tracing c.loop-place.invariant.met
+
+pub resolve-requires-clause-forced : goal.resolve-requires-clause-forced
+resolve-requires-clause-forced c =
+    behind-forced c.args.trail.now c.args.target.now c.args.conflict (c.loop-place.place - 1) c.loop-place.self.marks c.lits-count.ensures.trail c.requires
+    (let m : c.loop-place.place ≤ length c.args.trail.now.puts = c.loop-place.invariant.most in omega arith)
+    (sym c.is_behind.ensures ∙ c.if-is_behind.true)
+
+pub loop-place-preserved-in-Continue-branch-3 : goal.loop-place-preserved-in-Continue-branch-3
+loop-place-preserved-in-Continue-branch-3 c =
+    let m : c.loop-place.place ≤ length c.args.trail.now.puts = c.loop-place.invariant.most in
+    let z : c.loop-place.place ≡ c.loop-place.place - 1 + 1 = omega arith in
+    let met = c.loop-place.invariant.met in
+    let traced = c.in_ok-resolve.ensures in
+    record {
+      most = omega arith;
+      tracing = tracing-next c.args.trail.now c.args.target.now c.loop-place.self (c.loop-place.place - 1) (omega arith)
+          (subst (λ (n : ℕ). IsTracing c.args.trail.now c.args.target.now n c.loop-place.self) z c.loop-place.invariant.tracing)
+          c.resolve.new.self traced;
+      met = areMet-keeps c.args.trail.now.puts c.loop-place.self.marks c.resolve.new.self.marks (clause_at c.args.trail.now.clauses c.args.conflict) traced.keeps met;
+    }

@@ -6,7 +6,7 @@ use Rattle.solver_plain.proofs.Facts.{each-at}
 use Rattle.watch_lists.specs.Codes.{lit_at}
 use Rattle.solver_watch.specs.Assuming.{IsAssuming}
 use Rattle.solver_watch.proofs.AssumeLemmas.{assuming-assume, assuming-decide}
-use Rattle.solver_watch.proofs.EngineLemmas.{over-numbered, known-same, over-same, refuted-reason, model-is, taken-lits, whole-here}
+use Rattle.solver_watch.proofs.EngineLemmas.{over-numbered, known-same, over-same, refuted-reason, model-is, taken-lits, whole-here, advances}
 use Rattle.solver_watch.proofs.engine.Engine.go_on.Goals as goal
 use Rattle.solver_watch.proofs.engine.Engine.go_on.Goals.{then-level-self+in-All, else-level-self}
 
@@ -60,3 +60,13 @@ returns-in_ok-model-in-None-clause-found c = (
       ])),
   refl,
 )
+
+pub returns-in_ok-decide-in-Some-clause-none : goal.returns-in_ok-decide-in-Some-clause-none
+returns-in_ok-decide-in-Some-clause-none c =
+    advances c.args.self.now c.decide-in-Some.new.self (lit_at c.args.self.now.formula.trail.nodes c.in-Some.code) c.in_ok-decide-in-Some.ensures.clauses
+    c.in_ok-decide-in-Some.ensures.trail c.in_ok-decide-in-Some.ensures.nodes c.in_ok-decide-in-Some.ensures.room
+
+pub returns-in-Open-clause-none : goal.returns-in-Open-clause-none
+returns-in-Open-clause-none c =
+    advances c.args.self.now _ (lit_at c.args.self.now.formula.trail.nodes c.in-Open.code) c.in_ok-decide-in-Open.ensures.clauses
+    c.in_ok-decide-in-Open.ensures.trail c.in_ok-decide-in-Open.ensures.nodes c.in_ok-decide-in-Open.ensures.room

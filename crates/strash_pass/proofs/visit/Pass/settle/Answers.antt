@@ -1,12 +1,13 @@
 -- The gate merges, or it is noted.
-use Rattle.std.proofs.Common.{◌∙◌, ◌∷◌, [], ◌++◌, List, ap, sym, subst}
+use Rattle.std.proofs.Common.{◌∙◌, [], List, sym, subst}
+use Rattle.std.proofs.lemmas.Result.{on_ok_weaker}
 use Rattle.lits.specs.declared.literal.Lit.{Lit}
 use Rattle.netlist.specs.Miter.{positive}
-use Rattle.lemma_book.specs.Root.{merge_of, passed_by}
+use Rattle.lemma_book.specs.Root.{merge_of}
 use Rattle.strash_pass.specs.Pass.{IsWay}
 use Rattle.strash_pass.proofs.GateFacts.{is-gate}
 use Rattle.strash_pass.proofs.WayLemmas.{way-of}
-use Rattle.strash_pass.proofs.PassLemmas.{adds-one, no-root, none-noted, pass-merged, pass-noted, pass-skipped, root-from, seen-twin}
+use Rattle.strash_pass.proofs.PassLemmas.{adds-none, merged-grows, no-root, none-noted, pass-merged, pass-noted, pass-skipped, root-from, seen-twin}
 use Rattle.strash_pass.proofs.visit.Pass.settle.Goals as goal
 
 pub returns-then-is_merged-clause-pass : goal.returns-then-is_merged-clause-pass
@@ -14,55 +15,55 @@ returns-then-is_merged-clause-pass c =
     pass-skipped c.args.net.now c.args.book.now.entries c.args.self.now c.args.self.now.visited c.args.gate c.requires.gate c.requires.pass
     (no-root (merge_of c.args.book.now.entries c.args.gate.node) c.is_merged.result c.is_merged.ensures c.if-is_merged.true)
 
+pub returns-then-is_merged-clause-grows : goal.returns-then-is_merged-clause-grows
+returns-then-is_merged-clause-grows c = adds-none _
+
+pub returns-in_err-roots-clause-grows : goal.returns-in_err-roots-clause-grows
+returns-in_err-roots-clause-grows c = adds-none _
+
 pub merge_folded-requires-clause-way : goal.merge_folded-requires-clause-way
 merge_folded-requires-clause-way c =
     let es = c.args.book.now.entries in
     let gate = is-gate c.args.net.now c.requires.net c.args.self.now.visited c.args.gate c.requires.gate in
     let root = root-from (merge_of es c.args.gate.node) c.is_merged.result c.is_merged.ensures c.if-is_merged.false in
-    subst (λ (l : List Lit). IsWay c.args.net.now es l c.args.gate) (sym
-    (c.in_ok-right.ensures.passed
-    ∙ ap (λ (l : List Lit). l ++ passed_by es c.args.gate.right)
-    (c.in_ok-left.ensures.passed
-    ∙ ap (λ (l : List Lit). l ++ passed_by es c.args.gate.left)
-    (c.in_ok-push.ensures.items ∙ ap (λ (l : List Lit). l ++ positive c.args.gate.node ∷ []) c.new-way.ensures.items))))
+    subst (λ (l : List Lit). IsWay c.args.net.now es l c.args.gate) (sym c.in_ok-roots.ensures.way)
     (way-of c.args.net.now c.args.book.now c.requires.legal [] tt c.args.self.now.visited c.args.gate gate root)
 
-pub returns-in_ok-merge_folded-in-Some-clause-grows : goal.returns-in_ok-merge_folded-in-Some-clause-grows
-returns-in_ok-merge_folded-in-Some-clause-grows c =
-    adds-one c.args.book.now c.merge_folded.new.book c.args.gate.node c.in-Some.target c.in_ok-merge_folded-in-Some.ensures.ok
+pub returns-in-Some-clause-grows : goal.returns-in-Some-clause-grows
+returns-in-Some-clause-grows c =
+    merged-grows c.args.book.now c.merge_folded.new.book c.args.gate.node c.in-Some.target c.merge_folded.result c.merge_folded.ensures.ok c.merge_folded.ensures.err
 
-pub returns-in_ok-merge_folded-in-Some-clause-pass : goal.returns-in_ok-merge_folded-in-Some-clause-pass
-returns-in_ok-merge_folded-in-Some-clause-pass c =
-    pass-merged c.args.net.now c.requires.net c.args.book.now c.merge_folded.new.book c.requires.legal c.args.self.now.visited c.args.gate c.requires.gate
-    c.in-Some.target c.in_ok-merge_folded-in-Some.ensures.ok c.args.self.now c.requires.pass
+pub returns-in-Some-clause-pass : goal.returns-in-Some-clause-pass
+returns-in-Some-clause-pass c =
+    on_ok_weaker c.merge_folded.result
+    (λ m. pass-merged c.args.net.now c.requires.net c.args.book.now c.merge_folded.new.book c.requires.legal c.args.self.now.visited c.args.gate c.requires.gate
+    c.in-Some.target m c.args.self.now c.requires.pass)
+    c.merge_folded.ensures.ok
 
 pub merge_twin-requires-clause-way : goal.merge_twin-requires-clause-way
 merge_twin-requires-clause-way c =
     let es = c.args.book.now.entries in
     let gate = is-gate c.args.net.now c.requires.net c.args.self.now.visited c.args.gate c.requires.gate in
     let root = root-from (merge_of es c.args.gate.node) c.is_merged.result c.is_merged.ensures c.if-is_merged.false in
-    subst (λ (l : List Lit). IsWay c.args.net.now es l c.args.gate) (sym
-    (c.in_ok-right.ensures.passed
-    ∙ ap (λ (l : List Lit). l ++ passed_by es c.args.gate.right)
-    (c.in_ok-left.ensures.passed
-    ∙ ap (λ (l : List Lit). l ++ passed_by es c.args.gate.left)
-    (c.in_ok-push.ensures.items ∙ ap (λ (l : List Lit). l ++ positive c.args.gate.node ∷ []) c.new-way.ensures.items))))
+    subst (λ (l : List Lit). IsWay c.args.net.now es l c.args.gate) (sym c.in_ok-roots.ensures.way)
     (way-of c.args.net.now c.args.book.now c.requires.legal [] tt c.args.self.now.visited c.args.gate gate root)
 
 pub merge_twin-requires-clause-twin : goal.merge_twin-requires-clause-twin
 merge_twin-requires-clause-twin c =
     seen-twin c.args.net.now c.args.book.now.entries c.args.self.now c.args.self.now.visited c.args.gate c.in-Some-twin.twin c.requires.gate c.requires.pass
-    c.in_ok-left.left c.in_ok-right.right c.in_ok-left.ensures.root c.in_ok-right.ensures.root (sym c.folded.ensures ∙ c.in-None.is)
+    c.in_ok-roots.roots.left c.in_ok-roots.roots.right c.in_ok-roots.ensures.left c.in_ok-roots.ensures.right (sym c.folded.ensures ∙ c.in-None.is)
     (sym c.twin.ensures ∙ c.in-Some-twin.is)
 
-pub returns-in_ok-merge_twin-in-Some-twin-clause-grows : goal.returns-in_ok-merge_twin-in-Some-twin-clause-grows
-returns-in_ok-merge_twin-in-Some-twin-clause-grows c =
-    adds-one c.args.book.now c.merge_twin.new.book c.args.gate.node (positive c.in-Some-twin.twin.node) c.in_ok-merge_twin-in-Some-twin.ensures.ok
+pub returns-in-Some-twin-clause-grows : goal.returns-in-Some-twin-clause-grows
+returns-in-Some-twin-clause-grows c =
+    merged-grows c.args.book.now c.merge_twin.new.book c.args.gate.node (positive c.in-Some-twin.twin.node) c.merge_twin.result c.merge_twin.ensures.ok c.merge_twin.ensures.err
 
-pub returns-in_ok-merge_twin-in-Some-twin-clause-pass : goal.returns-in_ok-merge_twin-in-Some-twin-clause-pass
-returns-in_ok-merge_twin-in-Some-twin-clause-pass c =
-    pass-merged c.args.net.now c.requires.net c.args.book.now c.merge_twin.new.book c.requires.legal c.args.self.now.visited c.args.gate c.requires.gate
-    (positive c.in-Some-twin.twin.node) c.in_ok-merge_twin-in-Some-twin.ensures.ok c.args.self.now c.requires.pass
+pub returns-in-Some-twin-clause-pass : goal.returns-in-Some-twin-clause-pass
+returns-in-Some-twin-clause-pass c =
+    on_ok_weaker c.merge_twin.result
+    (λ m. pass-merged c.args.net.now c.requires.net c.args.book.now c.merge_twin.new.book c.requires.legal c.args.self.now.visited c.args.gate c.requires.gate
+    (positive c.in-Some-twin.twin.node) m c.args.self.now c.requires.pass)
+    c.merge_twin.ensures.ok
 
 pub returns-in_ok-insert-in-None-twin-clause-pass : goal.returns-in_ok-insert-in-None-twin-clause-pass
 returns-in_ok-insert-in-None-twin-clause-pass c =
@@ -70,5 +71,11 @@ returns-in_ok-insert-in-None-twin-clause-pass c =
     let root = root-from (merge_of es c.args.gate.node) c.is_merged.result c.is_merged.ensures c.if-is_merged.false in
     let none = none-noted _ _ (sym c.twin.ensures ∙ c.in-None-twin.is) in
     pass-noted c.args.net.now es c.args.self.now c.args.self.now.visited c.args.gate c.requires.gate c.requires.pass
-    (record { gates = c.insert.new.self; visited = c.args.self.now.visited }) c.in_ok-left.left c.in_ok-right.right
-    c.in_ok-left.ensures.root c.in_ok-right.ensures.root root (sym c.folded.ensures ∙ c.in-None.is) none.0 none.1 c.in_ok-insert-in-None-twin.ensures.updates.0
+    (record { gates = c.insert.new.self; visited = c.args.self.now.visited }) c.in_ok-roots.roots.left c.in_ok-roots.roots.right
+    c.in_ok-roots.ensures.left c.in_ok-roots.ensures.right root (sym c.folded.ensures ∙ c.in-None.is) none.0 none.1 c.in_ok-insert-in-None-twin.ensures.updates.0
+
+pub returns-in_ok-insert-in-None-twin-clause-grows : goal.returns-in_ok-insert-in-None-twin-clause-grows
+returns-in_ok-insert-in-None-twin-clause-grows c = adds-none _
+
+pub returns-in_err-insert-in-None-twin-clause-grows : goal.returns-in_err-insert-in-None-twin-clause-grows
+returns-in_err-insert-in-None-twin-clause-grows c = adds-none _

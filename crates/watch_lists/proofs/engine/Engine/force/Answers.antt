@@ -5,7 +5,7 @@ use Rattle.watch_lists.specs.State.{is_met, codes_at}
 use Rattle.watch_lists.specs.Step.{IsPut}
 use Rattle.watch_lists.proofs.VisitLemmas.{turn-clause, turn-other, turn-next, work-clause, others-false, mark-true, mark-false, all-negated, all-forces, met-by, other-in}
 use Rattle.watch_lists.proofs.TrailLemmas.{has-last, flips}
-use Rattle.watch_lists.proofs.TurnLemmas.{turn-put, put-holds, engine-same}
+use Rattle.watch_lists.proofs.TurnLemmas.{turn-put, put-holds, engine-same, holds-same, holds_refl}
 use Rattle.watch_lists.proofs.ListsLemmas.{on_err}
 use Rattle.watch_lists.proofs.engine.Engine.force.Goals as goal
 
@@ -54,3 +54,20 @@ index-requires c =
     let turn = c.requires.turn in
     let j_in = turn-clause turn c.args.clause c.requires.at c.requires.clause in
     omega (arith, c.flip.ensures, flips turn.engine.trail c.args.other (turn-other turn c.args.clause c.args.other j_in c.requires.other), e.truth.ok.0)
+
+pub put-requires-clause-within : goal.put-requires-clause-within
+put-requires-clause-within c =
+    let turn = c.requires.turn in
+    turn-other turn c.args.clause c.args.other (turn-clause turn c.args.clause c.requires.at c.requires.clause) c.requires.other
+
+pub put-requires-clause-places : goal.put-requires-clause-places
+put-requires-clause-places c = c.requires.turn.engine.trail.places_all
+
+pub returns-in_err-put-clause-keeps : goal.returns-in_err-put-clause-keeps
+returns-in_err-put-clause-keeps c = holds-same c.args.self.now c.put.new.self c.in_err-put.ensures.err
+
+pub returns-then-index-clause-keeps : goal.returns-then-index-clause-keeps
+returns-then-index-clause-keeps c = holds_refl _
+
+pub overflow_cast-flip : goal.overflow_cast-flip
+overflow_cast-flip c = omega (arith, c.flip.type_inv)

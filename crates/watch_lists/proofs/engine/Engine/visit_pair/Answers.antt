@@ -3,6 +3,7 @@ use Rattle.lits.specs.Clause.{has}
 use Rattle.watch_lists.proofs.TrailLemmas.{flips}
 use Rattle.watch_lists.specs.State.{is_met, codes_at}
 use Rattle.watch_lists.proofs.VisitLemmas.{work-clause, turn-next, turn-clause, turn-other, met-alone, met-by, other-in, mark-true}
+use Rattle.watch_lists.proofs.TurnLemmas.{holds_refl}
 use Rattle.watch_lists.proofs.engine.Engine.visit_pair.Goals as goal
 use Rattle.watch_lists.proofs.engine.Engine.visit_pair.Goals.{then-other-lit-via-then-other-lit, then-other-lit-via-else-other-lit+then-index}
 
@@ -26,3 +27,6 @@ replacement-requires c = λ l h.
     let j_in = work-clause turn c.args.clause c.requires.at c.requires.clause in
     let inside : has nat_eq (codes_at e.clauses c.args.clause) l ≡ true = sym (turn.engine.copies.same c.args.clause l j_in) ∙ (ap (λ (z : List ℕ). has nat_eq z l) (sym c.get.ensures) ∙ h) in
     omega (arith, flips turn.engine.trail l (turn.engine.trail.within c.args.clause l inside), ap length c.as_slice.ensures.value)
+
+pub returns-then-other-lit-clause-keeps : goal.returns-then-other-lit-clause-keeps
+returns-then-other-lit-clause-keeps c = holds_refl _

@@ -1,6 +1,10 @@
-use Rattle.std.proofs.Common.{◌+◌, subst, sym, arith}
+use Rattle.std.proofs.Common.{◌+◌, [], map, ap, subst, sym, ◌∙◌, arith}
+use Rattle.std.specs.List.{All}
+use Rattle.std.proofs.lemmas.List.{take_all}
+use Rattle.std.proofs.lemmas.List.Elements.{All-nil}
+use Rattle.watch_lists.specs.Codes.{lit_at, IsCode}
 use Rattle.watch_lists.specs.Trail.{TrailState, Keeps}
-use Rattle.watch_lists.proofs.NumbersLemmas.{keeps-next_at, keeps-first, codes-next_at}
+use Rattle.watch_lists.proofs.NumbersLemmas.{keeps-refl, keeps-next_at, keeps-first, codes-next_at}
 use Rattle.watch_lists.proofs.trail.Trail.codes_of.Goals as goal
 
 pub returns-in_err-code-clause-keeps : goal.returns-in_err-code-clause-keeps
@@ -22,3 +26,17 @@ loop-lit-preserved c =
       lits = next.0;
       codes = next.1;
     })
+
+pub loop-lit-init : goal.loop-lit-init
+loop-lit-init c = record {
+  keeps = keeps-refl c.args.self.now [];
+  lits = ap (map (lit_at c.args.self.now.nodes)) c.in_ok-codes.ensures.items;
+  codes = subst (All (IsCode c.args.self.now.nodes)) (sym c.in_ok-codes.ensures.items) (All-nil (IsCode c.args.self.now.nodes));
+}
+
+pub returns-clause-codes : goal.returns-clause-codes
+returns-clause-codes c =
+    (c.loop-lit.invariant.lits ∙ take_all c.loop-lit.lit-index c.args.lits.now c.loop-lit-test.false, c.loop-lit.invariant.codes)
+
+pub returns-clause-keeps : goal.returns-clause-keeps
+returns-clause-keeps c = keeps-first c.args.self.now c.loop-lit.self c.args.lits.now c.loop-lit.lit-index c.loop-lit.invariant.keeps

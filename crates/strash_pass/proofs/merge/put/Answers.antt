@@ -1,0 +1,17 @@
+-- The entry is good over all entries, and comes last.
+use Rattle.std.proofs.Common.{List, subst, sym}
+use Rattle.lits.specs.declared.step.Step.{Step}
+use Rattle.lemma_book.specs.declared.entry.Entry.TheVariants.{Merge}
+use Rattle.lemma_book.specs.Good.{IsGood}
+use Rattle.strash_pass.proofs.MergeLemmas.{all-entries, put-last}
+use Rattle.strash_pass.proofs.merge.put.Goals as goal
+
+pub append-requires-clause-good : goal.append-requires-clause-good
+append-requires-clause-good c =
+    all-entries c.args.net.now c.args.book.now c.args.node c.args.target c.requires.unmerged (Merge c.args.node c.args.target c.of.result)
+    (subst (λ (l : List Step). IsGood c.args.net.now c.args.book.now (Merge c.args.node c.args.target l)) (sym c.of.ensures) c.requires.good)
+    c.len-known.result c.len-known.ensures
+
+pub returns-in-Ok-clause-ok : goal.returns-in-Ok-clause-ok
+returns-in-Ok-clause-ok c =
+    put-last c.args.net.now c.args.book.now c.args.node c.args.target c.requires.unmerged c.of.result c.append.new.self c.in-Ok.ensures.after
