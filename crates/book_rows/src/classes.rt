@@ -78,18 +78,17 @@ const SPENT: [Row<'static>; 1] = [(
     "Ok(At(0))",
 )];
 
-/// Whether nothing is to be asked over the book of the log.
-fn are_none(rt: &impl Abort, alloc: Global, net: &Net) -> Result<bool, Fail> {
+fn check_spent(rt: &impl Abort, alloc: Global, net: &Net) -> Result<(), Fail> {
     let book = book_of(rt, alloc, net, 1, &SPENT)?;
-    are_tasks(rt, alloc, net, &book, &[])
+    let are_none = are_tasks(rt, alloc, net, &book, &[])?;
+    assert!(rt; are_none);
+    Ok(())
 }
 
 /// A pair whose budget was spent is no task again.
 #[test]
 fn spent_pair(rt: HostRuntime) -> Result<(), Fail> {
-    let are_none = are_none(&rt, rt.alloc(), &two_xors(rt.alloc())?)?;
-    assert!(rt; are_none);
-    Ok(())
+    check_spent(&rt, rt.alloc(), &two_xors(rt.alloc())?)
 }
 
 fn check_leaders(rt: &impl Abort, alloc: Global, net: &Net) -> Result<(), Fail> {

@@ -482,11 +482,6 @@ fn root_and_path(rt: HostRuntime) -> Result<(), Fail> {
     check_root(&rt, rt.alloc(), &swapped_ands(rt.alloc())?)
 }
 
-/// The copy of a book with one entry, and with other numbers of clauses for pairs and for outputs.
-fn copied(rt: &impl Abort, alloc: Global, net: &Net) -> Result<Book, Fail> {
-    Ok(book_of(rt, alloc, net, 2, &OFFERS)?.copy(alloc)?)
-}
-
 fn check_copy(rt: &impl Abort, copy: &Book) {
     assert!(rt; copy.len() == 1);
     assert!(rt; copy.sweep_budget() == 1);
@@ -495,9 +490,14 @@ fn check_copy(rt: &impl Abort, copy: &Book) {
     assert!(rt; matches!(copy.entry(0), Some(Entry::Merge { .. })));
 }
 
+/// Copies a book with one entry, and with other numbers of clauses for pairs and for outputs.
+fn check_copied(rt: &impl Abort, alloc: Global, net: &Net) -> Result<(), Fail> {
+    let book = book_of(rt, alloc, net, 2, &OFFERS)?;
+    check_copy(rt, &book.copy(alloc)?);
+    Ok(())
+}
+
 #[test]
 fn copy_of_a_book(rt: HostRuntime) -> Result<(), Fail> {
-    let copy = copied(&rt, rt.alloc(), &swapped_ands(rt.alloc())?)?;
-    check_copy(&rt, &copy);
-    Ok(())
+    check_copied(&rt, rt.alloc(), &swapped_ands(rt.alloc())?)
 }

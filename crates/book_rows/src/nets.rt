@@ -27,6 +27,13 @@ fn lines(alloc: Global, clauses: &[Clause<Dim>]) -> Result<String, AllocError> {
     Ok(text)
 }
 
+/// The miter's clauses as lines of a DIMACS file.
+fn miter_of(alloc: Global, net: &Net) -> Result<String, AllocError> {
+    laws::satisfiable_if_different(net);
+    laws::unsatisfiable_if_equal(net);
+    lines(alloc, net.miter(alloc)?.as_slice())
+}
+
 /// Whether the miter's clauses are these lines of a DIMACS file.
 fn is_miter(
     rt: &impl Abort,
@@ -35,12 +42,8 @@ fn is_miter(
     b: Circuit,
     expected: &str,
 ) -> Result<(), Fail> {
-    let net = pairs::net_of(alloc, a, b)?;
-    let miter = net.miter(alloc)?;
-    let text = lines(alloc, miter.as_slice())?;
+    let text = miter_of(alloc, &pairs::net_of(alloc, a, b)?)?;
     assert!(rt; text.as_str() == expected, "{text}");
-    laws::satisfiable_if_different(&net);
-    laws::unsatisfiable_if_equal(&net);
     Ok(())
 }
 
@@ -159,11 +162,14 @@ fn miter_of_n1(rt: HostRuntime) -> Result<(), Fail> {
     Ok(())
 }
 
+fn check_copy(rt: &impl Abort, alloc: Global, net: &Net) -> Result<(), AllocError> {
+    check_numbers(rt, &net.copy(alloc)?);
+    Ok(())
+}
+
 #[test]
 fn copy_of_a_net(rt: HostRuntime) -> Result<(), Fail> {
-    let copy = swapped_ands(rt.alloc())?.copy(rt.alloc())?;
-    check_numbers(&rt, &copy);
-    Ok(())
+    Ok(check_copy(&rt, rt.alloc(), &swapped_ands(rt.alloc())?)?)
 }
 
 const DEFINITION: Definition = Definition {
@@ -188,18 +194,6 @@ fn check_axioms(rt: &impl Abort, net: &Net) {
     assert!(rt; net.axioms(Node::Input(0)).as_slice().is_empty());
     assert!(rt; net.axioms(GATE).as_slice().len() == 3);
     assert!(rt; net.axioms(Node::Xor(0)).as_slice().len() == 4);
-}
-
-#[test]
-fn what_defines_a_node(rt: HostRuntime) -> Result<(), Fail> {
-    check_definitions(&rt, &swapped_ands(rt.alloc())?);
-    Ok(())
-}
-
-#[test]
-fn axioms_of_a_node(rt: HostRuntime) -> Result<(), Fail> {
-    check_axioms(&rt, &swapped_ands(rt.alloc())?);
-    Ok(())
 }
 
 const FANINS: [Fanins; 2] = [
@@ -282,21 +276,18 @@ fn check_side(rt: &impl Abort, net: &Net) {
     assert!(rt; b.outputs() == [6].as_slice());
 }
 
-#[test]
-fn sizes(rt: HostRuntime) -> Result<(), Fail> {
-    check_sizes(&rt, &swapped_ands(rt.alloc())?);
-    Ok(())
+/// What is read of a net: what defines a node, its axioms, sizes, literals and sides.
+fn check_readers(rt: &impl Abort, net: &Net) {
+    check_definitions(rt, net);
+    check_axioms(rt, net);
+    check_sizes(rt, net);
+    check_literals(rt, net);
+    check_side(rt, net);
 }
 
 #[test]
-fn literals_by_number(rt: HostRuntime) -> Result<(), Fail> {
-    check_literals(&rt, &swapped_ands(rt.alloc())?);
-    Ok(())
-}
-
-#[test]
-fn circuit_of_a_side(rt: HostRuntime) -> Result<(), Fail> {
-    check_side(&rt, &swapped_ands(rt.alloc())?);
+fn readers_of_a_net(rt: HostRuntime) -> Result<(), Fail> {
+    check_readers(&rt, &swapped_ands(rt.alloc())?);
     Ok(())
 }
 
@@ -328,14 +319,21 @@ fn refusal(alloc: Global, a: Circuit, b: Circuit) -> Option<Unlike> {
     }
 }
 
+fn beside_more_inputs(alloc: Global) -> Result<Option<Unlike>, AllocError> {
+    let other = circuit(alloc, &[1, 2, 3], &[], &[])?;
+    Ok(refusal(alloc, one_gate(alloc, 2, 4)?, other))
+}
+
+fn beside_no_outputs(alloc: Global) -> Result<Option<Unlike>, AllocError> {
+    let other = circuit(alloc, &[1, 2], &[], &[])?;
+    Ok(refusal(alloc, one_gate(alloc, 2, 4)?, other))
+}
+
 #[test]
 fn unlike_circuits(rt: HostRuntime) -> Result<(), Fail> {
-    let alloc = rt.alloc();
-    let more_inputs = circuit(alloc, &[1, 2, 3], &[], &[])?;
-    let refused = refusal(alloc, one_gate(alloc, 2, 4)?, more_inputs);
+    let refused = beside_more_inputs(rt.alloc())?;
     assert!(rt; matches!(refused, Some(Unlike::Inputs(2, 3))));
-    let no_outputs = circuit(alloc, &[1, 2], &[], &[])?;
-    let refused = refusal(alloc, one_gate(alloc, 2, 4)?, no_outputs);
+    let refused = beside_no_outputs(rt.alloc())?;
     assert!(rt; matches!(refused, Some(Unlike::Outputs(1, 0))));
     Ok(())
 }

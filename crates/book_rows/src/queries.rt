@@ -67,17 +67,15 @@ fn merges(entry: &Entry, task: &Task) -> bool {
     }
 }
 
-#[test]
-fn pair_merge(rt: HostRuntime) -> Result<(), Fail> {
-    let entry = answer_of_pair(
-        &rt,
-        rt.alloc(),
-        &two_xors(rt.alloc())?,
-        &LAST_GATES,
-        100_000,
-    )?;
+fn check_merge(rt: &impl Abort, alloc: Global, net: &Net) -> Result<(), Fail> {
+    let entry = answer_of_pair(rt, alloc, net, &LAST_GATES, 100_000)?;
     assert!(rt; merges(&entry, &LAST_GATES));
     Ok(())
+}
+
+#[test]
+fn pair_merge(rt: HostRuntime) -> Result<(), Fail> {
+    check_merge(&rt, rt.alloc(), &two_xors(rt.alloc())?)
 }
 
 const AND_AND_INPUT: Task = Task {
@@ -96,18 +94,16 @@ fn is_apart(entry: &Entry) -> bool {
     }
 }
 
+fn check_apart(rt: &impl Abort, alloc: Global, net: &Net) -> Result<(), Fail> {
+    let entry = answer_of_pair(rt, alloc, net, &AND_AND_INPUT, 1000)?;
+    assert!(rt; is_apart(&entry));
+    Ok(())
+}
+
 /// The AND of both inputs is the first one but where the second is false.
 #[test]
 fn pair_apart(rt: HostRuntime) -> Result<(), Fail> {
-    let entry = answer_of_pair(
-        &rt,
-        rt.alloc(),
-        &swapped_ands(rt.alloc())?,
-        &AND_AND_INPUT,
-        1000,
-    )?;
-    assert!(rt; is_apart(&entry));
-    Ok(())
+    check_apart(&rt, rt.alloc(), &swapped_ands(rt.alloc())?)
 }
 
 /// A log of one clause over the empty book, for want of units.
@@ -118,27 +114,34 @@ fn is_spent(entry: &Entry) -> bool {
     }
 }
 
-/// The answer about the XORs, with so many clauses for an output.
-fn answer_of_xors(rt: &impl Abort, alloc: Global, budget: u64) -> Result<Entry, Fail>
+/// The answer about output 0 over an empty book, with so many clauses for an output.
+fn answer_within(rt: &impl Abort, alloc: Global, net: &Net, budget: u64) -> Result<Entry, Fail>
     requires { (1 ≤ budget) × (budget ≤ 1000000000) }
 {
-    let net = two_xors(alloc)?;
     let seen = Book::new(alloc, 1, budget);
-    answer_of_output(rt, alloc, &net, &seen)
+    answer_of_output(rt, alloc, net, &seen)
 }
 
-#[test]
-fn output_query(rt: HostRuntime) -> Result<(), Fail> {
-    let entry = answer_of_xors(&rt, rt.alloc(), 100_000)?;
+fn check_equal(rt: &impl Abort, alloc: Global, net: &Net) -> Result<(), Fail> {
+    let entry = answer_within(rt, alloc, net, 100_000)?;
     assert!(rt; matches!(entry, Entry::Out { output: 0, .. }));
     Ok(())
 }
 
-#[test]
-fn output_query_within_one_clause(rt: HostRuntime) -> Result<(), Fail> {
-    let entry = answer_of_xors(&rt, rt.alloc(), 1)?;
+fn check_spent(rt: &impl Abort, alloc: Global, net: &Net) -> Result<(), Fail> {
+    let entry = answer_within(rt, alloc, net, 1)?;
     assert!(rt; is_spent(&entry));
     Ok(())
+}
+
+#[test]
+fn output_query(rt: HostRuntime) -> Result<(), Fail> {
+    check_equal(&rt, rt.alloc(), &two_xors(rt.alloc())?)
+}
+
+#[test]
+fn output_query_within_one_clause(rt: HostRuntime) -> Result<(), Fail> {
+    check_spent(&rt, rt.alloc(), &two_xors(rt.alloc())?)
 }
 
 /// The answer about the swapped ANDs over the book of their merge.
@@ -173,12 +176,15 @@ fn are_steps(steps: &[Step]) -> bool {
     }
 }
 
-#[test]
-fn output_of_equal_roots(rt: HostRuntime) -> Result<(), Fail> {
-    let entry = answer_of_merged(&rt, rt.alloc(), &swapped_ands(rt.alloc())?)?;
-    let Entry::Out { steps, .. } = entry else {
+fn check_steps(rt: &impl Abort, alloc: Global, net: &Net) -> Result<(), Fail> {
+    let Entry::Out { steps, .. } = answer_of_merged(rt, alloc, net)? else {
         return Err("not out".into());
     };
     assert!(rt; are_steps(steps.as_slice()));
     Ok(())
+}
+
+#[test]
+fn output_of_equal_roots(rt: HostRuntime) -> Result<(), Fail> {
+    check_steps(&rt, rt.alloc(), &swapped_ands(rt.alloc())?)
 }

@@ -4,6 +4,7 @@ use lemma_book::{Book, Entry, Task};
 use lits::{Lit, Node, Side};
 use netlist::Net;
 use std::alloc::{AllocError, Global};
+use std::process::Abort;
 use std::test::Fail;
 use worked_circuits::{and, one_gate, two_input_circuit};
 
@@ -33,7 +34,19 @@ fn words_of(found: &Option<Entry>, dropped: u64) -> &'static str {
     }
 }
 
-/// What a search finds of the pair of B's gate and A's over an empty book.
+/// What the search finds of the pair of B's gate and A's over an empty book.
+fn found_of_pair(
+    alloc: Global,
+    net: &Net,
+    search: &mut Search,
+    task: &Task,
+    caps: Caps,
+) -> Result<&'static str, AllocError> {
+    let found = search.pair(alloc, net, &Book::new(alloc, 10, 10), task, caps)?;
+    Ok(words_of(&found, search.dropped()))
+}
+
+/// What a search finds of the pair of B's gate and A's.
 fn of_pair(
     alloc: Global,
     net: &Net,
@@ -50,50 +63,67 @@ fn of_pair(
         conflicts: 10,
         decisions,
     };
-    let book = Book::new(alloc, 10, 10);
     let mut search = Search::new(alloc, net, 1, 1)?;
-    let found = search.pair(alloc, net, &book, &task, caps)?;
-    Ok(words_of(&found, search.dropped()))
+    found_of_pair(alloc, net, &mut search, &task, caps)
 }
 
-/// What a search finds of output 0 over an empty book.
-fn of_output(alloc: Global, net: &Net) -> Result<&'static str, AllocError> {
+/// What the search finds of output 0 over an empty book.
+fn found_of_output(
+    alloc: Global,
+    net: &Net,
+    search: &mut Search,
+) -> Result<&'static str, AllocError> {
     let caps = Caps {
         conflicts: 10,
         decisions: 10,
     };
-    let book = Book::new(alloc, 10, 10);
-    let mut search = Search::new(alloc, net, 1, 1)?;
-    let found = search.output(alloc, net, &book, 0, caps)?;
+    let found = search.output(alloc, net, &Book::new(alloc, 10, 10), 0, caps)?;
     Ok(words_of(&found, search.dropped()))
+}
+
+/// What a search finds of output 0.
+fn of_output(alloc: Global, net: &Net) -> Result<&'static str, AllocError> {
+    let mut search = Search::new(alloc, net, 1, 1)?;
+    found_of_output(alloc, net, &mut search)
+}
+
+fn check_pair(
+    rt: &(impl Abort + AllocGlobal),
+    net: &Net,
+    var: u32,
+    neg: bool,
+    decisions: u64,
+    expected: &str,
+) -> Result<(), Fail> {
+    let found = of_pair(rt.alloc(), net, var, neg, decisions)?;
+    assert!(rt; found == expected, "{found}");
+    Ok(())
+}
+
+fn check_output(rt: &(impl Abort + AllocGlobal), net: &Net, expected: &str) -> Result<(), Fail> {
+    let found = of_output(rt.alloc(), net)?;
+    assert!(rt; found == expected, "{found}");
+    Ok(())
 }
 
 #[test]
 fn two_forms_of_an_xor_are_merged(rt: HostRuntime) -> Result<(), Fail> {
-    let found = of_pair(rt.alloc(), &equal(rt.alloc())?, 5, true, 10)?;
-    assert!(rt; found == "merge");
-    Ok(())
+    check_pair(&rt, &equal(rt.alloc())?, 5, true, 10, "merge")
 }
 
 #[test]
 fn two_forms_of_an_output_are_equal(rt: HostRuntime) -> Result<(), Fail> {
-    let found = of_output(rt.alloc(), &equal(rt.alloc())?)?;
-    assert!(rt; found == "out");
-    Ok(())
+    check_output(&rt, &equal(rt.alloc())?, "out")
 }
 
 #[test]
 fn gates_that_differ_are_apart(rt: HostRuntime) -> Result<(), Fail> {
-    let found = of_pair(rt.alloc(), &different(rt.alloc())?, 3, false, 10)?;
-    assert!(rt; found == "apart");
-    Ok(())
+    check_pair(&rt, &different(rt.alloc())?, 3, false, 10, "apart")
 }
 
 #[test]
 fn a_search_without_choices_gives_up(rt: HostRuntime) -> Result<(), Fail> {
-    let found = of_pair(rt.alloc(), &equal(rt.alloc())?, 5, true, 0)?;
-    assert!(rt; found == "none");
-    Ok(())
+    check_pair(&rt, &equal(rt.alloc())?, 5, true, 0, "none")
 }
 
 /// Whether a pattern shows the outputs to differ, and on what.
@@ -112,17 +142,23 @@ fn where_first_is_true(input: &[bool]) -> &'static str {
     }
 }
 
+fn check_difference(
+    rt: &(impl Abort + AllocGlobal),
+    net: &Net,
+    expected: &str,
+) -> Result<(), Fail> {
+    let shown = difference(rt.alloc(), net)?;
+    assert!(rt; shown == expected, "{shown}");
+    Ok(())
+}
+
 /// The AND and the first input without the second differ exactly where the first input is true.
 #[test]
 fn a_pattern_shows_outputs_that_differ(rt: HostRuntime) -> Result<(), Fail> {
-    let shown = difference(rt.alloc(), &different(rt.alloc())?)?;
-    assert!(rt; shown == "first of two is true");
-    Ok(())
+    check_difference(&rt, &different(rt.alloc())?, "first of two is true")
 }
 
 #[test]
 fn no_pattern_shows_equal_outputs_to_differ(rt: HostRuntime) -> Result<(), Fail> {
-    let shown = difference(rt.alloc(), &equal(rt.alloc())?)?;
-    assert!(rt; shown == "none");
-    Ok(())
+    check_difference(&rt, &equal(rt.alloc())?, "none")
 }

@@ -75,8 +75,26 @@ fn stitched_from_nothing(rt: HostRuntime) -> Result<(), Fail> {
     check_refutation(&rt, rt.alloc(), &nothing(rt.alloc())?, b"3 0 2 0\n")
 }
 
-/// Checks the bytes of the derivation from these entries, and the spans of open outputs.
+/// Checks the bytes of the derivation, and the spans of open outputs.
 fn check_derivation(
+    rt: &impl Abort,
+    alloc: Global,
+    net: &Net,
+    book: &Book,
+    spans: &[Span],
+    text: &[u8],
+) -> Result<(), Fail>
+    requires { IsLegal net.now book.now }
+{
+    let mut desk = desk(alloc)?;
+    let found = derived(alloc, net, book, &mut desk)?;
+    assert!(rt; found.as_slice() == spans);
+    assert!(rt; has_proof(&desk, text));
+    Ok(())
+}
+
+/// Offers the entries to an empty book, and checks the derivation from it.
+fn check_entries(
     rt: &impl Abort,
     alloc: Global,
     net: &Net,
@@ -85,11 +103,7 @@ fn check_derivation(
     text: &[u8],
 ) -> Result<(), Fail> {
     let book = book_of(rt, alloc, net, 1, rows)?;
-    let mut desk = desk(alloc)?;
-    let found = derived(alloc, net, &book, &mut desk)?;
-    assert!(rt; found.as_slice() == spans);
-    assert!(rt; has_proof(&desk, text));
-    Ok(())
+    check_derivation(rt, alloc, net, &book, spans, text)
 }
 
 /// The steps of a merge and of its output, in the numbers of the CNF: 1 to 12 are its clauses.
@@ -97,7 +111,7 @@ fn check_derivation(
 fn stitched_entries(rt: HostRuntime) -> Result<(), Fail> {
     let rows = [(MERGE, "Ok(At(0))"), (OUT, "Ok(At(1))")];
     let text = b"13 -5 4 0 5 6 4 0\n14 5 -4 0 2 3 7 0\n15 -6 4 0 8 13 0\n16 -6 0 15 9 14 0\n";
-    check_derivation(
+    check_entries(
         &rt,
         rt.alloc(),
         &swapped_ands(rt.alloc())?,
@@ -124,7 +138,7 @@ const SPAN: Span = Span {
 #[test]
 fn stitched_log(rt: HostRuntime) -> Result<(), Fail> {
     let text = b"25 -10 6 2 0 21 11 19 15 6 10 2 0\n";
-    check_derivation(
+    check_entries(
         &rt,
         rt.alloc(),
         &two_xors(rt.alloc())?,

@@ -56,11 +56,15 @@ fn begins_with_two_steps(book: &Book) -> bool {
     }
 }
 
-#[test]
-fn steps_of_a_twin(rt: HostRuntime) -> Result<(), Fail> {
-    let book = passed(&rt, rt.alloc(), &swapped_ands(rt.alloc())?, 1)?;
+fn check_steps(rt: &impl Abort, alloc: Global, net: &Net) -> Result<(), Fail> {
+    let book = passed(rt, alloc, net, 1)?;
     assert!(rt; begins_with_two_steps(&book));
     Ok(())
+}
+
+#[test]
+fn steps_of_a_twin(rt: HostRuntime) -> Result<(), Fail> {
+    check_steps(&rt, rt.alloc(), &swapped_ands(rt.alloc())?)
 }
 
 /// Two XORs by other gates: no gate has a twin.
