@@ -417,6 +417,12 @@ fn longer_logs(rt: HostRuntime) -> Result<(), Fail> {
 
 const A3: Node = Node::Gate(Side::A, 3);
 
+/// A's gate, which B's is merged to.
+const TARGET: Lit = Lit {
+    node: A3,
+    neg: false,
+};
+
 const B3: Lit = Lit {
     node: Node::Gate(Side::B, 3),
     neg: false,
@@ -471,7 +477,7 @@ fn book_readers(rt: HostRuntime) -> Result<(), Fail> {
 
 fn check_root(rt: &impl Abort, alloc: Global, net: &Net) -> Result<(), Fail> {
     let book = book_of(rt, alloc, net, 1, &OFFERS)?;
-    assert!(rt; book.root(B3).node == A3);
+    assert!(rt; book.root(B3) == TARGET);
     let path = book.path(alloc, B3)?;
     assert!(rt; path.as_slice() == [0].as_slice());
     Ok(())
@@ -486,7 +492,7 @@ fn check_copy(rt: &impl Abort, copy: &Book) {
     assert!(rt; copy.len() == 1);
     assert!(rt; copy.sweep_budget() == 1);
     assert!(rt; copy.out_budget() == 2);
-    assert!(rt; copy.root(B3).node == A3);
+    assert!(rt; copy.root(B3) == TARGET);
     assert!(rt; matches!(copy.entry(0), Some(Entry::Merge { .. })));
 }
 

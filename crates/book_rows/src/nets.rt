@@ -162,8 +162,14 @@ fn miter_of_n1(rt: HostRuntime) -> Result<(), Fail> {
     Ok(())
 }
 
+fn check_same_gates(rt: &impl Abort, net: &Net, copy: &Net) {
+    assert!(rt; copy.circuit(Side::A).gates() == net.circuit(Side::A).gates());
+    assert!(rt; copy.circuit(Side::B).gates() == net.circuit(Side::B).gates());
+    assert!(rt; copy.clause_number(GATE, 2) == Some(7));
+}
+
 fn check_copy(rt: &impl Abort, alloc: Global, net: &Net) -> Result<(), AllocError> {
-    check_numbers(rt, &net.copy(alloc)?);
+    check_same_gates(rt, net, &net.copy(alloc)?);
     Ok(())
 }
 
