@@ -1,5 +1,5 @@
 -- How a whole check answers, from what was read and told.
-use Rattle.std.proofs.Common.{◌≡◌, inl, inr, List, [], ◌∷◌, Some, Ok, Err, refl, sym, ap, subst}
+use Rattle.std.proofs.Common.{◌≡◌, inl, inr, List, [], ◌∷◌, Some, Ok, Err, refl, sym, ap, subst, ◌∙◌}
 use Rattle.std.specs.Prelude.{Result, IfOk, IfErr}
 use Rattle.desk_port.specs.Desk.{DeskState}
 use Rattle.netlist.specs.Net.{AigPair}
@@ -16,7 +16,7 @@ use Rattle.check_session.specs.Check.{State, IsSettled, IsFound}
 use Rattle.cec_top.specs.declared.kept.Kept.{Kept}
 use Rattle.cec_top.specs.Check.{Made, IsMade, IsProof, KeepsOn, Tells, status_of_finding, kept_from, AreSome}
 use Rattle.cec_top.specs.Answers.{GoesOn, Ends, Stops}
-use Rattle.cec_top.specs.Steps.{ReadsPair, Settles, options_of}
+use Rattle.cec_top.specs.Steps.{MakesAndTells, ReadsPair, Settles, options_of}
 
 module _ (c : CheckCommand) (old : DeskState) (net : AigPair) (mid : DeskState) (read : ReadsPair c old mid (Ok net)) where
   -- nothing is made so far
@@ -75,6 +75,26 @@ keeps-on kept k keeps (TooLong file) = keeps
 keeps-on kept k keeps (BadFile file text) = keeps
 keeps-on kept k keeps (NotAlike text) = keeps
 keeps-on kept k keeps CannotWrite = keeps
+
+-- a session's check that is made and told settles its pair, once its book is kept
+pub settles : (c : CheckCommand) (s : State) (net : AigPair) (old new : DeskState) (kept : List Kept) (told : Result Status Stop)
+    → s.net ≡ net → MakesAndTells c s old new told → kept ≡ record { check = 0; book = s.book } ∷ [] → Settles c net old new kept told
+settles c s net old new kept (Ok status) same p keeps = record {
+  made = p.made;
+  same = p.net_is ∙ same;
+  is_made = p.is_made;
+  told = p.tells.0;
+  status_is = p.tells.1;
+  keeps = keeps ∙ ap (λ (b : Entries). record { check = 0; book = b } ∷ []) (sym p.book_is);
+}
+settles c s net old new kept (Err stop) same p keeps = inl (record {
+  half = p.made;
+  same = p.net_is ∙ same;
+  is_made = p.is_made;
+  breaks = p.tells;
+  keeps = keeps-on kept (record { check = 0; book = p.made.book })
+      (keeps ∙ ap (λ (b : Entries). record { check = 0; book = b } ∷ []) (sym p.book_is)) stop;
+})
 
 -- a check that was found is right
 pub is-made : (c : CheckCommand) (net : AigPair) (o : Options) (book : Entries) (v : Verdict) → o ≡ options_of c → IsFound net o book v

@@ -108,6 +108,19 @@ pub record ToldWhole (c : CheckCommand) (net : AigPair) (old new : DeskState) (k
   pub status_is : status ≡ status_of_finding made.finding
   pub keeps : kept ≡ kept_from 0 (made ∷ [])
 
+-- the verdict is told whole, and the status is its own; or that stops
+abbrev pub TellsStatus : CheckCommand → Made → DeskState → DeskState → Result Status Stop → Type 0
+TellsStatus c m old new (Ok status) = Tells c 0 m old new (Ok tt) × (status ≡ status_of_finding m.finding)
+TellsStatus c m old new (Err stop) = Tells c 0 m old new (Err stop)
+
+-- the session's check is made, and told whole or in part
+pub record MakesAndTells (c : CheckCommand) (s : State) (old new : DeskState) (told : Result Status Stop) : Type 0 where
+  pub made : Made
+  pub net_is : made.net ≡ s.net
+  pub book_is : made.book ≡ s.book
+  pub is_made : IsMade c made
+  pub tells : TellsStatus c made old new told
+
 -- it has its verdict, and is told in part
 pub record ToldInPart (c : CheckCommand) (net : AigPair) (old new : DeskState) (kept : List Kept) (stop : Stop) : Type 0 where
   pub half : Made

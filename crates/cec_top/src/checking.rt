@@ -1,9 +1,9 @@
-ghost use Rattle.std.specs.Prelude.{◌≡◌, [], IfOk, IfErr, ◌++◌, decimal, codes, string_bytes};
+ghost use Rattle.std.specs.Prelude.{◌≡◌, [], IfOk, IfErr, OnErr, ◌++◌, decimal, codes, string_bytes};
 ghost use Rattle.check_session.specs.Outputs.{finding_of};
 ghost use Rattle.command_line.specs.Answers.{check_texts};
 ghost use Rattle.cec_top.specs.Answers.{Ends, Stops};
 ghost use Rattle.cec_top.specs.Check.{Tells, outputs_of, status_of_finding, text_of_check};
-ghost use Rattle.cec_top.specs.Steps.{HasBook, IsTold, LeavesFiles, Settles, made_of, options_of};
+ghost use Rattle.cec_top.specs.Steps.{HasBook, IsTold, LeavesFiles, MakesAndTells, Settles, made_of, options_of};
 
 use crate::content::{Miter, Proof};
 use crate::kept::Kept;
@@ -93,7 +93,7 @@ pub(crate) fn settle<D: Desk>(
     alloc: Global,
     desk: &mut D,
     words: CheckWords<'_>,
-    session: Session,
+    mut session: Session,
     kept: &mut Vec<Kept>,
 ) -> Result<Status, Stop>
     requires started { (D.state desk.old).started ≡ None }
@@ -102,8 +102,28 @@ pub(crate) fn settle<D: Desk>(
     ensures { Settles (check_texts words.entry) session.net (D.state desk.old) (D.state desk.new)
         kept.new.items result }
 {
-    let mut session = session;
     kept.reserve(1)?;
+    let told = check_and_tell(alloc, desk, words, &mut session)?;
+    let book = session.into_book();
+    kept.push_reserved(Kept { check: 0, book });
+    told
+}
+
+/// Checks the pair of a session, leaves the files and says the verdict; what comes of it once there is a
+/// verdict, or else that memory ran out.
+fn check_and_tell<D: Desk>(
+    alloc: Global,
+    desk: &mut D,
+    words: CheckWords<'_>,
+    session: &mut Session,
+) -> Result<Result<Status, Stop>, AllocError>
+    requires started { (D.state desk.old).started ≡ None }
+    requires options { session.old.options ≡ options_of (check_texts words) }
+    ensures net { session.new.net ≡ session.old.net }
+    ensures told { IfOk result
+        (MakesAndTells (check_texts words.entry) session.new (D.state desk.old) (D.state desk.new)) }
+    ensures silent { OnErr result (D.state desk.new ≡ D.state desk.old) }
+{
     let verdict = session.check(alloc)?;
     proves(session.net(), session.book());
     let check = Settled {
@@ -111,13 +131,9 @@ pub(crate) fn settle<D: Desk>(
         book: session.book(),
         verdict: &verdict,
     };
-    let told = tell(alloc, desk, words, 0, check);
-    let status = status_of(&verdict);
-    let book = session.into_book();
-    kept.push_reserved(Kept { check: 0, book });
-    match told {
-        Ok(()) => Ok(status),
-        Err(stop) => Err(stop),
+    match tell(alloc, desk, words, 0, check) {
+        Ok(()) => Ok(Ok(status_of(&verdict))),
+        Err(stop) => Ok(Err(stop)),
     }
 }
 

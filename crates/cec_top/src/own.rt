@@ -2,6 +2,8 @@ ghost use Rattle.std.specs.Prelude.{◌≡◌, [], IfOk, IfErr, None, Some};
 ghost use Rattle.netlist.specs.Circuit.{Aig};
 ghost use Rattle.aiger_file.specs.File.{SpellsAiger};
 ghost use Rattle.command_line.specs.Answers.{check_texts, self_texts};
+ghost use Rattle.endings.specs.Writing.{Says};
+ghost use Rattle.cec_top.specs.Texts.{workload_text};
 ghost use Rattle.cec_top.specs.SelfCheck.{EndsSelf, StopsSelf, own_check};
 ghost use Rattle.cec_top.specs.Steps.{MakesSession, ReadsBack};
 
@@ -14,7 +16,7 @@ use check_session::Session;
 use command_line::{CheckWords, SelfWords};
 use desk_port::Desk;
 use endings::{Status, Stop, say};
-use netlist::{Circuit, Unlike};
+use netlist::{Circuit, Net, Unlike};
 use std::alloc::Global;
 
 /// Makes two circuits, says which they are, settles them and says the verdict.
@@ -32,9 +34,22 @@ pub(crate) fn check_own<D: Desk>(
         (StopsSelf (self_texts words) (D.state desk.old) kept.new.items (D.state desk.new)) }
 {
     let session = own_session(alloc, words)?;
-    let text = workload_text(alloc, words, session.net())?;
-    say(desk, text.as_slice())?;
+    say_workload(alloc, desk, words, session.net())?;
     settle(alloc, desk, without_options(), session, kept)
+}
+
+/// Says which circuits were made.
+fn say_workload<D: Desk>(
+    alloc: Global,
+    desk: &mut D,
+    words: SelfWords,
+    net: &Net,
+) -> Result<(), Stop>
+    requires started { (D.state desk.old).started ≡ None }
+    ensures { Says (workload_text (self_texts words) net.now) (D.state desk.old) (D.state desk.new) result }
+{
+    let text = workload_text(alloc, words, net)?;
+    say(desk, text.as_slice())
 }
 
 /// A check without an option, of no files.

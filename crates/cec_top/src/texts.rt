@@ -1,4 +1,4 @@
-ghost use Rattle.std.specs.Prelude.{◌≡◌, ◌++◌, map, IfOk, OnOk};
+ghost use Rattle.std.specs.Prelude.{◌≡◌, ◌++◌, decimal, map, IfOk, OnOk};
 ghost use Rattle.command_line.specs.Answers.{self_texts};
 ghost use Rattle.command_line.specs.Plain.{kind_name};
 ghost use Rattle.cec_top.specs.Check.{text_of};
@@ -85,10 +85,8 @@ fn open_text_with(alloc: Global, spans: &[Span]) -> Result<Vec<u8>, AllocError>
 fn push_output(text: &mut Vec<u8>, output: u32) -> Result<(), AllocError>
     ensures { OnOk result (text.new.items ≡ text.old.items ++ output_line output) }
 {
-    text.extend_from_slice(b"output ")?;
-    text.extend_from_slice(Buffer::new().format(output).as_bytes())?;
-    text.extend_from_slice(b"\n")?;
-    Ok(())
+    push_number(text, b"output ", u64::from(output))?;
+    text.extend_from_slice(b"\n")
 }
 
 /// Appends the line of an output that is left open, with the lines of the proof that are its log.
@@ -96,14 +94,18 @@ fn push_output(text: &mut Vec<u8>, output: u32) -> Result<(), AllocError>
 fn push_span(text: &mut Vec<u8>, span: Span) -> Result<(), AllocError>
     ensures { OnOk result (text.new.items ≡ text.old.items ++ span_line span) }
 {
-    text.extend_from_slice(b"output ")?;
-    text.extend_from_slice(Buffer::new().format(span.output).as_bytes())?;
-    text.extend_from_slice(b" lines ")?;
-    text.extend_from_slice(Buffer::new().format(span.first).as_bytes())?;
-    text.extend_from_slice(b"-")?;
-    text.extend_from_slice(Buffer::new().format(span.last).as_bytes())?;
-    text.extend_from_slice(b"\n")?;
-    Ok(())
+    push_number(text, b"output ", u64::from(span.output))?;
+    push_number(text, b" lines ", span.first)?;
+    push_number(text, b"-", span.last)?;
+    text.extend_from_slice(b"\n")
+}
+
+/// Appends a label and the number behind it.
+fn push_number(text: &mut Vec<u8>, label: &[u8], number: u64) -> Result<(), AllocError>
+    ensures { OnOk result (text.new.items ≡ text.old.items ++ label.now ++ decimal number) }
+{
+    text.extend_from_slice(label)?;
+    text.extend_from_slice(Buffer::new().format(number).as_bytes())
 }
 
 /// Puts the inputs' truth values, input 0 first.
@@ -146,14 +148,10 @@ pub(crate) fn workload_text(
     let (a, b) = (net.circuit(Side::A), net.circuit(Side::B));
     let mut text = Vec::from_slice(alloc, b"kind ")?;
     text.extend_from_slice(kind_name(words.kind).as_bytes())?;
-    text.extend_from_slice(b" n ")?;
-    text.extend_from_slice(Buffer::new().format(words.n).as_bytes())?;
-    text.extend_from_slice(b"\ngates ")?;
-    text.extend_from_slice(Buffer::new().format(a.gates().len()).as_bytes())?;
-    text.extend_from_slice(b" ")?;
-    text.extend_from_slice(Buffer::new().format(b.gates().len()).as_bytes())?;
-    text.extend_from_slice(b"\noutputs ")?;
-    text.extend_from_slice(Buffer::new().format(net.outputs()).as_bytes())?;
+    push_number(&mut text, b" n ", u64::from(words.n))?;
+    push_number(&mut text, b"\ngates ", a.gates().len() as u64)?;
+    push_number(&mut text, b" ", b.gates().len() as u64)?;
+    push_number(&mut text, b"\noutputs ", u64::from(net.outputs()))?;
     text.extend_from_slice(b"\n")?;
     Ok(text)
 }
