@@ -1,5 +1,5 @@
 -- What one number more makes of the parts of a line.
-use Rattle.std.proofs.Common.{◌≡◌, ℕ, Bool, true, false, ◌&&◌, ◌||◌, List, [], ◌∷◌, ◌++◌, Option, Some, None, refl, sym, ap, ◌∙◌, append-nil, append_assoc}
+use Rattle.std.proofs.Common.{◌≡◌, ℕ, Bool, true, false, ◌&&◌, ◌||◌, List, [], ◌∷◌, ◌++◌, Option, Some, None, refl, sym, ap, ◌∙◌, append-nil, append_assoc, subst}
 use Rattle.std.specs.Prelude.{option_map, IfSome}
 use Rattle.std.specs.List.{list_any, list_all}
 use Rattle.std.proofs.lemmas.Bool.{and_parts}
@@ -238,6 +238,16 @@ read-misfit front words word left n parts e wrong r =
     go (Some ns) =
         rw (append_assoc r.seen (n ∷ []) ns, sym (append_assoc front r.seen (n ∷ ns)))
         (wrong (front ++ r.seen) ns r.so_far)
+
+-- one more word is read
+pub read-more : (front : List Number) (words : List (List ℕ)) (word : List ℕ) (left : List (List ℕ)) (n : Number) (parts more : Parts)
+    → number_in word ≡ Some n → ((ns : List Number) → IsParts ns parts → IsParts (ns ++ n ∷ []) more)
+    → ReadSoFar front words (word ∷ left) parts → ReadSoFar front words left more
+read-more front words word left n parts more e adds r = record {
+  seen = r.seen ++ n ∷ [];
+  found = r.found ∙ found-more r.seen word n left e;
+  so_far = subst (λ ns. IsParts ns more) (append_assoc front r.seen (n ∷ [])) (adds (front ++ r.seen) r.so_far);
+}
 
 pub IsBadNumber-weaker : (at : ℕ) (e : LratErr) {P Q : Type 0} → (P → Q) → IsBadNumber at e P
     → IsBadNumber at e Q

@@ -2,8 +2,14 @@ use Rattle.std.proofs.Common.{sym, ◌∙◌}
 use Rattle.std.proofs.lemmas.Result.{err_from_is_err_and}
 use Rattle.lrat_text.specs.Reading.{words_in}
 use Rattle.lrat_text.specs.Parts.{zeros_before}
-use Rattle.lrat_text.proofs.PlaceLemmas.{read-misfit, IsBadNumber-weaker}
+use Rattle.lrat_text.proofs.PlaceLemmas.{read-misfit, read-more, IsBadNumber-weaker}
 use Rattle.lrat_text.proofs.parts.Parts.read.Goals as goal
+
+pub loop-word-preserved : goal.loop-word-preserved
+loop-word-preserved c =
+    read-more (zeros_before c.args.place) (words_in c.args.line.now) _ _ c.in_ok-number.number _ _
+    (sym c.number_in.ensures ∙ c.in_ok-number.ensures.ok_part) c.in_ok-add.ensures.ok
+    (rw c.in-Some.ensures.steps at c.loop-word.invariant)
 
 pub returns-in_err-add-clause-err : goal.returns-in_err-add-clause-err
 returns-in_err-add-clause-err c =
