@@ -1,8 +1,9 @@
 ghost use Rattle.std.specs.Prelude.{◌≡◌, IfOk, length};
 ghost use Rattle.netlist.specs.Net.{nodes_of};
+ghost use Rattle.lemma_book.specs.Book.{IsLegal};
 
 use crate::lemmas::{Row, book_of};
-use crate::pairs::{gate, net_of, two_xors};
+use crate::pairs::{expect, net_of, two_xors};
 use lemma_book::{Book, Task};
 use lits::{Lit, Node, Side};
 use netlist::Net;
@@ -48,10 +49,20 @@ fn are_tasks(
 }
 
 /// Checks what is to be asked where the book is empty.
-fn check_tasks(rt: &impl Abort, alloc: Global, net: &Net, expected: &[Task]) -> Result<(), Fail> {
+fn check_empty(rt: &impl Abort, alloc: Global, net: &Net, expected: &[Task]) -> Result<(), Fail> {
     let are_expected = are_tasks(rt, alloc, net, &Book::new(alloc, 1, 1), expected)?;
-    assert!(rt; are_expected);
+    expect(rt, "the tasks", are_expected);
     Ok(())
+}
+
+/// The same over a net that a case makes in the call.
+fn check_tasks(
+    rt: &impl Abort,
+    alloc: Global,
+    net: Result<Net, Fail>,
+    expected: &[Task],
+) -> Result<(), Fail> {
+    check_empty(rt, alloc, &net?, expected)
 }
 
 const A5: Node = Node::Gate(Side::A, 5);
@@ -67,21 +78,22 @@ const PAIR: Task = Task {
     },
 };
 
+static OF_XORS: [Task; 1] = [PAIR];
+
 #[test]
 fn tasks_of_two_xors(rt: HostRuntime) -> Result<(), Fail> {
-    check_tasks(&rt, rt.alloc(), &two_xors(rt.alloc())?, &[PAIR])
+    check_tasks(&rt, rt.alloc(), two_xors(rt.alloc()), &OF_XORS)
 }
 
 /// What a query with a budget of one clause learned of the pair: where both gates are true, so is x.
-const SPENT: [Row<'static>; 1] = [(
+static SPENT: [Row<'static>; 1] = [(
     "spent b5 -a5 0: -b5 -a5 i0 by b5.1 b4.2 a5.1 a4.2",
     "Ok(At(0))",
 )];
 
 fn check_spent(rt: &impl Abort, alloc: Global, net: &Net) -> Result<(), Fail> {
     let book = book_of(rt, alloc, net, 1, &SPENT)?;
-    let are_none = are_tasks(rt, alloc, net, &book, &[])?;
-    assert!(rt; are_none);
+    expect(rt, "no task", are_tasks(rt, alloc, net, &book, &[])?);
     Ok(())
 }
 
@@ -91,13 +103,24 @@ fn spent_pair(rt: HostRuntime) -> Result<(), Fail> {
     check_spent(&rt, rt.alloc(), &two_xors(rt.alloc())?)
 }
 
-fn check_leaders(rt: &impl Abort, alloc: Global, net: &Net) -> Result<(), Fail> {
-    let sigs = rows(rt, alloc, net)?;
-    let book = Book::new(alloc, 1, 1);
+const FIRST: Lit = Lit {
+    node: A5,
+    neg: false,
+};
+
+fn check_leaders(rt: &impl Abort, net: &Net, sigs: &Sigs, book: &Book)
+    requires sigs { length sigs.now.rows ≡ length (nodes_of net.now) }
+    requires legal { IsLegal net.now book.now }
+{
     assert!(rt; net.position(A5).is_some());
     assert!(rt; net.position(B5).is_some());
-    assert!(rt; leader(net, &sigs, &book, B5) == PAIR.lit);
-    assert!(rt; leader(net, &sigs, &book, A5) == gate(Side::A, 5));
+    expect(rt, "B's gate", leader(net, sigs, book, B5) == PAIR.lit);
+    expect(rt, "A's gate", leader(net, sigs, book, A5) == FIRST);
+}
+
+/// Checks who leads where the book is empty.
+fn check_led(rt: &impl Abort, alloc: Global, net: &Net) -> Result<(), Fail> {
+    check_leaders(rt, net, &rows(rt, alloc, net)?, &Book::new(alloc, 1, 1));
     Ok(())
 }
 
@@ -105,17 +128,16 @@ fn check_leaders(rt: &impl Abort, alloc: Global, net: &Net) -> Result<(), Fail> 
 /// leads itself.
 #[test]
 fn leaders(rt: HostRuntime) -> Result<(), Fail> {
-    check_leaders(&rt, rt.alloc(), &two_xors(rt.alloc())?)
+    check_led(&rt, rt.alloc(), &two_xors(rt.alloc())?)
 }
 
 /// A gate that is an input, its negation, and false.
 fn complements(alloc: Global) -> Result<Net, Fail> {
-    let a = two_input_circuit(alloc, &[and(3, 4, 4), and(4, 2, 3)], 6)?;
-    let b = two_input_circuit(alloc, &[and(3, 5, 1)], 6)?;
-    net_of(alloc, a, b)
+    let a = two_input_circuit(alloc, &[and(3, 4, 4), and(4, 2, 3)], 6);
+    net_of(alloc, a, two_input_circuit(alloc, &[and(3, 5, 1)], 6))
 }
 
-const OF_COMPLEMENTS: [Task; 3] = [
+static OF_COMPLEMENTS: [Task; 3] = [
     Task {
         node: Node::Gate(Side::A, 3),
         lit: Lit {
@@ -142,5 +164,5 @@ const OF_COMPLEMENTS: [Task; 3] = [
 /// Gates that are an input, its negation and false: their classes begin with the input and with the constant.
 #[test]
 fn classes_with_complements(rt: HostRuntime) -> Result<(), Fail> {
-    check_tasks(&rt, rt.alloc(), &complements(rt.alloc())?, &OF_COMPLEMENTS)
+    check_tasks(&rt, rt.alloc(), complements(rt.alloc()), &OF_COMPLEMENTS)
 }

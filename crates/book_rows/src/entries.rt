@@ -28,14 +28,16 @@ pub(crate) fn entry(alloc: Global, line: &str) -> Result<Entry, Fail> {
     let Some((head, body)) = line.split_once(':') else {
         return Err("a colon is missing".into());
     };
-    let words = words(alloc, head)?;
-    match words.as_slice() {
-        ["outspent", output, seen] => of_output(alloc, "outspent", number(output), seen, body),
-        [kind, output] => of_output(alloc, kind, number(output), "", body),
-        [kind, node, target] => of_pair(alloc, kind, lit(node)?.node, lit(target)?, "", body),
-        [kind, node, target, seen] => {
-            of_pair(alloc, kind, lit(node)?.node, lit(target)?, seen, body)
-        }
+    of_words(alloc, words(alloc, head)?.as_slice(), body)
+}
+
+/// The entry of the words before the colon and the text behind it.
+fn of_words(alloc: Global, words: &[&str], body: &str) -> Result<Entry, Fail> {
+    match words {
+        ["outspent", output, seen] => of_output(alloc, "outspent", output, seen, body),
+        [kind, output] => of_output(alloc, kind, output, "", body),
+        [kind, node, target] => of_pair(alloc, kind, (node, target), "", body),
+        [kind, node, target, seen] => of_pair(alloc, kind, (node, target), seen, body),
         _ => Err("another number of words".into()),
     }
 }
@@ -44,11 +46,12 @@ pub(crate) fn entry(alloc: Global, line: &str) -> Result<Entry, Fail> {
 fn of_pair(
     alloc: Global,
     kind: &str,
-    node: Node,
-    lit: Lit,
+    pair: (&str, &str),
     seen: &str,
     body: &str,
 ) -> Result<Entry, Fail> {
+    let node = lit(pair.0)?.node;
+    let lit = lit(pair.1)?;
     Ok(match kind {
         "merge" => Entry::Merge {
             node,
@@ -70,25 +73,32 @@ fn of_pair(
 }
 
 /// An entry about an output.
-fn of_output(alloc: Global, kind: &str, output: u8, seen: &str, body: &str) -> Result<Entry, Fail> {
+fn of_output(
+    alloc: Global,
+    kind: &str,
+    output: &str,
+    seen: &str,
+    body: &str,
+) -> Result<Entry, Fail> {
+    let output = u32::from(number(output));
     Ok(match kind {
         "out" => Entry::Out {
-            output: u32::from(output),
+            output,
             steps: steps(alloc, body)?,
         },
         "outapart" => Entry::OutApart {
-            output: u32::from(output),
+            output,
             input: input(alloc, body)?,
         },
         _ => Entry::OutSpent {
-            output: u32::from(output),
+            output,
             seen: u64::from(number(seen)),
             log: steps(alloc, body)?,
         },
     })
 }
 
-fn input(alloc: Global, text: &str) -> Result<Listed<bool>, Fail> {
+fn input(alloc: Global, text: &str) -> Result<Listed<bool>, AllocError> {
     let mut values = Vec::new(alloc);
     for byte in text.as_bytes() {
         match byte {
@@ -132,7 +142,8 @@ fn of_hints(alloc: Global, text: &str) -> Result<Listed<Ref>, Fail> {
     Ok(Listed::of(names))
 }
 
-fn lit(word: &str) -> Result<Lit, Fail> {
+/// The literal of a word.
+pub(crate) fn lit(word: &str) -> Result<Lit, Fail> {
     match word.strip_prefix('-') {
         Some(node_word) => Ok(Lit {
             node: node(node_word)?,

@@ -4,7 +4,7 @@ ghost use Rattle.lemma_book.specs.Cone.{AreThere};
 ghost use Rattle.std.specs.Bool.{OnTrue};
 
 use crate::entries::{self, MERGE, OUT};
-use crate::pairs::{swapped_ands, two_xors};
+use crate::pairs::{expect, swapped_ands, two_xors};
 use lemma_book::{Book, Entry, Offered, Refused};
 use lits::{Lit, Named, Node, Ref, Side};
 use netlist::Net;
@@ -91,12 +91,25 @@ fn offer_to(
     requires some { 1 ≤ budget }
     requires range { budget ≤ 1000000000 }
 {
-    let mut book = Book::new(alloc, budget, budget);
-    offer_all(rt, alloc, net, &mut book, rows)
+    offer_all(rt, alloc, net, &mut Book::new(alloc, budget, budget), rows)
+}
+
+/// The same over a net that a case makes in the call.
+fn check_offers(
+    rt: &impl Abort,
+    alloc: Global,
+    net: Result<Net, Fail>,
+    budget: u64,
+    rows: &[Row<'_>],
+) -> Result<(), Fail>
+    requires some { 1 ≤ budget }
+    requires range { budget ≤ 1000000000 }
+{
+    offer_to(rt, alloc, &net?, budget, rows)
 }
 
 /// A merge without a hint, with node and target exchanged, whole, and once more.
-const OFFERS: [Row<'static>; 4] = [
+static OFFERS: [Row<'static>; 4] = [
     (
         "merge b3 a3: -b3 a3 by b3.1 a3.2; b3 -a3 by a3.0 a3.1 b3.2",
         "Err(Bad(Step(0, BadStep { hint: 0, why: NotFalse })))",
@@ -111,11 +124,11 @@ const OFFERS: [Row<'static>; 4] = [
 
 #[test]
 fn offers(rt: HostRuntime) -> Result<(), Fail> {
-    offer_to(&rt, rt.alloc(), &swapped_ands(rt.alloc())?, 1, &OFFERS)
+    check_offers(&rt, rt.alloc(), swapped_ands(rt.alloc()), 1, &OFFERS)
 }
 
 /// Each cause that is found without looking at steps.
-const NAMES_AND_SIZES: [Row<'static>; 27] = [
+static NAMES_AND_SIZES: [Row<'static>; 27] = [
     // A gate that isn't there; an input; an XOR, which has no position.
     (
         "merge b9 a3: -b3 a3 by b3.0 b3.1 a3.2; b3 -a3 by a3.0 a3.1 b3.2",
@@ -181,17 +194,17 @@ const NAMES_AND_SIZES: [Row<'static>; 27] = [
 
 #[test]
 fn faults_of_names_and_sizes(rt: HostRuntime) -> Result<(), Fail> {
-    offer_to(
+    check_offers(
         &rt,
         rt.alloc(),
-        &swapped_ands(rt.alloc())?,
+        swapped_ands(rt.alloc()),
         1,
         &NAMES_AND_SIZES,
     )
 }
 
 /// Each cause that is found in steps.
-const STEPS: [Row<'static>; 15] = [
+static STEPS: [Row<'static>; 15] = [
     // Hints that are no clauses: an axiom, one of an XOR, an entry's, the step's own, a later step's.
     (
         "merge b3 a3: -b3 a3 by b3.3; b3 -a3 by a3.0 a3.1 b3.2",
@@ -253,11 +266,11 @@ const STEPS: [Row<'static>; 15] = [
 
 #[test]
 fn faults_of_steps(rt: HostRuntime) -> Result<(), Fail> {
-    offer_to(&rt, rt.alloc(), &swapped_ands(rt.alloc())?, 1, &STEPS)
+    check_offers(&rt, rt.alloc(), swapped_ands(rt.alloc()), 1, &STEPS)
 }
 
 /// Two causes stand, and the earlier is told.
-const PAIRS: [Row<'static>; 16] = [
+static PAIRS: [Row<'static>; 16] = [
     // Name and place in order; name and last clauses.
     (
         "merge a3 b9: -b3 a3 by b3.0 b3.1 a3.2; b3 -a3 by a3.0 a3.1 b3.2",
@@ -299,11 +312,11 @@ const PAIRS: [Row<'static>; 16] = [
 
 #[test]
 fn earlier_of_two_faults(rt: HostRuntime) -> Result<(), Fail> {
-    offer_to(&rt, rt.alloc(), &swapped_ands(rt.alloc())?, 1, &PAIRS)
+    check_offers(&rt, rt.alloc(), swapped_ands(rt.alloc()), 1, &PAIRS)
 }
 
 /// A merge, its output, and what comes after them.
-const SETTLED: [Row<'static>; 14] = [
+static SETTLED: [Row<'static>; 14] = [
     (MERGE, "Ok(At(0))"),
     (OUT, "Ok(At(1))"),
     // What is settled, whatever else is wrong.
@@ -335,11 +348,11 @@ const SETTLED: [Row<'static>; 14] = [
 
 #[test]
 fn settled_entries(rt: HostRuntime) -> Result<(), Fail> {
-    offer_to(&rt, rt.alloc(), &swapped_ands(rt.alloc())?, 1, &SETTLED)
+    check_offers(&rt, rt.alloc(), swapped_ands(rt.alloc()), 1, &SETTLED)
 }
 
 /// Logs of one clause.
-const LOGS: [Row<'static>; 10] = [
+static LOGS: [Row<'static>; 10] = [
     // Counts, entries that were seen, and what is to be earlier, by all else good.
     (
         "spent a5 -b5 0: -b5 -a5 i0 by b5.1 b4.2 a5.1 a4.2",
@@ -381,11 +394,11 @@ const LOGS: [Row<'static>; 10] = [
 
 #[test]
 fn logs_of_queries(rt: HostRuntime) -> Result<(), Fail> {
-    offer_to(&rt, rt.alloc(), &two_xors(rt.alloc())?, 1, &LOGS)
+    check_offers(&rt, rt.alloc(), two_xors(rt.alloc()), 1, &LOGS)
 }
 
 /// Logs of two clauses, and a merge by two learned clauses.
-const LONGER_LOGS: [Row<'static>; 4] = [
+static LONGER_LOGS: [Row<'static>; 4] = [
     // The log's second clause is the first once more.
     (
         "spent b5 -a5 0: -b5 -a5 i0 by b5.1 b4.2 a5.1 a4.2; -b5 -a5 i0 by b5.1 b4.2 a5.1 a4.2",
@@ -412,7 +425,7 @@ const LONGER_LOGS: [Row<'static>; 4] = [
 
 #[test]
 fn longer_logs(rt: HostRuntime) -> Result<(), Fail> {
-    offer_to(&rt, rt.alloc(), &two_xors(rt.alloc())?, 2, &LONGER_LOGS)
+    check_offers(&rt, rt.alloc(), two_xors(rt.alloc()), 2, &LONGER_LOGS)
 }
 
 const A3: Node = Node::Gate(Side::A, 3);
@@ -461,49 +474,104 @@ fn names_in_cone(alloc: Global, net: &Net, book: &Book) -> Result<Vec<Ref>, Fail
     names_of(alloc, cone.as_slice())
 }
 
-fn check_names(rt: &impl Abort, alloc: Global, net: &Net) -> Result<(), Fail> {
-    let book = book_of(rt, alloc, net, 1, &OFFERS)?;
-    let names = names_in_cone(alloc, net, &book)?;
-    assert!(rt; names.as_slice() == NAMES_IN_CONE.as_slice());
+const PATH: [u64; 1] = [0];
+
+/// What is read of a book.
+enum Read {
+    /// The cone of the merged gate.
+    Cone,
+    /// The gate's root, and the entries that lead to it.
+    Root,
+    /// A copy of the book.
+    Copy,
+}
+
+fn check_copy(rt: &impl Abort, copy: &Book) {
+    expect(rt, "one entry", copy.len() == 1);
+    expect(rt, "the clauses for pairs", copy.sweep_budget() == 1);
+    expect(rt, "the clauses for outputs", copy.out_budget() == 2);
+    expect(rt, "the root", copy.root(B3) == TARGET);
+    expect(
+        rt,
+        "a merge",
+        matches!(copy.entry(0), Some(Entry::Merge { .. })),
+    );
+}
+
+fn check_read(
+    rt: &impl Abort,
+    alloc: Global,
+    net: &Net,
+    book: &Book,
+    read: &Read,
+) -> Result<(), Fail>
+    requires { IsLegal net.now book.now }
+{
+    match read {
+        Read::Cone => {
+            let names = names_in_cone(alloc, net, book)?;
+            expect(
+                rt,
+                "the names",
+                names.as_slice() == NAMES_IN_CONE.as_slice(),
+            );
+        }
+        Read::Root => {
+            expect(rt, "the root", book.root(B3) == TARGET);
+            expect(
+                rt,
+                "the path",
+                book.path(alloc, B3)?.as_slice() == PATH.as_slice(),
+            );
+        }
+        Read::Copy => check_copy(rt, &book.copy(alloc)?),
+    }
     Ok(())
+}
+
+/// Reads a book with the one entry that merges the swapped ANDs, with so many clauses for outputs.
+fn check_merged(
+    rt: &impl Abort,
+    alloc: Global,
+    net: &Net,
+    budget: u64,
+    read: &Read,
+) -> Result<(), Fail>
+    requires some { 1 ≤ budget }
+    requires range { budget ≤ 1000000000 }
+{
+    let book = book_of(rt, alloc, net, budget, &OFFERS)?;
+    check_read(rt, alloc, net, &book, read)
+}
+
+/// The same over a net that a case makes in the call.
+fn check_book(
+    rt: &impl Abort,
+    alloc: Global,
+    net: Result<Net, Fail>,
+    budget: u64,
+    read: &Read,
+) -> Result<(), Fail>
+    requires some { 1 ≤ budget }
+    requires range { budget ≤ 1000000000 }
+{
+    check_merged(rt, alloc, &net?, budget, read)
 }
 
 /// The cone of the merged gate has its merge's clauses and those of the gate that it stands for, and none
 /// of its own.
 #[test]
 fn book_readers(rt: HostRuntime) -> Result<(), Fail> {
-    check_names(&rt, rt.alloc(), &swapped_ands(rt.alloc())?)
-}
-
-fn check_root(rt: &impl Abort, alloc: Global, net: &Net) -> Result<(), Fail> {
-    let book = book_of(rt, alloc, net, 1, &OFFERS)?;
-    assert!(rt; book.root(B3) == TARGET);
-    let path = book.path(alloc, B3)?;
-    assert!(rt; path.as_slice() == [0].as_slice());
-    Ok(())
+    check_book(&rt, rt.alloc(), swapped_ands(rt.alloc()), 1, &Read::Cone)
 }
 
 #[test]
 fn root_and_path(rt: HostRuntime) -> Result<(), Fail> {
-    check_root(&rt, rt.alloc(), &swapped_ands(rt.alloc())?)
-}
-
-fn check_copy(rt: &impl Abort, copy: &Book) {
-    assert!(rt; copy.len() == 1);
-    assert!(rt; copy.sweep_budget() == 1);
-    assert!(rt; copy.out_budget() == 2);
-    assert!(rt; copy.root(B3) == TARGET);
-    assert!(rt; matches!(copy.entry(0), Some(Entry::Merge { .. })));
+    check_book(&rt, rt.alloc(), swapped_ands(rt.alloc()), 1, &Read::Root)
 }
 
 /// Copies a book with one entry, and with other numbers of clauses for pairs and for outputs.
-fn check_copied(rt: &impl Abort, alloc: Global, net: &Net) -> Result<(), Fail> {
-    let book = book_of(rt, alloc, net, 2, &OFFERS)?;
-    check_copy(rt, &book.copy(alloc)?);
-    Ok(())
-}
-
 #[test]
 fn copy_of_a_book(rt: HostRuntime) -> Result<(), Fail> {
-    check_copied(&rt, rt.alloc(), &swapped_ands(rt.alloc())?)
+    check_book(&rt, rt.alloc(), swapped_ands(rt.alloc()), 2, &Read::Copy)
 }

@@ -4,10 +4,11 @@ ghost use Rattle.lemma_book.specs.Book.{IsLegal};
 ghost use Rattle.lemma_book.specs.Good.{IsGood};
 
 use crate::entries::{self, MERGE};
-use crate::pairs::swapped_ands;
+use crate::pairs::{expect, swapped_ands};
 use lemma_book::{Book, Entry, Judgement, Offered};
 use netlist::Net;
 use std::alloc::{AllocError, Global};
+use std::process::Abort;
 use std::test::Fail;
 use sweep_core::{Event, Reply, State};
 
@@ -45,20 +46,32 @@ fn events(alloc: Global, entry: Entry) -> Result<Vec<Event>, AllocError>
     Ok(events)
 }
 
+/// What the core of one task and two workers answers to the events about the entry.
+fn replies_to(alloc: Global, net: &Net, book: Book, entry: Entry) -> Result<Vec<Reply>, AllocError>
+    requires empty { book ≡ record { sweep_budget = 1; out_budget = 1; entries = [] } }
+    requires legal { IsLegal net.now book }
+    requires good { IsGood net.now book entry }
+{
+    let mut state = State::new(alloc, book, 1, 2)?;
+    state.run(alloc, net, events(alloc, entry)?)
+}
+
+const REPLIES: [Reply; 4] = [
+    Reply::Task(Some(0)),
+    Reply::Offered(Offered::At(0)),
+    Reply::Known(1),
+    Reply::Task(None),
+];
+
+fn check_replies(rt: &impl Abort, alloc: Global, net: &Net) -> Result<(), Fail> {
+    let book = Book::new(alloc, 1, 1);
+    let entry = good_merge(alloc, net, &book)?;
+    let replies = replies_to(alloc, net, book, entry)?;
+    expect(rt, "the replies", replies.as_slice() == REPLIES.as_slice());
+    Ok(())
+}
+
 #[test]
 fn core_events(rt: HostRuntime) -> Result<(), Fail> {
-    let alloc = rt.alloc();
-    let net = swapped_ands(alloc)?;
-    let book = Book::new(alloc, 1, 1);
-    let entry = good_merge(alloc, &net, &book)?;
-    let mut state = State::new(alloc, book, 1, 2)?;
-    let replies = state.run(alloc, &net, events(alloc, entry)?)?;
-    let expected = [
-        Reply::Task(Some(0)),
-        Reply::Offered(Offered::At(0)),
-        Reply::Known(1),
-        Reply::Task(None),
-    ];
-    assert_eq!(rt; replies.as_slice(), expected.as_slice());
-    Ok(())
+    check_replies(&rt, rt.alloc(), &swapped_ands(rt.alloc())?)
 }

@@ -1,7 +1,7 @@
 ghost use Rattle.std.specs.Prelude.{◌≡◌};
 ghost use Rattle.worked_circuits.specs.Worked.{one_gate};
 
-use crate::pairs::{self, swapped_ands};
+use crate::pairs::{self, expect, swapped_ands};
 use lits::{Clause, Dim, Lit, Node, Side};
 use netlist::{And, Circuit, Definition, Fanins, Net, Placed, Unlike, VariableTable, laws};
 use std::alloc::{AllocError, Global};
@@ -34,17 +34,22 @@ fn miter_of(alloc: Global, net: &Net) -> Result<String, AllocError> {
     lines(alloc, net.miter(alloc)?.as_slice())
 }
 
-/// Whether the miter's clauses are these lines of a DIMACS file.
+/// Checks that the miter's clauses are these lines of a DIMACS file.
+fn check_lines(rt: &impl Abort, alloc: Global, net: &Net, expected: &str) -> Result<(), Fail> {
+    let text = miter_of(alloc, net)?;
+    assert!(rt; text.as_str() == expected, "{text}");
+    Ok(())
+}
+
+/// The same of the circuits' miter.
 fn is_miter(
     rt: &impl Abort,
     alloc: Global,
-    a: Circuit,
-    b: Circuit,
+    a: Result<Circuit, AllocError>,
+    b: Result<Circuit, AllocError>,
     expected: &str,
 ) -> Result<(), Fail> {
-    let text = miter_of(alloc, &pairs::net_of(alloc, a, b)?)?;
-    assert!(rt; text.as_str() == expected, "{text}");
-    Ok(())
+    check_lines(rt, alloc, &pairs::net_of(alloc, a, b)?, expected)
 }
 
 #[test]
@@ -55,8 +60,8 @@ fn swapped_and(rt: HostRuntime) -> Result<(), Fail> {
     is_miter(
         &rt,
         alloc,
-        one_gate(alloc, 2, 4)?,
-        one_gate(alloc, 4, 2)?,
+        one_gate(alloc, 2, 4),
+        one_gate(alloc, 4, 2),
         expected,
     )
 }
@@ -69,8 +74,8 @@ fn and_against_false(rt: HostRuntime) -> Result<(), Fail> {
     is_miter(
         &rt,
         alloc,
-        one_gate(alloc, 2, 4)?,
-        circuit(alloc, &[1, 2], &[], &[0])?,
+        one_gate(alloc, 2, 4),
+        circuit(alloc, &[1, 2], &[], &[0]),
         expected,
     )
 }
@@ -82,8 +87,8 @@ fn empty_circuits(rt: HostRuntime) -> Result<(), Fail> {
     is_miter(
         &rt,
         alloc,
-        circuit(alloc, &[], &[], &[])?,
-        circuit(alloc, &[], &[], &[])?,
+        circuit(alloc, &[], &[], &[]),
+        circuit(alloc, &[], &[], &[]),
         expected,
     )
 }
@@ -95,8 +100,8 @@ fn constants_differ(rt: HostRuntime) -> Result<(), Fail> {
     is_miter(
         &rt,
         alloc,
-        circuit(alloc, &[], &[], &[0])?,
-        circuit(alloc, &[], &[], &[1])?,
+        circuit(alloc, &[], &[], &[0]),
+        circuit(alloc, &[], &[], &[1]),
         expected,
     )
 }
@@ -116,23 +121,105 @@ fn merged_to_input_and_false(rt: HostRuntime) -> Result<(), Fail> {
     };
     let expected = "1 0\n-3 2 0\n-3 2 0\n3 -2 0\n-4 2 0\n-4 -2 0\n-5 3 2 0\n-5 -3 -2 0\n\
         5 -3 2 0\n5 3 -2 0\n-6 4 -1 0\n-6 -4 1 0\n6 -4 -1 0\n6 4 1 0\n5 6 0\n";
-    let a = circuit(alloc, &[1], &[twice, never], &[4, 6])?;
-    is_miter(&rt, alloc, a, circuit(alloc, &[1], &[], &[2, 0])?, expected)
+    let a = circuit(alloc, &[1], &[twice, never], &[4, 6]);
+    is_miter(&rt, alloc, a, circuit(alloc, &[1], &[], &[2, 0]), expected)
+}
+
+/// What a call on a net gives.
+enum Fact {
+    Position(Node, Option<u32>),
+    /// The number of the node's axiom among the miter's clauses.
+    ClauseNumber(Node, u8, Option<u32>),
+    /// The DIMACS number of a literal.
+    Number(Lit, i32),
+    /// The node's first axiom begins with the literal.
+    AxiomBegins(Node, Lit),
+    Definition(Node, Option<Definition>),
+    /// How many axioms the node has.
+    Axioms(Node, usize),
+    /// How many positions, variables, clauses and outputs there are.
+    Sizes(u32, u32, u32, u32),
+    /// Whether a side has the AIGER literal.
+    Literal(Side, u32, bool),
+    /// Whether a side has the output.
+    Output(Side, u32, bool),
+    /// A side's inputs, outputs, and how many gates it has.
+    Circuit(Side, &'static [u32], &'static [u32], usize),
+    Fanins(u32, Option<Fanins>),
+    AllFanins(&'static [Fanins]),
+}
+
+fn axiom_begins(net: &Net, node: Node, lit: Lit) -> bool {
+    match net.axiom(node, 0) {
+        Some(axiom) => axiom.lits().first().copied() == Some(lit),
+        None => false,
+    }
+}
+
+fn is_circuit(circuit: &Circuit, inputs: &[u32], outputs: &[u32], gates: usize) -> bool {
+    circuit.inputs() == inputs && circuit.outputs() == outputs && circuit.gates().len() == gates
+}
+
+fn has_sizes(net: &Net, sizes: [u32; 4]) -> bool {
+    sizes
+        == [
+            net.positions(),
+            net.variables(),
+            net.clauses(),
+            net.outputs(),
+        ]
+}
+
+fn is_so(net: &Net, fact: &Fact) -> bool {
+    match fact {
+        Fact::Position(node, position) => net.position(*node) == *position,
+        Fact::ClauseNumber(node, k, number) => net.clause_number(*node, *k) == *number,
+        Fact::Number(lit, number) => net.cnf_number(*lit) == Dim::of(*number),
+        Fact::AxiomBegins(node, lit) => axiom_begins(net, *node, *lit),
+        Fact::Definition(node, definition) => net.definition(*node) == *definition,
+        Fact::Axioms(node, count) => net.axioms(*node).as_slice().len() == *count,
+        Fact::Sizes(positions, variables, clauses, outputs) => {
+            has_sizes(net, [*positions, *variables, *clauses, *outputs])
+        }
+        Fact::Literal(side, aiger, is_there) => net.lit(*side, *aiger).is_some() == *is_there,
+        Fact::Output(side, output, is_there) => net.output(*side, *output).is_some() == *is_there,
+        Fact::Circuit(side, inputs, outputs, gates) => {
+            is_circuit(net.circuit(*side), inputs, outputs, *gates)
+        }
+        Fact::Fanins(k, fanins) => net.fanins(*k) == *fanins,
+        Fact::AllFanins(fanins) => net.all_fanins() == *fanins,
+    }
+}
+
+fn check_facts(rt: &impl Abort, net: &Net, facts: &[Fact]) {
+    for (place, fact) in facts.iter().enumerate() {
+        assert!(rt; is_so(net, fact), "fact {place}");
+    }
+}
+
+/// The same of a net that a case makes in the call.
+fn check(rt: &impl Abort, net: Result<Net, Fail>, facts: &[Fact]) -> Result<(), Fail> {
+    check_facts(rt, &net?, facts);
+    Ok(())
 }
 
 const GATE: Node = Node::Gate(Side::B, 3);
 
-fn check_positions(rt: &impl Abort, net: &Net) {
-    assert!(rt; net.position(GATE) == Some(4));
-    assert!(rt; net.position(Node::Gate(Side::B, 2)).is_none());
-    assert!(rt; net.position(Node::Input(1)) == Some(2));
-    assert!(rt; net.position(Node::Xor(0)).is_none());
-}
-
 #[test]
 fn net_of(rt: HostRuntime) -> Result<(), Fail> {
-    check_positions(&rt, &swapped_ands(rt.alloc())?);
-    Ok(())
+    check(&rt, swapped_ands(rt.alloc()), &POSITIONS)
+}
+
+static POSITIONS: [Fact; 4] = [
+    Fact::Position(GATE, Some(4)),
+    Fact::Position(Node::Gate(Side::B, 2), None),
+    Fact::Position(Node::Input(1), Some(2)),
+    Fact::Position(Node::Xor(0), None),
+];
+
+#[test]
+fn miter_of_n1(rt: HostRuntime) -> Result<(), Fail> {
+    check(&rt, swapped_ands(rt.alloc()), &NUMBERS)
 }
 
 const NOT_GATE: Lit = Lit {
@@ -140,42 +227,35 @@ const NOT_GATE: Lit = Lit {
     neg: true,
 };
 
-fn check_numbers(rt: &impl Abort, net: &Net) {
-    assert!(rt; net.clause_number(GATE, 2) == Some(7));
-    assert!(rt; net.clause_number(GATE, 3).is_none());
-    assert!(rt; net.clause_number(Node::Xor(0), 0) == Some(8));
-    assert!(rt; net.cnf_number(NOT_GATE) == Dim::of(-5));
-    assert!(rt; has_axiom(net));
+static NUMBERS: [Fact; 5] = [
+    Fact::ClauseNumber(GATE, 2, Some(7)),
+    Fact::ClauseNumber(GATE, 3, None),
+    Fact::ClauseNumber(Node::Xor(0), 0, Some(8)),
+    Fact::Number(NOT_GATE, -5),
+    Fact::AxiomBegins(GATE, NOT_GATE),
+];
+
+/// Whether the copy has the gates and the numbers of the net.
+fn is_copy(net: &Net, copy: &Net) -> bool {
+    copy.circuit(Side::A).gates() == net.circuit(Side::A).gates()
+        && copy.circuit(Side::B).gates() == net.circuit(Side::B).gates()
+        && copy.clause_number(GATE, 2) == Some(7)
 }
 
-/// Whether it is the gate's first axiom that begins with its negation.
-fn has_axiom(net: &Net) -> bool {
-    match net.axiom(GATE, 0) {
-        Some(axiom) => axiom.lits().first().copied() == Some(NOT_GATE),
-        None => false,
-    }
-}
-
-#[test]
-fn miter_of_n1(rt: HostRuntime) -> Result<(), Fail> {
-    check_numbers(&rt, &swapped_ands(rt.alloc())?);
-    Ok(())
-}
-
-fn check_same_gates(rt: &impl Abort, net: &Net, copy: &Net) {
-    assert!(rt; copy.circuit(Side::A).gates() == net.circuit(Side::A).gates());
-    assert!(rt; copy.circuit(Side::B).gates() == net.circuit(Side::B).gates());
-    assert!(rt; copy.clause_number(GATE, 2) == Some(7));
-}
-
-fn check_copy(rt: &impl Abort, alloc: Global, net: &Net) -> Result<(), AllocError> {
-    check_same_gates(rt, net, &net.copy(alloc)?);
+fn check_copy(rt: &impl Abort, alloc: Global, net: &Net) -> Result<(), Fail> {
+    expect(rt, "a copy", is_copy(net, &net.copy(alloc)?));
     Ok(())
 }
 
 #[test]
 fn copy_of_a_net(rt: HostRuntime) -> Result<(), Fail> {
-    Ok(check_copy(&rt, rt.alloc(), &swapped_ands(rt.alloc())?)?)
+    check_copy(&rt, rt.alloc(), &swapped_ands(rt.alloc())?)
+}
+
+/// What is read of a net: what defines a node, its axioms, sizes, literals and sides.
+#[test]
+fn readers_of_a_net(rt: HostRuntime) -> Result<(), Fail> {
+    check(&rt, swapped_ands(rt.alloc()), &READERS)
 }
 
 const DEFINITION: Definition = Definition {
@@ -190,65 +270,66 @@ const DEFINITION: Definition = Definition {
     },
 };
 
-fn check_definitions(rt: &impl Abort, net: &Net) {
-    assert!(rt; net.definition(GATE) == Some(DEFINITION));
-    assert!(rt; net.definition(Node::Const).is_none());
-}
-
-fn check_axioms(rt: &impl Abort, net: &Net) {
-    assert!(rt; net.axioms(Node::Const).as_slice().len() == 1);
-    assert!(rt; net.axioms(Node::Input(0)).as_slice().is_empty());
-    assert!(rt; net.axioms(GATE).as_slice().len() == 3);
-    assert!(rt; net.axioms(Node::Xor(0)).as_slice().len() == 4);
-}
-
-const FANINS: [Fanins; 2] = [
-    Fanins {
-        left: Placed {
-            position: 1,
-            neg: false,
-        },
-        right: Placed {
-            position: 2,
-            neg: false,
-        },
-    },
-    Fanins {
-        left: Placed {
-            position: 0,
-            neg: false,
-        },
-        right: Placed {
-            position: 2,
-            neg: true,
-        },
-    },
+static READERS: [Fact; 12] = [
+    Fact::Definition(GATE, Some(DEFINITION)),
+    Fact::Definition(Node::Const, None),
+    Fact::Axioms(Node::Const, 1),
+    Fact::Axioms(Node::Input(0), 0),
+    Fact::Axioms(GATE, 3),
+    Fact::Axioms(Node::Xor(0), 4),
+    Fact::Sizes(5, 6, 12, 1),
+    Fact::Literal(Side::B, 7, true),
+    Fact::Literal(Side::B, 8, false),
+    Fact::Output(Side::A, 0, true),
+    Fact::Output(Side::A, 1, false),
+    Fact::Circuit(Side::B, &[1, 2], &[6], 1),
 ];
 
 /// The AND of the inputs, and one over a constant and a complement.
 fn one_and_another(alloc: Global) -> Result<Net, Fail> {
-    pairs::net_of(alloc, one_gate(alloc, 2, 4)?, one_gate(alloc, 1, 5)?)
-}
-
-fn check_fanins(rt: &impl Abort, net: &Net) {
-    assert!(rt; net.fanins(0) == Some(FANINS[0]));
-    assert!(rt; net.fanins(1) == Some(FANINS[1]));
-    assert!(rt; net.fanins(2).is_none());
-    assert!(rt; net.all_fanins() == FANINS.as_slice());
+    pairs::net_of(alloc, one_gate(alloc, 2, 4), one_gate(alloc, 1, 5))
 }
 
 #[test]
 fn fanins_by_position(rt: HostRuntime) -> Result<(), Fail> {
-    check_fanins(&rt, &one_and_another(rt.alloc())?);
-    Ok(())
+    check(&rt, one_and_another(rt.alloc()), &FANINS)
 }
 
+const OF_INPUTS: Fanins = Fanins {
+    left: Placed {
+        position: 1,
+        neg: false,
+    },
+    right: Placed {
+        position: 2,
+        neg: false,
+    },
+};
+
+const OF_TRUE: Fanins = Fanins {
+    left: Placed {
+        position: 0,
+        neg: false,
+    },
+    right: Placed {
+        position: 2,
+        neg: true,
+    },
+};
+
+static FANINS: [Fact; 4] = [
+    Fact::Fanins(0, Some(OF_INPUTS)),
+    Fact::Fanins(1, Some(OF_TRUE)),
+    Fact::Fanins(2, None),
+    Fact::AllFanins(&[OF_INPUTS, OF_TRUE]),
+];
+
 fn check_places(rt: &impl Abort, table: &VariableTable) {
-    assert!(rt; table.place(0) == Some(0));
-    assert!(rt; table.place(5) == Some(1));
-    assert!(rt; table.place(2) == Some(2));
-    assert!(rt; table.place(3).is_none());
-    assert!(rt; table.place(6).is_none());
+    expect(rt, "the constant's place", table.place(0) == Some(0));
+    expect(rt, "the first variable's place", table.place(5) == Some(1));
+    expect(rt, "the second variable's place", table.place(2) == Some(2));
+    expect(rt, "no place of 3", table.place(3).is_none());
+    expect(rt, "no place of 6", table.place(6).is_none());
 }
 
 #[test]
@@ -261,85 +342,47 @@ fn table_of_variables(rt: HostRuntime) -> Result<(), Fail> {
     Ok(())
 }
 
-fn check_literals(rt: &impl Abort, net: &Net) {
-    assert!(rt; net.lit(Side::B, 7).is_some());
-    assert!(rt; net.lit(Side::B, 8).is_none());
-    assert!(rt; net.output(Side::A, 0).is_some());
-    assert!(rt; net.output(Side::A, 1).is_none());
-}
-
-fn check_sizes(rt: &impl Abort, net: &Net) {
-    assert!(rt; net.positions() == 5);
-    assert!(rt; net.variables() == 6);
-    assert!(rt; net.clauses() == 12);
-    assert!(rt; net.outputs() == 1);
-}
-
-fn check_side(rt: &impl Abort, net: &Net) {
-    let b = net.circuit(Side::B);
-    assert!(rt; b.gates().len() == 1);
-    assert!(rt; b.inputs() == [1, 2].as_slice());
-    assert!(rt; b.outputs() == [6].as_slice());
-}
-
-/// What is read of a net: what defines a node, its axioms, sizes, literals and sides.
-fn check_readers(rt: &impl Abort, net: &Net) {
-    check_definitions(rt, net);
-    check_axioms(rt, net);
-    check_sizes(rt, net);
-    check_literals(rt, net);
-    check_side(rt, net);
-}
-
-#[test]
-fn readers_of_a_net(rt: HostRuntime) -> Result<(), Fail> {
-    check_readers(&rt, &swapped_ands(rt.alloc())?);
-    Ok(())
-}
-
-/// The values of the gate, of its negation, of the second input and of true, where the inputs are these.
-fn check_values(rt: &impl Abort, circuit: &Circuit, x: bool, y: bool, value: bool)
+/// Whether the gate, its negation, the second input and true have their values, where the inputs are these.
+fn has_values(circuit: &Circuit, x: bool, y: bool, value: bool) -> bool
     requires { circuit.now ≡ one_gate 3 4 }
 {
-    assert!(rt; circuit.value(&[x, y], 6, &mut [false]) == value);
-    assert!(rt; circuit.value(&[x, y], 7, &mut [true]) == !value);
-    assert!(rt; circuit.value(&[x, y], 4, &mut [true]) == y);
-    assert!(rt; circuit.value(&[x, y], 1, &mut [false]));
+    circuit.value(&[x, y], 6, &mut [false]) == value
+        && circuit.value(&[x, y], 7, &mut [true]) != value
+        && circuit.value(&[x, y], 4, &mut [true]) == y
+        && circuit.value(&[x, y], 1, &mut [false])
 }
 
+/// The negation of the first input, and the second.
 #[test]
 fn values(rt: HostRuntime) -> Result<(), Fail> {
     let circuit = one_gate(rt.alloc(), 3, 4)?;
-    check_values(&rt, &circuit, false, false, false);
-    check_values(&rt, &circuit, false, true, true);
-    check_values(&rt, &circuit, true, false, false);
-    check_values(&rt, &circuit, true, true, false);
+    expect(&rt, "00", has_values(&circuit, false, false, false));
+    expect(&rt, "01", has_values(&circuit, false, true, true));
+    expect(&rt, "10", has_values(&circuit, true, false, false));
+    expect(&rt, "11", has_values(&circuit, true, true, false));
     Ok(())
 }
 
 /// Why the circuits are no net.
-fn refusal(alloc: Global, a: Circuit, b: Circuit) -> Option<Unlike> {
-    match Net::of(alloc, a, b) {
+fn refusal(
+    alloc: Global,
+    a: Result<Circuit, AllocError>,
+    b: Result<Circuit, AllocError>,
+) -> Result<Option<Unlike>, AllocError> {
+    Ok(match Net::of(alloc, a?, b?) {
         Ok(_) => None,
         Err(unlike) => Some(unlike),
-    }
-}
-
-fn beside_more_inputs(alloc: Global) -> Result<Option<Unlike>, AllocError> {
-    let other = circuit(alloc, &[1, 2, 3], &[], &[])?;
-    Ok(refusal(alloc, one_gate(alloc, 2, 4)?, other))
-}
-
-fn beside_no_outputs(alloc: Global) -> Result<Option<Unlike>, AllocError> {
-    let other = circuit(alloc, &[1, 2], &[], &[])?;
-    Ok(refusal(alloc, one_gate(alloc, 2, 4)?, other))
+    })
 }
 
 #[test]
 fn unlike_circuits(rt: HostRuntime) -> Result<(), Fail> {
-    let refused = beside_more_inputs(rt.alloc())?;
-    assert!(rt; matches!(refused, Some(Unlike::Inputs(2, 3))));
-    let refused = beside_no_outputs(rt.alloc())?;
-    assert!(rt; matches!(refused, Some(Unlike::Outputs(1, 0))));
+    let alloc = rt.alloc();
+    let more_inputs = circuit(alloc, &[1, 2, 3], &[], &[]);
+    let refused = refusal(alloc, one_gate(alloc, 2, 4), more_inputs)?;
+    expect(&rt, "more inputs", refused == Some(Unlike::Inputs(2, 3)));
+    let no_outputs = circuit(alloc, &[1, 2], &[], &[]);
+    let refused = refusal(alloc, one_gate(alloc, 2, 4), no_outputs)?;
+    expect(&rt, "no outputs", refused == Some(Unlike::Outputs(1, 0)));
     Ok(())
 }

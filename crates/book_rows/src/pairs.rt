@@ -1,13 +1,22 @@
-//! The nets that most cases are about, and literals in them.
+//! The nets that most cases are about, and how a test says what isn't so.
 
-use lits::{Lit, Node, Side};
 use netlist::{Circuit, Net};
-use std::alloc::Global;
+use std::alloc::{AllocError, Global};
+use std::process::Abort;
 use std::test::Fail;
 
-/// The net of two circuits that are alike.
-pub(crate) fn net_of(alloc: Global, a: Circuit, b: Circuit) -> Result<Net, Fail> {
-    match Net::of(alloc, a, b) {
+/// Fails the test, with these words, unless it is so. A call costs the prover a third of an `assert!`.
+pub(crate) fn expect(rt: &impl Abort, what: &str, is_so: bool) {
+    assert!(rt; is_so, "{what}");
+}
+
+/// The net of two circuits that are alike, which a case makes in the call.
+pub(crate) fn net_of(
+    alloc: Global,
+    a: Result<Circuit, AllocError>,
+    b: Result<Circuit, AllocError>,
+) -> Result<Net, Fail> {
+    match Net::of(alloc, a?, b?) {
         Ok(net) => Ok(net),
         Err(_) => Err("a net".into()),
     }
@@ -16,19 +25,11 @@ pub(crate) fn net_of(alloc: Global, a: Circuit, b: Circuit) -> Result<Net, Fail>
 /// Two ANDs of two inputs, a3 and b3, whose fanins stand in the other order.
 pub(crate) fn swapped_ands(alloc: Global) -> Result<Net, Fail> {
     let (a, b) = worked_circuits::swapped_ands(alloc)?;
-    net_of(alloc, a, b)
+    net_of(alloc, Ok(a), Ok(b))
 }
 
 /// Two XORs by other gates, of which a5 is the negation of b5.
 pub(crate) fn two_xors(alloc: Global) -> Result<Net, Fail> {
     let (a, b) = worked_circuits::two_xors(alloc)?;
-    net_of(alloc, a, b)
-}
-
-/// The literal that is true where the gate is.
-pub(crate) fn gate(side: Side, var: u32) -> Lit {
-    Lit {
-        node: Node::Gate(side, var),
-        neg: false,
-    }
+    net_of(alloc, Ok(a), Ok(b))
 }

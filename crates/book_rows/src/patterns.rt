@@ -1,7 +1,7 @@
 ghost use Rattle.std.specs.Prelude.{◌≡◌, ◌≤◌, length};
 ghost use Rattle.std.specs.Bool.{OnTrue};
 
-use crate::pairs::{net_of, swapped_ands};
+use crate::pairs::{expect, net_of, swapped_ands};
 use lits::Side;
 use netlist::Net;
 use std::alloc::{AllocError, Global};
@@ -13,13 +13,25 @@ use worked_circuits::one_gate;
 /// A pool of one seeded word; a pattern that is added opens the next word.
 #[test]
 fn seeded_pool(rt: HostRuntime) -> Result<(), Fail> {
-    let mut pool = Pool::seeded(rt.alloc(), 7, 1, 2)?;
-    assert!(rt; pool.inputs() == 2);
-    assert!(rt; pool.patterns() == 64 && pool.words() == 1);
-    pool.add(&[true, false])?;
-    assert!(rt; pool.patterns() == 65 && pool.words() == 2);
+    check_seeded(&rt, Pool::seeded(rt.alloc(), 7, 1, 2)?)
+}
+
+fn check_seeded(rt: &impl Abort, mut pool: Pool) -> Result<(), Fail>
+    requires { pool.inputs ≡ 2 }
+{
+    expect(rt, "two inputs", pool.inputs() == 2);
+    expect(rt, "one word", pool.patterns() == 64 && pool.words() == 1);
+    pool.add(&INPUT)?;
+    expect(
+        rt,
+        "one word and a pattern",
+        pool.patterns() == 65 && pool.words() == 2,
+    );
     Ok(())
 }
+
+/// Where the first input alone is true.
+const INPUT: [bool; 2] = [true, false];
 
 /// Whether a pattern has a truth value for each input.
 fn fits(net: &Net, pool: &Pool) -> bool
@@ -31,7 +43,7 @@ fn fits(net: &Net, pool: &Pool) -> bool
 /// One seeded word, and as pattern 64 the input 10.
 fn pool(alloc: Global) -> Result<Pool, AllocError> {
     let mut pool = Pool::seeded(alloc, 7, 1, 2)?;
-    pool.add(&[true, false])?;
+    pool.add(&INPUT)?;
     Ok(pool)
 }
 
@@ -47,18 +59,18 @@ const ROWS: [[u64; 2]; 5] = [
 fn check_rows(rt: &impl Abort, sigs: &Sigs)
     requires { 5 ≤ length sigs.now.rows }
 {
-    assert!(rt; sigs.row(0) == ROWS[0].as_slice());
-    assert!(rt; sigs.row(1) == ROWS[1].as_slice());
-    assert!(rt; sigs.row(2) == ROWS[2].as_slice());
-    assert!(rt; sigs.row(3) == ROWS[3].as_slice());
-    assert!(rt; sigs.row(4) == ROWS[4].as_slice());
+    expect(rt, "row 0", sigs.row(0) == ROWS[0].as_slice());
+    expect(rt, "row 1", sigs.row(1) == ROWS[1].as_slice());
+    expect(rt, "row 2", sigs.row(2) == ROWS[2].as_slice());
+    expect(rt, "row 3", sigs.row(3) == ROWS[3].as_slice());
+    expect(rt, "row 4", sigs.row(4) == ROWS[4].as_slice());
 }
 
 fn check_signatures(rt: &impl Abort, alloc: Global, net: &Net) -> Result<(), Fail> {
     let pool = pool(alloc)?;
     assert!(rt; fits(net, &pool));
     let sigs = signatures(alloc, net, &pool)?;
-    assert!(rt; sigs.patterns() == 65);
+    expect(rt, "65 patterns", sigs.patterns() == 65);
     assert!(rt; net.positions() >= 5);
     check_rows(rt, &sigs);
     Ok(())
@@ -95,15 +107,17 @@ fn check_filled(rt: &impl Abort, alloc: Global, net: &Net) -> Result<(), Fail> {
     let pool = pool(alloc)?;
     assert!(rt; fits(net, &pool));
     let rows = filled(alloc, net, &pool)?;
-    assert!(rt; rows.as_slice() == ROWS_OF_COMPLEMENTS.as_slice());
+    expect(
+        rt,
+        "the rows",
+        rows.as_slice() == ROWS_OF_COMPLEMENTS.as_slice(),
+    );
     Ok(())
 }
 
 /// Gates over complements and over the constant.
 fn complements(alloc: Global) -> Result<Net, Fail> {
-    let a = one_gate(alloc, 3, 5)?;
-    let b = one_gate(alloc, 1, 5)?;
-    net_of(alloc, a, b)
+    net_of(alloc, one_gate(alloc, 3, 5), one_gate(alloc, 1, 5))
 }
 
 /// Rows of gates over complements and over the constant, in one buffer; the bits behind pattern 64 are

@@ -5,14 +5,14 @@ ghost use Rattle.lemma_book.specs.Good.{IsEarlier};
 ghost use Rattle.cone_query.specs.Query.{IsGate};
 
 use crate::entries::MERGE;
-use crate::lemmas::book_of;
-use crate::pairs::{gate, swapped_ands, two_xors};
+use crate::lemmas::{Row, book_of};
+use crate::pairs::{expect, swapped_ands, two_xors};
 use cone_query::{output, pair};
 use lemma_book::{Book, Entry, Task};
-use lits::{Lit, Literal, Node, Ref, Side, Step};
+use lits::{Lit, Node, Ref, Side, Step};
 use netlist::Net;
 use solver_plain::PlainSolver;
-use std::alloc::Global;
+use std::alloc::{AllocError, Global};
 use std::process::Abort;
 use std::test::Fail;
 
@@ -33,22 +33,27 @@ fn answer_of_pair(
     net: &Net,
     task: &Task,
     budget: u64,
-) -> Result<Entry, Fail>
+) -> Result<Entry, AllocError>
     requires gate { IsGate task.now.node }
     requires budget { (1 ≤ budget) × (budget ≤ 1000000000) }
 {
     assert!(rt; is_earlier(net, task));
     let seen = Book::new(alloc, budget, 1);
-    Ok(pair(alloc, net, &seen, task, &mut PlainSolver::new(alloc))?)
+    pair(alloc, net, &seen, task, &mut PlainSolver::new(alloc))
 }
 
 /// The answer about output 0.
-fn answer_of_output(rt: &impl Abort, alloc: Global, net: &Net, seen: &Book) -> Result<Entry, Fail>
+fn answer_of_output(
+    rt: &impl Abort,
+    alloc: Global,
+    net: &Net,
+    seen: &Book,
+) -> Result<Entry, AllocError>
     requires { IsLegal net.now seen.now }
 {
     assert!(rt; net.outputs() > 0);
     assert!(rt; seen.about(0).is_none());
-    Ok(output(alloc, net, seen, 0, &mut PlainSolver::new(alloc))?)
+    output(alloc, net, seen, 0, &mut PlainSolver::new(alloc))
 }
 
 const LAST_GATES: Task = Task {
@@ -59,25 +64,6 @@ const LAST_GATES: Task = Task {
     },
 };
 
-/// Whether the entry merges the pair.
-fn merges(entry: &Entry, task: &Task) -> bool {
-    match entry {
-        Entry::Merge { node, lit, .. } => *node == task.node && *lit == task.lit,
-        _ => false,
-    }
-}
-
-fn check_merge(rt: &impl Abort, alloc: Global, net: &Net) -> Result<(), Fail> {
-    let entry = answer_of_pair(rt, alloc, net, &LAST_GATES, 100_000)?;
-    assert!(rt; merges(&entry, &LAST_GATES));
-    Ok(())
-}
-
-#[test]
-fn pair_merge(rt: HostRuntime) -> Result<(), Fail> {
-    check_merge(&rt, rt.alloc(), &two_xors(rt.alloc())?)
-}
-
 const AND_AND_INPUT: Task = Task {
     node: Node::Gate(Side::A, 3),
     lit: Lit {
@@ -86,68 +72,24 @@ const AND_AND_INPUT: Task = Task {
     },
 };
 
-/// Whether the entry tells a pair apart by the input 10.
-fn is_apart(entry: &Entry) -> bool {
-    match entry {
-        Entry::Apart { input, .. } => matches!(input.as_slice(), [true, false]),
-        _ => false,
-    }
-}
-
-fn check_apart(rt: &impl Abort, alloc: Global, net: &Net) -> Result<(), Fail> {
-    let entry = answer_of_pair(rt, alloc, net, &AND_AND_INPUT, 1000)?;
-    assert!(rt; is_apart(&entry));
-    Ok(())
-}
-
-/// The AND of both inputs is the first one but where the second is false.
-#[test]
-fn pair_apart(rt: HostRuntime) -> Result<(), Fail> {
-    check_apart(&rt, rt.alloc(), &swapped_ands(rt.alloc())?)
-}
-
-/// A log of one clause over the empty book, for want of units.
-fn is_spent(entry: &Entry) -> bool {
-    match entry {
-        Entry::OutSpent { seen, log, .. } => *seen == 0 && log.len() == 1,
-        _ => false,
-    }
-}
-
 /// The answer about output 0 over an empty book, with so many clauses for an output.
-fn answer_within(rt: &impl Abort, alloc: Global, net: &Net, budget: u64) -> Result<Entry, Fail>
+fn answer_within(
+    rt: &impl Abort,
+    alloc: Global,
+    net: &Net,
+    budget: u64,
+) -> Result<Entry, AllocError>
     requires { (1 ≤ budget) × (budget ≤ 1000000000) }
 {
-    let seen = Book::new(alloc, 1, budget);
-    answer_of_output(rt, alloc, net, &seen)
+    answer_of_output(rt, alloc, net, &Book::new(alloc, 1, budget))
 }
 
-fn check_equal(rt: &impl Abort, alloc: Global, net: &Net) -> Result<(), Fail> {
-    let entry = answer_within(rt, alloc, net, 100_000)?;
-    assert!(rt; matches!(entry, Entry::Out { output: 0, .. }));
-    Ok(())
-}
-
-fn check_spent(rt: &impl Abort, alloc: Global, net: &Net) -> Result<(), Fail> {
-    let entry = answer_within(rt, alloc, net, 1)?;
-    assert!(rt; is_spent(&entry));
-    Ok(())
-}
-
-#[test]
-fn output_query(rt: HostRuntime) -> Result<(), Fail> {
-    check_equal(&rt, rt.alloc(), &two_xors(rt.alloc())?)
-}
-
-#[test]
-fn output_query_within_one_clause(rt: HostRuntime) -> Result<(), Fail> {
-    check_spent(&rt, rt.alloc(), &two_xors(rt.alloc())?)
-}
+static MERGED: [Row<'static>; 1] = [(MERGE, "Ok(At(0))")];
 
 /// The answer about the swapped ANDs over the book of their merge.
 fn answer_of_merged(rt: &impl Abort, alloc: Global, net: &Net) -> Result<Entry, Fail> {
-    let seen = book_of(rt, alloc, net, 1, &[(MERGE, "Ok(At(0))")])?;
-    answer_of_output(rt, alloc, net, &seen)
+    let seen = book_of(rt, alloc, net, 1, &MERGED)?;
+    Ok(answer_of_output(rt, alloc, net, &seen)?)
 }
 
 fn is_step(step: &Step, lits: &[Lit], hints: &[Ref]) -> bool {
@@ -163,28 +105,142 @@ const EQUAL: Lit = Lit {
     neg: true,
 };
 
+const GATE: Lit = Lit {
+    node: Node::Gate(Side::A, 3),
+    neg: false,
+};
+
+const FIRST_CLAUSE: [Lit; 2] = [EQUAL, GATE];
+
+const SECOND_CLAUSE: [Lit; 1] = [EQUAL];
+
 /// Whether these are the two steps over the merge and the XOR: by the merge's first clause a false output
 /// of A makes that of B false, and by its second a true one makes it true, so where the XOR is true
 /// neither can be.
 fn are_steps(steps: &[Step]) -> bool {
     match steps {
         [first, second] => {
-            is_step(first, &[EQUAL, gate(Side::A, 3)], &FIRST_HINTS)
-                && is_step(second, &[EQUAL], &SECOND_HINTS)
+            is_step(first, &FIRST_CLAUSE, &FIRST_HINTS)
+                && is_step(second, &SECOND_CLAUSE, &SECOND_HINTS)
         }
         _ => false,
     }
 }
 
-fn check_steps(rt: &impl Abort, alloc: Global, net: &Net) -> Result<(), Fail> {
-    let Entry::Out { steps, .. } = answer_of_merged(rt, alloc, net)? else {
-        return Err("not out".into());
-    };
-    assert!(rt; are_steps(steps.as_slice()));
+/// What is asked.
+enum Asked {
+    /// About the last gates of two XORs.
+    LastGates,
+    /// About the AND of the inputs and the first input.
+    AndAndInput,
+    /// About output 0 over an empty book, with clauses enough.
+    Output,
+    /// The same with one clause.
+    OutputWithinOne,
+    /// About output 0 of the swapped ANDs over the book of their merge.
+    Merged,
+}
+
+fn answer(rt: &impl Abort, alloc: Global, net: &Net, asked: &Asked) -> Result<Entry, Fail> {
+    Ok(match asked {
+        Asked::LastGates => answer_of_pair(rt, alloc, net, &LAST_GATES, 100_000)?,
+        Asked::AndAndInput => answer_of_pair(rt, alloc, net, &AND_AND_INPUT, 1000)?,
+        Asked::Output => answer_within(rt, alloc, net, 100_000)?,
+        Asked::OutputWithinOne => answer_within(rt, alloc, net, 1)?,
+        Asked::Merged => answer_of_merged(rt, alloc, net)?,
+    })
+}
+
+/// The answer in words.
+fn words_of(entry: &Entry) -> &'static str {
+    match entry {
+        Entry::Merge { node, lit, .. } if *node == LAST_GATES.node && *lit == LAST_GATES.lit => {
+            "the last gates are merged"
+        }
+        Entry::Apart { input, .. } if matches!(input.as_slice(), [true, false]) => "apart by 10",
+        Entry::Out { output: 0, steps } if are_steps(steps.as_slice()) => "equal by two steps",
+        Entry::Out { output: 0, .. } => "equal",
+        Entry::OutSpent { seen: 0, log, .. } if log.len() == 1 => "a log of one clause",
+        _ => "another answer",
+    }
+}
+
+fn check_answer(
+    rt: &impl Abort,
+    alloc: Global,
+    net: &Net,
+    asked: &Asked,
+    expected: &str,
+) -> Result<(), Fail> {
+    let entry = answer(rt, alloc, net, asked)?;
+    expect(rt, expected, words_of(&entry) == expected);
     Ok(())
+}
+
+/// The same over a net that a case makes in the call.
+fn check(
+    rt: &impl Abort,
+    alloc: Global,
+    net: Result<Net, Fail>,
+    asked: &Asked,
+    expected: &str,
+) -> Result<(), Fail> {
+    check_answer(rt, alloc, &net?, asked, expected)
+}
+
+#[test]
+fn pair_merge(rt: HostRuntime) -> Result<(), Fail> {
+    check(
+        &rt,
+        rt.alloc(),
+        two_xors(rt.alloc()),
+        &Asked::LastGates,
+        "the last gates are merged",
+    )
+}
+
+/// The AND of both inputs is the first one but where the second is false.
+#[test]
+fn pair_apart(rt: HostRuntime) -> Result<(), Fail> {
+    check(
+        &rt,
+        rt.alloc(),
+        swapped_ands(rt.alloc()),
+        &Asked::AndAndInput,
+        "apart by 10",
+    )
+}
+
+#[test]
+fn output_query(rt: HostRuntime) -> Result<(), Fail> {
+    check(
+        &rt,
+        rt.alloc(),
+        two_xors(rt.alloc()),
+        &Asked::Output,
+        "equal",
+    )
+}
+
+/// For want of units there is a log of one clause over the empty book.
+#[test]
+fn output_query_within_one_clause(rt: HostRuntime) -> Result<(), Fail> {
+    check(
+        &rt,
+        rt.alloc(),
+        two_xors(rt.alloc()),
+        &Asked::OutputWithinOne,
+        "a log of one clause",
+    )
 }
 
 #[test]
 fn output_of_equal_roots(rt: HostRuntime) -> Result<(), Fail> {
-    check_steps(&rt, rt.alloc(), &swapped_ands(rt.alloc())?)
+    check(
+        &rt,
+        rt.alloc(),
+        swapped_ands(rt.alloc()),
+        &Asked::Merged,
+        "equal by two steps",
+    )
 }

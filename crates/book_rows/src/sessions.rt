@@ -1,9 +1,9 @@
 ghost use Rattle.check_session.specs.Check.{AreInRange};
 
-use crate::pairs::gate;
+use crate::pairs::expect;
 use check_session::{Options, Session, Verdict};
 use lemma_book::{Book, Entry};
-use lits::{Literal, Side};
+use lits::{Lit, Node, Side};
 use netlist::{Circuit, Unlike};
 use std::alloc::{AllocError, Global};
 use std::process::Abort;
@@ -30,22 +30,35 @@ fn words_of(verdict: &Verdict) -> &'static str {
     }
 }
 
-/// The book of the circuits' session after its check, whose verdict is this.
+/// Two circuits, which a case makes in the call.
+type Pair = Result<(Circuit, Circuit), AllocError>;
+
+/// A session of circuits that are alike.
+fn session_of(alloc: Global, pair: Pair, options: Options) -> Result<Session, Fail>
+    requires { AreInRange options }
+{
+    let (a, b) = pair?;
+    match Session::open(alloc, a, b, options) {
+        Ok(session) => Ok(session),
+        Err(_) => Err("a session".into()),
+    }
+}
+
+/// The book of the session after its check, whose verdict is this.
 fn checked(
     rt: &impl Abort,
     alloc: Global,
-    pair: (Circuit, Circuit),
-    options: Options,
+    mut session: Session,
+    sweep_budget: u64,
     expected: &str,
-) -> Result<Book, Fail>
-    requires { AreInRange options }
-{
-    let Ok(mut session) = Session::open(alloc, pair.0, pair.1, options) else {
-        return Err("a session".into());
-    };
+) -> Result<Book, Fail> {
     let verdict = session.check(alloc)?;
-    assert!(rt; words_of(&verdict) == expected);
-    assert!(rt; session.book().sweep_budget() == options.sweep_budget);
+    expect(rt, expected, words_of(&verdict) == expected);
+    expect(
+        rt,
+        "the budget",
+        session.book().sweep_budget() == sweep_budget,
+    );
     Ok(session.into_book())
 }
 
@@ -64,54 +77,85 @@ fn words_of_book(book: &Book) -> &'static str {
 fn check_pair(
     rt: &impl Abort,
     alloc: Global,
-    pair: (Circuit, Circuit),
+    pair: Pair,
     options: Options,
     expected: (&str, &str),
 ) -> Result<(), Fail>
     requires { AreInRange options }
 {
-    let book = checked(rt, alloc, pair, options, expected.0)?;
-    assert!(rt; words_of_book(&book) == expected.1);
+    let session = session_of(alloc, pair, options)?;
+    let book = checked(rt, alloc, session, options.sweep_budget, expected.0)?;
+    expect(rt, expected.1, words_of_book(&book) == expected.1);
     Ok(())
+}
+
+/// Why no session is opened for the circuits.
+fn refusal(alloc: Global, pair: Pair) -> Result<Option<Unlike>, AllocError> {
+    let (a, b) = pair?;
+    Ok(match Session::open(alloc, a, b, DEFAULTS) {
+        Ok(_) => None,
+        Err(unlike) => Some(unlike),
+    })
+}
+
+/// An AND of two inputs, and a circuit of three.
+fn with_more_inputs(alloc: Global) -> Pair {
+    Ok((
+        one_gate(alloc, 2, 4)?,
+        circuit(alloc, &[1, 2, 3], &[], &[6])?,
+    ))
 }
 
 #[test]
 fn unlike_circuits(rt: HostRuntime) -> Result<(), Fail> {
-    let alloc = rt.alloc();
-    let b = circuit(alloc, &[1, 2, 3], &[], &[6])?;
-    let refused = Session::open(alloc, one_gate(alloc, 2, 4)?, b, DEFAULTS);
-    assert!(rt; matches!(refused, Err(Unlike::Inputs(2, 3))));
+    let refused = refusal(rt.alloc(), with_more_inputs(rt.alloc()))?;
+    expect(&rt, "more inputs", refused == Some(Unlike::Inputs(2, 3)));
     Ok(())
 }
 
 /// The structural pass merges the one gate, and the output needs no search.
 #[test]
 fn equal_by_structure(rt: HostRuntime) -> Result<(), Fail> {
-    let pair = swapped_ands(rt.alloc())?;
+    let pair = swapped_ands(rt.alloc());
     let expected = ("equivalent", "merged, equal");
     check_pair(&rt, rt.alloc(), pair, DEFAULTS, expected)
 }
 
 /// An AND, and false.
-fn and_and_false(alloc: Global) -> Result<(Circuit, Circuit), AllocError> {
+fn and_and_false(alloc: Global) -> Pair {
     Ok((one_gate(alloc, 2, 4)?, circuit(alloc, &[1, 2], &[], &[0])?))
 }
 
 /// A pattern tells the output apart, and only x = y = 1 can.
 #[test]
 fn different_by_a_pattern(rt: HostRuntime) -> Result<(), Fail> {
-    let pair = and_and_false(rt.alloc())?;
+    let pair = and_and_false(rt.alloc());
     let expected = ("different at 0 on 11", "apart");
     check_pair(&rt, rt.alloc(), pair, DEFAULTS, expected)
+}
+
+const LAST_OF_A: Lit = Lit {
+    node: Node::Gate(Side::A, 5),
+    neg: true,
+};
+
+const LAST_OF_B: Lit = Lit {
+    node: Node::Gate(Side::B, 5),
+    neg: false,
+};
+
+/// Checks the session of the two XORs, whose last gates are merged.
+fn check_round(rt: &impl Abort, alloc: Global, session: Session) -> Result<(), Fail> {
+    let book = checked(rt, alloc, session, DEFAULTS.sweep_budget, "equivalent")?;
+    expect(rt, "the root", book.root(LAST_OF_B) == LAST_OF_A);
+    Ok(())
 }
 
 /// No gate is a twin of another; a round merges the last one to the complement of A's.
 #[test]
 fn equal_by_a_round(rt: HostRuntime) -> Result<(), Fail> {
-    let pair = two_xors(rt.alloc())?;
-    let book = checked(&rt, rt.alloc(), pair, DEFAULTS, "equivalent")?;
-    assert!(rt; book.root(gate(Side::B, 5)) == gate(Side::A, 5).not());
-    Ok(())
+    let pair = two_xors(rt.alloc());
+    check_round(&rt, rt.alloc(), session_of(rt.alloc(), pair, DEFAULTS)?)
 }
 
 const ENOUGH_FOR_OUTPUTS: Options = Options {
@@ -124,7 +168,7 @@ const ENOUGH_FOR_OUTPUTS: Options = Options {
 /// A pair whose budget of one clause is spent leaves the output to its own query, which has enough.
 #[test]
 fn equal_by_its_output(rt: HostRuntime) -> Result<(), Fail> {
-    let pair = two_xors(rt.alloc())?;
+    let pair = two_xors(rt.alloc());
     let expected = ("equivalent", "given up, equal");
     check_pair(&rt, rt.alloc(), pair, ENOUGH_FOR_OUTPUTS, expected)
 }
@@ -139,7 +183,7 @@ const ONE_CLAUSE: Options = Options {
 /// With a budget of one clause for the output too it stays open.
 #[test]
 fn undecided_within_budgets(rt: HostRuntime) -> Result<(), Fail> {
-    let pair = two_xors(rt.alloc())?;
+    let pair = two_xors(rt.alloc());
     let expected = ("undecided at 0", "a log of one clause");
     check_pair(&rt, rt.alloc(), pair, ONE_CLAUSE, expected)
 }

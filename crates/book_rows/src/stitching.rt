@@ -4,7 +4,7 @@ ghost use Rattle.lemma_book.specs.Book.{IsLegal};
 
 use crate::entries::{MERGE, OUT};
 use crate::lemmas::{Row, book_of};
-use crate::pairs::{net_of, swapped_ands, two_xors};
+use crate::pairs::{expect, net_of, swapped_ands, two_xors};
 use desk_port::{Desk, MemDesk};
 use lemma_book::Book;
 use netlist::Net;
@@ -57,16 +57,18 @@ fn check_refutation(rt: &impl Abort, alloc: Global, net: &Net, text: &[u8]) -> R
     assert!(rt; net.outputs() == 0);
     let mut desk = desk(alloc)?;
     let lines = refuted(alloc, net, &mut desk)?;
-    assert!(rt; lines == 1);
-    assert!(rt; has_proof(&desk, text));
+    expect(rt, "one line", lines == 1);
+    expect(rt, "the proof", has_proof(&desk, text));
     Ok(())
 }
 
 /// Circuits without inputs and outputs.
 fn nothing(alloc: Global) -> Result<Net, Fail> {
-    let a = circuit(alloc, &[], &[], &[])?;
-    let b = circuit(alloc, &[], &[], &[])?;
-    net_of(alloc, a, b)
+    net_of(
+        alloc,
+        circuit(alloc, &[], &[], &[]),
+        circuit(alloc, &[], &[], &[]),
+    )
 }
 
 /// The miter's last clause is empty.
@@ -88,13 +90,13 @@ fn check_derivation(
 {
     let mut desk = desk(alloc)?;
     let found = derived(alloc, net, book, &mut desk)?;
-    assert!(rt; found.as_slice() == spans);
-    assert!(rt; has_proof(&desk, text));
+    expect(rt, "the spans", found.as_slice() == spans);
+    expect(rt, "the proof", has_proof(&desk, text));
     Ok(())
 }
 
 /// Offers the entries to an empty book, and checks the derivation from it.
-fn check_entries(
+fn check_book(
     rt: &impl Abort,
     alloc: Global,
     net: &Net,
@@ -106,24 +108,30 @@ fn check_entries(
     check_derivation(rt, alloc, net, &book, spans, text)
 }
 
+/// The same over a net that a case makes in the call.
+fn check_entries(
+    rt: &impl Abort,
+    alloc: Global,
+    net: Result<Net, Fail>,
+    rows: &[Row<'_>],
+    spans: &[Span],
+    text: &[u8],
+) -> Result<(), Fail> {
+    check_book(rt, alloc, &net?, rows, spans, text)
+}
+
+static EQUAL: [Row<'static>; 2] = [(MERGE, "Ok(At(0))"), (OUT, "Ok(At(1))")];
+
 /// The steps of a merge and of its output, in the numbers of the CNF: 1 to 12 are its clauses.
 #[test]
 fn stitched_entries(rt: HostRuntime) -> Result<(), Fail> {
-    let rows = [(MERGE, "Ok(At(0))"), (OUT, "Ok(At(1))")];
     let text = b"13 -5 4 0 5 6 4 0\n14 5 -4 0 2 3 7 0\n15 -6 4 0 8 13 0\n16 -6 0 15 9 14 0\n";
-    check_entries(
-        &rt,
-        rt.alloc(),
-        &swapped_ands(rt.alloc())?,
-        &rows,
-        &[],
-        text,
-    )
+    check_entries(&rt, rt.alloc(), swapped_ands(rt.alloc()), &EQUAL, &[], text)
 }
 
 /// What a query of two XORs learned with a budget of one clause: where the output differs and A's gate is
 /// false, x is true.
-const SPENT: [Row<'static>; 1] = [(
+static SPENT: [Row<'static>; 1] = [(
     "outspent 0 0: -d0 a5 i0 by d0.1 b3.0 b5.2 b4.1 a4.1 a5.2 a3.0",
     "Ok(At(0))",
 )];
@@ -134,16 +142,11 @@ const SPAN: Span = Span {
     last: 25,
 };
 
+const SPANS: [Span; 1] = [SPAN];
+
 /// The log of an output that was left open, in the numbers of a CNF of 24 clauses.
 #[test]
 fn stitched_log(rt: HostRuntime) -> Result<(), Fail> {
     let text = b"25 -10 6 2 0 21 11 19 15 6 10 2 0\n";
-    check_entries(
-        &rt,
-        rt.alloc(),
-        &two_xors(rt.alloc())?,
-        &SPENT,
-        &[SPAN],
-        text,
-    )
+    check_entries(&rt, rt.alloc(), two_xors(rt.alloc()), &SPENT, &SPANS, text)
 }

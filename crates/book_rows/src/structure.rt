@@ -1,51 +1,60 @@
-use crate::pairs::{gate, net_of, swapped_ands, two_xors};
+use crate::entries::lit;
+use crate::pairs::{expect, net_of, swapped_ands, two_xors};
 use lemma_book::{Book, Entry};
-use lits::{Lit, Literal, Node, Side};
 use netlist::Net;
-use std::alloc::Global;
+use std::alloc::{AllocError, Global};
 use std::process::Abort;
 use std::test::Fail;
 use strash_pass::run;
-use worked_circuits::{and, circuit};
+use worked_circuits::{and, circuit, two_input_circuit};
+
+/// A literal and its root, as `entries` reads them.
+type Row<'a> = (&'a str, &'a str);
 
 /// The book after the pass, which merges so many gates.
-fn passed(rt: &impl Abort, alloc: Global, net: &Net, merges: u64) -> Result<Book, Fail> {
+fn passed(rt: &impl Abort, alloc: Global, net: &Net, merges: u64) -> Result<Book, AllocError> {
     let mut book = Book::new(alloc, 100, 100_000);
     let count = run(alloc, net, &mut book)?;
-    assert!(rt; count == merges);
-    assert!(rt; book.len() == merges);
+    expect(rt, "the count", count == merges);
+    expect(rt, "the merges", book.len() == merges);
     Ok(book)
 }
 
+fn has_root(book: &Book, row: &Row<'_>) -> Result<bool, Fail> {
+    Ok(book.root(lit(row.0)?) == lit(row.1)?)
+}
+
 /// Runs the pass, which merges so many gates, and compares roots.
-fn check_roots(
+fn check_book(
     rt: &impl Abort,
     alloc: Global,
     net: &Net,
     merges: u64,
-    roots: &[(Lit, Lit)],
+    rows: &[Row<'_>],
 ) -> Result<(), Fail> {
     let book = passed(rt, alloc, net, merges)?;
-    for (lit, root) in roots {
-        assert!(rt; book.root(*lit) == *root);
+    for row in rows {
+        expect(rt, row.0, has_root(&book, row)?);
     }
     Ok(())
 }
 
-const X: Lit = Lit {
-    node: Node::Input(0),
-    neg: false,
-};
+/// The same over a net that a case makes in the call.
+fn check_roots(
+    rt: &impl Abort,
+    alloc: Global,
+    net: Result<Net, Fail>,
+    merges: u64,
+    rows: &[Row<'_>],
+) -> Result<(), Fail> {
+    check_book(rt, alloc, &net?, merges, rows)
+}
 
-const YES: Lit = Lit {
-    node: Node::Const,
-    neg: false,
-};
+static OF_ANDS: [Row<'static>; 1] = [("b3", "a3")];
 
 #[test]
 fn strash_of_swapped_ands(rt: HostRuntime) -> Result<(), Fail> {
-    let roots = [(gate(Side::B, 3), gate(Side::A, 3))];
-    check_roots(&rt, rt.alloc(), &swapped_ands(rt.alloc())?, 1, &roots)
+    check_roots(&rt, rt.alloc(), swapped_ands(rt.alloc()), 1, &OF_ANDS)
 }
 
 /// Whether the book's first entry is a merge of two steps.
@@ -58,7 +67,7 @@ fn begins_with_two_steps(book: &Book) -> bool {
 
 fn check_steps(rt: &impl Abort, alloc: Global, net: &Net) -> Result<(), Fail> {
     let book = passed(rt, alloc, net, 1)?;
-    assert!(rt; begins_with_two_steps(&book));
+    expect(rt, "two steps", begins_with_two_steps(&book));
     Ok(())
 }
 
@@ -67,48 +76,53 @@ fn steps_of_a_twin(rt: HostRuntime) -> Result<(), Fail> {
     check_steps(&rt, rt.alloc(), &swapped_ands(rt.alloc())?)
 }
 
+static OF_XORS: [Row<'static>; 1] = [("b5", "b5")];
+
 /// Two XORs by other gates: no gate has a twin.
 #[test]
 fn strash_of_two_xors(rt: HostRuntime) -> Result<(), Fail> {
-    let roots = [(gate(Side::B, 5), gate(Side::B, 5))];
-    check_roots(&rt, rt.alloc(), &two_xors(rt.alloc())?, 0, &roots)
+    check_roots(&rt, rt.alloc(), two_xors(rt.alloc()), 0, &OF_XORS)
 }
 
 /// In A an AND of one literal twice, of a literal and its negation, of an input and true; in B one of true
 /// and an input, of false and an input, of an input and false.
 fn folds(alloc: Global) -> Result<Net, Fail> {
     let gates = [and(2, 2, 2), and(3, 2, 3), and(4, 1, 2)];
-    let a = circuit(alloc, &[1], &gates, &[4, 6])?;
+    let a = circuit(alloc, &[1], &gates, &[4, 6]);
     let gates = [and(2, 3, 1), and(3, 0, 2), and(4, 2, 0)];
-    let b = circuit(alloc, &[1], &gates, &[5, 6])?;
-    net_of(alloc, a, b)
+    net_of(alloc, a, circuit(alloc, &[1], &gates, &[5, 6]))
 }
+
+static OF_FOLDS: [Row<'static>; 6] = [
+    ("a2", "i0"),
+    ("a3", "-t"),
+    ("a4", "i0"),
+    ("b2", "-i0"),
+    ("b3", "-t"),
+    ("b4", "-t"),
+];
 
 /// Gates that merge are merged to what they fold to.
 #[test]
 fn folded_gates(rt: HostRuntime) -> Result<(), Fail> {
-    let roots = [
-        (gate(Side::A, 2), X),
-        (gate(Side::A, 3), YES.not()),
-        (gate(Side::A, 4), X),
-        (gate(Side::B, 2), X.not()),
-        (gate(Side::B, 3), YES.not()),
-        (gate(Side::B, 4), YES.not()),
-    ];
-    check_roots(&rt, rt.alloc(), &folds(rt.alloc())?, 6, &roots)
+    check_roots(&rt, rt.alloc(), folds(rt.alloc()), 6, &OF_FOLDS)
 }
 
 /// Gates 4 are twins, over gates 3 that are twins too.
 fn two_levels(alloc: Global) -> Result<Net, Fail> {
-    let a = circuit(alloc, &[1, 2], &[and(3, 2, 4), and(4, 7, 2)], &[8])?;
-    let b = circuit(alloc, &[1, 2], &[and(3, 4, 2), and(4, 2, 7)], &[8])?;
-    net_of(alloc, a, b)
+    let a = two_input_circuit(alloc, &[and(3, 2, 4), and(4, 7, 2)], 8);
+    net_of(
+        alloc,
+        a,
+        two_input_circuit(alloc, &[and(3, 4, 2), and(4, 2, 7)], 8),
+    )
 }
+
+static OF_LEVELS: [Row<'static>; 1] = [("-b4", "-a4")];
 
 /// A gate whose fanins are merged is seen by their roots: B's second gate is a twin of A's by way of
 /// its first.
 #[test]
 fn twins_by_their_roots(rt: HostRuntime) -> Result<(), Fail> {
-    let roots = [(gate(Side::B, 4).not(), gate(Side::A, 4).not())];
-    check_roots(&rt, rt.alloc(), &two_levels(rt.alloc())?, 2, &roots)
+    check_roots(&rt, rt.alloc(), two_levels(rt.alloc()), 2, &OF_LEVELS)
 }

@@ -8,7 +8,9 @@ ghost use Rattle.unit_prop.specs.HintScan.{IsNamed};
 ghost use Rattle.unit_prop.specs.Log.{IsBase, is_own, same_name};
 ghost use Rattle.unit_prop.specs.Refuter.{IsOver};
 
-use crate::clauses::{A, B, DIFFER, X, Y, clause, clause_of, plus};
+use crate::clauses::{
+    A, B, DIFFER, GATE_A, GATE_B, NOT_A, NOT_B, NOT_X, NOT_Y, X, Y, clause, clause_of, plus,
+};
 use lits::{Clause, ClauseErr, Lit, Literal, Named, Node, Ref, Side};
 use std::alloc::Global;
 use std::test::Fail;
@@ -74,18 +76,23 @@ fn mentions(base: &[Named], lit: Lit) -> bool
     base.iter().any(|named| named.clause.has(lit) || named.clause.has(lit.not()))
 }
 
-/// Two gates that are the AND of two inputs, with their fanins swapped, by the names of the gates' clauses.
+/// Clauses with their names.
+type Row<'a> = (Ref, &'a [Lit]);
+
+/// The clauses of two gates that are the AND of two inputs, with their fanins swapped.
+static TWINS: [Row<'static>; 6] = [
+    (Ref::Axiom(GATE_A, 0), &[NOT_A, X]),
+    (Ref::Axiom(GATE_A, 1), &[NOT_A, Y]),
+    (Ref::Axiom(GATE_A, 2), &[A, NOT_X, NOT_Y]),
+    (Ref::Axiom(GATE_B, 0), &[NOT_B, Y]),
+    (Ref::Axiom(GATE_B, 1), &[NOT_B, X]),
+    (Ref::Axiom(GATE_B, 2), &[B, NOT_Y, NOT_X]),
+];
+
+/// Two gates that are the AND of two inputs, by the names of the gates' clauses.
 pub(crate) fn twin_gates(alloc: Global) -> Result<Vec<Named>, Fail> {
-    let rows: [(Ref, &[Lit]); 6] = [
-        (Ref::Axiom(A.node, 0), &[A.not(), X]),
-        (Ref::Axiom(A.node, 1), &[A.not(), Y]),
-        (Ref::Axiom(A.node, 2), &[A, X.not(), Y.not()]),
-        (Ref::Axiom(B.node, 0), &[B.not(), Y]),
-        (Ref::Axiom(B.node, 1), &[B.not(), X]),
-        (Ref::Axiom(B.node, 2), &[B, Y.not(), X.not()]),
-    ];
     let mut base = Vec::new(alloc);
-    for (by, lits) in &rows {
+    for (by, lits) in TWINS.as_slice() {
         let clause = clause_of(alloc, lits)?;
         base.push(Named { clause, by: *by })?;
     }
@@ -99,6 +106,11 @@ fn put(base: &mut Vec<Named>, clause: Clause<Lit>) -> Result<(), Fail> {
     Ok(())
 }
 
+/// Puts the clause of the literals last, with its place as its name.
+fn put_lits(alloc: Global, base: &mut Vec<Named>, lits: &[Lit]) -> Result<(), Fail> {
+    put(base, clause_of(alloc, lits)?)
+}
+
 /// Puts the clauses of a gate, the AND of two literals.
 fn put_and(
     alloc: Global,
@@ -107,17 +119,34 @@ fn put_and(
     left: Lit,
     right: Lit,
 ) -> Result<(), Fail> {
-    put(base, clause_of(alloc, &[gate.not(), left])?)?;
-    put(base, clause_of(alloc, &[gate.not(), right])?)?;
-    put(base, clause_of(alloc, &[gate, left.not(), right.not()])?)
+    put_lits(alloc, base, &[gate.not(), left])?;
+    put_lits(alloc, base, &[gate.not(), right])?;
+    put_lits(alloc, base, &[gate, left.not(), right.not()])
 }
+
+/// The literal, or its negation where that is asked for.
+pub(crate) fn turned(lit: Lit, neg: bool) -> Lit {
+    Lit {
+        node: lit.node,
+        neg: lit.neg != neg,
+    }
+}
+
+/// Which literals are negated in the clauses of a node that is the XOR of two others.
+const XOR_SIGNS: [(bool, bool, bool); 4] = [
+    (true, false, false),
+    (true, true, true),
+    (false, true, false),
+    (false, false, true),
+];
 
 /// Puts the clauses of a node that is the XOR of two literals.
 fn put_xor(alloc: Global, base: &mut Vec<Named>, on: Lit, a: Lit, b: Lit) -> Result<(), Fail> {
-    put(base, clause_of(alloc, &[on.not(), a, b])?)?;
-    put(base, clause_of(alloc, &[on.not(), a.not(), b.not()])?)?;
-    put(base, clause_of(alloc, &[on, a.not(), b])?)?;
-    put(base, clause_of(alloc, &[on, a, b.not()])?)
+    for (on_neg, a_neg, b_neg) in XOR_SIGNS.as_slice() {
+        let lits = [turned(on, *on_neg), turned(a, *a_neg), turned(b, *b_neg)];
+        put(base, clause_of(alloc, &lits)?)?;
+    }
+    Ok(())
 }
 
 /// A gate that is the AND of two inputs.
@@ -127,23 +156,24 @@ pub(crate) fn one_gate(alloc: Global) -> Result<Vec<Named>, Fail> {
     Ok(base)
 }
 
+/// Puts three gates that are an XOR of the inputs, or its negation: an AND of x and a literal of y, one of
+/// their negations, and one of both gates' negations, which is handed out.
+fn put_gates(alloc: Global, base: &mut Vec<Named>, side: Side, y: Lit) -> Result<Lit, Fail> {
+    let first = plus(Node::Gate(side, 3));
+    let second = plus(Node::Gate(side, 4));
+    let last = plus(Node::Gate(side, 5));
+    put_and(alloc, base, first, X, y)?;
+    put_and(alloc, base, second, NOT_X, y.not())?;
+    put_and(alloc, base, last, first.not(), second.not())?;
+    Ok(last)
+}
+
 /// The cone of the one output of two circuits, each an XOR of two inputs by other gates.
 pub(crate) fn cone_of_xor(alloc: Global) -> Result<Vec<Named>, Fail> {
-    let (a4, a5) = (plus(Node::Gate(Side::A, 4)), plus(Node::Gate(Side::A, 5)));
-    let (b4, b5) = (plus(Node::Gate(Side::B, 4)), plus(Node::Gate(Side::B, 5)));
-    let gates = [
-        (A, X, Y.not()),
-        (a4, X.not(), Y),
-        (a5, A.not(), a4.not()),
-        (B, X, Y),
-        (b4, X.not(), Y.not()),
-        (b5, B.not(), b4.not()),
-    ];
     let mut base = Vec::new(alloc);
-    for (gate, left, right) in &gates {
-        put_and(alloc, &mut base, *gate, *left, *right)?;
-    }
-    put_xor(alloc, &mut base, DIFFER, a5.not(), b5)?;
+    let a = put_gates(alloc, &mut base, Side::A, NOT_Y)?;
+    let b = put_gates(alloc, &mut base, Side::B, Y)?;
+    put_xor(alloc, &mut base, DIFFER, a.not(), b)?;
     Ok(base)
 }
 

@@ -2,11 +2,12 @@
 ghost use Rattle.std.specs.Prelude.{◌≡◌, true, OnOk};
 
 use crate::bases::{is_base, is_over};
+use crate::clauses::expect;
 use lits::{Clause, Lit, Literal, Named, Ref, Step};
 use std::alloc::Global;
 use std::process::Abort;
 use std::test::Fail;
-use unit_prop::{Closure, Refuted, Refuter, StepCheck, close_under};
+use unit_prop::{Closure, Refuted, Refuter, StepCheck, StepErr, close_under};
 
 /// The clause of an earlier step.
 fn own_clause(log: &[Step], place: u64) -> Option<&Clause<Lit>> {
@@ -31,13 +32,12 @@ fn clause_named<'a>(base: &'a [Named], log: &'a [Step], name: Ref) -> Option<&'a
 
 /// Whether the hints make the clause a step over base and log.
 fn is_step(
-    alloc: Global,
+    check: &mut StepCheck<Lit>,
     base: &[Named],
     log: &[Step],
     clause: &Clause<Lit>,
     hints: &[Ref],
-) -> Result<bool, Fail> {
-    let mut check = StepCheck::new(alloc);
+) -> Result<bool, StepErr> {
     check.begin(clause.lits())?;
     for name in hints {
         let Some(hint) = clause_named(base, log, *name) else {
@@ -109,17 +109,42 @@ fn is_model(base: &[Named], target: &Clause<Lit>, model: &[Lit]) -> bool {
 
 /// Whether the answer is right over base and log.
 fn is_right(
-    alloc: Global,
+    check: &mut StepCheck<Lit>,
     base: &[Named],
     log: &[Step],
     target: &Clause<Lit>,
     answer: &Refuted,
-) -> Result<bool, Fail> {
+) -> Result<bool, StepErr> {
     match answer {
-        Refuted::Yes(hints) => is_step(alloc, base, log, target, hints.as_slice()),
+        Refuted::Yes(hints) => is_step(check, base, log, target, hints.as_slice()),
         Refuted::No(model) => Ok(is_model(base, target, model.as_slice())),
         Refuted::Spent => Ok(true),
     }
+}
+
+/// Checks a solver's log outside of it: each step follows by its hints, and is new.
+fn check_log(
+    rt: &impl Abort,
+    alloc: Global,
+    check: &mut StepCheck<Lit>,
+    base: &[Named],
+    log: &[Step],
+) -> Result<(), Fail> {
+    for (place, step) in log.iter().enumerate() {
+        let before = &log[..place];
+        let hints = step.hints.as_slice();
+        expect(
+            rt,
+            "a step",
+            is_step(check, base, before, &step.clause, hints)?,
+        );
+        expect(
+            rt,
+            "a new clause",
+            is_new(alloc, base, before, &step.clause)?,
+        );
+    }
+    Ok(())
 }
 
 /// Checks a solver's answer and log outside of it.
@@ -131,13 +156,13 @@ fn check(
     target: &Clause<Lit>,
     answer: &Refuted,
 ) -> Result<(), Fail> {
-    assert!(rt; is_right(alloc, base, log, target, answer)?);
-    for (place, step) in log.iter().enumerate() {
-        let before = &log[..place];
-        assert!(rt; is_step(alloc, base, before, &step.clause, step.hints.as_slice())?);
-        assert!(rt; is_new(alloc, base, before, &step.clause)?);
-    }
-    Ok(())
+    let mut check = StepCheck::new(alloc);
+    expect(
+        rt,
+        "a right answer",
+        is_right(&mut check, base, log, target, answer)?,
+    );
+    check_log(rt, alloc, &mut check, base, log)
 }
 
 /// The answer of a solver that has the base, which is checked, and the units that are left.

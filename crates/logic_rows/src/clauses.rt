@@ -1,7 +1,13 @@
-//! Literals and clauses of the worked cases.
+//! Literals and clauses of the worked cases, and how a test says what isn't so.
 use lits::{Clause, Dim, Lit, Literal, Node, Side};
 use std::alloc::Global;
+use std::process::Abort;
 use std::test::Fail;
+
+/// Fails the test, with these words, unless it is so. A call costs the prover a third of an `assert!`.
+pub(crate) fn expect(rt: &impl Abort, what: &str, is_so: bool) {
+    assert!(rt; is_so, "{what}");
+}
 
 /// The literals of these numbers.
 pub(crate) fn dims(alloc: Global, numbers: &[i32]) -> Result<Vec<Dim>, Fail> {
@@ -53,25 +59,55 @@ pub(crate) const X: Lit = Lit {
     neg: false,
 };
 
+pub(crate) const NOT_X: Lit = Lit {
+    node: Node::Input(0),
+    neg: true,
+};
+
 pub(crate) const Y: Lit = Lit {
     node: Node::Input(1),
     neg: false,
 };
 
+pub(crate) const NOT_Y: Lit = Lit {
+    node: Node::Input(1),
+    neg: true,
+};
+
 /// A gate of the first circuit.
+pub(crate) const GATE_A: Node = Node::Gate(Side::A, 3);
+
 pub(crate) const A: Lit = Lit {
-    node: Node::Gate(Side::A, 3),
+    node: GATE_A,
     neg: false,
 };
 
+pub(crate) const NOT_A: Lit = Lit {
+    node: GATE_A,
+    neg: true,
+};
+
 /// A gate of the second circuit.
+pub(crate) const GATE_B: Node = Node::Gate(Side::B, 3);
+
 pub(crate) const B: Lit = Lit {
-    node: Node::Gate(Side::B, 3),
+    node: GATE_B,
     neg: false,
+};
+
+pub(crate) const NOT_B: Lit = Lit {
+    node: GATE_B,
+    neg: true,
 };
 
 /// That the circuits' first outputs differ.
 pub(crate) const DIFFER: Lit = Lit {
     node: Node::Xor(0),
     neg: false,
+};
+
+/// That they are equal.
+pub(crate) const EQUAL: Lit = Lit {
+    node: Node::Xor(0),
+    neg: true,
 };

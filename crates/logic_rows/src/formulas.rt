@@ -5,7 +5,7 @@ pub(crate) type Row<'a> = (&'a [&'a [i32]], &'a [i32], bool, u64);
 
 /// Small bases with their answers, by a brute force over all assignments, and the units spent, by the
 /// plan's definition; both were worked out by a program in another language.
-pub(crate) const ROWS: [Row<'static>; 18] = [
+pub(crate) static ROWS: [Row<'static>; 18] = [
     (&[], &[], false, 0),
     (&[&[]], &[], true, 0),
     (&[&[1], &[-1]], &[], true, 0),
@@ -99,18 +99,18 @@ pub(crate) const ROWS: [Row<'static>; 18] = [
 ];
 
 /// The signs of two parities of the same inputs in a clause, and whether it is implied.
-pub(crate) const CHAIN_TARGETS: [(bool, bool, bool); 3] = [
+pub(crate) static CHAIN_TARGETS: [(bool, bool, bool); 3] = [
     (true, false, true),
     (false, true, true),
     (false, false, false),
 ];
 
 /// The inputs of two chains of XORs, and the units that the plan spends to show that they are equal.
-pub(crate) const CHAINS: [(u32, u64); 4] = [(2, 1), (3, 3), (4, 7), (5, 15)];
+pub(crate) static CHAINS: [(u32, u64); 4] = [(2, 1), (3, 3), (4, 7), (5, 15)];
 
 /// Seeds, whether the clauses drawn from each are unsatisfiable, and the units spent, worked out as the rows
 /// above.
-pub(crate) const DRAWN: [(u32, bool, u64); 32] = [
+pub(crate) static DRAWN: [(u32, bool, u64); 32] = [
     (1, true, 4),
     (2, true, 5),
     (3, false, 1),

@@ -1,10 +1,9 @@
 //! What the cases make of `WatchSolver`. Each stands for any solver and takes its own: a test that calls more
 //! than once while it owns a `WatchSolver` takes fifteen seconds and more to prove, in place of one.
-use crate::clauses::{A, X, Y};
-use crate::formulas::{CHAIN_TARGETS, CHAINS, DRAWN, ROWS};
+use crate::clauses::{A, X, Y, expect};
 use crate::queries::{
-    check_spent, check_start, check_yes, left_of_chains, left_of_drawn, left_of_many, left_of_row,
-    left_of_second_query, model_of_gate,
+    answer_of_gate, check_chains, check_drawn, check_rows, check_spent, check_start, check_yes,
+    left_of_many, left_of_second_query, model_of,
 };
 use lits::Lit;
 use solver_watch::WatchSolver;
@@ -21,9 +20,9 @@ fn refuter_yes(rt: HostRuntime) -> Result<(), Fail> {
 const MODEL: [Lit; 3] = [X, Y, A];
 
 fn check_model<R: Refuter>(rt: &impl Abort, alloc: Global, mut solver: R) -> Result<(), Fail> {
-    let (mut model, _) = model_of_gate(rt, alloc, &mut solver)?;
+    let mut model = model_of(answer_of_gate(rt, alloc, &mut solver)?.0)?;
     model.sort()?;
-    assert!(rt; model.as_slice() == MODEL.as_slice());
+    expect(rt, "the model", model.as_slice() == MODEL.as_slice());
     Ok(())
 }
 
@@ -40,7 +39,11 @@ fn is_paid<R: Refuter>(solver: &R, left: u64, units: u64) -> bool {
 fn check_paid<R: Refuter>(rt: &impl Abort, alloc: Global, mut solver: R) -> Result<(), Fail> {
     check_spent(rt, alloc, &mut solver)?;
     let left = left_of_many(rt, alloc, &mut solver)?;
-    assert!(rt; is_paid(&solver, left, 100_000));
+    expect(
+        rt,
+        "a unit for each clause",
+        is_paid(&solver, left, 100_000),
+    );
     Ok(())
 }
 
@@ -53,7 +56,11 @@ fn refuter_spent(rt: HostRuntime) -> Result<(), Fail> {
 
 fn check_queries<R: Refuter>(rt: &impl Abort, alloc: Global, mut solver: R) -> Result<(), Fail> {
     let left = left_of_second_query(rt, alloc, &mut solver)?;
-    assert!(rt; is_paid(&solver, left, 100_001));
+    expect(
+        rt,
+        "a unit for each clause",
+        is_paid(&solver, left, 100_001),
+    );
     check_start(rt, alloc, &mut solver)
 }
 
@@ -63,50 +70,17 @@ fn log_of_queries(rt: HostRuntime) -> Result<(), Fail> {
     check_queries(&rt, rt.alloc(), WatchSolver::new(rt.alloc())?)
 }
 
-fn check_rows<R: Refuter>(rt: &impl Abort, alloc: Global, mut solver: R) -> Result<(), Fail> {
-    for row in ROWS.as_slice() {
-        left_of_row(rt, alloc, &mut solver, row)?;
-    }
-    Ok(())
-}
-
 #[test]
 fn small_bases(rt: HostRuntime) -> Result<(), Fail> {
-    check_rows(&rt, rt.alloc(), WatchSolver::new(rt.alloc())?)
-}
-
-fn check_targets<R: Refuter>(
-    rt: &impl Abort,
-    alloc: Global,
-    solver: &mut R,
-    inputs: u32,
-) -> Result<(), Fail> {
-    for target in CHAIN_TARGETS.as_slice() {
-        left_of_chains(rt, alloc, solver, inputs, *target, 1000)?;
-    }
-    Ok(())
-}
-
-fn check_chains<R: Refuter>(rt: &impl Abort, alloc: Global, mut solver: R) -> Result<(), Fail> {
-    for (inputs, _) in CHAINS.as_slice() {
-        check_targets(rt, alloc, &mut solver, *inputs)?;
-    }
-    Ok(())
+    check_rows(&rt, rt.alloc(), WatchSolver::new(rt.alloc())?, false)
 }
 
 #[test]
 fn parity_chains_agree(rt: HostRuntime) -> Result<(), Fail> {
-    check_chains(&rt, rt.alloc(), WatchSolver::new(rt.alloc())?)
-}
-
-fn check_drawn<R: Refuter>(rt: &impl Abort, alloc: Global, mut solver: R) -> Result<(), Fail> {
-    for (seed, implied, _) in DRAWN.as_slice() {
-        left_of_drawn(rt, alloc, &mut solver, *seed, *implied)?;
-    }
-    Ok(())
+    check_chains(&rt, rt.alloc(), WatchSolver::new(rt.alloc())?, 1000, false)
 }
 
 #[test]
 fn drawn_bases(rt: HostRuntime) -> Result<(), Fail> {
-    check_drawn(&rt, rt.alloc(), WatchSolver::new(rt.alloc())?)
+    check_drawn(&rt, rt.alloc(), WatchSolver::new(rt.alloc())?, false)
 }

@@ -2,12 +2,12 @@
 ghost use Rattle.std.specs.Prelude.{◌≡◌, true};
 
 use crate::bases::{
-    base_of, cone_of_xor, drawn_base, is_base, one_gate, parity_chains, twin_gates,
+    base_of, cone_of_xor, drawn_base, is_base, one_gate, parity_chains, turned, twin_gates,
 };
 use crate::checks::{asked, solved, verdict};
-use crate::clauses::{A, B, DIFFER, clause, clause_of};
-use crate::formulas::Row;
-use lits::{Clause, Lit, Literal, Named};
+use crate::clauses::{A, EQUAL, NOT_A, NOT_B, clause, clause_of, expect};
+use crate::formulas::{CHAIN_TARGETS, CHAINS, DRAWN, ROWS, Row};
+use lits::{Clause, Lit, Named};
 use std::alloc::Global;
 use std::process::Abort;
 use std::test::Fail;
@@ -18,15 +18,39 @@ fn left_by<R: Refuter>(
     rt: &impl Abort,
     alloc: Global,
     solver: &mut R,
-    base: Vec<Named>,
-    target: Clause<Lit>,
+    base: &[Named],
+    target: &Clause<Lit>,
     budget: u64,
     wanted: Option<bool>,
 ) -> Result<u64, Fail> {
-    let (answer, left) = solved(rt, alloc, solver, base.as_slice(), &target, budget)?;
-    assert!(rt; verdict(&answer) == wanted);
+    let (answer, left) = solved(rt, alloc, solver, base, target, budget)?;
+    expect(rt, "the verdict", verdict(&answer) == wanted);
     Ok(left)
 }
+
+/// The query of the clause of the literals over the base has that verdict; the units that are left.
+fn left_of<R: Refuter>(
+    rt: &impl Abort,
+    alloc: Global,
+    solver: &mut R,
+    base: &[Named],
+    lits: &[Lit],
+    budget: u64,
+    wanted: Option<bool>,
+) -> Result<u64, Fail> {
+    left_by(
+        rt,
+        alloc,
+        solver,
+        base,
+        &clause_of(alloc, lits)?,
+        budget,
+        wanted,
+    )
+}
+
+/// That one twin gate implies the other.
+const IMPLICATION: [Lit; 2] = [NOT_B, A];
 
 /// Twin gates imply one another, which takes no unit and no learned clause.
 pub(crate) fn check_yes<R: Refuter>(
@@ -34,33 +58,50 @@ pub(crate) fn check_yes<R: Refuter>(
     alloc: Global,
     mut solver: R,
 ) -> Result<(), Fail> {
-    let target = clause_of(alloc, &[B.not(), A])?;
     let base = twin_gates(alloc)?;
-    let left = left_by(rt, alloc, &mut solver, base, target, 100, Some(true))?;
-    assert!(rt; left == 100);
-    assert!(rt; solver.log().is_empty());
+    let left = left_of(
+        rt,
+        alloc,
+        &mut solver,
+        base.as_slice(),
+        &IMPLICATION,
+        100,
+        Some(true),
+    )?;
+    expect(rt, "no unit is spent", left == 100);
+    expect(rt, "nothing is learned", solver.log().is_empty());
     Ok(())
 }
 
-/// The model that makes a gate true, and the units that are left of 100.
-pub(crate) fn model_of_gate<R: Refuter>(
+/// That the gate is false.
+const NO_GATE: [Lit; 1] = [NOT_A];
+
+/// What the solver answers of a gate that can be true, and the units that are left of 100.
+pub(crate) fn answer_of_gate<R: Refuter>(
     rt: &impl Abort,
     alloc: Global,
     solver: &mut R,
-) -> Result<(Vec<Lit>, u64), Fail> {
-    let base = one_gate(alloc)?;
-    let target = clause_of(alloc, &[A.not()])?;
-    let (answer, left) = solved(rt, alloc, solver, base.as_slice(), &target, 100)?;
+) -> Result<(Refuted, u64), Fail> {
+    solved(
+        rt,
+        alloc,
+        solver,
+        one_gate(alloc)?.as_slice(),
+        &clause_of(alloc, &NO_GATE)?,
+        100,
+    )
+}
+
+/// The model of the answer.
+pub(crate) fn model_of(answer: Refuted) -> Result<Vec<Lit>, Fail> {
     match answer {
-        Refuted::No(model) => Ok((model.into_vec(), left)),
+        Refuted::No(model) => Ok(model.into_vec()),
         _ => Err("no model".into()),
     }
 }
 
 /// That the outputs of two XORs are equal.
-fn equal_outputs(alloc: Global) -> Result<Clause<Lit>, Fail> {
-    clause_of(alloc, &[DIFFER.not()])
-}
+const EQUAL_OUTPUTS: [Lit; 1] = [EQUAL];
 
 /// A budget of one unit is spent for one clause.
 pub(crate) fn check_spent<R: Refuter>(
@@ -68,11 +109,10 @@ pub(crate) fn check_spent<R: Refuter>(
     alloc: Global,
     solver: &mut R,
 ) -> Result<(), Fail> {
-    let target = equal_outputs(alloc)?;
     let base = cone_of_xor(alloc)?;
-    let left = left_by(rt, alloc, solver, base, target, 1, None)?;
-    assert!(rt; left == 0);
-    assert!(rt; solver.log().len() == 1);
+    let left = left_of(rt, alloc, solver, base.as_slice(), &EQUAL_OUTPUTS, 1, None)?;
+    expect(rt, "the unit is spent", left == 0);
+    expect(rt, "one clause is learned", solver.log().len() == 1);
     Ok(())
 }
 
@@ -82,38 +122,46 @@ pub(crate) fn left_of_many<R: Refuter>(
     alloc: Global,
     solver: &mut R,
 ) -> Result<u64, Fail> {
-    let target = equal_outputs(alloc)?;
     let base = cone_of_xor(alloc)?;
-    left_by(rt, alloc, solver, base, target, 100_000, Some(true))
+    left_of(
+        rt,
+        alloc,
+        solver,
+        base.as_slice(),
+        &EQUAL_OUTPUTS,
+        100_000,
+        Some(true),
+    )
 }
 
-/// A solver that has the base says that it implies the target; the units that are left of 100000.
-fn left_again<R: Refuter>(
+/// One unit is spent, and then as many as the answer takes; the units that are left of 100000.
+fn left_of_two<R: Refuter>(
     rt: &impl Abort,
     alloc: Global,
     solver: &mut R,
     base: &[Named],
     target: &Clause<Lit>,
-) -> Result<u64, Fail>
-    requires ready { R.Refuter.is_ready solver.old ≡ true }
-    requires base { R.Refuter.base_of solver.old ≡ base.now }
-{
+) -> Result<u64, Fail> {
+    solved(rt, alloc, solver, base, target, 1)?;
     let (answer, left) = asked(rt, alloc, solver, base, target, 100_000)?;
-    assert!(rt; verdict(&answer) == Some(true));
+    expect(rt, "the outputs are equal", verdict(&answer) == Some(true));
     Ok(left)
 }
 
-/// One unit is spent, and then as many as the answer takes: what was learned stays in the next query. The
-/// units that are left of 100000.
+/// What was learned in a query that was given up stays in the next. The units that are left of 100000.
 pub(crate) fn left_of_second_query<R: Refuter>(
     rt: &impl Abort,
     alloc: Global,
     solver: &mut R,
 ) -> Result<u64, Fail> {
     let base = cone_of_xor(alloc)?;
-    let target = equal_outputs(alloc)?;
-    solved(rt, alloc, solver, base.as_slice(), &target, 1)?;
-    left_again(rt, alloc, solver, base.as_slice(), &target)
+    left_of_two(
+        rt,
+        alloc,
+        solver,
+        base.as_slice(),
+        &clause_of(alloc, &EQUAL_OUTPUTS)?,
+    )
 }
 
 /// A start forgets what was learned.
@@ -125,48 +173,69 @@ pub(crate) fn check_start<R: Refuter>(
     let base = cone_of_xor(alloc)?;
     assert!(rt; is_base(base.as_slice()));
     solver.start(alloc, base.as_slice())?;
-    assert!(rt; solver.log().is_empty());
+    expect(rt, "nothing is learned", solver.log().is_empty());
     Ok(())
 }
 
-/// A row has the answer that it says; the units that are left of 100.
-pub(crate) fn left_of_row<R: Refuter>(
+/// The target of a row over its base has that verdict; the units that are left.
+fn left_of_row<R: Refuter>(
     rt: &impl Abort,
     alloc: Global,
     solver: &mut R,
     row: &Row<'_>,
+    budget: u64,
+    wanted: Option<bool>,
 ) -> Result<u64, Fail> {
-    let (lists, target, implied, _) = *row;
-    let target = clause(alloc, target)?;
-    let base = base_of(alloc, lists)?;
-    left_by(rt, alloc, solver, base, target, 100, Some(implied))
+    let target = clause(alloc, row.1)?;
+    left_by(
+        rt,
+        alloc,
+        solver,
+        base_of(alloc, row.0)?.as_slice(),
+        &target,
+        budget,
+        wanted,
+    )
 }
 
-/// Just the units that a row takes are all spent.
-pub(crate) fn check_spent_row<R: Refuter>(
+/// A row has the answer that it says. A solver that goes by the plan takes just the row's units, which are
+/// all spent where there are no more.
+fn check_row<R: Refuter>(
     rt: &impl Abort,
     alloc: Global,
     solver: &mut R,
     row: &Row<'_>,
+    by_plan: bool,
 ) -> Result<(), Fail> {
-    let (lists, target, _, units) = *row;
-    let target = clause(alloc, target)?;
-    let base = base_of(alloc, lists)?;
-    let left = left_by(rt, alloc, solver, base, target, units, None)?;
-    assert!(rt; left == 0);
+    let (_, _, implied, units) = *row;
+    let left = left_of_row(rt, alloc, solver, row, 100, Some(implied))?;
+    expect(
+        rt,
+        "the row's units",
+        !by_plan || left.saturating_add(units) == 100,
+    );
+    if by_plan && units >= 1 {
+        let left = left_of_row(rt, alloc, solver, row, units, None)?;
+        expect(rt, "all units are spent", left == 0);
+    }
     Ok(())
 }
 
-/// The literal, or its negation where that is asked for.
-fn turned(lit: Lit, neg: bool) -> Lit {
-    Lit {
-        node: lit.node,
-        neg: lit.neg != neg,
+/// Each row of small bases, for a solver that goes by the plan or by its own.
+pub(crate) fn check_rows<R: Refuter>(
+    rt: &impl Abort,
+    alloc: Global,
+    mut solver: R,
+    by_plan: bool,
+) -> Result<(), Fail> {
+    for row in ROWS.as_slice() {
+        check_row(rt, alloc, &mut solver, row, by_plan)?;
     }
+    Ok(())
 }
 
 /// Two chains of XORs over so many inputs, from either end, have the same value; the units that are left.
-pub(crate) fn left_of_chains<R: Refuter>(
+fn left_of_chains<R: Refuter>(
     rt: &impl Abort,
     alloc: Global,
     solver: &mut R,
@@ -177,19 +246,78 @@ pub(crate) fn left_of_chains<R: Refuter>(
     let (first_neg, second_neg, implied) = target;
     let (base, first, second) = parity_chains(alloc, inputs)?;
     let lits = [turned(first, first_neg), turned(second, second_neg)];
-    let target = clause_of(alloc, &lits)?;
-    left_by(rt, alloc, solver, base, target, budget, Some(implied))
+    left_of(
+        rt,
+        alloc,
+        solver,
+        base.as_slice(),
+        &lits,
+        budget,
+        Some(implied),
+    )
+}
+
+/// Chains over so many inputs, whose equality takes so many units of a solver that goes by the plan.
+fn check_targets<R: Refuter>(
+    rt: &impl Abort,
+    alloc: Global,
+    solver: &mut R,
+    chain: (u32, u64),
+    budget: u64,
+    by_plan: bool,
+) -> Result<(), Fail> {
+    let (inputs, units) = chain;
+    for target in CHAIN_TARGETS.as_slice() {
+        let left = left_of_chains(rt, alloc, solver, inputs, *target, budget)?;
+        let spent = if target.2 { units } else { 0 };
+        expect(
+            rt,
+            "the chain's units",
+            !by_plan || left.saturating_add(spent) == budget,
+        );
+    }
+    Ok(())
+}
+
+/// Chains of two to five inputs, each within the budget.
+pub(crate) fn check_chains<R: Refuter>(
+    rt: &impl Abort,
+    alloc: Global,
+    mut solver: R,
+    budget: u64,
+    by_plan: bool,
+) -> Result<(), Fail> {
+    for chain in CHAINS.as_slice() {
+        check_targets(rt, alloc, &mut solver, *chain, budget, by_plan)?;
+    }
+    Ok(())
 }
 
 /// Clauses that are drawn are unsatisfiable or not, as it is said; the units that are left of 100.
-pub(crate) fn left_of_drawn<R: Refuter>(
+fn left_of_drawn<R: Refuter>(
     rt: &impl Abort,
     alloc: Global,
     solver: &mut R,
     seed: u32,
     implied: bool,
 ) -> Result<u64, Fail> {
-    let empty = clause_of(alloc, &[])?;
     let base = drawn_base(alloc, seed)?;
-    left_by(rt, alloc, solver, base, empty, 100, Some(implied))
+    left_of(rt, alloc, solver, base.as_slice(), &[], 100, Some(implied))
+}
+
+/// Clauses that are drawn, with the units that a solver takes that goes by the plan.
+pub(crate) fn check_drawn<R: Refuter>(
+    rt: &impl Abort,
+    alloc: Global,
+    mut solver: R,
+    by_plan: bool,
+) -> Result<(), Fail> {
+    for (seed, implied, units) in DRAWN.as_slice() {
+        let left = left_of_drawn(rt, alloc, &mut solver, *seed, *implied)?;
+        assert!(rt;
+            !by_plan || left.saturating_add(*units) == 100,
+            "seed {seed}"
+        );
+    }
+    Ok(())
 }

@@ -1,6 +1,8 @@
 use crate::bases::{is_named, twin_gates};
-use crate::clauses::{A, B, X, Y, are, clause_of, dims};
-use lits::{Clause, Dim, Lit, Literal, Named, Ref};
+use crate::clauses::{
+    A, B, GATE_A, GATE_B, NOT_A, NOT_B, NOT_X, NOT_Y, X, Y, are, clause_of, dims, expect,
+};
+use lits::{Clause, Dim, Lit, Named, Ref};
 use std::alloc::Global;
 use std::process::Abort;
 use std::test::Fail;
@@ -42,7 +44,7 @@ fn closes_to(
 /// A name, clauses, literals that are given, and their closure, unless it clashes.
 type Closed<'a> = (&'a str, &'a [&'a [i32]], &'a [i32], Option<&'a [i32]>);
 
-const CLOSURES: [Closed<'static>; 6] = [
+static CLOSURES: [Closed<'static>; 6] = [
     ("a chain", &[&[1, -2], &[2]], &[], Some(&[2, 1])),
     ("opposite units", &[&[1], &[-1]], &[], None),
     (
@@ -71,13 +73,16 @@ const CLOSURES: [Closed<'static>; 6] = [
     ),
 ];
 
-#[test]
-fn close_under(rt: HostRuntime) -> Result<(), Fail> {
-    for row in CLOSURES.as_slice() {
-        let (name, lists, given, want) = *row;
-        assert!(rt; closes_to(rt.alloc(), lists, given, want)?, "{name}");
+fn check_closures(rt: &impl Abort, alloc: Global, rows: &[Closed]) -> Result<(), Fail> {
+    for (name, lists, given, want) in rows {
+        expect(rt, name, closes_to(alloc, lists, given, *want)?);
     }
     Ok(())
+}
+
+#[test]
+fn close_under(rt: HostRuntime) -> Result<(), Fail> {
+    check_closures(&rt, rt.alloc(), &CLOSURES)
 }
 
 /// The clauses of a step's hints, by their places from 0.
@@ -115,88 +120,125 @@ fn has_fault(alloc: Global, check: &mut StepCheck<Dim>, case: &Judged) -> Result
     Ok(fault == want)
 }
 
-fn judge(rt: &impl Abort, alloc: Global, cases: &[Judged]) -> Result<(), Fail> {
-    let mut check = StepCheck::new(alloc);
+fn judge_by(
+    rt: &impl Abort,
+    alloc: Global,
+    check: &mut StepCheck<Dim>,
+    cases: &[Judged],
+) -> Result<(), Fail> {
     for case in cases {
-        assert!(rt; has_fault(alloc, &mut check, case)?, "{}", case.0);
+        expect(rt, case.0, has_fault(alloc, check, case)?);
     }
     Ok(())
 }
 
-/// The fault at that hint.
-fn bad(hint: u64, why: Why) -> Option<BadStep> {
-    Some(BadStep { hint, why })
+fn judge(rt: &impl Abort, alloc: Global, cases: &[Judged]) -> Result<(), Fail> {
+    judge_by(rt, alloc, &mut StepCheck::new(alloc), cases)
 }
+
+/// Clauses from which -5 or 4 follows: 4 and 5 are the AND of 2 and 3.
+const TWIN: &[&[i32]] = &[&[-5, 3], &[4, -2, -3], &[-5, 2]];
+
+/// The same without the last.
+const CUT: &[&[i32]] = &[&[-5, 3], &[4, -2, -3]];
+
+const NOT_FALSE: Option<BadStep> = Some(BadStep {
+    hint: 0,
+    why: Why::NotFalse,
+});
 
 /// Two gates that compute the same: the first step of their proof, the same without its last hint, and with
 /// a literal twice.
+static STEPS: [Judged<'static>; 4] = [
+    ("the empty clause", &[], &[&[]], &[0], None),
+    ("twin gates", &[-5, 4], TWIN, &[0, 1, 2], None),
+    ("without the last hint", &[-5, 4], CUT, &[0, 1], NOT_FALSE),
+    ("a literal twice", &[-5, 4, 4], TWIN, &[0, 1, 2], None),
+];
+
 #[test]
 fn step_check(rt: HostRuntime) -> Result<(), Fail> {
-    let twin: &[&[i32]] = &[&[-5, 3], &[4, -2, -3], &[-5, 2]];
-    let cut: &[&[i32]] = &[&[-5, 3], &[4, -2, -3]];
-    let not_false = bad(0, Why::NotFalse);
-    judge(
-        &rt,
-        rt.alloc(),
-        &[
-            ("the empty clause", &[], &[&[]], &[0], None),
-            ("twin gates", &[-5, 4], twin, &[0, 1, 2], None),
-            ("without the last hint", &[-5, 4], cut, &[0, 1], not_false),
-            ("a literal twice", &[-5, 4, 4], twin, &[0, 1, 2], None),
-        ],
-    )
+    judge(&rt, rt.alloc(), &STEPS)
 }
+
+const TAUTOLOGY: Option<BadStep> = Some(BadStep {
+    hint: 0,
+    why: Why::Tautology,
+});
+
+const SATISFIED: Option<BadStep> = Some(BadStep {
+    hint: 2,
+    why: Why::Satisfied,
+});
+
+const TWO_FREE: Option<BadStep> = Some(BadStep {
+    hint: 1,
+    why: Why::TwoFree,
+});
+
+const AFTER_FALSE: Option<BadStep> = Some(BadStep {
+    hint: 2,
+    why: Why::AfterFalse,
+});
+
+const NO_CLAUSE: Option<BadStep> = Some(BadStep {
+    hint: 2,
+    why: Why::NoClause,
+});
+
+static FAULTS: [Judged<'static>; 7] = [
+    ("no hint", &[1], &[], &[], NOT_FALSE),
+    ("a tautology", &[1, -1], &[&[]], &[0], TAUTOLOGY),
+    ("a true hint", &[1], &[&[2], &[2, 3]], &[0, 1], SATISFIED),
+    ("a wide hint", &[1], &[&[2, 3]], &[0], TWO_FREE),
+    ("a late hint", &[1], &[&[1], &[2]], &[0, 1], AFTER_FALSE),
+    (
+        "no false hint",
+        &[1],
+        &[&[2, 1], &[-2, 3]],
+        &[0, 1],
+        NOT_FALSE,
+    ),
+    ("no such hint", &[1], &[&[2, 1]], &[0, 1], NO_CLAUSE),
+];
 
 #[test]
 fn faults_of_steps(rt: HostRuntime) -> Result<(), Fail> {
-    let not_false = bad(0, Why::NotFalse);
-    let tautology = bad(0, Why::Tautology);
-    let satisfied = bad(2, Why::Satisfied);
-    let two_free = bad(1, Why::TwoFree);
-    let after_false = bad(2, Why::AfterFalse);
-    let no_clause = bad(2, Why::NoClause);
-    judge(
-        &rt,
-        rt.alloc(),
-        &[
-            ("no hint", &[1], &[], &[], not_false),
-            ("a tautology", &[1, -1], &[&[]], &[0], tautology),
-            ("a true hint", &[1], &[&[2], &[2, 3]], &[0, 1], satisfied),
-            ("a wide hint", &[1], &[&[2, 3]], &[0], two_free),
-            ("a late hint", &[1], &[&[1], &[2]], &[0, 1], after_false),
-            (
-                "no false hint",
-                &[1],
-                &[&[2, 1], &[-2, 3]],
-                &[0, 1],
-                not_false,
-            ),
-            ("no such hint", &[1], &[&[2, 1]], &[0, 1], no_clause),
-        ],
-    )
+    judge(&rt, rt.alloc(), &FAULTS)
 }
 
 /// Clauses from which gate B implies gate A, both the AND of the first two inputs.
+const IMPLYING: [&[Lit]; 3] = [&[NOT_B, Y], &[NOT_B, X], &[A, NOT_X, NOT_Y]];
+
+/// That gate B implies gate A.
+const IMPLICATION: [Lit; 2] = [NOT_B, A];
+
+/// Adds the clause by the hints.
+fn add(check: &mut StepCheck<Lit>, clause: &[Lit], hints: &[&[Lit]]) -> Result<(), Fail> {
+    check.begin(clause)?;
+    for hint in hints {
+        check.hint(hint)?;
+    }
+    check.end()?;
+    Ok(())
+}
+
+#[test]
+fn steps_over_nodes(rt: HostRuntime) -> Result<(), Fail> {
+    add(&mut StepCheck::new(rt.alloc()), &IMPLICATION, &IMPLYING)
+}
+
 fn implying(alloc: Global) -> Result<Vec<Clause<Lit>>, Fail> {
-    let lists: [&[Lit]; 3] = [&[B.not(), Y], &[B.not(), X], &[A, X.not(), Y.not()]];
     let mut axioms = Vec::new(alloc);
-    for lits in &lists {
+    for lits in IMPLYING.as_slice() {
         axioms.push(clause_of(alloc, lits)?)?;
     }
     Ok(axioms)
 }
 
-#[test]
-fn steps_over_nodes(rt: HostRuntime) -> Result<(), Fail> {
-    let axioms = implying(rt.alloc())?;
-    let mut check = StepCheck::new(rt.alloc());
-    check.begin(&[B.not(), A])?;
-    for axiom in &axioms {
-        check.hint(axiom.lits())?;
-    }
-    check.end()?;
-    Ok(())
-}
+const GIVEN: [Lit; 1] = [B];
+
+const FOUND: [Lit; 4] = [B, Y, X, A];
 
 /// Whether the closure has just the literals.
 fn has_just(found: &Closure<Lit>, lits: &[Lit]) -> bool {
@@ -209,18 +251,9 @@ fn has_just(found: &Closure<Lit>, lits: &[Lit]) -> bool {
 #[test]
 fn close_under_nodes(rt: HostRuntime) -> Result<(), Fail> {
     let axioms = implying(rt.alloc())?;
-    let found = unit_prop::close_under(rt.alloc(), axioms.as_slice(), &[B])?;
-    assert!(rt; has_just(&found, &[B, Y, X, A]));
+    let found = unit_prop::close_under(rt.alloc(), axioms.as_slice(), &GIVEN)?;
+    expect(&rt, "the closure", has_just(&found, &FOUND));
     Ok(())
-}
-
-/// The hints that a scan of the base finds for the clause of the literals.
-fn scanned(alloc: Global, base: &[Named], lits: &[Lit]) -> Result<Option<Vec<Ref>>, Fail> {
-    if !is_named(base) {
-        return Err("a name stands twice".into());
-    }
-    let clause = clause_of(alloc, lits)?;
-    Ok(unit_prop::scan(alloc, base, &clause)?)
 }
 
 /// Whether the scan of the base for the clause of the literals finds these hints.
@@ -230,30 +263,56 @@ fn scans_to(
     lits: &[Lit],
     want: Option<&[Ref]>,
 ) -> Result<bool, Fail> {
-    let Some(wanted) = want else {
-        return Ok(scanned(alloc, base, lits)?.is_none());
-    };
-    match scanned(alloc, base, lits)? {
-        Some(hints) => Ok(hints.as_slice() == wanted),
-        None => Ok(false),
+    if !is_named(base) {
+        return Err("a name stands twice".into());
     }
+    let found = unit_prop::scan(alloc, base, &clause_of(alloc, lits)?)?;
+    Ok(match (&found, want) {
+        (Some(hints), Some(wanted)) => hints.as_slice() == wanted,
+        (None, None) => true,
+        _ => false,
+    })
+}
+
+/// A name, a clause, and the hints that the scan of twin gates finds for it.
+type Scanned<'a> = (&'a str, &'a [Lit], Option<&'a [Ref]>);
+
+static SCANS: [Scanned<'static>; 3] = [
+    (
+        "B implies A",
+        &[NOT_B, A],
+        Some(&[
+            Ref::Axiom(GATE_B, 0),
+            Ref::Axiom(GATE_A, 2),
+            Ref::Axiom(GATE_B, 1),
+        ]),
+    ),
+    (
+        "A implies B",
+        &[B, NOT_A],
+        Some(&[
+            Ref::Axiom(GATE_A, 0),
+            Ref::Axiom(GATE_A, 1),
+            Ref::Axiom(GATE_B, 2),
+        ]),
+    ),
+    ("A is false", &[NOT_A], None),
+];
+
+fn check_scans(
+    rt: &impl Abort,
+    alloc: Global,
+    base: &[Named],
+    rows: &[Scanned],
+) -> Result<(), Fail> {
+    for (name, lits, want) in rows {
+        expect(rt, name, scans_to(alloc, base, lits, *want)?);
+    }
+    Ok(())
 }
 
 #[test]
 fn hints_of_twin_gates(rt: HostRuntime) -> Result<(), Fail> {
-    let base = twin_gates(rt.alloc())?;
-    let of_a = [
-        Ref::Axiom(B.node, 0),
-        Ref::Axiom(A.node, 2),
-        Ref::Axiom(B.node, 1),
-    ];
-    let of_b = [
-        Ref::Axiom(A.node, 0),
-        Ref::Axiom(A.node, 1),
-        Ref::Axiom(B.node, 2),
-    ];
-    assert!(rt; scans_to(rt.alloc(), base.as_slice(), &[B.not(), A], Some(&of_a))?);
-    assert!(rt; scans_to(rt.alloc(), base.as_slice(), &[B, A.not()], Some(&of_b))?);
-    assert!(rt; scans_to(rt.alloc(), base.as_slice(), &[A.not()], None)?);
-    Ok(())
+    let alloc = rt.alloc();
+    check_scans(&rt, alloc, twin_gates(alloc)?.as_slice(), &SCANS)
 }

@@ -1,215 +1,214 @@
-//! Tests of `Trail`. The cases borrow the trail, so that a test which owns one calls once.
+//! Tests of `Trail`: each is a list of moves, among them what the trail has to be after those before.
 use crate::clauses::{clause, input};
 use std::alloc::Global;
 use std::process::Abort;
 use std::test::Fail;
 use watch_lists::{Put, Trail, flip};
 
-/// Adds a clause of three literals, or the same again, to a trail without decisions.
-fn add(rt: &impl Abort, alloc: Global, trail: &mut Trail, numbers: [i32; 3]) -> Result<(), Fail> {
-    assert!(rt; trail.level() == 0);
-    let clause = clause(alloc, &numbers)?;
-    trail.add(&clause)?;
-    Ok(())
+/// A number, the level at which its literal was put, and the clause that forced it.
+type Row = (i32, u64, Option<u64>);
+
+/// What is done to a trail, or what it has to be.
+enum Move {
+    /// Clauses are added while there are no decisions.
+    Add(&'static [&'static [i32]]),
+    /// All is propagated, which negates nothing, and a free literal is decided.
+    Decide(i32),
+    /// Propagation negates nothing.
+    Quiet,
+    /// Propagation negates one of the first two clauses.
+    Clash,
+    /// The levels above this one are given up.
+    Back(u64),
+    /// The literals are these.
+    Has(&'static [Row]),
+    /// There are so many levels, clauses and variables.
+    Counts(u64, u64, usize),
+    /// Gate 3 was decided first, and the codes are right.
+    Codes,
 }
 
-/// What a trail has at a place.
-fn put(number: i32, level: u64, by: Option<u64>) -> Put {
-    Put {
-        lit: input(number),
-        level,
-        by,
+fn add(alloc: Global, trail: &mut Trail, numbers: &[i32]) -> Result<bool, Fail> {
+    let clause = clause(alloc, numbers)?;
+    if trail.level() != 0 {
+        return Ok(false);
+    }
+    trail.add(&clause)?;
+    Ok(true)
+}
+
+fn add_all(alloc: Global, trail: &mut Trail, lists: &[&[i32]]) -> Result<bool, Fail> {
+    for numbers in lists {
+        if !add(alloc, trail, numbers)? {
+            return Ok(false);
+        }
+    }
+    Ok(true)
+}
+
+fn decide(trail: &mut Trail, number: i32) -> Result<bool, Fail> {
+    if trail.propagate()?.is_some() {
+        return Ok(false);
+    }
+    let Some(code) = trail.code(input(number)) else {
+        return Ok(false);
+    };
+    if !trail.is_free(code) {
+        return Ok(false);
+    }
+    trail.decide_code(code)?;
+    Ok(true)
+}
+
+/// Whether the trail's literals are those of the rows.
+fn are_put(puts: &[Put], rows: &[Row]) -> bool {
+    for (place, (number, level, by)) in rows.iter().enumerate() {
+        let put = Put {
+            lit: input(*number),
+            level: *level,
+            by: *by,
+        };
+        if puts.get(place) != Some(&put) {
+            return false;
+        }
+    }
+    puts.len() == rows.len()
+}
+
+/// Whether the code of gate 3 is that of the first of three literals, true, and in the third clause.
+fn has_codes(trail: &Trail) -> bool {
+    let Some(code) = trail.code(input(3)) else {
+        return false;
+    };
+    if trail.lits().len() != 3 || trail.clauses() != 3 {
+        return false;
+    }
+    trail.code(input(-3)) == Some(flip(code))
+        && trail.code(input(4)).is_none()
+        && trail.lit(code) == input(3)
+        && trail.is_true(code)
+        && trail.place(code) == Some(0)
+        && trail.code_at(0) == code
+        && trail.clause(2).contains(&code)
+}
+
+/// Makes the move; whether it went as it says.
+fn goes(alloc: Global, trail: &mut Trail, step: &Move) -> Result<bool, Fail> {
+    match step {
+        Move::Add(lists) => add_all(alloc, trail, lists),
+        Move::Decide(number) => decide(trail, *number),
+        Move::Quiet => Ok(trail.propagate()?.is_none()),
+        Move::Clash => Ok(matches!(trail.propagate()?, Some(0 | 1))),
+        Move::Back(level) => {
+            trail.back(*level);
+            Ok(true)
+        }
+        Move::Has(rows) => Ok(are_put(trail.lits(), rows)),
+        Move::Counts(levels, clauses, variables) => Ok(
+            trail.level() == *levels
+                && trail.clauses() == *clauses
+                && trail.variables() == *variables,
+        ),
+        Move::Codes => Ok(has_codes(trail)),
     }
 }
 
-fn has_lits(trail: &Trail, expected: &[Put]) -> bool {
-    trail.lits() == expected
-}
-
-/// Whether nothing is negated once all is propagated.
-fn is_quiet(trail: &mut Trail) -> Result<bool, Fail> {
-    let found = trail.propagate()?;
-    Ok(found.is_none())
-}
-
-/// Whether one of the first two clauses is negated once all is propagated.
-fn has_clash(trail: &mut Trail) -> Result<bool, Fail> {
-    let found = trail.propagate()?;
-    Ok(matches!(found, Some(0 | 1)))
-}
-
-fn check_closure(rt: &impl Abort, alloc: Global, trail: &mut Trail) -> Result<(), Fail> {
-    add(rt, alloc, trail, [1, -2, 1])?;
-    add(rt, alloc, trail, [2, 2, 2])?;
-    assert!(rt; is_quiet(trail)?);
-    let expected = [put(2, 0, Some(1)), put(1, 0, Some(0))];
-    assert!(rt; has_lits(trail, &expected));
+fn make_all(rt: &impl Abort, alloc: Global, trail: &mut Trail, moves: &[Move]) -> Result<(), Fail> {
+    for (place, step) in moves.iter().enumerate() {
+        assert!(rt; goes(alloc, trail, step)?, "move {place}");
+    }
     Ok(())
+}
+
+/// Makes the moves on a new trail.
+fn check(rt: &impl Abort, alloc: Global, moves: &[Move]) -> Result<(), Fail> {
+    make_all(rt, alloc, &mut Trail::new(alloc)?, moves)
 }
 
 #[test]
 fn close_under(rt: HostRuntime) -> Result<(), Fail> {
-    check_closure(&rt, rt.alloc(), &mut Trail::new(rt.alloc())?)
+    check(&rt, rt.alloc(), &CLOSURE)
 }
 
-fn check_opposite(rt: &impl Abort, alloc: Global, trail: &mut Trail) -> Result<(), Fail> {
-    add(rt, alloc, trail, [1, 1, 1])?;
-    add(rt, alloc, trail, [-1, -1, -1])?;
-    assert!(rt; has_clash(trail)?);
-    Ok(())
-}
+static CLOSURE: [Move; 3] = [
+    Move::Add(&[&[1, -2, 1], &[2, 2, 2]]),
+    Move::Quiet,
+    Move::Has(&[(2, 0, Some(1)), (1, 0, Some(0))]),
+];
 
 #[test]
 fn close_under_clashes(rt: HostRuntime) -> Result<(), Fail> {
-    check_opposite(&rt, rt.alloc(), &mut Trail::new(rt.alloc())?)
+    check(&rt, rt.alloc(), &OPPOSITE)
 }
 
-/// Propagates, and where nothing is negated decides a literal.
-fn decide(rt: &impl Abort, trail: &mut Trail, number: i32) -> Result<(), Fail> {
-    if trail.propagate()?.is_some() {
-        return Err("a clause is negated".into());
-    }
-    let Some(code) = trail.code(input(number)) else {
-        return Err("no such variable".into());
-    };
-    assert!(rt; trail.is_free(code));
-    trail.decide_code(code)?;
-    Ok(())
-}
+static OPPOSITE: [Move; 2] = [Move::Add(&[&[1, 1, 1], &[-1, -1, -1]]), Move::Clash];
 
-fn back(trail: &mut Trail, level: u64) {
-    trail.back(level);
-}
-
-/// Adds the clauses of a gate 3 that is the AND of 1 and 2.
-fn add_gate(rt: &impl Abort, alloc: Global, trail: &mut Trail) -> Result<(), Fail> {
-    add(rt, alloc, trail, [-3, 1, 1])?;
-    add(rt, alloc, trail, [-3, 2, 2])?;
-    add(rt, alloc, trail, [3, -1, -2])
-}
-
-/// Adds the gate, decides both inputs true, and propagates all.
-fn decide_gate(rt: &impl Abort, alloc: Global, trail: &mut Trail) -> Result<(), Fail> {
-    add_gate(rt, alloc, trail)?;
-    decide(rt, trail, 1)?;
-    assert!(rt; is_quiet(trail)?);
-    decide(rt, trail, 2)?;
-    assert!(rt; is_quiet(trail)?);
-    Ok(())
-}
-
-fn check_levels(rt: &impl Abort, alloc: Global, trail: &mut Trail) -> Result<(), Fail> {
-    decide_gate(rt, alloc, trail)?;
-    let expected = [put(1, 1, None), put(2, 2, None), put(3, 2, Some(2))];
-    assert!(rt; has_lits(trail, &expected));
-    assert!(rt; trail.level() == 2);
-    assert!(rt; trail.clauses() == 3);
-    assert!(rt; trail.variables() == 3);
-    Ok(())
-}
+/// The clauses of a gate 3 that is the AND of 1 and 2.
+const GATE: Move = Move::Add(&[&[-3, 1, 1], &[-3, 2, 2], &[3, -1, -2]]);
 
 #[test]
 fn levels_and_reasons(rt: HostRuntime) -> Result<(), Fail> {
-    check_levels(&rt, rt.alloc(), &mut Trail::new(rt.alloc())?)
+    check(&rt, rt.alloc(), &LEVELS)
 }
 
-fn check_back(rt: &impl Abort, alloc: Global, trail: &mut Trail) -> Result<(), Fail> {
-    decide_gate(rt, alloc, trail)?;
-    back(trail, 1);
-    assert!(rt; has_lits(trail, &[put(1, 1, None)]));
-    decide(rt, trail, -3)?;
-    assert!(rt; is_quiet(trail)?);
-    let expected = [put(1, 1, None), put(-3, 2, None), put(-2, 2, Some(2))];
-    assert!(rt; has_lits(trail, &expected));
-    back(trail, 0);
-    assert!(rt; has_lits(trail, &[]));
-    Ok(())
-}
+/// Both inputs are decided true.
+static LEVELS: [Move; 7] = [
+    GATE,
+    Move::Decide(1),
+    Move::Quiet,
+    Move::Decide(2),
+    Move::Quiet,
+    Move::Has(&[(1, 1, None), (2, 2, None), (3, 2, Some(2))]),
+    Move::Counts(2, 3, 3),
+];
 
 /// After a step back other literals are decided, with the watches that the first ones left.
 #[test]
 fn back_to_a_level(rt: HostRuntime) -> Result<(), Fail> {
-    check_back(&rt, rt.alloc(), &mut Trail::new(rt.alloc())?)
+    check(&rt, rt.alloc(), &BACK)
 }
 
-/// Adds two clauses over three literals whose watched literals become false together.
-fn add_two(rt: &impl Abort, alloc: Global, trail: &mut Trail) -> Result<(), Fail> {
-    add(rt, alloc, trail, [1, 2, 3])?;
-    add(rt, alloc, trail, [1, 2, -3])?;
-    decide(rt, trail, -1)?;
-    assert!(rt; is_quiet(trail)?);
-    Ok(())
-}
-
-/// Adds the clause that was learned, where it forces its literal.
-fn check_learned(rt: &impl Abort, alloc: Global, trail: &mut Trail) -> Result<(), Fail> {
-    back(trail, 1);
-    back(trail, 0);
-    add(rt, alloc, trail, [1, 2, 2])?;
-    decide(rt, trail, -1)?;
-    assert!(rt; is_quiet(trail)?);
-    let expected = [put(-1, 1, None), put(2, 1, Some(2))];
-    assert!(rt; has_lits(trail, &expected));
-    Ok(())
-}
-
-fn check_negated(rt: &impl Abort, alloc: Global, trail: &mut Trail) -> Result<(), Fail> {
-    add_two(rt, alloc, trail)?;
-    assert!(rt; has_lits(trail, &[put(-1, 1, None)]));
-    decide(rt, trail, -2)?;
-    assert!(rt; has_clash(trail)?);
-    check_learned(rt, alloc, trail)
-}
+static BACK: [Move; 12] = [
+    GATE,
+    Move::Decide(1),
+    Move::Quiet,
+    Move::Decide(2),
+    Move::Quiet,
+    Move::Back(1),
+    Move::Has(&[(1, 1, None)]),
+    Move::Decide(-3),
+    Move::Quiet,
+    Move::Has(&[(1, 1, None), (-3, 2, None), (-2, 2, Some(2))]),
+    Move::Back(0),
+    Move::Has(&[]),
+];
 
 /// The one that is named is wholly negated.
 #[test]
 fn negated_clause(rt: HostRuntime) -> Result<(), Fail> {
-    check_negated(&rt, rt.alloc(), &mut Trail::new(rt.alloc())?)
+    check(&rt, rt.alloc(), &NEGATED)
 }
 
-/// The code of the literal that was decided, which is true and the first.
-fn code_of_gate(rt: &impl Abort, trail: &Trail) -> Result<u32, Fail> {
-    let Some(code) = trail.code(input(3)) else {
-        return Err("no such variable".into());
-    };
-    assert!(rt; trail.code(input(-3)) == Some(flip(code)));
-    assert!(rt; trail.lit(code) == input(3));
-    assert!(rt; trail.is_true(code));
-    assert!(rt; trail.place(code) == Some(0));
-    Ok(code)
-}
-
-/// The code of the first of three literals.
-fn first_code(trail: &Trail) -> Option<u32> {
-    let count = trail.lits().len();
-    if count == 3 {
-        Some(trail.code_at(0))
-    } else {
-        None
-    }
-}
-
-/// Whether there are three clauses, of which the last has the literal.
-fn is_in_third(trail: &Trail, code: u32) -> bool {
-    if trail.clauses() == 3 {
-        trail.clause(2).contains(&code)
-    } else {
-        false
-    }
-}
-
-fn check_codes(rt: &impl Abort, alloc: Global, trail: &mut Trail) -> Result<(), Fail> {
-    add_gate(rt, alloc, trail)?;
-    decide(rt, trail, 3)?;
-    assert!(rt; is_quiet(trail)?);
-    let code = code_of_gate(rt, trail)?;
-    assert!(rt; trail.code(input(4)).is_none());
-    assert!(rt; first_code(trail) == Some(code));
-    assert!(rt; is_in_third(trail, code));
-    Ok(())
-}
+/// Two clauses over three literals whose watched literals become false together, and the clause that is
+/// learned of it, which forces its literal.
+static NEGATED: [Move; 12] = [
+    Move::Add(&[&[1, 2, 3], &[1, 2, -3]]),
+    Move::Decide(-1),
+    Move::Quiet,
+    Move::Has(&[(-1, 1, None)]),
+    Move::Decide(-2),
+    Move::Clash,
+    Move::Back(1),
+    Move::Back(0),
+    Move::Add(&[&[1, 2, 2]]),
+    Move::Decide(-1),
+    Move::Quiet,
+    Move::Has(&[(-1, 1, None), (2, 1, Some(2))]),
+];
 
 #[test]
 fn codes(rt: HostRuntime) -> Result<(), Fail> {
-    check_codes(&rt, rt.alloc(), &mut Trail::new(rt.alloc())?)
+    check(&rt, rt.alloc(), &CODES)
 }
+
+static CODES: [Move; 4] = [GATE, Move::Decide(3), Move::Quiet, Move::Codes];

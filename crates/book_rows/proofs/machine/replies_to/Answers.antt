@@ -13,7 +13,7 @@ use Rattle.sweep_core.specs.declared.event.Reply.TheVariants.{Task, Known, Offer
 use Rattle.sweep_core.specs.Event.{Core, IsEvent}
 use Rattle.sweep_core.specs.Run.{MayRun}
 use Rattle.sweep_core.proofs.Facts.{event-workers}
-use Rattle.book_rows.proofs.machine.core_events.Goals as goal
+use Rattle.book_rows.proofs.machine.replies_to.Goals as goal
 
 after-draw : (tasks w : ℕ) (old new : Machine) (r : Reply) → IsEvent tasks (Draw w) old new r
     → new ≡ record { book = old.book; next = old.next + 1; known = old.known }
@@ -49,14 +49,12 @@ row net tasks s o e good = (
 )
 
 pub run-requires-clause-events : goal.run-requires-clause-events
-run-requires-clause-events g c =
-    let net = c.in_ok-net.net in
-    let entry = c.in_ok-entry.entry in
-    let good =
-    subst (λ (book : Entries). IsGood net book entry) c.new-book.ensures c.in_ok-entry.ensures
-    in
+run-requires-clause-events c =
+    let net = c.args.net.now in
+    let entry = c.args.entry in
+    let good = subst (λ (book : Entries). IsGood net book entry) c.requires.empty c.requires.good in
     let start_is = c.in_ok-state.ensures
-    ∙ ap (λ (book : Entries). record { tasks = 1; machine = opened book 2 }) c.new-book.ensures in
+    ∙ ap (λ (book : Entries). record { tasks = 1; machine = opened book 2 }) c.requires.empty in
     subst (λ (events : List Event). MayRun net events c.in_ok-state.state)
     (sym c.in_ok-events.ensures)
     (subst (MayRun net (Draw 0 ∷ Offer 0 entry ∷ Refresh 1 ∷ Draw 1 ∷ [])) (sym start_is)
