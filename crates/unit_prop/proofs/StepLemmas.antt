@@ -1,14 +1,16 @@
 -- What a step shows: its clause holds wherever the clauses that its hints name hold.
-use Rattle.std.proofs.Common.{◌≡◌, ℕ, ◌+◌, Bool, true, false, not, ◌&&◌, ◌||◌, List, [], ◌∷◌, ◌++◌, Option, Some, None, Result, Ok, Err, refl, sym, ap, ◌∙◌, subst, inl, inr}
+use Rattle.std.proofs.Common.{◌≡◌, ℕ, ◌+◌, ◌<◌, ◌≤◌, Bool, true, false, not, ◌&&◌, ◌||◌, List, [], ◌∷◌, ◌++◌, Option, Some, None, Result, Ok, Err, length, drop, get_or, cond, refl, sym, ap, ◌∙◌, subst, inl, inr}
 use Rattle.std.specs.Prelude.{filter, map}
 use Rattle.std.specs.List.{list_any}
 use Rattle.std.proofs.lemmas.Bool.{or_cases}
+use Rattle.std.proofs.lemmas.List.{at_drop_more, at_drop_all}
 use Rattle.lits.specs.Clause.{has, has_pair, firsts}
 use Rattle.lits.specs.Assignment.{IsAssignment, Holds}
 use Rattle.lits.proofs.Facts.{IsLiteral, has-firsts, has-append}
+use Rattle.unit_prop.specs.declared.why.BadStep.{BadStep}
 use Rattle.unit_prop.specs.declared.why.Why.{Why}
-use Rattle.unit_prop.specs.declared.why.Why.TheVariants.{Satisfied}
-use Rattle.unit_prop.specs.Step.{State, start_of, open_in, is_satisfied, after_open, after_hint, fault_from, IsStep}
+use Rattle.unit_prop.specs.declared.why.Why.TheVariants.{NotFalse, Satisfied}
+use Rattle.unit_prop.specs.Step.{State, start_of, open_in, is_satisfied, after_open, after_hint, after_found, go_on, fault_from, IsStep}
 use Rattle.unit_prop.proofs.LiteralLemmas.{alone, witness, passes, has-filter, has-map-opposite}
 
 -- every literal of the set is true under v
@@ -112,3 +114,20 @@ module _ {L : Type 0} {eq : L → L → Bool} {opposite : L → L} (laws : IsLit
                   value false true g k = let p = passes laws v clause (opposite l) h k in cc
                   value false false g k =
                       let n = assigns.negates l in let q : not (v l) ≡ true = ap not g in cc
+
+module _ {N L : Type 0} (eq : L → L → Bool) (opposite : L → L) (find : N → Option (List L)) where
+  -- the first fault from a hint on that isn't refused is that of the hints behind it
+  pub fault-behind : (hints : List N) (i place : ℕ) (n : N) (s t : State L) → i < length hints → n ≡ get_or hints i n
+      → after_found eq opposite s (find n) ≡ Ok t
+      → fault_from eq opposite find place s (drop i hints) ≡ fault_from eq opposite find (place + 1) t (drop (i + 1) hints)
+  fault-behind hints i place n s t below at found =
+      at_drop_more (fault_from eq opposite find place s) hints i n below
+      ∙ ap (λ m. fault_from eq opposite find place s (m ∷ drop (i + 1) hints)) (sym at)
+      ∙ ap (λ r. go_on r place (λ u. fault_from eq opposite find (place + 1) u (drop (i + 1) hints))) found
+
+  -- behind the last hint it is that no clause was wholly false
+  pub fault-behind_all : (hints : List N) (i place : ℕ) (s : State L) (b : Bool) → length hints ≤ i → s.clashed ≡ b
+      → fault_from eq opposite find place s (drop i hints) ≡ cond b None (Some (record { hint = 0; why = NotFalse }))
+  fault-behind_all hints i place s b past clashed =
+      at_drop_all (fault_from eq opposite find place s) hints i past
+      ∙ ap (λ c. cond c None (Some (record { hint = 0; why = NotFalse }))) clashed

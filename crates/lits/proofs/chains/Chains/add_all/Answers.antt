@@ -1,5 +1,5 @@
-use Rattle.std.proofs.Common.{arith}
-use Rattle.std.proofs.lemmas.List.{length-set}
+use Rattle.std.proofs.Common.{sym, arith}
+use Rattle.std.proofs.lemmas.List.{length-set, take_all}
 use Rattle.lits.proofs.IndexLemmas.{index-next}
 use Rattle.lits.proofs.chains.Chains.add_all.Goals as goal
 
@@ -10,3 +10,7 @@ loop-lit-preserved g c = record {
       (omega arith) c.lit-item.is (omega arith) (rw c.code.ensures at c.in_ok-add.ensures.links) (rw c.code.ensures at c.in_ok-add.ensures.heads) c.loop-lit.invariant.index;
   slots = rw (c.in_ok-add.ensures.heads, length-set) c.loop-lit.invariant.slots;
 }
+
+pub returns-clause-index : goal.returns-clause-index
+returns-clause-index g c =
+    rw (sym (take_all c.loop-lit.lit-index c.args.lits.now c.loop-lit-test.false)) c.loop-lit.invariant.index
