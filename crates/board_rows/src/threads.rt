@@ -60,15 +60,21 @@ fn both<R: Threads + Wait + Sync>(
     Ok(board.close(one))
 }
 
+/// Whether each turn of the two threads stands in the record, and the book has seven entries.
+fn is_whole(book: &Book, record: &Record) -> bool {
+    book.len() == 7 && record.turns.len() == 14 && record.missed == 0 && record.drawn == 6
+}
+
+fn is_met<R: Threads + Wait + Sync>(rt: &R, alloc: Global, net: &Net) -> Result<bool, Fail> {
+    let (book, record) = both(rt, alloc, net, Book::new(alloc, 1, 1))?;
+    Ok(is_whole(&book, &record))
+}
+
 #[test]
 fn two_threads(rt: HostRuntime) -> Result<(), Fail> {
-    let alloc = rt.alloc();
-    let Some(net) = swapped_ands(alloc) else {
+    let Some(net) = swapped_ands(rt.alloc()) else {
         return Err("no memory".into());
     };
-    let (book, record) = both(&rt, alloc, &net, Book::new(alloc, 1, 1))?;
-    assert!(rt; book.len() == 7);
-    assert!(rt; record.turns.len() == 14);
-    assert!(rt; record.missed == 0 && record.drawn == 6);
+    assert!(rt; is_met(&rt, rt.alloc(), &net)?);
     Ok(())
 }
