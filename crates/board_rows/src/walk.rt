@@ -11,7 +11,7 @@ use lemma_book::{Book, Entry, Offered};
 use netlist::Net;
 use std::alloc::Global;
 use std::sync::Wait;
-use std::test::Fail;
+use std::test::*;
 
 /// What the calls of the walk answered.
 #[derive(Clone, Copy)]
@@ -102,11 +102,11 @@ fn is_met<R: Wait>(rt: &R, alloc: Global, net: &Net) -> Option<bool> {
     Some(is_told(&told) && has_merge(&book, &record))
 }
 
+fn is_met_over_ands<R: Wait>(rt: &R, alloc: Global) -> Option<bool> {
+    is_met(rt, alloc, &swapped_ands(alloc)?)
+}
+
 #[test]
-fn board_walk(rt: HostRuntime) -> Result<(), Fail> {
-    let Some(net) = swapped_ands(rt.alloc()) else {
-        return Err("no memory".into());
-    };
-    assert!(rt; is_met(&rt, rt.alloc(), &net) == Some(true));
-    Ok(())
+fn board_walk(rt: HostRuntime) {
+    assert!(rt; is_met_over_ands(&rt, rt.alloc()) == Some(true));
 }
