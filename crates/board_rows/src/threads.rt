@@ -10,9 +10,9 @@ use crate::circuits::{Kind, swapped_ands};
 use board_lock::{Board, Pass, Record};
 use lemma_book::Book;
 use netlist::Net;
-use std::alloc::Global;
+use std::alloc::{AllocError, Global};
 use std::sync::Wait;
-use std::test::Fail;
+use std::test::*;
 use std::thread::{Threads, join};
 
 /// What one thread does: the merge once, and three rounds.
@@ -36,12 +36,12 @@ fn both<R: Threads + Wait + Sync>(
     alloc: Global,
     net: &Net,
     book: Book,
-) -> Result<(Book, Record), Fail>
+) -> Result<(Book, Record), AllocError>
     requires { IsLegal net.now book }
     ensures { IfOk result (λ r. IsLegal net.now r.0) }
 {
     let Ok((board, mut pass)) = Board::open(alloc, net, book, 4) else {
-        return Err("no memory".into());
+        return Err(AllocError);
     };
     let other = pass.split(alloc, &board, 1 << 40)?;
     let shared = &board;
@@ -60,15 +60,22 @@ fn both<R: Threads + Wait + Sync>(
     Ok(board.close(one))
 }
 
+/// Whether each turn of the two threads stands in the record, and the book has seven entries.
+fn is_whole(book: &Book, record: &Record) -> bool {
+    book.len() == 7 && record.turns.len() == 14 && record.missed == 0 && record.drawn == 6
+}
+
+/// Whether two threads over this net leave that.
+fn is_met<R: Threads + Wait + Sync>(rt: &R, alloc: Global, net: &Net) -> Result<bool, AllocError> {
+    let (book, record) = both(rt, alloc, net, Book::new(alloc, 1, 1))?;
+    Ok(is_whole(&book, &record))
+}
+
+fn is_met_over_ands<R: Threads + Wait + Sync>(rt: &R, alloc: Global) -> Option<bool> {
+    is_met(rt, alloc, &swapped_ands(alloc)?).ok()
+}
+
 #[test]
-fn two_threads(rt: HostRuntime) -> Result<(), Fail> {
-    let alloc = rt.alloc();
-    let Some(net) = swapped_ands(alloc) else {
-        return Err("no memory".into());
-    };
-    let (book, record) = both(&rt, alloc, &net, Book::new(alloc, 1, 1))?;
-    assert!(rt; book.len() == 7);
-    assert!(rt; record.turns.len() == 14);
-    assert!(rt; record.missed == 0 && record.drawn == 6);
-    Ok(())
+fn two_threads(rt: HostRuntime) {
+    assert!(rt; is_met_over_ands(&rt, rt.alloc()) == Some(true));
 }

@@ -1,10 +1,10 @@
 //! Whole checks: what is said, warned and left, and with which status.
 use crate::desk::Holds::{Begins, Bytes, Ends, Lines, Missing};
 use crate::desk::{
-    End, check, check_failing, equivalent, fault, read_names, run_words, said, verdict,
+    BAD_INPUT, Case, DIFFERENT, EQUIVALENT, Ran, check_case, check_cases, run_words,
 };
 use crate::files::{SWAPPED_A, SWAPPED_B, SWAPPED_CNF, TIGHT, WORDS, XOR_X, XOR_Y};
-use cec_top::Status;
+use cec_top::{Kept, Status};
 use lemma_book::Entry;
 use std::process::Abort;
 use std::sync::Wait;
@@ -20,214 +20,300 @@ const AGAINST_FALSE_CNF: &[u8] =
 
 const CONSTANTS_CNF: &[u8] = b"p cnf 2 4\n1 0\n2 1 0\n2 -1 0\n2 0\n";
 
-#[test]
-fn swapped_and(rt: HostRuntime) -> Result<(), Fail> {
-    let files = [("A", SWAPPED_A), ("B", SWAPPED_B), ("other", b"stays")];
-    let left = [
+static SWAPPED_AND: Case<'_> = Case {
+    files: &[("A", SWAPPED_A), ("B", SWAPPED_B), ("other", b"stays")],
+    left: &[
         ("p.0.cnf", Bytes(SWAPPED_CNF)),
         ("p.0.lrat", Ends(b" 0\n")),
         ("other", Bytes(b"stays")),
-    ];
-    check(&rt, &files, &WORDS, equivalent(), &left)
+    ],
+    ..EQUIVALENT
+};
+
+#[test]
+fn swapped_and(rt: HostRuntime) {
+    check_case(&rt, &SWAPPED_AND);
 }
+
+static BINARY_AND: Case<'_> = Case {
+    files: &[("A", SWAPPED_A), ("B", b"aig 3 2 0 1 1\n6\n\x02\x02")],
+    left: &[("p.0.cnf", Bytes(SWAPPED_CNF))],
+    ..EQUIVALENT
+};
 
 /// The second circuit in the binary form.
 #[test]
-fn binary_and(rt: HostRuntime) -> Result<(), Fail> {
-    let files = [("A", SWAPPED_A), ("B", b"aig 3 2 0 1 1\n6\n\x02\x02")];
-    let left = [("p.0.cnf", Bytes(SWAPPED_CNF))];
-    check(&rt, &files, &WORDS, equivalent(), &left)
+fn binary_and(rt: HostRuntime) {
+    check_case(&rt, &BINARY_AND);
 }
+
+static CYCLE_AND_ORDER: Case<'_> = Case {
+    files: &[
+        ("A", b"aag 4 2 0 1 2\n2\n4\n8\n8 6 4\n6 2 4\n"),
+        ("B", SWAPPED_B),
+    ],
+    left: &[("p.0.cnf", Begins(b"p cnf 7 15\n"))],
+    ..EQUIVALENT
+};
 
 /// Gates that stand before their fanins go by level.
 #[test]
-fn cycle_and_order(rt: HostRuntime) -> Result<(), Fail> {
-    let turned = b"aag 4 2 0 1 2\n2\n4\n8\n8 6 4\n6 2 4\n".as_slice();
-    let left = [("p.0.cnf", Begins(b"p cnf 7 15\n"))];
-    let files = [("A", turned), ("B", SWAPPED_B)];
-    check(&rt, &files, &WORDS, equivalent(), &left)
+fn cycle_and_order(rt: HostRuntime) {
+    check_case(&rt, &CYCLE_AND_ORDER);
 }
 
-#[test]
-fn empty_circuits(rt: HostRuntime) -> Result<(), Fail> {
-    let files = [("A", EMPTY), ("B", EMPTY)];
-    let left = [
+static EMPTY_CIRCUITS: Case<'_> = Case {
+    files: &[("A", EMPTY), ("B", EMPTY)],
+    left: &[
         ("p.0.cnf", Bytes(EMPTY_CNF)),
         ("p.0.lrat", Bytes(b"3 0 2 0\n")),
-    ];
-    check(&rt, &files, &WORDS, equivalent(), &left)
+    ],
+    ..EQUIVALENT
+};
+
+#[test]
+fn empty_circuits(rt: HostRuntime) {
+    check_case(&rt, &EMPTY_CIRCUITS);
 }
+
+static GREATEST_HEADER: Case<'_> = Case {
+    files: &[("A", b"aag 16777216 0 0 0 0\n"), ("B", EMPTY)],
+    left: &[("p.0.cnf", Bytes(EMPTY_CNF))],
+    ..EQUIVALENT
+};
 
 /// As many variables as may be, of which none is used.
 #[test]
-fn greatest_header(rt: HostRuntime) -> Result<(), Fail> {
-    let files = [("A", b"aag 16777216 0 0 0 0\n".as_slice()), ("B", EMPTY)];
-    let left = [("p.0.cnf", Bytes(EMPTY_CNF))];
-    check(&rt, &files, &WORDS, equivalent(), &left)
+fn greatest_header(rt: HostRuntime) {
+    check_case(&rt, &GREATEST_HEADER);
 }
+
+static AND_AGAINST_FALSE: Case<'_> = Case {
+    files: &[("A", SWAPPED_A), ("B", b"aag 2 2 0 1 0\n2\n4\n0\n")],
+    said: "DIFFERENT\noutput 0\ninput 11\n",
+    left: &[
+        ("p.0.cnf", Bytes(AGAINST_FALSE_CNF)),
+        ("p.0.lrat", Bytes(b"")),
+    ],
+    ..DIFFERENT
+};
 
 /// The AND of both inputs against the constant false.
 #[test]
-fn and_against_false(rt: HostRuntime) -> Result<(), Fail> {
-    let files = [("A", SWAPPED_A), ("B", b"aag 2 2 0 1 0\n2\n4\n0\n")];
-    let end = verdict(Status::No, "DIFFERENT\noutput 0\ninput 11\n");
-    let left = [
-        ("p.0.cnf", Bytes(AGAINST_FALSE_CNF)),
-        ("p.0.lrat", Bytes(b"")),
-    ];
-    check(&rt, &files, &WORDS, end, &left)
+fn and_against_false(rt: HostRuntime) {
+    check_case(&rt, &AND_AGAINST_FALSE);
 }
+
+static TWO_XORS: [Case<'_>; 2] = [
+    Case {
+        files: &[("A", XOR_X), ("B", XOR_Y)],
+        left: &[("p.0.cnf", Begins(b"p cnf 10 24\n"))],
+        ..EQUIVALENT
+    },
+    Case {
+        files: &[("A", XOR_X), ("B", XOR_Y)],
+        words: &["check", "A", "B", "--sweep-budget", "1"],
+        ..EQUIVALENT
+    },
+];
 
 /// No gate of one side is an AND of the same literals as one of the other. Where the sweep spends its
 /// budget on the pair, the output's own query settles it.
 #[test]
-fn two_xors(rt: HostRuntime) -> Result<(), Fail> {
-    let files = [("A", XOR_X), ("B", XOR_Y)];
-    let left = [("p.0.cnf", Begins(b"p cnf 10 24\n"))];
-    check(&rt, &files, &WORDS, equivalent(), &left)?;
-    let words = ["check", "A", "B", "--sweep-budget", "1"];
-    check(&rt, &files, &words, equivalent(), &[])
+fn two_xors(rt: HostRuntime) {
+    check_cases(&rt, &TWO_XORS);
 }
+
+static MERGED_TO_INPUT_AND_FALSE: Case<'_> = Case {
+    files: &[
+        ("A", b"aag 3 1 0 2 2\n2\n4\n6\n4 2 2\n6 2 3\n"),
+        ("B", b"aag 1 1 0 2 0\n2\n2\n0\n"),
+    ],
+    left: &[
+        (
+            "p.0.cnf",
+            Begins(b"p cnf 6 15\n1 0\n-3 2 0\n-3 2 0\n3 -2 0\n-4 2 0\n-4 -2 0\n"),
+        ),
+        ("p.0.cnf", Ends(b"\n5 6 0\n")),
+    ],
+    ..EQUIVALENT
+};
 
 /// One gate is the AND of the input and itself, another that of the input and its negation.
 #[test]
-fn merged_to_input_and_false(rt: HostRuntime) -> Result<(), Fail> {
-    let first = b"p cnf 6 15\n1 0\n-3 2 0\n-3 2 0\n3 -2 0\n-4 2 0\n-4 -2 0\n";
-    let left = [("p.0.cnf", Begins(first)), ("p.0.cnf", Ends(b"\n5 6 0\n"))];
-    let files = [
-        ("A", b"aag 3 1 0 2 2\n2\n4\n6\n4 2 2\n6 2 3\n".as_slice()),
-        ("B", b"aag 1 1 0 2 0\n2\n2\n0\n"),
-    ];
-    check(&rt, &files, &WORDS, equivalent(), &left)
+fn merged_to_input_and_false(rt: HostRuntime) {
+    check_case(&rt, &MERGED_TO_INPUT_AND_FALSE);
 }
 
 /// The AND of both inputs against their OR: some pattern tells them apart before any query.
 #[test]
 fn outputs_apart_by_a_pattern(rt: HostRuntime) -> Result<(), Fail> {
     let files = [("A", SWAPPED_A), ("B", b"aag 3 2 0 1 1\n2\n4\n7\n6 3 5\n")];
-    let said = said(&rt, &files, &WORDS)?;
-    let first = said.as_slice() == b"DIFFERENT\noutput 0\ninput 01\n".as_slice();
-    assert!(rt; first || said.as_slice() == b"DIFFERENT\noutput 0\ninput 10\n".as_slice());
+    let ran = run_words(&rt, &files, &WORDS, &[])?;
+    let said = ran.desk.said();
+    let first = said == b"DIFFERENT\noutput 0\ninput 01\n".as_slice();
+    assert!(rt; first || said == b"DIFFERENT\noutput 0\ninput 10\n".as_slice());
     Ok(())
 }
 
+static TIGHT_BUDGETS: Case<'_> = Case {
+    files: &[("A", XOR_X), ("B", XOR_Y)],
+    words: &TIGHT,
+    status: Status::Undecided,
+    said: "UNDECIDED\noutput 0 lines 25-25\n",
+    left: &[("p.0.lrat", Lines(1)), ("p.0.lrat", Begins(b"25 "))],
+    ..EQUIVALENT
+};
+
 #[test]
-fn tight_budgets(rt: HostRuntime) -> Result<(), Fail> {
-    let end = verdict(Status::Undecided, "UNDECIDED\noutput 0 lines 25-25\n");
-    let left = [("p.0.lrat", Lines(1)), ("p.0.lrat", Begins(b"25 "))];
-    check(&rt, &[("A", XOR_X), ("B", XOR_Y)], &TIGHT, end, &left)
+fn tight_budgets(rt: HostRuntime) {
+    check_case(&rt, &TIGHT_BUDGETS);
+}
+
+/// How many lines the log of the first output has, which is open.
+fn logged(kept: &[Kept]) -> usize {
+    match kept.first() {
+        Some(kept) => match kept.book.about(0) {
+            Some(Entry::OutSpent { log, .. }) => log.len(),
+            _ => 0,
+        },
+        None => 0,
+    }
 }
 
 /// The log of an open output stands in the book that the run hands back.
 #[test]
 fn log_of_tight_budgets(rt: HostRuntime) -> Result<(), Fail> {
     let ran = run_words(&rt, &[("A", XOR_X), ("B", XOR_Y)], &TIGHT, &[])?;
-    let logged = match ran.kept.first() {
-        Some(kept) => match kept.book.about(0) {
-            Some(Entry::OutSpent { log, .. }) => log.len(),
-            _ => 0,
-        },
-        None => 0,
-    };
-    assert_eq!(rt; logged, 1);
+    assert!(rt; logged(ran.kept.as_slice()) == 1);
     Ok(())
 }
+
+static ONE_OUTPUT_EQUAL_AND_ONE_OPEN: Case<'_> = Case {
+    files: &[
+        ("A", b"aag 5 2 0 2 3\n2\n4\n2\n11\n6 2 5\n8 3 4\n10 7 9\n"),
+        ("B", b"aag 5 2 0 2 3\n2\n4\n2\n10\n6 2 4\n8 3 5\n10 7 9\n"),
+    ],
+    words: &TIGHT,
+    status: Status::Undecided,
+    said: "UNDECIDED\noutput 1 lines 28-28\n",
+    left: &[("p.0.lrat", Lines(2)), ("p.0.lrat", Begins(b"27 "))],
+    ..EQUIVALENT
+};
 
 /// The CNF has 26 clauses. Line 27 shows output 0 equal, and the log of output 1 has one line.
 #[test]
-fn one_output_equal_and_one_open(rt: HostRuntime) -> Result<(), Fail> {
-    let files = [
-        (
-            "A",
-            b"aag 5 2 0 2 3\n2\n4\n2\n11\n6 2 5\n8 3 4\n10 7 9\n".as_slice(),
-        ),
-        ("B", b"aag 5 2 0 2 3\n2\n4\n2\n10\n6 2 4\n8 3 5\n10 7 9\n"),
-    ];
-    let end = verdict(Status::Undecided, "UNDECIDED\noutput 1 lines 28-28\n");
-    let left = [("p.0.lrat", Lines(2)), ("p.0.lrat", Begins(b"27 "))];
-    check(&rt, &files, &TIGHT, end, &left)
+fn one_output_equal_and_one_open(rt: HostRuntime) {
+    check_case(&rt, &ONE_OUTPUT_EQUAL_AND_ONE_OPEN);
 }
 
-#[test]
-fn tight_budget_without_files(rt: HostRuntime) -> Result<(), Fail> {
-    let files = [("A", XOR_X), ("B", XOR_Y)];
-    let words = ["check", "A", "B", "--sweep-budget", "1", "--budget", "1"];
-    let end = verdict(Status::Undecided, "UNDECIDED\noutput 0\n");
-    check(&rt, &files, &words, end, &[("p.0.cnf", Missing)])?;
-    check(&rt, &files, &["check", "A", "B"], equivalent(), &[])
-}
+static TIGHT_BUDGET_WITHOUT_FILES: [Case<'_>; 2] = [
+    Case {
+        files: &[("A", XOR_X), ("B", XOR_Y)],
+        words: &["check", "A", "B", "--sweep-budget", "1", "--budget", "1"],
+        status: Status::Undecided,
+        said: "UNDECIDED\noutput 0\n",
+        left: &[("p.0.cnf", Missing)],
+        ..EQUIVALENT
+    },
+    Case {
+        files: &[("A", XOR_X), ("B", XOR_Y)],
+        words: &["check", "A", "B"],
+        ..EQUIVALENT
+    },
+];
 
 #[test]
-fn constants_differ(rt: HostRuntime) -> Result<(), Fail> {
-    let files = [
-        ("A", b"aag 0 0 0 1 0\n0\n".as_slice()),
-        ("B", b"aag 0 0 0 1 0\n1\n"),
-    ];
-    let end = verdict(Status::No, "DIFFERENT\noutput 0\ninput none\n");
-    let left = [("p.0.cnf", Bytes(CONSTANTS_CNF)), ("p.0.lrat", Bytes(b""))];
-    check(&rt, &files, &WORDS, end, &left)
+fn tight_budget_without_files(rt: HostRuntime) {
+    check_cases(&rt, &TIGHT_BUDGET_WITHOUT_FILES);
 }
+
+static CONSTANTS_DIFFER: Case<'_> = Case {
+    files: &[("A", b"aag 0 0 0 1 0\n0\n"), ("B", b"aag 0 0 0 1 0\n1\n")],
+    said: "DIFFERENT\noutput 0\ninput none\n",
+    left: &[("p.0.cnf", Bytes(CONSTANTS_CNF)), ("p.0.lrat", Bytes(b""))],
+    ..DIFFERENT
+};
+
+#[test]
+fn constants_differ(rt: HostRuntime) {
+    check_case(&rt, &CONSTANTS_DIFFER);
+}
+
+static LEAST_OUTPUT_THAT_DIFFERS: Case<'_> = Case {
+    files: &[
+        ("A", b"aag 1 1 0 4 0\n2\n2\n2\n0\n1\n"),
+        ("B", b"aag 1 1 0 4 0\n2\n2\n0\n0\n0\n"),
+    ],
+    said: "DIFFERENT\noutput 1\ninput 1\n",
+    ..DIFFERENT
+};
 
 /// Two outputs are equal and two differ, the second and the fourth.
 #[test]
-fn least_output_that_differs(rt: HostRuntime) -> Result<(), Fail> {
-    let files = [
-        ("A", b"aag 1 1 0 4 0\n2\n2\n2\n0\n1\n".as_slice()),
-        ("B", b"aag 1 1 0 4 0\n2\n2\n0\n0\n0\n"),
-    ];
-    let end = verdict(Status::No, "DIFFERENT\noutput 1\ninput 1\n");
-    check(&rt, &files, &WORDS, end, &[])
+fn least_output_that_differs(rt: HostRuntime) {
+    check_case(&rt, &LEAST_OUTPUT_THAT_DIFFERS);
 }
 
+static INPUT_COUNTS_DIFFER: Case<'_> = Case {
+    files: &[("A", SWAPPED_A), ("B", b"aag 3 3 0 1 0\n2\n4\n6\n6\n")],
+    warned: "cec: inputs 2 and 3 differ\n",
+    left: &[("p.0.cnf", Missing)],
+    ..BAD_INPUT
+};
+
 #[test]
-fn input_counts_differ(rt: HostRuntime) -> Result<(), Fail> {
-    let files = [("A", SWAPPED_A), ("B", b"aag 3 3 0 1 0\n2\n4\n6\n6\n")];
-    let end = fault(Status::BadInput, "cec: inputs 2 and 3 differ\n", 2);
-    check(&rt, &files, &WORDS, end, &[("p.0.cnf", Missing)])
+fn input_counts_differ(rt: HostRuntime) {
+    check_case(&rt, &INPUT_COUNTS_DIFFER);
 }
+
+static FAILING_PROOF_WRITE: Case<'_> = Case {
+    files: &[("A", SWAPPED_A), ("B", SWAPPED_B)],
+    fails: &[6],
+    status: Status::CannotWrite,
+    said: "",
+    warned: "cec: cannot write\n",
+    left: &[("p.0.lrat", Bytes(b"")), ("p.0.cnf", Bytes(SWAPPED_CNF))],
+    ..EQUIVALENT
+};
 
 /// The calls are two reads, three for the CNF, and the start, the write and the close of the proof.
 #[test]
-fn failing_proof_write(rt: HostRuntime) -> Result<(), Fail> {
-    let left = [("p.0.lrat", Bytes(b"")), ("p.0.cnf", Bytes(SWAPPED_CNF))];
-    let end = End {
-        status: Status::CannotWrite,
-        said: "",
-        warned: "cec: cannot write\n",
-        reads: 2,
-        books: 1,
-    };
-    let files = [("A", SWAPPED_A), ("B", SWAPPED_B)];
-    check_failing(&rt, &files, &WORDS, &[6], end, &left)
+fn failing_proof_write(rt: HostRuntime) {
+    check_case(&rt, &FAILING_PROOF_WRITE);
 }
+
+static MISSING_FILE: Case<'_> = Case {
+    files: &[("A", SWAPPED_A)],
+    status: Status::CannotRead,
+    warned: "cec: B: cannot read\n",
+    ..BAD_INPUT
+};
 
 #[test]
-fn missing_file(rt: HostRuntime) -> Result<(), Fail> {
-    let files = [("A", SWAPPED_A)];
-    let end = fault(Status::CannotRead, "cec: B: cannot read\n", 2);
-    check(&rt, &files, &WORDS, end, &[])?;
-    let names = read_names(&rt, &files, &WORDS)?;
-    assert!(rt; names.as_str() == "AB");
-    Ok(())
+fn missing_file(rt: HostRuntime) {
+    check_case(&rt, &MISSING_FILE);
 }
 
-/// Runs the program on words that are no request: it reads nothing, and says help or warns of how it is used.
+/// Whether a run on words that are no request ends so: it reads nothing, and says help or warns of how it is
+/// used.
+fn is_told(ran: &Ran, status: Status) -> bool {
+    ran.status == status
+        && ran.desk.said().is_empty() == (status == Status::BadUsage)
+        && ran.desk.warned().is_empty() == (status == Status::Done)
+        && ran.desk.asked().is_empty()
+}
+
+/// Runs the program on each of these words.
 fn check_words(
     rt: &(impl Threads + Wait + Abort + AllocGlobal),
-    words: &[&str],
+    rows: &[&[&str]],
     status: Status,
 ) -> Result<(), Fail> {
-    let ran = run_words(rt, &[("A", SWAPPED_A), ("B", SWAPPED_B)], words, &[])?;
-    assert!(rt; ran.status == status, "{words:?}");
-    assert!(rt;
-        ran.desk.said().is_empty() == (status == Status::BadUsage),
-        "{words:?}"
-    );
-    assert!(rt;
-        ran.desk.warned().is_empty() == (status == Status::Done),
-        "{words:?}"
-    );
-    assert!(rt; ran.desk.asked().is_empty(), "{words:?}");
+    for words in rows {
+        let ran = run_words(rt, &[("A", SWAPPED_A), ("B", SWAPPED_B)], words, &[])?;
+        assert!(rt; is_told(&ran, status), "{words:?}");
+    }
     Ok(())
 }
 
@@ -248,30 +334,39 @@ const REFUSED: [&[&str]; 12] = [
 
 #[test]
 fn words_that_are_refused(rt: HostRuntime) -> Result<(), Fail> {
-    for words in &REFUSED {
-        check_words(&rt, words, Status::BadUsage)?;
-    }
-    Ok(())
+    check_words(&rt, &REFUSED, Status::BadUsage)
 }
 
+static NO_SUCH_COMMAND: Case<'_> = Case {
+    words: &["help"],
+    status: Status::BadUsage,
+    warned: "cec: no command help\n",
+    asked: &[],
+    ..BAD_INPUT
+};
+
 #[test]
-fn no_such_command(rt: HostRuntime) -> Result<(), Fail> {
-    let end = fault(Status::BadUsage, "cec: no command help\n", 0);
-    check(&rt, &[], &["help"], end, &[])
+fn no_such_command(rt: HostRuntime) {
+    check_case(&rt, &NO_SUCH_COMMAND);
 }
 
 const HELP: [&[&str]; 3] = [&["--help"], &["check", "--help"], &["lrat", "-h"]];
 
 #[test]
 fn words_that_want_help(rt: HostRuntime) -> Result<(), Fail> {
-    for words in &HELP {
-        check_words(&rt, words, Status::Done)?;
-    }
-    Ok(())
+    check_words(&rt, &HELP, Status::Done)
 }
 
+static HELP_THAT_CANNOT_BE_SAID: Case<'_> = Case {
+    words: &["--help"],
+    fails: &[0],
+    status: Status::CannotWrite,
+    warned: "cec: cannot write\n",
+    asked: &[],
+    ..BAD_INPUT
+};
+
 #[test]
-fn help_that_cannot_be_said(rt: HostRuntime) -> Result<(), Fail> {
-    let end = fault(Status::CannotWrite, "cec: cannot write\n", 0);
-    check_failing(&rt, &[], &["--help"], &[0], end, &[])
+fn help_that_cannot_be_said(rt: HostRuntime) {
+    check_case(&rt, &HELP_THAT_CANNOT_BE_SAID);
 }

@@ -1,10 +1,11 @@
+//! Runs the program over a desk in memory, and asks how it ends and what it leaves.
+use crate::files::WORDS;
 use cec_top::{Kept, Status, run};
 use desk_port::{MemDesk, OpenGate};
 use std::alloc::{AllocError, Global};
 use std::collections::BTreeMap;
 use std::process::Abort;
 use std::sync::Wait;
-use std::test::Fail;
 use std::thread::Threads;
 
 /// What a run left: its status, its desk and the books that it handed back.
@@ -13,44 +14,6 @@ pub(crate) struct Ran {
     pub(crate) status: Status,
     pub(crate) desk: MemDesk,
     pub(crate) kept: Vec<Kept>,
-}
-
-/// How a run has to end: its status, what it says and warns, how many files it reads, and how many books it
-/// hands back.
-#[derive(Clone, Copy)]
-pub(crate) struct End {
-    pub(crate) status: Status,
-    pub(crate) said: &'static str,
-    pub(crate) warned: &'static str,
-    pub(crate) reads: usize,
-    pub(crate) books: usize,
-}
-
-/// A check of two files that ends with a verdict.
-pub(crate) fn verdict(status: Status, said: &'static str) -> End {
-    End {
-        status,
-        said,
-        warned: "",
-        reads: 2,
-        books: 1,
-    }
-}
-
-/// A check of equivalent circuits.
-pub(crate) fn equivalent() -> End {
-    verdict(Status::Done, "EQUIVALENT\n")
-}
-
-/// A run that ends with a fault, with these reads before it.
-pub(crate) fn fault(status: Status, warned: &'static str, reads: usize) -> End {
-    End {
-        status,
-        said: "",
-        warned,
-        reads,
-        books: 0,
-    }
 }
 
 /// What a file has to hold after a run.
@@ -64,6 +27,49 @@ pub(crate) enum Holds {
     /// There is no such file.
     Missing,
 }
+
+/// A run: its files, its words behind the program's name and the calls of the desk that fail; the status that
+/// it ends with, what it says and warns, the files that it reads, how many books it hands back, and what
+/// files hold then.
+#[derive(Clone, Copy)]
+pub(crate) struct Case<'a> {
+    pub(crate) files: &'a [(&'a str, &'a [u8])],
+    pub(crate) words: &'a [&'a str],
+    pub(crate) fails: &'a [u64],
+    pub(crate) status: Status,
+    pub(crate) said: &'a str,
+    pub(crate) warned: &'a str,
+    pub(crate) asked: &'a [&'a str],
+    pub(crate) books: usize,
+    pub(crate) left: &'a [(&'a str, Holds)],
+}
+
+/// A check of equivalent circuits.
+pub(crate) const EQUIVALENT: Case<'_> = Case {
+    files: &[],
+    words: &WORDS,
+    fails: &[],
+    status: Status::Done,
+    said: "EQUIVALENT\n",
+    warned: "",
+    asked: &["A", "B"],
+    books: 1,
+    left: &[],
+};
+
+/// A check of circuits that differ.
+pub(crate) const DIFFERENT: Case<'_> = Case {
+    status: Status::No,
+    ..EQUIVALENT
+};
+
+/// A check that a file ends.
+pub(crate) const BAD_INPUT: Case<'_> = Case {
+    status: Status::BadInput,
+    said: "",
+    books: 0,
+    ..EQUIVALENT
+};
 
 fn files_named(
     alloc: Global,
@@ -93,12 +99,11 @@ pub(crate) fn run_words(
     files: &[(&str, &[u8])],
     words: &[&str],
     fails: &[u64],
-) -> Result<Ran, Fail> {
+) -> Result<Ran, AllocError> {
     let alloc = rt.alloc();
     let words = words_with_program(alloc, words)?;
     let fails = Vec::from_slice(alloc, fails)?;
-    let files = files_named(alloc, files)?;
-    let mut desk = MemDesk::new(alloc, files, fails)?;
+    let mut desk = MemDesk::new(alloc, files_named(alloc, files)?, fails)?;
     let (status, kept) = run(rt, alloc, words.as_slice(), &mut desk, &OpenGate);
     Ok(Ran { status, desk, kept })
 }
@@ -116,81 +121,48 @@ fn is_met(file: Option<&[u8]>, wanted: Holds) -> bool {
     }
 }
 
-/// Asks that a run ended like this and left these files.
-fn expect(rt: &impl Abort, ran: &Ran, end: End, left: &[(&str, Holds)]) {
-    assert!(rt;
-        ran.desk.said() == end.said.as_bytes(),
-        "not said: {}",
-        end.said
-    );
-    assert!(rt;
-        ran.desk.warned() == end.warned.as_bytes(),
-        "not warned: {}",
-        end.warned
-    );
-    assert!(rt; ran.status == end.status);
-    assert!(rt; ran.desk.asked().len() == end.reads);
-    assert!(rt; ran.kept.len() == end.books);
-    for (name, wanted) in left {
-        assert!(rt; is_met(ran.desk.file(name), *wanted), "{name}");
+/// Whether the files that were read have these names, in turn.
+fn has_asked(desk: &MemDesk, names: &[&str]) -> bool {
+    let asked = desk.asked();
+    if asked.len() != names.len() {
+        return false;
+    }
+    for i in 0..names.len() {
+        if asked[i].as_str() != names[i] {
+            return false;
+        }
+    }
+    true
+}
+
+/// Asks that what is named holds, in a case that says or warns of this.
+pub(crate) fn check(rt: &impl Abort, case: &Case<'_>, what: &str, holds: bool) {
+    assert!(rt; holds, "{what} of {}{}", case.said, case.warned);
+}
+
+/// Asks that a run ended as its case says.
+fn check_end(rt: &impl Abort, ran: &Ran, case: &Case<'_>) {
+    let desk = &ran.desk;
+    check(rt, case, "said", desk.said() == case.said.as_bytes());
+    check(rt, case, "warned", desk.warned() == case.warned.as_bytes());
+    check(rt, case, "status", ran.status == case.status);
+    check(rt, case, "asked", has_asked(desk, case.asked));
+    check(rt, case, "books", ran.kept.len() == case.books);
+    for (name, wanted) in case.left {
+        check(rt, case, name, is_met(desk.file(name), *wanted));
     }
 }
 
-/// Runs the program over a desk that fails at these calls, and asks how it ends and what it leaves.
-pub(crate) fn check_failing(
-    rt: &(impl Threads + Wait + Abort + AllocGlobal),
-    files: &[(&str, &[u8])],
-    words: &[&str],
-    fails: &[u64],
-    end: End,
-    left: &[(&str, Holds)],
-) -> Result<(), Fail> {
-    let ran = run_words(rt, files, words, fails)?;
-    expect(rt, &ran, end, left);
-    Ok(())
-}
-
-/// The same over a desk that fails nowhere.
-pub(crate) fn check(
-    rt: &(impl Threads + Wait + Abort + AllocGlobal),
-    files: &[(&str, &[u8])],
-    words: &[&str],
-    end: End,
-    left: &[(&str, Holds)],
-) -> Result<(), Fail> {
-    check_failing(rt, files, words, &[], end, left)
-}
-
-/// What a run says, whatever its status.
-pub(crate) fn said(
-    rt: &(impl Threads + Wait + AllocGlobal),
-    files: &[(&str, &[u8])],
-    words: &[&str],
-) -> Result<Vec<u8>, Fail> {
-    let ran = run_words(rt, files, words, &[])?;
-    Ok(Vec::from_slice(rt.alloc(), ran.desk.said())?)
-}
-
-/// What a run warns of.
-pub(crate) fn warned(
-    rt: &(impl Threads + Wait + AllocGlobal),
-    files: &[(&str, &[u8])],
-    words: &[&str],
-) -> Result<Vec<u8>, Fail> {
-    let ran = run_words(rt, files, words, &[])?;
-    Ok(Vec::from_slice(rt.alloc(), ran.desk.warned())?)
-}
-
-/// The names of the files that a run reads, in turn.
-pub(crate) fn read_names(
-    rt: &(impl Threads + Wait + AllocGlobal),
-    files: &[(&str, &[u8])],
-    words: &[&str],
-) -> Result<String, Fail> {
-    let ran = run_words(rt, files, words, &[])?;
-    let mut names = String::new(rt.alloc());
-    for name in ran.desk.asked() {
-        names.push_str(name.as_str())?;
+/// Runs a case, and asks how it ends and what it leaves.
+pub(crate) fn check_case(rt: &(impl Threads + Wait + Abort + AllocGlobal), case: &Case<'_>) {
+    match run_words(rt, case.files, case.words, case.fails) {
+        Ok(ran) => check_end(rt, &ran, case),
+        Err(AllocError) => check(rt, case, "memory", false),
     }
-    Ok(names)
+}
+
+pub(crate) fn check_cases(rt: &(impl Threads + Wait + Abort + AllocGlobal), cases: &[Case<'_>]) {
+    for case in cases {
+        check_case(rt, case);
+    }
 }

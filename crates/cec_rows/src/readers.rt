@@ -1,10 +1,12 @@
 //! Files that are refused, each with the one line that says why, and one circuit in other forms.
 use crate::desk::Holds::Bytes;
-use crate::desk::{check, equivalent, fault, warned};
+use crate::desk::{BAD_INPUT, Case, EQUIVALENT, check_case, check_cases, run_words};
 use crate::files::{SWAPPED_A, SWAPPED_B, SWAPPED_CNF, WORDS};
-use cec_top::Status;
 use std::alloc::{AllocError, Global};
+use std::process::Abort;
+use std::sync::Wait;
 use std::test::Fail;
+use std::thread::Threads;
 
 const ASCII_FAULTS: [(&str, &str); 11] = [
     ("", "cec: A: bad header\n"),
@@ -41,13 +43,28 @@ const ASCII_FAULTS: [(&str, &str); 11] = [
     ),
 ];
 
+/// Checks two files of which one is refused with this line, after these were read.
+fn check_fault<'x>(
+    rt: &(impl Threads + Wait + Abort + AllocGlobal),
+    files: &'x [(&'x str, &'x [u8])],
+    asked: &'x [&'x str],
+    warned: &'x str,
+) {
+    let case = Case {
+        files,
+        warned,
+        asked,
+        ..BAD_INPUT
+    };
+    check_case(rt, &case);
+}
+
 #[test]
-fn ascii_faults(rt: HostRuntime) -> Result<(), Fail> {
+fn ascii_faults(rt: HostRuntime) {
     for (file, line) in &ASCII_FAULTS {
         let files = [("A", file.as_bytes()), ("B", SWAPPED_A)];
-        check(&rt, &files, &WORDS, fault(Status::BadInput, line, 1), &[])?;
+        check_fault(&rt, &files, &["A"], line);
     }
-    Ok(())
 }
 
 /// The line of a file of which so many bytes are left: up to byte 12 the header is cut, and before byte 25 a
@@ -60,26 +77,45 @@ fn line_after(alloc: Global, n: u64) -> Result<String, AllocError> {
     }
 }
 
+/// Whether a check of this file and the whole one warns of this line.
+fn warns(
+    rt: &(impl Threads + Wait + AllocGlobal),
+    file: &[u8],
+    line: &str,
+) -> Result<bool, AllocError> {
+    let ran = run_words(rt, &[("A", file), ("B", SWAPPED_A)], &WORDS, &[])?;
+    Ok(ran.desk.warned() == line.as_bytes())
+}
+
 #[test]
 fn cut_at_each_byte(rt: HostRuntime) -> Result<(), Fail> {
     for n in 0..26u64 {
-        let files = [("A", &SWAPPED_A[..n as usize]), ("B", SWAPPED_A)];
-        let warned = warned(&rt, &files, &WORDS)?;
         let line = line_after(rt.alloc(), n)?;
-        assert!(rt; warned.as_slice() == line.as_bytes(), "after {n} bytes");
+        let is_warned = warns(&rt, &SWAPPED_A[..n as usize], line.as_str())?;
+        assert!(rt; is_warned, "after {n} bytes");
     }
     Ok(())
 }
 
+static COMMENT_AND_LAST_NEWLINE: [Case<'_>; 2] = [
+    Case {
+        files: &[
+            ("A", b"aag 3 2 0 1 1\n2\n4\n6\n6 2 4\ncABC"),
+            ("B", SWAPPED_B),
+        ],
+        left: &[("p.0.cnf", Bytes(SWAPPED_CNF))],
+        ..EQUIVALENT
+    },
+    Case {
+        files: &[("A", b"aag 3 2 0 1 1\n2\n4\n6\n6 2 4"), ("B", SWAPPED_B)],
+        left: &[("p.0.cnf", Bytes(SWAPPED_CNF))],
+        ..EQUIVALENT
+    },
+];
+
 #[test]
-fn comment_and_last_newline(rt: HostRuntime) -> Result<(), Fail> {
-    let left = [("p.0.cnf", Bytes(SWAPPED_CNF))];
-    for end_of_file in ["\ncABC", ""] {
-        let file = format!(in rt.alloc(); "aag 3 2 0 1 1\n2\n4\n6\n6 2 4{end_of_file}")?;
-        let files = [("A", file.as_bytes()), ("B", SWAPPED_B)];
-        check(&rt, &files, &WORDS, equivalent(), &left)?;
-    }
-    Ok(())
+fn comment_and_last_newline(rt: HostRuntime) {
+    check_cases(&rt, &COMMENT_AND_LAST_NEWLINE);
 }
 
 const BINARY_FAULTS: [(&[u8], &str); 3] = [
@@ -95,12 +131,11 @@ const BINARY_FAULTS: [(&[u8], &str); 3] = [
 ];
 
 #[test]
-fn binary_faults(rt: HostRuntime) -> Result<(), Fail> {
+fn binary_faults(rt: HostRuntime) {
     for (file, line) in &BINARY_FAULTS {
         let files = [("A", SWAPPED_A), ("B", file)];
-        check(&rt, &files, &WORDS, fault(Status::BadInput, line, 2), &[])?;
+        check_fault(&rt, &files, &["A", "B"], line);
     }
-    Ok(())
 }
 
 const FORMS: [&[u8]; 4] = [
@@ -113,10 +148,15 @@ const FORMS: [&[u8]; 4] = [
 
 /// One circuit in other forms: each agrees with its plain text.
 #[test]
-fn one_circuit_in_many_forms(rt: HostRuntime) -> Result<(), Fail> {
+fn one_circuit_in_many_forms(rt: HostRuntime) {
     for file in &FORMS {
-        let files = [("A", *file), ("B", SWAPPED_A)];
-        check(&rt, &files, &WORDS, equivalent(), &[])?;
+        let files = &[("A", *file), ("B", SWAPPED_A)];
+        check_case(
+            &rt,
+            &Case {
+                files,
+                ..EQUIVALENT
+            },
+        );
     }
-    Ok(())
 }

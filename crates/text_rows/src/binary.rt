@@ -1,18 +1,19 @@
-use crate::circuits::{check_and, check_fault, check_gate};
+use crate::checks::check;
+use crate::circuits::{check_fault, has_gate, is_and};
 use aiger_binary::read;
 use byte_scan::AigerErr;
+use netlist::And;
 use std::test::*;
 
 /// Two inputs, and a gate that is their AND.
 const AND: &[u8] = b"aig 3 2 0 1 1\n6\n\x02\x02";
 
 #[test]
-fn one_gate(rt: HostRuntime) -> Result<(), Fail> {
-    check_and(&rt, &read(rt.alloc(), AND)?, 4, 2);
+fn one_gate(rt: HostRuntime) {
+    check(&rt, "an AND", is_and(&read(rt.alloc(), AND), 4, 2));
     // a delta needn't be shortest: 82 00 is 2
     let bytes = b"aig 3 2 0 1 1\n6\n\x82\x00\x02";
-    check_and(&rt, &read(rt.alloc(), bytes)?, 4, 2);
-    Ok(())
+    check(&rt, "a long delta", is_and(&read(rt.alloc(), bytes), 4, 2));
 }
 
 #[test]
@@ -50,16 +51,20 @@ const ACCEPTED: [(&str, &[u8]); 8] = [
 #[test]
 fn accepted(rt: HostRuntime) {
     for (name, bytes) in &ACCEPTED {
-        assert!(rt; read(rt.alloc(), bytes).is_ok(), "{name}");
+        check(&rt, name, read(rt.alloc(), bytes).is_ok());
     }
 }
 
 #[test]
-fn a_delta_of_two_bytes(rt: HostRuntime) -> Result<(), Fail> {
+fn a_delta_of_two_bytes(rt: HostRuntime) {
     // 300 is ac 02: variable 151 is the gate, 302 - 300 = 2
-    let circuit = read(rt.alloc(), b"aig 151 150 0 0 1\n\xac\x02\x00")?;
-    check_gate(&rt, &circuit, 151, 2, 2);
-    Ok(())
+    let gate = And {
+        var: 151,
+        left: 2,
+        right: 2,
+    };
+    let found = read(rt.alloc(), b"aig 151 150 0 0 1\n\xac\x02\x00");
+    check(&rt, "300", has_gate(&found, gate));
 }
 
 const FAULTS: [(&[u8], AigerErr); 14] = [

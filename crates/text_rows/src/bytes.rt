@@ -1,39 +1,52 @@
+use crate::checks::check;
+use Call::{Byte, Line, Number};
 use byte_scan::*;
 use std::process::Abort;
 use std::test::*;
 
-/// Reads a number, and compares it and the place behind it.
-fn check_number(rt: &impl Abort, scan: &mut Scan<'_>, number: Option<u64>, at: u64) {
-    assert!(rt; scan.number() == number);
-    assert!(rt; scan.at() == at);
+/// A call of a scan, and what it should answer.
+enum Call {
+    Number(Option<u64>),
+    Byte(Option<u8>),
+    Line(Option<&'static [u8]>),
 }
 
-/// Reads a byte, and compares it and the place behind it.
-fn check_byte(rt: &impl Abort, scan: &mut Scan<'_>, byte: Option<u8>, at: u64) {
-    assert!(rt; scan.byte() == byte);
-    assert!(rt; scan.at() == at);
+/// What stands next, the call that reads it, and the place behind it.
+type Row = (&'static str, Call, u64);
+
+fn check_call(rt: &impl Abort, scan: &mut Scan<'_>, (name, call, at): &Row) {
+    let is_answer = match call {
+        Number(want) => scan.number() == *want,
+        Byte(want) => scan.byte() == *want,
+        Line(want) => scan.line() == *want,
+    };
+    check(rt, name, is_answer && scan.at() == *at);
 }
 
-/// Reads a line, and compares it and the place behind it.
-fn check_line(rt: &impl Abort, scan: &mut Scan<'_>, line: Option<&[u8]>, at: u64) {
-    assert!(rt; scan.line() == line);
-    assert!(rt; scan.at() == at);
-}
+static CALLS: [Row; 10] = [
+    ("007", Number(Some(7)), 3),
+    ("no number", Number(None), 3),
+    ("a space", Byte(Some(b' ')), 4),
+    ("x", Line(Some(b"x")), 6),
+    ("an empty line", Line(Some(b"")), 7),
+    (
+        "a large number",
+        Number(Some(1_000_000_000_000_000_000)),
+        27,
+    ),
+    ("its line feed", Byte(Some(b'\n')), 28),
+    ("last", Line(Some(b"last")), 32),
+    ("no line", Line(None), 32),
+    ("no byte", Byte(None), 32),
+];
 
 #[test]
 fn bytes_numbers_and_lines(rt: HostRuntime) {
     let mut scan = Scan::new(b"007 x\n\n99999999999999999999\nlast");
-    assert!(rt; scan.at() == 0);
-    check_number(&rt, &mut scan, Some(7), 3);
-    check_number(&rt, &mut scan, None, 3);
-    check_byte(&rt, &mut scan, Some(b' '), 4);
-    check_line(&rt, &mut scan, Some(b"x"), 6);
-    check_line(&rt, &mut scan, Some(b""), 7);
-    check_number(&rt, &mut scan, Some(1_000_000_000_000_000_000), 27);
-    check_byte(&rt, &mut scan, Some(b'\n'), 28);
-    check_line(&rt, &mut scan, Some(b"last"), 32);
-    check_line(&rt, &mut scan, None, 32);
-    check_byte(&rt, &mut scan, None, 32);
+    check(&rt, "the start", scan.at() == 0);
+    for row in &CALLS {
+        check_call(&rt, &mut scan, row);
+    }
 }
 
 /// The numbers of a header of the text form.
@@ -77,8 +90,8 @@ fn headers(rt: HostRuntime) {
 #[test]
 fn header_of_a_binary_file(rt: HostRuntime) {
     let mut scan = Scan::new(b"aig 3 2 0 1 1\n6\n");
-    assert!(rt; header(&mut scan, b'i').is_ok());
-    assert!(rt; scan.at() == 14);
-    let mut scan = Scan::new(b"aig 4 2 0 1 1\n6\n");
-    assert!(rt; header(&mut scan, b'i') == Err(AigerErr::BadHeader));
+    let is_read = header(&mut scan, b'i').is_ok();
+    check(&rt, "M is I and A", is_read && scan.at() == 14);
+    let header = header(&mut Scan::new(b"aig 4 2 0 1 1\n6\n"), b'i');
+    check(&rt, "M is above", header == Err(AigerErr::BadHeader));
 }

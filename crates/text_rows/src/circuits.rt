@@ -13,14 +13,29 @@ pub(crate) fn check_fault(
     assert!(rt; found == want, "at {bytes:?}");
 }
 
-/// Compares the only gate.
-pub(crate) fn check_gate(rt: &impl Abort, circuit: &Circuit, var: u32, left: u32, right: u32) {
-    assert!(rt; circuit.gates() == [And { var, left, right }].as_slice());
+/// Whether a circuit was read with this gate alone.
+pub(crate) fn has_gate(found: &Result<Circuit, AigerErr>, gate: And) -> bool {
+    match found {
+        Ok(circuit) => circuit.gates() == [gate].as_slice(),
+        Err(_) => false,
+    }
 }
 
-/// Compares a circuit of two inputs whose one output is the AND of them, with its fanins in this order.
-pub(crate) fn check_and(rt: &impl Abort, circuit: &Circuit, left: u32, right: u32) {
-    assert!(rt; circuit.inputs() == [1, 2].as_slice());
-    check_gate(rt, circuit, 3, left, right);
-    assert!(rt; circuit.outputs() == [6].as_slice());
+/// Whether a circuit of two inputs was read whose one output is the AND of them, with its fanins in this
+/// order.
+pub(crate) fn is_and(found: &Result<Circuit, AigerErr>, left: u32, right: u32) -> bool {
+    match found {
+        Ok(circuit) => {
+            circuit.inputs() == [1, 2].as_slice()
+                && circuit.gates()
+                    == [And {
+                        var: 3,
+                        left,
+                        right,
+                    }]
+                    .as_slice()
+                && circuit.outputs() == [6].as_slice()
+        }
+        Err(_) => false,
+    }
 }

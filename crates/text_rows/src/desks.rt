@@ -1,59 +1,79 @@
 //! What a desk in memory answers, call by call, and a gate that holds nobody.
 //!
 //! How the counts of faults move is not asked here: the clauses of `MemDesk`'s calls say it exactly.
-ghost use Rattle.std.specs.Prelude.{◌≡◌, None};
+ghost use Rattle.std.specs.Prelude.{◌≡◌, None, IfOk};
+ghost use Rattle.desk_port.specs.MemDesk.{state_of};
 
+use crate::checks::check;
 use desk_port::{Desk, Gate, MemDesk, OpenGate, PutErr, ReadErr};
 use std::alloc::{AllocError, Global};
 use std::collections::BTreeMap;
 use std::process::Abort;
 use std::test::Fail;
 
-/// The names of the files that were asked for, in turn.
-pub(crate) fn asked(alloc: Global, desk: &MemDesk) -> Result<String, AllocError> {
-    let mut names = String::new(alloc);
-    for name in desk.asked() {
-        names.push_str(name.as_str())?;
+/// Whether the files that were asked for have these names, in turn.
+pub(crate) fn has_asked(desk: &MemDesk, names: &[&str]) -> bool {
+    let asked = desk.asked();
+    if asked.len() != names.len() {
+        return false;
     }
-    Ok(names)
+    for i in 0..names.len() {
+        if asked[i].as_str() != names[i] {
+            return false;
+        }
+    }
+    true
 }
 
-/// How long the file is, which holds "ab".
-fn length_of(
+/// A desk that fails at the calls of these numbers, with these files, whose text stands in two parts.
+pub(crate) fn desk_with(
+    alloc: Global,
+    files: &[(&str, [&str; 2])],
+    fails: &[u64],
+) -> Result<MemDesk, AllocError>
+    ensures { IfOk result (λ desk. (state_of desk).started ≡ None) }
+{
+    let mut named = BTreeMap::new(alloc);
+    for (name, [first, rest]) in files {
+        let text = format!(in alloc; "{first}{rest}")?;
+        named.insert(String::from_str(alloc, name)?, text.into_bytes())?;
+    }
+    MemDesk::new(alloc, named, Vec::from_slice(alloc, fails)?)
+}
+
+/// Reads a file, and compares the bytes or the fault.
+fn check_read(
     rt: &impl Abort,
     alloc: Global,
     desk: &mut MemDesk,
-    name: &str,
-    limit: u64,
-) -> Result<usize, ReadErr> {
-    let bytes = desk.read(alloc, name, limit)?;
-    assert!(rt; bytes.as_slice() == &b"ab"[..]);
-    Ok(bytes.len())
+    (name, limit, want): &(&str, u64, Result<&[u8], ReadErr>),
+) {
+    let is_so = match desk.read(alloc, name, *limit) {
+        Ok(bytes) => *want == Ok(bytes.as_slice()),
+        Err(fault) => *want == Err(fault),
+    };
+    assert!(rt; is_so, "{name} within {limit}");
 }
 
-/// A desk with a file `x` that fails at the calls of these numbers.
-fn desk_with_x(alloc: Global, fails: &[u64]) -> Result<MemDesk, AllocError> {
-    let mut files = BTreeMap::new(alloc);
-    files.insert(
-        String::from_str(alloc, "x")?,
-        Vec::from_slice(alloc, b"ab")?,
-    )?;
-    MemDesk::new(alloc, files, Vec::from_slice(alloc, fails)?)
+/// A file, the most that is read of it, and what that comes to.
+static READS: [(&str, u64, Result<&[u8], ReadErr>); 4] = [
+    ("x", 5, Ok(b"ab")),
+    ("x", 5, Err(ReadErr::Failed)),
+    ("x", 1, Err(ReadErr::TooLong)),
+    ("y", 5, Err(ReadErr::Failed)),
+];
+
+fn check_reads(rt: &impl Abort, alloc: Global, desk: &mut MemDesk) {
+    for row in &READS {
+        check_read(rt, alloc, desk, row);
+    }
+    check(rt, "asked", has_asked(desk, &["x", "x", "x", "y"]));
 }
 
 #[test]
 fn faulty_reads(rt: HostRuntime) -> Result<(), Fail> {
-    let mut desk = desk_with_x(rt.alloc(), &[1])?;
-    for (name, limit, answer) in [
-        ("x", 5, Ok(2)),
-        ("x", 5, Err(ReadErr::Failed)),
-        ("x", 1, Err(ReadErr::TooLong)),
-        ("y", 5, Err(ReadErr::Failed)),
-    ] {
-        let length = length_of(&rt, rt.alloc(), &mut desk, name, limit);
-        assert!(rt; length == answer, "{name} within {limit}");
-    }
-    assert!(rt; asked(rt.alloc(), &desk)?.as_str() == "xxxy");
+    let mut desk = desk_with(rt.alloc(), &[("x", ["ab", ""])], &[1])?;
+    check_reads(&rt, rt.alloc(), &mut desk);
     Ok(())
 }
 
@@ -67,16 +87,20 @@ fn put<D: Desk>(desk: &mut D, name: &str, bytes: &[u8]) -> Result<(), PutErr>
     desk.warn(b"W")
 }
 
+/// Whether the desk shows what was put, and no more.
+fn shows_put(desk: &MemDesk) -> bool {
+    desk.file("o") == Some(b"ab".as_slice())
+        && desk.file("p").is_none()
+        && desk.said() == b"S".as_slice()
+        && desk.warned() == b"W".as_slice()
+        && desk.asked().is_empty()
+}
+
 #[test]
 fn quiet_desk(rt: HostRuntime) -> Result<(), Fail> {
-    let alloc = rt.alloc();
-    let mut desk = MemDesk::new(alloc, BTreeMap::new(alloc), Vec::new(alloc))?;
+    let mut desk = desk_with(rt.alloc(), &[], &[])?;
     put(&mut desk, "o", b"ab")?;
-    assert!(rt; desk.file("o") == Some(&b"ab"[..]));
-    assert!(rt; desk.file("p").is_none());
-    assert!(rt; desk.said() == &b"S"[..]);
-    assert!(rt; desk.warned() == &b"W"[..]);
-    assert!(rt; desk.asked().is_empty());
+    check(&rt, "put", shows_put(&desk));
     Ok(())
 }
 

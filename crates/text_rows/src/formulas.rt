@@ -1,54 +1,78 @@
-use desk_port::{Desk, MemDesk};
-use dimacs_text::{Cnf, CnfErr, print, read};
-use lits::{Clause, Dim};
-use std::alloc::Global;
-use std::collections::BTreeMap;
+ghost use Rattle.std.specs.Prelude.{◌≡◌, None};
+ghost use Rattle.desk_port.specs.MemDesk.{state_of};
+
+use crate::desks::desk_with;
+use desk_port::{Desk, MemDesk, PutErr};
+use dimacs_text::{CnfErr, print, read};
+use lits::{Clause, ClauseErr, Dim, Listed};
+use std::alloc::{AllocError, Global};
 use std::process::Abort;
 use std::test::Fail;
 
+fn clauses_of(alloc: Global, clauses: &[&[Dim]]) -> Result<Vec<Clause<Dim>>, ClauseErr> {
+    let mut made = Vec::new(alloc);
+    for clause in clauses {
+        made.push(Clause::of(alloc, clause)?)?;
+    }
+    Ok(made)
+}
+
+/// Prints the formula of these clauses, over one variable, to a file.
+fn put_formula(alloc: Global, desk: &mut MemDesk, clauses: &[Clause<Dim>]) -> Result<(), PutErr>
+    requires { (state_of desk.old).started ≡ None }
+{
+    desk.start("cnf")?;
+    print(alloc, desk, 1, clauses)?;
+    desk.close()
+}
+
+/// Whether the file is this text then.
+fn is_printed(alloc: Global, clauses: &[Clause<Dim>], text: &[u8]) -> Result<bool, PutErr> {
+    let mut desk = desk_with(alloc, &[], &[])?;
+    put_formula(alloc, &mut desk, clauses)?;
+    Ok(desk.file("cnf") == Some(text))
+}
+
 #[test]
 fn dimacs_print(rt: HostRuntime) -> Result<(), Fail> {
-    let alloc = rt.alloc();
-    let one = Clause::of(alloc, &[Dim::new(1, false)])?;
-    let none = Clause::of(alloc, &[])?;
-    let clauses = vec![in alloc; one, none]?;
-    let mut desk = MemDesk::new(alloc, BTreeMap::new(alloc), Vec::new(alloc))?;
-    desk.start("cnf")?;
-    print(alloc, &mut desk, 1, clauses.as_slice())?;
-    desk.close()?;
-    assert!(rt; desk.file("cnf") == Some(b"p cnf 1 2\n1 0\n0\n".as_slice()));
+    let clauses = clauses_of(rt.alloc(), &[&[Dim::new(1, false)], &[]])?;
+    let text = b"p cnf 1 2\n1 0\n0\n";
+    assert!(rt; is_printed(rt.alloc(), clauses.as_slice(), text)?);
     Ok(())
 }
 
-fn number_of(literal: Dim) -> i64 {
-    let var = i64::from(literal.var());
-    if literal.is_negated() { -var } else { var }
+/// Whether the clause has these numbers, in this order.
+fn is_clause(clause: &[Dim], numbers: &[i32]) -> bool {
+    if clause.len() != numbers.len() {
+        return false;
+    }
+    for i in 0..numbers.len() {
+        if Some(clause[i]) != Dim::of(numbers[i]) {
+            return false;
+        }
+    }
+    true
 }
 
-/// The clauses as numbers, with 0 behind each.
-fn numbers(alloc: Global, cnf: &Cnf) -> Result<Vec<i64>, Fail> {
-    let mut numbers = Vec::new(alloc);
-    for clause in cnf.clauses.as_slice() {
-        for literal in clause.as_slice() {
-            numbers.push(number_of(*literal))?;
-        }
-        numbers.push(0)?;
+fn are_clauses(clauses: &[Listed<Dim>], numbers: &[&[i32]]) -> bool {
+    if clauses.len() != numbers.len() {
+        return false;
     }
-    Ok(numbers)
+    for i in 0..numbers.len() {
+        if !is_clause(clauses[i].as_slice(), numbers[i]) {
+            return false;
+        }
+    }
+    true
 }
 
 /// Reads a text, and compares its variables and clauses.
-fn check_read(
-    rt: &impl Abort,
-    alloc: Global,
-    text: &[u8],
-    variables: u32,
-    clauses: &[i64],
-) -> Result<(), Fail> {
-    let cnf = read(alloc, text)?;
-    assert!(rt; cnf.variables == variables);
-    assert!(rt; numbers(alloc, &cnf)?.as_slice() == clauses);
-    Ok(())
+fn check_read(rt: &impl Abort, alloc: Global, text: &[u8], variables: u32, clauses: &[&[i32]]) {
+    let is_read = match read(alloc, text) {
+        Ok(cnf) => { cnf.variables == variables && are_clauses(cnf.clauses.as_slice(), clauses) }
+        Err(_) => false,
+    };
+    assert!(rt; is_read, "at {text:?}");
 }
 
 /// Reads a text, and compares its fault.
@@ -69,58 +93,83 @@ const FAULTS: [(&[u8], CnfErr); 3] = [
     (b"p cnf 1 1\n1", CnfErr::Truncated(11)),
 ];
 
-#[test]
-fn dimacs_read(rt: HostRuntime) -> Result<(), Fail> {
-    let alloc = rt.alloc();
-    let text = b"p cnf 6 12\n1 0\n-4 2 0\n-4 3 0\n4 -2 -3 0\n-5 3 0\n-5 2 0\n5 -3 -2 0\n\
-        -6 4 5 0\n-6 -4 -5 0\n6 -4 5 0\n6 4 -5 0\n6 0\n";
-    let clauses = [
-        1, 0, -4, 2, 0, -4, 3, 0, 4, -2, -3, 0, -5, 3, 0, -5, 2, 0, 5, -3, -2, 0, -6, 4, 5, 0, -6,
-        -4, -5, 0, 6, -4, 5, 0, 6, 4, -5, 0, 6, 0,
-    ];
-    check_read(&rt, alloc, text, 6, &clauses)?;
-    check_faults(&rt, alloc, &FAULTS);
-    Ok(())
-}
+/// The worked formula, and its clauses.
+const WORKED: &[u8] = b"p cnf 6 12\n1 0\n-4 2 0\n-4 3 0\n4 -2 -3 0\n-5 3 0\n-5 2 0\n5 -3 -2 0\n\
+    -6 4 5 0\n-6 -4 -5 0\n6 -4 5 0\n6 4 -5 0\n6 0\n";
+
+const WORKED_CLAUSES: [&[i32]; 12] = [
+    &[1],
+    &[-4, 2],
+    &[-4, 3],
+    &[4, -2, -3],
+    &[-5, 3],
+    &[-5, 2],
+    &[5, -3, -2],
+    &[-6, 4, 5],
+    &[-6, -4, -5],
+    &[6, -4, 5],
+    &[6, 4, -5],
+    &[6],
+];
 
 #[test]
-fn words_and_comments(rt: HostRuntime) -> Result<(), Fail> {
-    let alloc = rt.alloc();
-    check_read(&rt, alloc, b"p cnf 0 0", 0, &[])?;
-    check_read(&rt, alloc, b"p cnf 0 1\n0\n", 0, &[0])?;
-    check_read(&rt, alloc, b"p cnf 007 01\n-007 00\n", 7, &[-7, 0])?;
-    check_read(
-        &rt,
-        alloc,
+fn dimacs_read(rt: HostRuntime) {
+    check_read(&rt, rt.alloc(), WORKED, 6, &WORKED_CLAUSES);
+    check_faults(&rt, rt.alloc(), &FAULTS);
+}
+
+/// A text, its variables and its clauses.
+const WORDS_AND_COMMENTS: [(&[u8], u32, &[&[i32]]); 6] = [
+    (b"p cnf 0 0", 0, &[]),
+    (b"p cnf 0 1\n0\n", 0, &[&[]]),
+    (b"p cnf 007 01\n-007 00\n", 7, &[&[-7]]),
+    (
         b"p cnf 2147483647 1 -2147483647 0",
         2_147_483_647,
-        &[-2_147_483_647, 0],
-    )?;
-
+        &[&[-2_147_483_647]],
+    ),
     // Comments stand between any two lines, and a clause may span lines.
-    let text = b"c p cnf 9 9\n p\r\nc between\n\tcnf\t3\nc\n 2\n1\nc 7 0\n-2\r\n0\n\n 3\t0\r\nc";
-    check_read(&rt, alloc, text, 3, &[1, -2, 0, 3, 0])?;
-
+    (
+        b"c p cnf 9 9\n p\r\nc between\n\tcnf\t3\nc\n 2\n1\nc 7 0\n-2\r\n0\n\n 3\t0\r\nc",
+        3,
+        &[&[1, -2], &[3]],
+    ),
     // A repeated literal counts once, and one may stand beside its negation.
-    let text = b"p cnf 2 2\n1 -2 1 -2 2 0 2 2 2 0\n";
-    check_read(&rt, alloc, text, 2, &[1, -2, 2, 0, 2, 0])
+    (
+        b"p cnf 2 2\n1 -2 1 -2 2 0 2 2 2 0\n",
+        2,
+        &[&[1, -2, 2], &[2]],
+    ),
+];
+
+#[test]
+fn words_and_comments(rt: HostRuntime) {
+    for (text, variables, clauses) in &WORDS_AND_COMMENTS {
+        check_read(&rt, rt.alloc(), text, *variables, clauses);
+    }
 }
+
+/// A clause of 50 variables, each twice and with `-1` behind it.
+fn wide_text(alloc: Global) -> Result<String, AllocError> {
+    let mut text = String::from_str(alloc, "p cnf 50 1\n")?;
+    for var in 1..=50u64 {
+        write!(text, "{var} {var} -1\n")?;
+    }
+    text.push_str("0\n")?;
+    Ok(text)
+}
+
+const WIDE_CLAUSE: &[i32] = &[
+    1, -1, 2, 3, 4, 5, 6, 7, 8, 9, 10, 11, 12, 13, 14, 15, 16, 17, 18, 19, 20, 21, 22, 23, 24, 25,
+    26, 27, 28, 29, 30, 31, 32, 33, 34, 35, 36, 37, 38, 39, 40, 41, 42, 43, 44, 45, 46, 47, 48, 49,
+    50,
+];
 
 #[test]
 fn wide_clause(rt: HostRuntime) -> Result<(), Fail> {
-    let alloc = rt.alloc();
-    let mut text = Vec::from_slice(alloc, b"p cnf 50 1\n")?;
-    let mut clause = Vec::new(alloc);
-    for var in 1..=50i64 {
-        text.extend_from_slice(format!(in alloc; "{var} {var} -1\n")?.as_bytes())?;
-        clause.push(var)?;
-        if var == 1 {
-            clause.push(-1)?;
-        }
-    }
-    text.extend_from_slice(b"0\n")?;
-    clause.push(0)?;
-    check_read(&rt, alloc, text.as_slice(), 50, clause.as_slice())
+    let text = wide_text(rt.alloc())?;
+    check_read(&rt, rt.alloc(), text.as_bytes(), 50, &[WIDE_CLAUSE]);
+    Ok(())
 }
 
 const BAD_HEADERS: [&[u8]; 17] = [

@@ -5,8 +5,8 @@
 //! is of `byte_scan`, `ascii` of `aiger_ascii`, `binary` of `aiger_binary`, `forms` of `aiger_file`,
 //! `formulas` of `dimacs_text`, `proof_lines` of `lrat_text`, `proof_checks` of `lrat_checker`, `desks` of
 //! `desk_port`, `proof_runs` of `lrat_run`, `ends` of `endings`, `words` of `command_line`, `workloads` of
-//! `workload_gen`; `texts` has the texts of the faults of all, and `circuits` what the readers of circuits
-//! are compared by. Begin to read at `bytes.rt`.
+//! `workload_gen`; `texts` has the texts of the faults of all, `circuits` what the readers of circuits are
+//! compared by, and `checks` what ends each comparison. Begin to read at `bytes.rt`.
 #![tactic(auto)]
 
 #[cfg(test)]
@@ -15,6 +15,8 @@ mod ascii;
 mod binary;
 #[cfg(test)]
 mod bytes;
+#[cfg(test)]
+mod checks;
 #[cfg(test)]
 mod circuits;
 #[cfg(test)]

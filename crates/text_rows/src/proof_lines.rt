@@ -1,3 +1,4 @@
+use crate::checks::check;
 use lits::{Dim, Listed};
 use lrat_text::{Line, LratErr, LratStep, push_line, read};
 use std::alloc::{AllocError, Global};
@@ -37,42 +38,37 @@ fn written(alloc: Global, lines: &[Line]) -> Result<Vec<u8>, AllocError> {
     Ok(text)
 }
 
-fn numbers(alloc: Global, lines: &[Line]) -> Result<Vec<u64>, AllocError> {
-    let mut numbers = Vec::new(alloc);
-    for line in lines {
-        numbers.push(line.at)?;
+/// Whether the lines have these numbers.
+fn have_numbers(lines: &[Line], at: &[u64]) -> bool {
+    if lines.len() != at.len() {
+        return false;
     }
-    Ok(numbers)
+    for i in 0..at.len() {
+        if lines[i].at != at[i] {
+            return false;
+        }
+    }
+    true
+}
+
+/// Whether the steps are written as this text.
+fn are_written(alloc: Global, lines: &[Line], text: &[u8]) -> bool {
+    match written(alloc, lines) {
+        Ok(written) => written.as_slice() == text,
+        Err(AllocError) => false,
+    }
 }
 
 /// Reads a text for a formula of so many clauses, and compares its steps with the text that they are written
 /// by, and the numbers of its lines.
-fn check_lines(
-    rt: &impl Abort,
-    alloc: Global,
-    clauses: u64,
-    text: &[u8],
-    again: &[u8],
-    at: &[u64],
-) -> Result<(), Fail> {
-    let lines = read(alloc, text, clauses)?;
-    assert!(rt;
-        numbers(alloc, lines.as_slice())?.as_slice() == at,
-        "at {text:?}"
-    );
-    assert!(rt; written(alloc, lines.as_slice())?.as_slice() == again);
-    Ok(())
-}
-
-/// The same for a formula of 12 clauses.
-fn check_read(
-    rt: &impl Abort,
-    alloc: Global,
-    text: &[u8],
-    again: &[u8],
-    at: &[u64],
-) -> Result<(), Fail> {
-    check_lines(rt, alloc, 12, text, again, at)
+fn check_read(rt: &impl Abort, alloc: Global, clauses: u64, text: &[u8], again: &[u8], at: &[u64]) {
+    let is_read = match read(alloc, text, clauses) {
+        Ok(lines) => {
+            have_numbers(lines.as_slice(), at) && are_written(alloc, lines.as_slice(), again)
+        }
+        Err(_) => false,
+    };
+    assert!(rt; is_read, "at {text:?}");
 }
 
 /// Reads a text for a formula of so many clauses, and compares its fault.
@@ -85,45 +81,59 @@ fn check_fault(rt: &impl Abort, alloc: Global, clauses: u64, text: &[u8], fault:
 
 #[test]
 fn lrat_line(rt: HostRuntime) -> Result<(), Fail> {
-    let alloc = rt.alloc();
     let line = b"3 0 2 0\n";
-    let step = addition(alloc, 3, &[], &[2])?;
-    let mut text = Vec::new(alloc);
-    push_line(&mut text, 0, &step)?;
-    assert!(rt; text.as_slice() == line.as_slice());
-    check_lines(&rt, alloc, 2, line, line, &[1])?;
-    check_fault(&rt, alloc, 3, line, LratErr::Order(1));
+    let step = addition(rt.alloc(), 3, &[], &[2])?;
+    let is_written = are_written(rt.alloc(), &[Line { at: 1, step }], line);
+    check(&rt, "written", is_written);
+    check_read(&rt, rt.alloc(), 2, line, line, &[1]);
+    check_fault(&rt, rt.alloc(), 3, line, LratErr::Order(1));
     Ok(())
+}
+
+/// Appends an addition with numbers as large as they may be, and a deletion.
+fn push_steps(text: &mut Vec<u8>, alloc: Global) -> Result<(), AllocError> {
+    let clause = [Dim::new(2_147_483_647, true), Dim::new(1, false)];
+    let id = 999_999_999_999_999_999;
+    push_line(text, 5, &addition(alloc, id, &clause, &[7, 12])?)?;
+    push_line(text, 13, &deletion(alloc, &[3, 99])?)
 }
 
 #[test]
 fn written_steps(rt: HostRuntime) -> Result<(), Fail> {
-    let alloc = rt.alloc();
-    let clause = [Dim::new(2_147_483_647, true), Dim::new(1, false)];
-    let add = addition(alloc, 999_999_999_999_999_999, &clause, &[7, 12])?;
-    let mut text = Vec::from_slice(alloc, b"kept ")?;
-    push_line(&mut text, 5, &add)?;
-    push_line(&mut text, 13, &deletion(alloc, &[3, 99])?)?;
+    let mut text = Vec::from_slice(rt.alloc(), b"kept ")?;
+    push_steps(&mut text, rt.alloc())?;
     let want = b"kept 999999999999999999 -2147483647 1 0 7 12 0\n13 d 3 99 0\n";
-    assert!(rt; text.as_slice() == want.as_slice());
+    check(&rt, "both", text.as_slice() == want.as_slice());
     Ok(())
 }
 
-#[test]
-fn read_texts(rt: HostRuntime) -> Result<(), Fail> {
-    let alloc = rt.alloc();
-    let proof = b"13 -4 5 0 2 3 7 0\n13 d 99 0\n14 4 -5 0 5 6 4 0\n17 0 16 12 0\n";
-    check_read(&rt, alloc, proof, proof, &[1, 2, 3, 4])?;
-    check_read(&rt, alloc, b"", b"", &[])?;
-
+/// A text, the text that its steps are written by, and the numbers of its lines.
+const READ_TEXTS: [(&[u8], &[u8], &[u64]); 4] = [
+    (
+        b"13 -4 5 0 2 3 7 0\n13 d 99 0\n14 4 -5 0 5 6 4 0\n17 0 16 12 0\n",
+        b"13 -4 5 0 2 3 7 0\n13 d 99 0\n14 4 -5 0 5 6 4 0\n17 0 16 12 0\n",
+        &[1, 2, 3, 4],
+    ),
+    (b"", b"", &[]),
     // Lines without words count, spaces may be many, and the last LF may be missing.
-    let spaced = b"\n  \n 013  -4 5 00 2  0 \n\n14 d 0";
-    check_read(&rt, alloc, spaced, b"13 -4 5 0 2 0\n13 d 0\n", &[3, 5])?;
-
+    (
+        b"\n  \n 013  -4 5 00 2  0 \n\n14 d 0",
+        b"13 -4 5 0 2 0\n13 d 0\n",
+        &[3, 5],
+    ),
     // A deletion's first number isn't judged, and a literal is bound by its size alone.
-    let wide = b"-1000000000000000000000 d 999999999999999999 0\n13 -2147483647 0 0\n";
-    let again = b"0 d 999999999999999999 0\n13 -2147483647 0 0\n";
-    check_read(&rt, alloc, wide, again, &[1, 2])
+    (
+        b"-1000000000000000000000 d 999999999999999999 0\n13 -2147483647 0 0\n",
+        b"0 d 999999999999999999 0\n13 -2147483647 0 0\n",
+        &[1, 2],
+    ),
+];
+
+#[test]
+fn read_texts(rt: HostRuntime) {
+    for (text, again, at) in &READ_TEXTS {
+        check_read(&rt, rt.alloc(), 12, text, again, at);
+    }
 }
 
 /// Reads each text, for a formula of 12 clauses, and compares its fault.

@@ -1,12 +1,11 @@
 //! What the command says and warns of files in memory. The CNF's file is `C`, the proof's `P`.
-use crate::desks::asked;
+use crate::desks::{desk_with, has_asked};
 use desk_port::MemDesk;
 use endings::Status;
 use lrat_run::run;
 use std::alloc::{AllocError, Global};
-use std::collections::BTreeMap;
 use std::process::Abort;
-use std::test::Fail;
+use std::test::*;
 
 /// The CNF of a miter of two equal AND gates.
 const CNF: &str =
@@ -17,230 +16,253 @@ const FIRST: &str = "13 -4 5 0 2 3 7 0\n";
 
 const OTHERS: &str = "14 4 -5 0 5 6 4 0\n15 -6 4 0 8 14 0\n16 -6 0 15 13 9 0\n17 0 16 12 0\n";
 
-/// A case: the CNF and the proof, or `None` where the file is missing; the calls of the desk that fail; the
-/// status that the command should answer, what it should say and warn, and the names of the files that it
-/// should read.
+/// A case: the files, whose text stands in two parts, and the calls of the desk that fail; the status that the
+/// command should answer, what it should say and warn, and the names of the files that it should read.
 #[derive(Clone, Copy)]
-struct Row<'a> {
-    cnf: Option<&'a str>,
-    proof: Option<&'a str>,
-    fails: &'a [u64],
+struct Row {
+    files: &'static [(&'static str, [&'static str; 2])],
+    fails: &'static [u64],
     status: Status,
-    said: &'a str,
-    warned: &'a str,
-    asked: &'a str,
+    said: &'static str,
+    warned: &'static str,
+    asked: &'static [&'static str],
 }
 
-fn put_file(
-    alloc: Global,
-    files: &mut BTreeMap<String, Vec<u8>>,
-    name: &str,
-    text: Option<&str>,
-) -> Result<(), AllocError> {
-    if let Some(text) = text {
-        files.insert(
-            String::from_str(alloc, name)?,
-            Vec::from_slice(alloc, text.as_bytes())?,
-        )?;
-    }
-    Ok(())
+/// The CNF and its proof.
+const VERIFIED: Row = Row {
+    files: &[("C", [CNF, ""]), ("P", [FIRST, OTHERS])],
+    fails: &[],
+    status: Status::Done,
+    said: "VERIFIED\n",
+    warned: "",
+    asked: &["C", "P"],
+};
+
+/// A proof that is refused.
+const NOT_VERIFIED: Row = Row {
+    status: Status::No,
+    ..VERIFIED
+};
+
+/// A proof with a fault.
+const BAD_PROOF: Row = Row {
+    status: Status::BadInput,
+    said: "",
+    ..VERIFIED
+};
+
+/// A CNF with a fault. The proof isn't read, so that it may be missing.
+const BAD_CNF: Row = Row {
+    asked: &["C"],
+    ..BAD_PROOF
+};
+
+/// Whether the command answers, says, warns and reads what it should.
+fn is_met(alloc: Global, desk: &mut MemDesk, row: &Row) -> bool {
+    run(alloc, desk, "C", "P") == row.status
+        && desk.said() == row.said.as_bytes()
+        && desk.warned() == row.warned.as_bytes()
+        && has_asked(desk, row.asked)
 }
 
-fn desk_of(alloc: Global, row: &Row<'_>) -> Result<MemDesk, AllocError> {
-    let mut files = BTreeMap::new(alloc);
-    put_file(alloc, &mut files, "C", row.cnf)?;
-    put_file(alloc, &mut files, "P", row.proof)?;
-    MemDesk::new(alloc, files, Vec::from_slice(alloc, row.fails)?)
-}
-
-/// Runs the command and compares what it came to.
-fn check_row(rt: &impl Abort, alloc: Global, row: &Row<'_>) -> Result<(), Fail> {
-    let mut desk = desk_of(alloc, row)?;
-    let status = run(alloc, &mut desk, "C", "P");
-    assert!(rt; desk.said() == row.said.as_bytes());
-    assert!(rt; desk.warned() == row.warned.as_bytes());
-    assert!(rt; status == row.status);
-    assert!(rt; asked(alloc, &desk)?.as_str() == row.asked);
-    Ok(())
-}
-
-fn joined(alloc: Global, first: &str, others: &str) -> Result<String, AllocError> {
-    format!(in alloc; "{first}{others}")
-}
-
-/// A proof of the CNF, that is read.
-fn check_proof<'x>(
-    rt: &impl Abort,
-    alloc: Global,
-    proof: &'x str,
-    status: Status,
-    said: &'x str,
-    warned: &'x str,
-) -> Result<(), Fail> {
-    let row = Row {
-        cnf: Some(CNF),
-        proof: Some(proof),
-        fails: &[],
-        status,
-        said,
-        warned,
-        asked: "CP",
+/// Runs the command over the files of a row, and compares what it came to.
+fn check_row(rt: &impl Abort, alloc: Global, row: &Row) {
+    let is_met = match desk_with(alloc, row.files, row.fails) {
+        Ok(mut desk) => is_met(alloc, &mut desk, row),
+        Err(AllocError) => false,
     };
-    check_row(rt, alloc, &row)
+    assert!(rt; is_met, "{}{}", row.said, row.warned);
 }
 
-/// The first line of a proof, the others, and what the command comes to.
-const HAND_WRITTEN: [(&str, &str, Status, &str, &str); 5] = [
-    (FIRST, OTHERS, Status::Done, "VERIFIED\n", ""),
-    (
-        "13 -4 5 0 2 2 3 7 0\n",
-        OTHERS,
-        Status::No,
-        "REFUSED line 1\n",
-        "",
-    ),
-    (
-        "13 -4 5 0 -2 3 7 0\n",
-        OTHERS,
-        Status::BadInput,
-        "",
-        "cec: P: line 1: negative hint\n",
-    ),
-    (FIRST, "", Status::No, "REFUSED no empty clause\n", ""),
-    (
-        "13 -4 5 0 2 3 7 0\n13 d 99 0\n",
-        OTHERS,
-        Status::Done,
-        "VERIFIED\n",
-        "",
-    ),
+fn check_rows(rt: &impl Abort, alloc: Global, rows: &[Row]) {
+    for row in rows {
+        check_row(rt, alloc, row);
+    }
+}
+
+static HAND_WRITTEN: [Row; 5] = [
+    VERIFIED,
+    Row {
+        files: &[("C", [CNF, ""]), ("P", ["13 -4 5 0 2 2 3 7 0\n", OTHERS])],
+        said: "REFUSED line 1\n",
+        ..NOT_VERIFIED
+    },
+    Row {
+        files: &[("C", [CNF, ""]), ("P", ["13 -4 5 0 -2 3 7 0\n", OTHERS])],
+        warned: "cec: P: line 1: negative hint\n",
+        ..BAD_PROOF
+    },
+    Row {
+        files: &[("C", [CNF, ""]), ("P", [FIRST, ""])],
+        said: "REFUSED no empty clause\n",
+        ..NOT_VERIFIED
+    },
+    Row {
+        files: &[
+            ("C", [CNF, ""]),
+            ("P", ["13 -4 5 0 2 3 7 0\n13 d 99 0\n", OTHERS]),
+        ],
+        ..VERIFIED
+    },
 ];
 
 #[test]
-fn hand_written_proofs(rt: HostRuntime) -> Result<(), Fail> {
-    for (first, others, status, said, warned) in &HAND_WRITTEN {
-        let proof = joined(rt.alloc(), first, others)?;
-        check_proof(&rt, rt.alloc(), proof.as_str(), *status, said, warned)?;
-    }
-    Ok(())
+fn hand_written_proofs(rt: HostRuntime) {
+    check_rows(&rt, rt.alloc(), &HAND_WRITTEN);
 }
 
-/// Proofs that are refused. A line without words has a number too.
-const REFUSED: [(&str, &str); 3] = [
-    ("13 -4 5 0 2 3 7 0\n\n14 4 -5 0 5 6 0\n", "REFUSED line 3\n"),
-    ("13 1 0 14 0\n", "REFUSED line 1\n"),
-    ("", "REFUSED no empty clause\n"),
+/// A line without words has a number too.
+static REFUSED: [Row; 3] = [
+    Row {
+        files: &[
+            ("C", [CNF, ""]),
+            ("P", ["13 -4 5 0 2 3 7 0\n\n14 4 -5 0 5 6 0\n", ""]),
+        ],
+        said: "REFUSED line 3\n",
+        ..NOT_VERIFIED
+    },
+    Row {
+        files: &[("C", [CNF, ""]), ("P", ["13 1 0 14 0\n", ""])],
+        said: "REFUSED line 1\n",
+        ..NOT_VERIFIED
+    },
+    Row {
+        files: &[("C", [CNF, ""]), ("P", ["", ""])],
+        said: "REFUSED no empty clause\n",
+        ..NOT_VERIFIED
+    },
 ];
 
 #[test]
-fn numbers_of_refused_lines(rt: HostRuntime) -> Result<(), Fail> {
-    for (proof, said) in &REFUSED {
-        check_proof(&rt, rt.alloc(), proof, Status::No, said, "")?;
-    }
-    Ok(())
+fn numbers_of_refused_lines(rt: HostRuntime) {
+    check_rows(&rt, rt.alloc(), &REFUSED);
 }
 
-/// The warning of a file with a fault. Where it is the CNF, the proof isn't read, so that it may be missing.
-fn check_warned<'x>(
-    rt: &impl Abort,
-    alloc: Global,
-    cnf: &'x str,
-    proof: Option<&'x str>,
-    warned: &'x str,
-    asked: &'x str,
-) -> Result<(), Fail> {
-    let row = Row {
-        cnf: Some(cnf),
-        proof,
-        fails: &[],
-        status: Status::BadInput,
-        said: "",
-        warned,
-        asked,
-    };
-    check_row(rt, alloc, &row)
-}
-
-const FAULTY_FORMULAS: [(&str, &str); 6] = [
-    ("", "cec: C: bad header\n"),
-    ("p dnf 1 1\n1 0\n", "cec: C: bad header\n"),
-    ("p cnf 1 1\nx 0\n", "cec: C: bad number at byte 10\n"),
-    ("p cnf 1 1\n2 0\n", "cec: C: variable of 2 is too large\n"),
-    ("p cnf 1 2\n1 0\n", "cec: C: 2 clauses announced, 1 found\n"),
-    ("p cnf 1 1\n1", "cec: C: ends too early at byte 11\n"),
+static FAULTY_FORMULAS: [Row; 6] = [
+    Row {
+        files: &[("C", ["", ""])],
+        warned: "cec: C: bad header\n",
+        ..BAD_CNF
+    },
+    Row {
+        files: &[("C", ["p dnf 1 1\n1 0\n", ""])],
+        warned: "cec: C: bad header\n",
+        ..BAD_CNF
+    },
+    Row {
+        files: &[("C", ["p cnf 1 1\nx 0\n", ""])],
+        warned: "cec: C: bad number at byte 10\n",
+        ..BAD_CNF
+    },
+    Row {
+        files: &[("C", ["p cnf 1 1\n2 0\n", ""])],
+        warned: "cec: C: variable of 2 is too large\n",
+        ..BAD_CNF
+    },
+    Row {
+        files: &[("C", ["p cnf 1 2\n1 0\n", ""])],
+        warned: "cec: C: 2 clauses announced, 1 found\n",
+        ..BAD_CNF
+    },
+    Row {
+        files: &[("C", ["p cnf 1 1\n1", ""])],
+        warned: "cec: C: ends too early at byte 11\n",
+        ..BAD_CNF
+    },
 ];
 
 #[test]
-fn faulty_formulas(rt: HostRuntime) -> Result<(), Fail> {
-    for (cnf, warned) in &FAULTY_FORMULAS {
-        check_warned(&rt, rt.alloc(), cnf, None, warned, "C")?;
-    }
-    Ok(())
+fn faulty_formulas(rt: HostRuntime) {
+    check_rows(&rt, rt.alloc(), &FAULTY_FORMULAS);
 }
 
-const FAULTY_PROOFS: [(&str, &str); 4] = [
-    ("13 x 0 0\n", "cec: P: line 1: bad number\n"),
-    ("\n13 -4 5 0 2 3 7\n", "cec: P: line 2: ends too early\n"),
-    ("12 -4 5 0 2 3 7 0\n", "cec: P: line 1: id out of order\n"),
-    ("13 -4 5 0 2 3 -7 0\n", "cec: P: line 1: negative hint\n"),
+static FAULTY_PROOFS: [Row; 4] = [
+    Row {
+        files: &[("C", [CNF, ""]), ("P", ["13 x 0 0\n", ""])],
+        warned: "cec: P: line 1: bad number\n",
+        ..BAD_PROOF
+    },
+    Row {
+        files: &[("C", [CNF, ""]), ("P", ["\n13 -4 5 0 2 3 7\n", ""])],
+        warned: "cec: P: line 2: ends too early\n",
+        ..BAD_PROOF
+    },
+    Row {
+        files: &[("C", [CNF, ""]), ("P", ["12 -4 5 0 2 3 7 0\n", ""])],
+        warned: "cec: P: line 1: id out of order\n",
+        ..BAD_PROOF
+    },
+    Row {
+        files: &[("C", [CNF, ""]), ("P", ["13 -4 5 0 2 3 -7 0\n", ""])],
+        warned: "cec: P: line 1: negative hint\n",
+        ..BAD_PROOF
+    },
 ];
 
 #[test]
-fn faulty_proofs(rt: HostRuntime) -> Result<(), Fail> {
-    for (proof, warned) in &FAULTY_PROOFS {
-        check_warned(&rt, rt.alloc(), CNF, Some(proof), warned, "CP")?;
-    }
-    Ok(())
+fn faulty_proofs(rt: HostRuntime) {
+    check_rows(&rt, rt.alloc(), &FAULTY_PROOFS);
 }
 
-/// The CNF, the proof, the warning and the files that are read.
-const MISSING: [(Option<&str>, Option<&str>, &str, &str); 3] = [
-    (None, None, "cec: C: cannot read\n", "C"),
-    (None, Some(FIRST), "cec: C: cannot read\n", "C"),
-    (Some(CNF), None, "cec: P: cannot read\n", "CP"),
+static MISSING: [Row; 3] = [
+    Row {
+        files: &[],
+        status: Status::CannotRead,
+        warned: "cec: C: cannot read\n",
+        ..BAD_CNF
+    },
+    Row {
+        files: &[("P", [FIRST, ""])],
+        status: Status::CannotRead,
+        warned: "cec: C: cannot read\n",
+        ..BAD_CNF
+    },
+    Row {
+        files: &[("C", [CNF, ""])],
+        status: Status::CannotRead,
+        warned: "cec: P: cannot read\n",
+        ..BAD_PROOF
+    },
 ];
 
 #[test]
-fn missing_files(rt: HostRuntime) -> Result<(), Fail> {
-    for (cnf, proof, warned, asked) in &MISSING {
-        let row = Row {
-            cnf: *cnf,
-            proof: *proof,
-            fails: &[],
-            status: Status::CannotRead,
-            said: "",
-            warned,
-            asked,
-        };
-        check_row(&rt, rt.alloc(), &row)?;
-    }
-    Ok(())
+fn missing_files(rt: HostRuntime) {
+    check_rows(&rt, rt.alloc(), &MISSING);
 }
 
-/// The CNF, the calls that fail, and what the command comes to. The calls are two reads, and what is said or
-/// warned.
-const FAILING: [(&str, &[u64], Status, &str, &str); 5] = [
-    (CNF, &[0], Status::CannotRead, "cec: C: cannot read\n", "C"),
-    (CNF, &[1], Status::CannotRead, "cec: P: cannot read\n", "CP"),
-    (CNF, &[2], Status::CannotWrite, "cec: cannot write\n", "CP"),
-    (CNF, &[2, 3], Status::CannotWrite, "", "CP"),
-    ("p", &[1], Status::BadInput, "", "C"),
+/// The calls are two reads, and what is said or warned.
+static FAILING: [Row; 5] = [
+    Row {
+        fails: &[0],
+        status: Status::CannotRead,
+        warned: "cec: C: cannot read\n",
+        ..BAD_CNF
+    },
+    Row {
+        fails: &[1],
+        status: Status::CannotRead,
+        warned: "cec: P: cannot read\n",
+        ..BAD_PROOF
+    },
+    Row {
+        fails: &[2],
+        status: Status::CannotWrite,
+        warned: "cec: cannot write\n",
+        ..BAD_PROOF
+    },
+    Row {
+        fails: &[2, 3],
+        status: Status::CannotWrite,
+        ..BAD_PROOF
+    },
+    Row {
+        files: &[("C", ["p", ""]), ("P", [FIRST, OTHERS])],
+        fails: &[1],
+        ..BAD_CNF
+    },
 ];
 
 #[test]
-fn failing_calls(rt: HostRuntime) -> Result<(), Fail> {
-    let proof = joined(rt.alloc(), FIRST, OTHERS)?;
-    for (cnf, fails, status, warned, asked) in &FAILING {
-        let row = Row {
-            cnf: Some(cnf),
-            proof: Some(proof.as_str()),
-            fails,
-            status: *status,
-            said: "",
-            warned,
-            asked,
-        };
-        check_row(&rt, rt.alloc(), &row)?;
-    }
-    Ok(())
+fn failing_calls(rt: HostRuntime) {
+    check_rows(&rt, rt.alloc(), &FAILING);
 }

@@ -1,4 +1,4 @@
-use command_line::{Asked, CheckWords, Refusal, SelfWords, read};
+use command_line::{Asked, CheckWords, Refusal, read};
 use std::alloc::{AllocError, Global};
 use std::process::Abort;
 use std::test::Fail;
@@ -111,6 +111,20 @@ For more information, try '--help'.
 ";
 
 const NO_HELP: &str = "usage: cec: no command help\n";
+
+/// Words, and the text that they are told.
+const HELP_AND_USAGE: [(&str, &str); 10] = [
+    ("cec --help", PROGRAM_HELP),
+    ("cec -h", PROGRAM_HELP),
+    ("cec check --help", CHECK_HELP),
+    ("cec check x y -h", CHECK_HELP),
+    ("cec lrat --help", LRAT_HELP),
+    ("cec self --help", SELF_HELP),
+    ("cec", NO_COMMAND),
+    ("cec self help 1", NO_KIND),
+    ("cec help", NO_HELP),
+    ("cec help check", NO_HELP),
+];
 
 /// Words, and what they are told.
 const TAKEN: [(&str, &str); 20] = [
@@ -282,74 +296,61 @@ fn told_check(alloc: Global, check: &CheckWords<'_>) -> Result<String, AllocErro
     )
 }
 
-fn told_self(alloc: Global, own: &SelfWords) -> Result<String, AllocError> {
-    let kind = match own.kind {
+fn name_of(kind: Kind) -> &'static str {
+    match kind {
         Kind::Adder => "an adder",
         Kind::Parity => "a parity",
         Kind::Comparator => "a comparator",
-    };
-    format!(in alloc; "{kind} of {}", own.n)
-}
-
-fn told_asked(alloc: Global, asked: &Asked<'_>) -> Result<String, AllocError> {
-    match asked {
-        Asked::Check(check) => told_check(alloc, check),
-        Asked::Lrat(lrat) => format!(in alloc; "{} of {}", lrat.proof, lrat.cnf),
-        Asked::SelfCheck(own) => told_self(alloc, own),
     }
 }
 
-fn told_refusal(alloc: Global, refusal: &Refusal) -> Result<String, Fail> {
-    match refusal {
-        Refusal::Help(text) => Ok(format!(in alloc; "help: {text}")?),
-        Refusal::Usage(text) => Ok(format!(in alloc; "usage: {text}")?),
-        Refusal::NoMemory => Err(Fail::from("out of memory")),
+/// What `read` answered: the request, or the text of the refusal with its kind before it.
+fn told(alloc: Global, answer: &Result<Asked<'_>, Refusal>) -> Result<String, AllocError> {
+    match answer {
+        Ok(Asked::Check(check)) => told_check(alloc, check),
+        Ok(Asked::Lrat(lrat)) => format!(in alloc; "{} of {}", lrat.proof, lrat.cnf),
+        Ok(Asked::SelfCheck(own)) => format!(in alloc; "{} of {}", name_of(own.kind), own.n),
+        Err(Refusal::Help(text)) => format!(in alloc; "help: {text}"),
+        Err(Refusal::Usage(text)) => format!(in alloc; "usage: {text}"),
+        Err(Refusal::NoMemory) => Err(AllocError),
     }
 }
 
-/// What `read` answers to the words of a line: the request, or the text of the refusal with its kind before
-/// it.
-fn told(alloc: Global, line: &str) -> Result<String, Fail> {
-    let words = words_of(alloc, line)?;
-    match read(alloc, words.as_slice()) {
-        Ok(asked) => Ok(told_asked(alloc, &asked)?),
-        Err(refusal) => told_refusal(alloc, &refusal),
-    }
+/// What the words of a line are told.
+fn answer(alloc: Global, line: &str) -> Result<String, AllocError> {
+    told(alloc, &read(alloc, words_of(alloc, line)?.as_slice()))
 }
 
 fn check_told(rt: &impl Abort, alloc: Global, line: &str, expected: &str) -> Result<(), Fail> {
-    let text = told(alloc, line)?;
+    let text = answer(alloc, line)?;
     assert!(rt; text.as_str() == expected, "{line}: {text}");
+    Ok(())
+}
+
+fn check_rows(rt: &impl Abort, alloc: Global, rows: &[(&str, &str)]) -> Result<(), Fail> {
+    for (line, expected) in rows {
+        check_told(rt, alloc, line, expected)?;
+    }
     Ok(())
 }
 
 #[test]
 fn help_and_usage_texts(rt: HostRuntime) -> Result<(), Fail> {
-    let alloc = rt.alloc();
-    check_told(&rt, alloc, "cec --help", PROGRAM_HELP)?;
-    check_told(&rt, alloc, "cec -h", PROGRAM_HELP)?;
-    check_told(&rt, alloc, "cec check --help", CHECK_HELP)?;
-    check_told(&rt, alloc, "cec check x y -h", CHECK_HELP)?;
-    check_told(&rt, alloc, "cec lrat --help", LRAT_HELP)?;
-    check_told(&rt, alloc, "cec self --help", SELF_HELP)?;
-    check_told(&rt, alloc, "cec", NO_COMMAND)?;
-    check_told(&rt, alloc, "cec self help 1", NO_KIND)?;
-    check_told(&rt, alloc, "cec help", NO_HELP)?;
-    check_told(&rt, alloc, "cec help check", NO_HELP)
+    check_rows(&rt, rt.alloc(), &HELP_AND_USAGE)
 }
 
 #[test]
 fn taken_words(rt: HostRuntime) -> Result<(), Fail> {
-    for (line, expected) in &TAKEN {
-        check_told(&rt, rt.alloc(), line, expected)?;
-    }
-    Ok(())
+    check_rows(&rt, rt.alloc(), &TAKEN)
 }
 
 fn check_refused(rt: &impl Abort, alloc: Global, line: &str, expected: &str) -> Result<(), Fail> {
-    let text = told(alloc, line)?;
-    let start = format!(in alloc; "usage: error: {expected}")?;
-    assert!(rt; text.as_str().starts_with(start.as_str()), "{line}: {text}");
+    let text = answer(alloc, line)?;
+    let is_refused = match text.as_str().strip_prefix("usage: error: ") {
+        Some(rest) => rest.starts_with(expected),
+        None => false,
+    };
+    assert!(rt; is_refused, "{line}: {text}");
     Ok(())
 }
 
