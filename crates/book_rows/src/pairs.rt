@@ -22,6 +22,23 @@ pub(crate) fn net_of(
     }
 }
 
+/// What a test checks of a net.
+pub(crate) trait Case {
+    /// Checks it over the net.
+    fn check<A: Abort>(&self, rt: &A, alloc: Global, net: &Net) -> Result<(), Fail>;
+}
+
+/// Checks a case over a net that the test makes in the call. It stands for all cases, since a function that
+/// drops a net takes seconds to prove.
+pub(crate) fn check<A: Abort, C: Case>(
+    rt: &A,
+    alloc: Global,
+    net: Result<Net, Fail>,
+    case: &C,
+) -> Result<(), Fail> {
+    case.check(rt, alloc, &net?)
+}
+
 /// Two ANDs of two inputs, a3 and b3, whose fanins stand in the other order.
 pub(crate) fn swapped_ands(alloc: Global) -> Result<Net, Fail> {
     let (a, b) = worked_circuits::swapped_ands(alloc)?;

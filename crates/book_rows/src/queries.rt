@@ -6,13 +6,13 @@ ghost use Rattle.cone_query.specs.Query.{IsGate};
 
 use crate::entries::MERGE;
 use crate::lemmas::{Row, book_of};
-use crate::pairs::{expect, swapped_ands, two_xors};
+use crate::pairs::{Case, check, expect, swapped_ands, two_xors};
 use cone_query::{output, pair};
 use lemma_book::{Book, Entry, Task};
 use lits::{Lit, Node, Ref, Side, Step};
 use netlist::Net;
 use solver_plain::PlainSolver;
-use std::alloc::{AllocError, Global};
+use std::alloc::Global;
 use std::process::Abort;
 use std::test::Fail;
 
@@ -33,27 +33,22 @@ fn answer_of_pair(
     net: &Net,
     task: &Task,
     budget: u64,
-) -> Result<Entry, AllocError>
+) -> Result<Entry, Fail>
     requires gate { IsGate task.now.node }
     requires budget { (1 ≤ budget) × (budget ≤ 1000000000) }
 {
     assert!(rt; is_earlier(net, task));
     let seen = Book::new(alloc, budget, 1);
-    pair(alloc, net, &seen, task, &mut PlainSolver::new(alloc))
+    Ok(pair(alloc, net, &seen, task, &mut PlainSolver::new(alloc))?)
 }
 
 /// The answer about output 0.
-fn answer_of_output(
-    rt: &impl Abort,
-    alloc: Global,
-    net: &Net,
-    seen: &Book,
-) -> Result<Entry, AllocError>
+fn answer_of_output(rt: &impl Abort, alloc: Global, net: &Net, seen: &Book) -> Result<Entry, Fail>
     requires { IsLegal net.now seen.now }
 {
     assert!(rt; net.outputs() > 0);
     assert!(rt; seen.about(0).is_none());
-    output(alloc, net, seen, 0, &mut PlainSolver::new(alloc))
+    Ok(output(alloc, net, seen, 0, &mut PlainSolver::new(alloc))?)
 }
 
 const LAST_GATES: Task = Task {
@@ -73,12 +68,7 @@ const AND_AND_INPUT: Task = Task {
 };
 
 /// The answer about output 0 over an empty book, with so many clauses for an output.
-fn answer_within(
-    rt: &impl Abort,
-    alloc: Global,
-    net: &Net,
-    budget: u64,
-) -> Result<Entry, AllocError>
+fn answer_within(rt: &impl Abort, alloc: Global, net: &Net, budget: u64) -> Result<Entry, Fail>
     requires { (1 ≤ budget) × (budget ≤ 1000000000) }
 {
     answer_of_output(rt, alloc, net, &Book::new(alloc, 1, budget))
@@ -89,7 +79,7 @@ static MERGED: [Row<'static>; 1] = [(MERGE, "Ok(At(0))")];
 /// The answer about the swapped ANDs over the book of their merge.
 fn answer_of_merged(rt: &impl Abort, alloc: Global, net: &Net) -> Result<Entry, Fail> {
     let seen = book_of(rt, alloc, net, 1, &MERGED)?;
-    Ok(answer_of_output(rt, alloc, net, &seen)?)
+    answer_of_output(rt, alloc, net, &seen)
 }
 
 fn is_step(step: &Step, lits: &[Lit], hints: &[Ref]) -> bool {
@@ -142,13 +132,13 @@ enum Asked {
 }
 
 fn answer(rt: &impl Abort, alloc: Global, net: &Net, asked: &Asked) -> Result<Entry, Fail> {
-    Ok(match asked {
-        Asked::LastGates => answer_of_pair(rt, alloc, net, &LAST_GATES, 100_000)?,
-        Asked::AndAndInput => answer_of_pair(rt, alloc, net, &AND_AND_INPUT, 1000)?,
-        Asked::Output => answer_within(rt, alloc, net, 100_000)?,
-        Asked::OutputWithinOne => answer_within(rt, alloc, net, 1)?,
-        Asked::Merged => answer_of_merged(rt, alloc, net)?,
-    })
+    match asked {
+        Asked::LastGates => answer_of_pair(rt, alloc, net, &LAST_GATES, 100_000),
+        Asked::AndAndInput => answer_of_pair(rt, alloc, net, &AND_AND_INPUT, 1000),
+        Asked::Output => answer_within(rt, alloc, net, 100_000),
+        Asked::OutputWithinOne => answer_within(rt, alloc, net, 1),
+        Asked::Merged => answer_of_merged(rt, alloc, net),
+    }
 }
 
 /// The answer in words.
@@ -165,82 +155,50 @@ fn words_of(entry: &Entry) -> &'static str {
     }
 }
 
-fn check_answer(
-    rt: &impl Abort,
-    alloc: Global,
-    net: &Net,
-    asked: &Asked,
-    expected: &str,
-) -> Result<(), Fail> {
-    let entry = answer(rt, alloc, net, asked)?;
-    expect(rt, expected, words_of(&entry) == expected);
-    Ok(())
+/// What is asked, and the answer in words.
+type Question = (Asked, &'static str);
+
+impl Case for Question {
+    fn check<A: Abort>(&self, rt: &A, alloc: Global, net: &Net) -> Result<(), Fail> {
+        let entry = answer(rt, alloc, net, &self.0)?;
+        expect(rt, self.1, words_of(&entry) == self.1);
+        Ok(())
+    }
 }
 
-/// The same over a net that a case makes in the call.
-fn check(
-    rt: &impl Abort,
-    alloc: Global,
-    net: Result<Net, Fail>,
-    asked: &Asked,
-    expected: &str,
-) -> Result<(), Fail> {
-    check_answer(rt, alloc, &net?, asked, expected)
-}
+static LAST: Question = (Asked::LastGates, "the last gates are merged");
 
 #[test]
 fn pair_merge(rt: HostRuntime) -> Result<(), Fail> {
-    check(
-        &rt,
-        rt.alloc(),
-        two_xors(rt.alloc()),
-        &Asked::LastGates,
-        "the last gates are merged",
-    )
+    check(&rt, rt.alloc(), two_xors(rt.alloc()), &LAST)
 }
+
+static APART: Question = (Asked::AndAndInput, "apart by 10");
 
 /// The AND of both inputs is the first one but where the second is false.
 #[test]
 fn pair_apart(rt: HostRuntime) -> Result<(), Fail> {
-    check(
-        &rt,
-        rt.alloc(),
-        swapped_ands(rt.alloc()),
-        &Asked::AndAndInput,
-        "apart by 10",
-    )
+    check(&rt, rt.alloc(), swapped_ands(rt.alloc()), &APART)
 }
+
+static OUTPUT: Question = (Asked::Output, "equal");
 
 #[test]
 fn output_query(rt: HostRuntime) -> Result<(), Fail> {
-    check(
-        &rt,
-        rt.alloc(),
-        two_xors(rt.alloc()),
-        &Asked::Output,
-        "equal",
-    )
+    check(&rt, rt.alloc(), two_xors(rt.alloc()), &OUTPUT)
 }
+
+static WITHIN_ONE: Question = (Asked::OutputWithinOne, "a log of one clause");
 
 /// For want of units there is a log of one clause over the empty book.
 #[test]
 fn output_query_within_one_clause(rt: HostRuntime) -> Result<(), Fail> {
-    check(
-        &rt,
-        rt.alloc(),
-        two_xors(rt.alloc()),
-        &Asked::OutputWithinOne,
-        "a log of one clause",
-    )
+    check(&rt, rt.alloc(), two_xors(rt.alloc()), &WITHIN_ONE)
 }
+
+static EQUAL_ROOTS: Question = (Asked::Merged, "equal by two steps");
 
 #[test]
 fn output_of_equal_roots(rt: HostRuntime) -> Result<(), Fail> {
-    check(
-        &rt,
-        rt.alloc(),
-        swapped_ands(rt.alloc()),
-        &Asked::Merged,
-        "equal by two steps",
-    )
+    check(&rt, rt.alloc(), swapped_ands(rt.alloc()), &EQUAL_ROOTS)
 }
