@@ -53,7 +53,7 @@ fn refuted<D: Desk>(alloc: Global, net: &Net, desk: &mut D) -> Result<u64, Stitc
 }
 
 /// Whether the refutation is one line, and the desk has these bytes.
-fn is_refuted(alloc: Global, net: &Net, desk: &mut MemDesk, text: &[u8]) -> Result<bool, StitchErr>
+fn is_refuted(alloc: Global, net: &Net, desk: &mut MemDesk, text: &[u8]) -> Result<bool, Fail>
     requires quiet { (state_of desk.old).started ≡ None }
     requires outputs { length net.now.a.outputs ≡ 0 }
 {
@@ -97,7 +97,7 @@ fn is_derived(
     book: &Book,
     desk: &mut MemDesk,
     case: &Derivation,
-) -> Result<bool, StitchErr>
+) -> Result<bool, Fail>
     requires quiet { (state_of desk.old).started ≡ None }
     requires legal { IsLegal net.now book.now }
 {
