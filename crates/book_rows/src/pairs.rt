@@ -1,4 +1,4 @@
-//! The nets that most cases are about, and how a test says what isn't so.
+//! The nets that most cases are about, how a case is checked over a net, and how a test says what isn't so.
 
 use netlist::{Circuit, Net};
 use std::alloc::{AllocError, Global};
