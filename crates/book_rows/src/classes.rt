@@ -3,7 +3,7 @@ ghost use Rattle.netlist.specs.Net.{nodes_of};
 ghost use Rattle.lemma_book.specs.Book.{IsLegal};
 
 use crate::lemmas::{Row, book_of};
-use crate::pairs::{expect, net_of, two_xors};
+use crate::pairs::{Case, check, expect, net_of, two_xors};
 use lemma_book::{Book, Task};
 use lits::{Lit, Node, Side};
 use netlist::Net;
@@ -48,21 +48,15 @@ fn are_tasks(
     Ok(found.as_slice() == expected)
 }
 
-/// Checks what is to be asked where the book is empty.
-fn check_empty(rt: &impl Abort, alloc: Global, net: &Net, expected: &[Task]) -> Result<(), Fail> {
-    let are_expected = are_tasks(rt, alloc, net, &Book::new(alloc, 1, 1), expected)?;
-    expect(rt, "the tasks", are_expected);
-    Ok(())
-}
+/// What is to be asked where the book is empty.
+struct Tasks(&'static [Task]);
 
-/// The same over a net that a case makes in the call.
-fn check_tasks(
-    rt: &impl Abort,
-    alloc: Global,
-    net: Result<Net, Fail>,
-    expected: &[Task],
-) -> Result<(), Fail> {
-    check_empty(rt, alloc, &net?, expected)
+impl Case for Tasks {
+    fn check<A: Abort>(&self, rt: &A, alloc: Global, net: &Net) -> Result<(), Fail> {
+        let are_expected = are_tasks(rt, alloc, net, &Book::new(alloc, 1, 1), self.0)?;
+        expect(rt, "the tasks", are_expected);
+        Ok(())
+    }
 }
 
 const A5: Node = Node::Gate(Side::A, 5);
@@ -78,11 +72,11 @@ const PAIR: Task = Task {
     },
 };
 
-static OF_XORS: [Task; 1] = [PAIR];
+static OF_XORS: Tasks = Tasks(&[PAIR]);
 
 #[test]
 fn tasks_of_two_xors(rt: HostRuntime) -> Result<(), Fail> {
-    check_tasks(&rt, rt.alloc(), two_xors(rt.alloc()), &OF_XORS)
+    check(&rt, rt.alloc(), two_xors(rt.alloc()), &OF_XORS)
 }
 
 /// What a query with a budget of one clause learned of the pair: where both gates are true, so is x.
@@ -91,16 +85,21 @@ static SPENT: [Row<'static>; 1] = [(
     "Ok(At(0))",
 )];
 
-fn check_spent(rt: &impl Abort, alloc: Global, net: &Net) -> Result<(), Fail> {
-    let book = book_of(rt, alloc, net, 1, &SPENT)?;
-    expect(rt, "no task", are_tasks(rt, alloc, net, &book, &[])?);
-    Ok(())
+/// Nothing is to be asked after that query.
+struct NoTask;
+
+impl Case for NoTask {
+    fn check<A: Abort>(&self, rt: &A, alloc: Global, net: &Net) -> Result<(), Fail> {
+        let book = book_of(rt, alloc, net, 1, &SPENT)?;
+        expect(rt, "no task", are_tasks(rt, alloc, net, &book, &[])?);
+        Ok(())
+    }
 }
 
 /// A pair whose budget was spent is no task again.
 #[test]
 fn spent_pair(rt: HostRuntime) -> Result<(), Fail> {
-    check_spent(&rt, rt.alloc(), &two_xors(rt.alloc())?)
+    check(&rt, rt.alloc(), two_xors(rt.alloc()), &NoTask)
 }
 
 const FIRST: Lit = Lit {
@@ -118,17 +117,21 @@ fn check_leaders(rt: &impl Abort, net: &Net, sigs: &Sigs, book: &Book)
     expect(rt, "A's gate", leader(net, sigs, book, A5) == FIRST);
 }
 
-/// Checks who leads where the book is empty.
-fn check_led(rt: &impl Abort, alloc: Global, net: &Net) -> Result<(), Fail> {
-    check_leaders(rt, net, &rows(rt, alloc, net)?, &Book::new(alloc, 1, 1));
-    Ok(())
+/// Who leads where the book is empty.
+struct FirstOfClass;
+
+impl Case for FirstOfClass {
+    fn check<A: Abort>(&self, rt: &A, alloc: Global, net: &Net) -> Result<(), Fail> {
+        check_leaders(rt, net, &rows(rt, alloc, net)?, &Book::new(alloc, 1, 1));
+        Ok(())
+    }
 }
 
 /// A gate of a class is led by the first of the class, as it is or as its complement; who is first
 /// leads itself.
 #[test]
 fn leaders(rt: HostRuntime) -> Result<(), Fail> {
-    check_led(&rt, rt.alloc(), &two_xors(rt.alloc())?)
+    check(&rt, rt.alloc(), two_xors(rt.alloc()), &FirstOfClass)
 }
 
 /// A gate that is an input, its negation, and false.
@@ -137,7 +140,7 @@ fn complements(alloc: Global) -> Result<Net, Fail> {
     net_of(alloc, a, two_input_circuit(alloc, &[and(3, 5, 1)], 6))
 }
 
-static OF_COMPLEMENTS: [Task; 3] = [
+static OF_COMPLEMENTS: Tasks = Tasks(&[
     Task {
         node: Node::Gate(Side::A, 3),
         lit: Lit {
@@ -159,10 +162,10 @@ static OF_COMPLEMENTS: [Task; 3] = [
             neg: true,
         },
     },
-];
+]);
 
 /// Gates that are an input, its negation and false: their classes begin with the input and with the constant.
 #[test]
 fn classes_with_complements(rt: HostRuntime) -> Result<(), Fail> {
-    check_tasks(&rt, rt.alloc(), complements(rt.alloc()), &OF_COMPLEMENTS)
+    check(&rt, rt.alloc(), complements(rt.alloc()), &OF_COMPLEMENTS)
 }

@@ -3,12 +3,12 @@
 //!
 //! The tests of a crate stand here and not in it, since a crate with tests is proved twice, and all in one
 //! crate, since what each value drops is proved once in a crate. What they share: `pairs` has the nets that
-//! most cases are about, and `expect`, by which a test says what isn't so; `entries` reads an entry of a book
-//! from a line of text. A net that a case makes in the call is handed on as a result, so that one function
-//! drops it and not each test. Tests: `nets` is of `netlist`, `patterns` of `word_sim`, `classes` of
-//! `sig_classes`, `lemmas` of `lemma_book`, `machine` of `sweep_core`, `structure` of `strash_pass`,
-//! `searches` of `circuit_search`, `queries` of `cone_query`, `sessions` of `check_session`, `stitching` of
-//! `proof_stitch`. Begin to read at `nets.rt`.
+//! most cases are about, `Case`, which is what a test checks of a net, and `expect`, by which it says what
+//! isn't so; `entries` reads an entry of a book from a line of text. A net that a test makes in the call is
+//! handed on as a result, so that `pairs::check` alone drops it and not each test. Tests: `nets` is of
+//! `netlist`, `patterns` of `word_sim`, `classes` of `sig_classes`, `lemmas` of `lemma_book`, `machine` of
+//! `sweep_core`, `structure` of `strash_pass`, `searches` of `circuit_search`, `queries` of `cone_query`,
+//! `sessions` of `check_session`, `stitching` of `proof_stitch`. Begin to read at `nets.rt`.
 #![tactic(auto)]
 
 #[cfg(test)]

@@ -4,7 +4,7 @@ ghost use Rattle.lemma_book.specs.Book.{IsLegal};
 ghost use Rattle.lemma_book.specs.Good.{IsGood};
 
 use crate::entries::{self, MERGE};
-use crate::pairs::{expect, swapped_ands};
+use crate::pairs::{Case, check, expect, swapped_ands};
 use lemma_book::{Book, Entry, Judgement, Offered};
 use netlist::Net;
 use std::alloc::{AllocError, Global};
@@ -63,15 +63,20 @@ const REPLIES: [Reply; 4] = [
     Reply::Task(None),
 ];
 
-fn check_replies(rt: &impl Abort, alloc: Global, net: &Net) -> Result<(), Fail> {
-    let book = Book::new(alloc, 1, 1);
-    let entry = good_merge(alloc, net, &book)?;
-    let replies = replies_to(alloc, net, book, entry)?;
-    expect(rt, "the replies", replies.as_slice() == REPLIES.as_slice());
-    Ok(())
+/// The replies to the events over an empty book.
+struct Replies;
+
+impl Case for Replies {
+    fn check<A: Abort>(&self, rt: &A, alloc: Global, net: &Net) -> Result<(), Fail> {
+        let book = Book::new(alloc, 1, 1);
+        let entry = good_merge(alloc, net, &book)?;
+        let replies = replies_to(alloc, net, book, entry)?;
+        expect(rt, "the replies", replies.as_slice() == REPLIES.as_slice());
+        Ok(())
+    }
 }
 
 #[test]
 fn core_events(rt: HostRuntime) -> Result<(), Fail> {
-    check_replies(&rt, rt.alloc(), &swapped_ands(rt.alloc())?)
+    check(&rt, rt.alloc(), swapped_ands(rt.alloc()), &Replies)
 }

@@ -1,7 +1,7 @@
 ghost use Rattle.std.specs.Prelude.{◌≡◌};
 ghost use Rattle.worked_circuits.specs.Worked.{one_gate};
 
-use crate::pairs::{self, expect, swapped_ands};
+use crate::pairs::{self, Case, check, expect, swapped_ands};
 use lits::{Clause, Dim, Lit, Node, Side};
 use netlist::{And, Circuit, Definition, Fanins, Net, Placed, Unlike, VariableTable, laws};
 use std::alloc::{AllocError, Global};
@@ -197,29 +197,33 @@ fn check_facts(rt: &impl Abort, net: &Net, facts: &[Fact]) {
     }
 }
 
-/// The same of a net that a case makes in the call.
-fn check(rt: &impl Abort, net: Result<Net, Fail>, facts: &[Fact]) -> Result<(), Fail> {
-    check_facts(rt, &net?, facts);
-    Ok(())
+/// What is so of a net.
+struct Facts(&'static [Fact]);
+
+impl Case for Facts {
+    fn check<A: Abort>(&self, rt: &A, _alloc: Global, net: &Net) -> Result<(), Fail> {
+        check_facts(rt, net, self.0);
+        Ok(())
+    }
 }
 
 const GATE: Node = Node::Gate(Side::B, 3);
 
 #[test]
 fn net_of(rt: HostRuntime) -> Result<(), Fail> {
-    check(&rt, swapped_ands(rt.alloc()), &POSITIONS)
+    check(&rt, rt.alloc(), swapped_ands(rt.alloc()), &POSITIONS)
 }
 
-static POSITIONS: [Fact; 4] = [
+static POSITIONS: Facts = Facts(&[
     Fact::Position(GATE, Some(4)),
     Fact::Position(Node::Gate(Side::B, 2), None),
     Fact::Position(Node::Input(1), Some(2)),
     Fact::Position(Node::Xor(0), None),
-];
+]);
 
 #[test]
 fn miter_of_n1(rt: HostRuntime) -> Result<(), Fail> {
-    check(&rt, swapped_ands(rt.alloc()), &NUMBERS)
+    check(&rt, rt.alloc(), swapped_ands(rt.alloc()), &NUMBERS)
 }
 
 const NOT_GATE: Lit = Lit {
@@ -227,13 +231,13 @@ const NOT_GATE: Lit = Lit {
     neg: true,
 };
 
-static NUMBERS: [Fact; 5] = [
+static NUMBERS: Facts = Facts(&[
     Fact::ClauseNumber(GATE, 2, Some(7)),
     Fact::ClauseNumber(GATE, 3, None),
     Fact::ClauseNumber(Node::Xor(0), 0, Some(8)),
     Fact::Number(NOT_GATE, -5),
     Fact::AxiomBegins(GATE, NOT_GATE),
-];
+]);
 
 /// Whether the copy has the gates and the numbers of the net.
 fn is_copy(net: &Net, copy: &Net) -> bool {
@@ -242,20 +246,25 @@ fn is_copy(net: &Net, copy: &Net) -> bool {
         && copy.clause_number(GATE, 2) == Some(7)
 }
 
-fn check_copy(rt: &impl Abort, alloc: Global, net: &Net) -> Result<(), Fail> {
-    expect(rt, "a copy", is_copy(net, &net.copy(alloc)?));
-    Ok(())
+/// A copy is as the net.
+struct Copied;
+
+impl Case for Copied {
+    fn check<A: Abort>(&self, rt: &A, alloc: Global, net: &Net) -> Result<(), Fail> {
+        expect(rt, "a copy", is_copy(net, &net.copy(alloc)?));
+        Ok(())
+    }
 }
 
 #[test]
 fn copy_of_a_net(rt: HostRuntime) -> Result<(), Fail> {
-    check_copy(&rt, rt.alloc(), &swapped_ands(rt.alloc())?)
+    check(&rt, rt.alloc(), swapped_ands(rt.alloc()), &Copied)
 }
 
 /// What is read of a net: what defines a node, its axioms, sizes, literals and sides.
 #[test]
 fn readers_of_a_net(rt: HostRuntime) -> Result<(), Fail> {
-    check(&rt, swapped_ands(rt.alloc()), &READERS)
+    check(&rt, rt.alloc(), swapped_ands(rt.alloc()), &READERS)
 }
 
 const DEFINITION: Definition = Definition {
@@ -270,7 +279,7 @@ const DEFINITION: Definition = Definition {
     },
 };
 
-static READERS: [Fact; 12] = [
+static READERS: Facts = Facts(&[
     Fact::Definition(GATE, Some(DEFINITION)),
     Fact::Definition(Node::Const, None),
     Fact::Axioms(Node::Const, 1),
@@ -283,7 +292,7 @@ static READERS: [Fact; 12] = [
     Fact::Output(Side::A, 0, true),
     Fact::Output(Side::A, 1, false),
     Fact::Circuit(Side::B, &[1, 2], &[6], 1),
-];
+]);
 
 /// The AND of the inputs, and one over a constant and a complement.
 fn one_and_another(alloc: Global) -> Result<Net, Fail> {
@@ -292,7 +301,7 @@ fn one_and_another(alloc: Global) -> Result<Net, Fail> {
 
 #[test]
 fn fanins_by_position(rt: HostRuntime) -> Result<(), Fail> {
-    check(&rt, one_and_another(rt.alloc()), &FANINS)
+    check(&rt, rt.alloc(), one_and_another(rt.alloc()), &FANINS)
 }
 
 const OF_INPUTS: Fanins = Fanins {
@@ -317,12 +326,12 @@ const OF_TRUE: Fanins = Fanins {
     },
 };
 
-static FANINS: [Fact; 4] = [
+static FANINS: Facts = Facts(&[
     Fact::Fanins(0, Some(OF_INPUTS)),
     Fact::Fanins(1, Some(OF_TRUE)),
     Fact::Fanins(2, None),
     Fact::AllFanins(&[OF_INPUTS, OF_TRUE]),
-];
+]);
 
 fn check_places(rt: &impl Abort, table: &VariableTable) {
     expect(rt, "the constant's place", table.place(0) == Some(0));

@@ -1,4 +1,4 @@
-//! The nets that most cases are about, and how a test says what isn't so.
+//! The nets that most cases are about, how a case is checked over a net, and how a test says what isn't so.
 
 use netlist::{Circuit, Net};
 use std::alloc::{AllocError, Global};
@@ -20,6 +20,23 @@ pub(crate) fn net_of(
         Ok(net) => Ok(net),
         Err(_) => Err("a net".into()),
     }
+}
+
+/// What a test checks of a net.
+pub(crate) trait Case {
+    /// Checks it over the net.
+    fn check<A: Abort>(&self, rt: &A, alloc: Global, net: &Net) -> Result<(), Fail>;
+}
+
+/// Checks a case over a net that the test makes in the call. It stands for all cases, since a function that
+/// drops a net takes seconds to prove.
+pub(crate) fn check<A: Abort, C: Case>(
+    rt: &A,
+    alloc: Global,
+    net: Result<Net, Fail>,
+    case: &C,
+) -> Result<(), Fail> {
+    case.check(rt, alloc, &net?)
 }
 
 /// Two ANDs of two inputs, a3 and b3, whose fanins stand in the other order.

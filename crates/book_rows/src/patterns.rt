@@ -1,7 +1,7 @@
 ghost use Rattle.std.specs.Prelude.{◌≡◌, ◌≤◌, length};
 ghost use Rattle.std.specs.Bool.{OnTrue};
 
-use crate::pairs::{expect, net_of, swapped_ands};
+use crate::pairs::{Case, check, expect, net_of, swapped_ands};
 use lits::Side;
 use netlist::Net;
 use std::alloc::{AllocError, Global};
@@ -66,19 +66,24 @@ fn check_rows(rt: &impl Abort, sigs: &Sigs)
     expect(rt, "row 4", sigs.row(4) == ROWS[4].as_slice());
 }
 
-fn check_signatures(rt: &impl Abort, alloc: Global, net: &Net) -> Result<(), Fail> {
-    let pool = pool(alloc)?;
-    assert!(rt; fits(net, &pool));
-    let sigs = signatures(alloc, net, &pool)?;
-    expect(rt, "65 patterns", sigs.patterns() == 65);
-    assert!(rt; net.positions() >= 5);
-    check_rows(rt, &sigs);
-    Ok(())
+/// The rows of five nodes.
+struct RowByRow;
+
+impl Case for RowByRow {
+    fn check<A: Abort>(&self, rt: &A, alloc: Global, net: &Net) -> Result<(), Fail> {
+        let pool = pool(alloc)?;
+        assert!(rt; fits(net, &pool));
+        let sigs = signatures(alloc, net, &pool)?;
+        expect(rt, "65 patterns", sigs.patterns() == 65);
+        assert!(rt; net.positions() >= 5);
+        check_rows(rt, &sigs);
+        Ok(())
+    }
 }
 
 #[test]
 fn rows_of_swapped_ands(rt: HostRuntime) -> Result<(), Fail> {
-    check_signatures(&rt, rt.alloc(), &swapped_ands(rt.alloc())?)
+    check(&rt, rt.alloc(), swapped_ands(rt.alloc()), &RowByRow)
 }
 
 const ROWS_OF_COMPLEMENTS: [u64; 10] = [
@@ -103,16 +108,21 @@ fn filled(alloc: Global, net: &Net, pool: &Pool) -> Result<Vec<u64>, AllocError>
     Ok(rows)
 }
 
-fn check_filled(rt: &impl Abort, alloc: Global, net: &Net) -> Result<(), Fail> {
-    let pool = pool(alloc)?;
-    assert!(rt; fits(net, &pool));
-    let rows = filled(alloc, net, &pool)?;
-    expect(
-        rt,
-        "the rows",
-        rows.as_slice() == ROWS_OF_COMPLEMENTS.as_slice(),
-    );
-    Ok(())
+/// The rows of all nodes in one buffer.
+struct OneBuffer;
+
+impl Case for OneBuffer {
+    fn check<A: Abort>(&self, rt: &A, alloc: Global, net: &Net) -> Result<(), Fail> {
+        let pool = pool(alloc)?;
+        assert!(rt; fits(net, &pool));
+        let rows = filled(alloc, net, &pool)?;
+        expect(
+            rt,
+            "the rows",
+            rows.as_slice() == ROWS_OF_COMPLEMENTS.as_slice(),
+        );
+        Ok(())
+    }
 }
 
 /// Gates over complements and over the constant.
@@ -124,5 +134,5 @@ fn complements(alloc: Global) -> Result<Net, Fail> {
 /// cleared.
 #[test]
 fn rows_of_complements(rt: HostRuntime) -> Result<(), Fail> {
-    check_filled(&rt, rt.alloc(), &complements(rt.alloc())?)
+    check(&rt, rt.alloc(), complements(rt.alloc()), &OneBuffer)
 }

@@ -6,7 +6,7 @@ ghost use Rattle.cone_query.specs.Query.{IsGate};
 
 use crate::entries::MERGE;
 use crate::lemmas::{Row, book_of};
-use crate::pairs::{expect, swapped_ands, two_xors};
+use crate::pairs::{Case, check, expect, swapped_ands, two_xors};
 use cone_query::{output, pair};
 use lemma_book::{Book, Entry, Task};
 use lits::{Lit, Node, Ref, Side, Step};
@@ -84,12 +84,17 @@ fn answer_within(
     answer_of_output(rt, alloc, net, &Book::new(alloc, 1, budget))
 }
 
+/// The answer, which fails the test for want of memory alone.
+fn unless_full(answer: Result<Entry, AllocError>) -> Result<Entry, Fail> {
+    Ok(answer?)
+}
+
 static MERGED: [Row<'static>; 1] = [(MERGE, "Ok(At(0))")];
 
 /// The answer about the swapped ANDs over the book of their merge.
 fn answer_of_merged(rt: &impl Abort, alloc: Global, net: &Net) -> Result<Entry, Fail> {
     let seen = book_of(rt, alloc, net, 1, &MERGED)?;
-    Ok(answer_of_output(rt, alloc, net, &seen)?)
+    unless_full(answer_of_output(rt, alloc, net, &seen))
 }
 
 fn is_step(step: &Step, lits: &[Lit], hints: &[Ref]) -> bool {
@@ -142,13 +147,13 @@ enum Asked {
 }
 
 fn answer(rt: &impl Abort, alloc: Global, net: &Net, asked: &Asked) -> Result<Entry, Fail> {
-    Ok(match asked {
-        Asked::LastGates => answer_of_pair(rt, alloc, net, &LAST_GATES, 100_000)?,
-        Asked::AndAndInput => answer_of_pair(rt, alloc, net, &AND_AND_INPUT, 1000)?,
-        Asked::Output => answer_within(rt, alloc, net, 100_000)?,
-        Asked::OutputWithinOne => answer_within(rt, alloc, net, 1)?,
-        Asked::Merged => answer_of_merged(rt, alloc, net)?,
-    })
+    match asked {
+        Asked::LastGates => unless_full(answer_of_pair(rt, alloc, net, &LAST_GATES, 100_000)),
+        Asked::AndAndInput => unless_full(answer_of_pair(rt, alloc, net, &AND_AND_INPUT, 1000)),
+        Asked::Output => unless_full(answer_within(rt, alloc, net, 100_000)),
+        Asked::OutputWithinOne => unless_full(answer_within(rt, alloc, net, 1)),
+        Asked::Merged => answer_of_merged(rt, alloc, net),
+    }
 }
 
 /// The answer in words.
@@ -165,82 +170,50 @@ fn words_of(entry: &Entry) -> &'static str {
     }
 }
 
-fn check_answer(
-    rt: &impl Abort,
-    alloc: Global,
-    net: &Net,
-    asked: &Asked,
-    expected: &str,
-) -> Result<(), Fail> {
-    let entry = answer(rt, alloc, net, asked)?;
-    expect(rt, expected, words_of(&entry) == expected);
-    Ok(())
+/// What is asked, and the answer in words.
+type Question = (Asked, &'static str);
+
+impl Case for Question {
+    fn check<A: Abort>(&self, rt: &A, alloc: Global, net: &Net) -> Result<(), Fail> {
+        let entry = answer(rt, alloc, net, &self.0)?;
+        expect(rt, self.1, words_of(&entry) == self.1);
+        Ok(())
+    }
 }
 
-/// The same over a net that a case makes in the call.
-fn check(
-    rt: &impl Abort,
-    alloc: Global,
-    net: Result<Net, Fail>,
-    asked: &Asked,
-    expected: &str,
-) -> Result<(), Fail> {
-    check_answer(rt, alloc, &net?, asked, expected)
-}
+static LAST: Question = (Asked::LastGates, "the last gates are merged");
 
 #[test]
 fn pair_merge(rt: HostRuntime) -> Result<(), Fail> {
-    check(
-        &rt,
-        rt.alloc(),
-        two_xors(rt.alloc()),
-        &Asked::LastGates,
-        "the last gates are merged",
-    )
+    check(&rt, rt.alloc(), two_xors(rt.alloc()), &LAST)
 }
+
+static APART: Question = (Asked::AndAndInput, "apart by 10");
 
 /// The AND of both inputs is the first one but where the second is false.
 #[test]
 fn pair_apart(rt: HostRuntime) -> Result<(), Fail> {
-    check(
-        &rt,
-        rt.alloc(),
-        swapped_ands(rt.alloc()),
-        &Asked::AndAndInput,
-        "apart by 10",
-    )
+    check(&rt, rt.alloc(), swapped_ands(rt.alloc()), &APART)
 }
+
+static OUTPUT: Question = (Asked::Output, "equal");
 
 #[test]
 fn output_query(rt: HostRuntime) -> Result<(), Fail> {
-    check(
-        &rt,
-        rt.alloc(),
-        two_xors(rt.alloc()),
-        &Asked::Output,
-        "equal",
-    )
+    check(&rt, rt.alloc(), two_xors(rt.alloc()), &OUTPUT)
 }
+
+static WITHIN_ONE: Question = (Asked::OutputWithinOne, "a log of one clause");
 
 /// For want of units there is a log of one clause over the empty book.
 #[test]
 fn output_query_within_one_clause(rt: HostRuntime) -> Result<(), Fail> {
-    check(
-        &rt,
-        rt.alloc(),
-        two_xors(rt.alloc()),
-        &Asked::OutputWithinOne,
-        "a log of one clause",
-    )
+    check(&rt, rt.alloc(), two_xors(rt.alloc()), &WITHIN_ONE)
 }
+
+static EQUAL_ROOTS: Question = (Asked::Merged, "equal by two steps");
 
 #[test]
 fn output_of_equal_roots(rt: HostRuntime) -> Result<(), Fail> {
-    check(
-        &rt,
-        rt.alloc(),
-        swapped_ands(rt.alloc()),
-        &Asked::Merged,
-        "equal by two steps",
-    )
+    check(&rt, rt.alloc(), swapped_ands(rt.alloc()), &EQUAL_ROOTS)
 }

@@ -1,4 +1,4 @@
-use crate::pairs::net_of;
+use crate::pairs::{Case, check, expect, net_of};
 use circuit_search::{Caps, Search};
 use lemma_book::{Book, Entry, Task};
 use lits::{Lit, Node, Side};
@@ -117,76 +117,55 @@ fn found_by_new(alloc: Global, net: &Net, asked: &Asked) -> Result<&'static str,
     found(alloc, net, &mut Search::new(alloc, net, 1, 1)?, asked)
 }
 
-/// Checks what a search finds in a net that a case makes in the call.
-fn check(
-    rt: &impl Abort,
-    alloc: Global,
-    net: Result<Net, Fail>,
-    asked: &Asked,
-    expected: &str,
-) -> Result<(), Fail> {
-    let found = found_by_new(alloc, &net?, asked)?;
-    assert!(rt; found == expected, "{found}");
-    Ok(())
+/// What a search is asked, and what it finds.
+type Row = (Asked, &'static str);
+
+impl Case for Row {
+    fn check<A: Abort>(&self, rt: &A, alloc: Global, net: &Net) -> Result<(), Fail> {
+        expect(rt, self.1, found_by_new(alloc, net, &self.0)? == self.1);
+        Ok(())
+    }
 }
+
+static MERGED: Row = (Asked::Pair(5, true, 10), "merge");
 
 #[test]
 fn two_forms_of_an_xor_are_merged(rt: HostRuntime) -> Result<(), Fail> {
-    check(
-        &rt,
-        rt.alloc(),
-        equal(rt.alloc()),
-        &Asked::Pair(5, true, 10),
-        "merge",
-    )
+    check(&rt, rt.alloc(), equal(rt.alloc()), &MERGED)
 }
+
+static EQUAL: Row = (Asked::Output, "out");
 
 #[test]
 fn two_forms_of_an_output_are_equal(rt: HostRuntime) -> Result<(), Fail> {
-    check(&rt, rt.alloc(), equal(rt.alloc()), &Asked::Output, "out")
+    check(&rt, rt.alloc(), equal(rt.alloc()), &EQUAL)
 }
+
+static APART: Row = (Asked::Pair(3, false, 10), "apart");
 
 #[test]
 fn gates_that_differ_are_apart(rt: HostRuntime) -> Result<(), Fail> {
-    check(
-        &rt,
-        rt.alloc(),
-        different(rt.alloc()),
-        &Asked::Pair(3, false, 10),
-        "apart",
-    )
+    check(&rt, rt.alloc(), different(rt.alloc()), &APART)
 }
+
+static WITHOUT_CHOICES: Row = (Asked::Pair(5, true, 0), "none");
 
 #[test]
 fn a_search_without_choices_gives_up(rt: HostRuntime) -> Result<(), Fail> {
-    check(
-        &rt,
-        rt.alloc(),
-        equal(rt.alloc()),
-        &Asked::Pair(5, true, 0),
-        "none",
-    )
+    check(&rt, rt.alloc(), equal(rt.alloc()), &WITHOUT_CHOICES)
 }
+
+static DIFFERENT: Row = (Asked::Difference, "first of two is true");
 
 /// The AND and the first input without the second differ exactly where the first input is true.
 #[test]
 fn a_pattern_shows_outputs_that_differ(rt: HostRuntime) -> Result<(), Fail> {
-    check(
-        &rt,
-        rt.alloc(),
-        different(rt.alloc()),
-        &Asked::Difference,
-        "first of two is true",
-    )
+    check(&rt, rt.alloc(), different(rt.alloc()), &DIFFERENT)
 }
+
+static NO_PATTERN: Row = (Asked::Difference, "none");
 
 #[test]
 fn no_pattern_shows_equal_outputs_to_differ(rt: HostRuntime) -> Result<(), Fail> {
-    check(
-        &rt,
-        rt.alloc(),
-        equal(rt.alloc()),
-        &Asked::Difference,
-        "none",
-    )
+    check(&rt, rt.alloc(), equal(rt.alloc()), &NO_PATTERN)
 }

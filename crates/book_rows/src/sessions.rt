@@ -44,27 +44,31 @@ fn session_of(alloc: Global, pair: Pair, options: Options) -> Result<Session, Fa
     }
 }
 
-/// The book of the session after its check, whose verdict is this.
-fn checked(
-    rt: &impl Abort,
+/// Checks the session, and whether it has this verdict and its budget.
+fn is_checked(
     alloc: Global,
-    mut session: Session,
+    session: &mut Session,
     sweep_budget: u64,
     expected: &str,
-) -> Result<Book, Fail> {
+) -> Result<bool, AllocError> {
     let verdict = session.check(alloc)?;
-    expect(rt, expected, words_of(&verdict) == expected);
-    expect(
-        rt,
-        "the budget",
-        session.book().sweep_budget() == sweep_budget,
-    );
-    Ok(session.into_book())
+    Ok(words_of(&verdict) == expected && session.book().sweep_budget() == sweep_budget)
 }
 
-/// What the book says first, and of output 0.
+const LAST_OF_A: Lit = Lit {
+    node: Node::Gate(Side::A, 5),
+    neg: true,
+};
+
+const LAST_OF_B: Lit = Lit {
+    node: Node::Gate(Side::B, 5),
+    neg: false,
+};
+
+/// What the book says of the last gates of two XORs, or else first and of output 0.
 fn words_of_book(book: &Book) -> &'static str {
     match (book.entry(0), book.about(0)) {
+        _ if book.root(LAST_OF_B) == LAST_OF_A => "the last gates are merged",
         (Some(Entry::Merge { .. }), Some(Entry::Out { .. })) if book.len() == 2 => "merged, equal",
         (Some(Entry::Spent { .. }), Some(Entry::Out { .. })) => "given up, equal",
         (_, Some(Entry::OutApart { .. })) if book.len() == 1 => "apart",
@@ -73,7 +77,22 @@ fn words_of_book(book: &Book) -> &'static str {
     }
 }
 
-/// Checks the circuits, and compares the verdict and what the book has.
+/// Checks the session, and compares the verdict and what the book has.
+fn check_session(
+    rt: &impl Abort,
+    alloc: Global,
+    mut session: Session,
+    sweep_budget: u64,
+    expected: (&str, &str),
+) -> Result<(), Fail> {
+    let is_checked = is_checked(alloc, &mut session, sweep_budget, expected.0)?;
+    expect(rt, expected.0, is_checked);
+    let says = words_of_book(&session.into_book()) == expected.1;
+    expect(rt, expected.1, says);
+    Ok(())
+}
+
+/// The same of a session of the circuits.
 fn check_pair(
     rt: &impl Abort,
     alloc: Global,
@@ -84,9 +103,7 @@ fn check_pair(
     requires { AreInRange options }
 {
     let session = session_of(alloc, pair, options)?;
-    let book = checked(rt, alloc, session, options.sweep_budget, expected.0)?;
-    expect(rt, expected.1, words_of_book(&book) == expected.1);
-    Ok(())
+    check_session(rt, alloc, session, options.sweep_budget, expected)
 }
 
 /// Why no session is opened for the circuits.
@@ -134,28 +151,12 @@ fn different_by_a_pattern(rt: HostRuntime) -> Result<(), Fail> {
     check_pair(&rt, rt.alloc(), pair, DEFAULTS, expected)
 }
 
-const LAST_OF_A: Lit = Lit {
-    node: Node::Gate(Side::A, 5),
-    neg: true,
-};
-
-const LAST_OF_B: Lit = Lit {
-    node: Node::Gate(Side::B, 5),
-    neg: false,
-};
-
-/// Checks the session of the two XORs, whose last gates are merged.
-fn check_round(rt: &impl Abort, alloc: Global, session: Session) -> Result<(), Fail> {
-    let book = checked(rt, alloc, session, DEFAULTS.sweep_budget, "equivalent")?;
-    expect(rt, "the root", book.root(LAST_OF_B) == LAST_OF_A);
-    Ok(())
-}
-
 /// No gate is a twin of another; a round merges the last one to the complement of A's.
 #[test]
 fn equal_by_a_round(rt: HostRuntime) -> Result<(), Fail> {
     let pair = two_xors(rt.alloc());
-    check_round(&rt, rt.alloc(), session_of(rt.alloc(), pair, DEFAULTS)?)
+    let expected = ("equivalent", "the last gates are merged");
+    check_pair(&rt, rt.alloc(), pair, DEFAULTS, expected)
 }
 
 const ENOUGH_FOR_OUTPUTS: Options = Options {

@@ -4,7 +4,7 @@ ghost use Rattle.lemma_book.specs.Book.{IsLegal};
 
 use crate::entries::{MERGE, OUT};
 use crate::lemmas::{Row, book_of};
-use crate::pairs::{expect, net_of, swapped_ands, two_xors};
+use crate::pairs::{Case, check, expect, net_of, swapped_ands, two_xors};
 use desk_port::{Desk, MemDesk};
 use lemma_book::Book;
 use netlist::Net;
@@ -52,14 +52,25 @@ fn refuted<D: Desk>(alloc: Global, net: &Net, desk: &mut D) -> Result<u64, Stitc
     refutation(alloc, net, &Book::new(alloc, 1, 1), desk)
 }
 
-/// Checks the bytes of a refutation of one line.
-fn check_refutation(rt: &impl Abort, alloc: Global, net: &Net, text: &[u8]) -> Result<(), Fail> {
-    assert!(rt; net.outputs() == 0);
-    let mut desk = desk(alloc)?;
-    let lines = refuted(alloc, net, &mut desk)?;
-    expect(rt, "one line", lines == 1);
-    expect(rt, "the proof", has_proof(&desk, text));
-    Ok(())
+/// Whether the refutation is one line, and the desk has these bytes.
+fn is_refuted(alloc: Global, net: &Net, desk: &mut MemDesk, text: &[u8]) -> Result<bool, Fail>
+    requires quiet { (state_of desk.old).started ≡ None }
+    requires outputs { length net.now.a.outputs ≡ 0 }
+{
+    let lines = refuted(alloc, net, desk)?;
+    Ok(lines == 1 && has_proof(desk, text))
+}
+
+/// The bytes of a refutation of one line.
+struct Refutation(&'static [u8]);
+
+impl Case for Refutation {
+    fn check<A: Abort>(&self, rt: &A, alloc: Global, net: &Net) -> Result<(), Fail> {
+        assert!(rt; net.outputs() == 0);
+        let is_refuted = is_refuted(alloc, net, &mut desk(alloc)?, self.0)?;
+        expect(rt, "the proof", is_refuted);
+        Ok(())
+    }
 }
 
 /// Circuits without inputs and outputs.
@@ -71,70 +82,57 @@ fn nothing(alloc: Global) -> Result<Net, Fail> {
     )
 }
 
+static OF_NOTHING: Refutation = Refutation(b"3 0 2 0\n");
+
 /// The miter's last clause is empty.
 #[test]
 fn stitched_from_nothing(rt: HostRuntime) -> Result<(), Fail> {
-    check_refutation(&rt, rt.alloc(), &nothing(rt.alloc())?, b"3 0 2 0\n")
+    check(&rt, rt.alloc(), nothing(rt.alloc()), &OF_NOTHING)
 }
 
-/// Checks the bytes of the derivation, and the spans of open outputs.
-fn check_derivation(
-    rt: &impl Abort,
+/// Whether the derivation has these spans of open outputs, and the desk these bytes.
+fn is_derived(
     alloc: Global,
     net: &Net,
     book: &Book,
-    spans: &[Span],
-    text: &[u8],
-) -> Result<(), Fail>
-    requires { IsLegal net.now book.now }
+    desk: &mut MemDesk,
+    case: &Derivation,
+) -> Result<bool, Fail>
+    requires quiet { (state_of desk.old).started ≡ None }
+    requires legal { IsLegal net.now book.now }
 {
-    let mut desk = desk(alloc)?;
-    let found = derived(alloc, net, book, &mut desk)?;
-    expect(rt, "the spans", found.as_slice() == spans);
-    expect(rt, "the proof", has_proof(&desk, text));
-    Ok(())
+    let spans = derived(alloc, net, book, desk)?;
+    Ok(spans.as_slice() == case.spans && has_proof(desk, case.text))
 }
 
-/// Offers the entries to an empty book, and checks the derivation from it.
-fn check_book(
-    rt: &impl Abort,
-    alloc: Global,
-    net: &Net,
-    rows: &[Row<'_>],
-    spans: &[Span],
-    text: &[u8],
-) -> Result<(), Fail> {
-    let book = book_of(rt, alloc, net, 1, rows)?;
-    check_derivation(rt, alloc, net, &book, spans, text)
+/// Entries that are offered to an empty book, and the derivation from it.
+struct Derivation {
+    rows: &'static [Row<'static>],
+    spans: &'static [Span],
+    text: &'static [u8],
 }
 
-/// The same over a net that a case makes in the call.
-fn check_entries(
-    rt: &impl Abort,
-    alloc: Global,
-    net: Result<Net, Fail>,
-    rows: &[Row<'_>],
-    spans: &[Span],
-    text: &[u8],
-) -> Result<(), Fail> {
-    check_book(rt, alloc, &net?, rows, spans, text)
+impl Case for Derivation {
+    fn check<A: Abort>(&self, rt: &A, alloc: Global, net: &Net) -> Result<(), Fail> {
+        let book = book_of(rt, alloc, net, 1, self.rows)?;
+        let is_derived = is_derived(alloc, net, &book, &mut desk(alloc)?, self)?;
+        expect(rt, "the proof", is_derived);
+        Ok(())
+    }
 }
 
-static EQUAL: [Row<'static>; 2] = [(MERGE, "Ok(At(0))"), (OUT, "Ok(At(1))")];
+/// A merge and its output.
+static EQUAL: Derivation = Derivation {
+    rows: &[(MERGE, "Ok(At(0))"), (OUT, "Ok(At(1))")],
+    spans: &[],
+    text: b"13 -5 4 0 5 6 4 0\n14 5 -4 0 2 3 7 0\n15 -6 4 0 8 13 0\n16 -6 0 15 9 14 0\n",
+};
 
 /// The steps of a merge and of its output, in the numbers of the CNF: 1 to 12 are its clauses.
 #[test]
 fn stitched_entries(rt: HostRuntime) -> Result<(), Fail> {
-    let text = b"13 -5 4 0 5 6 4 0\n14 5 -4 0 2 3 7 0\n15 -6 4 0 8 13 0\n16 -6 0 15 9 14 0\n";
-    check_entries(&rt, rt.alloc(), swapped_ands(rt.alloc()), &EQUAL, &[], text)
+    check(&rt, rt.alloc(), swapped_ands(rt.alloc()), &EQUAL)
 }
-
-/// What a query of two XORs learned with a budget of one clause: where the output differs and A's gate is
-/// false, x is true.
-static SPENT: [Row<'static>; 1] = [(
-    "outspent 0 0: -d0 a5 i0 by d0.1 b3.0 b5.2 b4.1 a4.1 a5.2 a3.0",
-    "Ok(At(0))",
-)];
 
 const SPAN: Span = Span {
     output: 0,
@@ -142,11 +140,19 @@ const SPAN: Span = Span {
     last: 25,
 };
 
-const SPANS: [Span; 1] = [SPAN];
+/// What a query of two XORs learned with a budget of one clause: where the output differs and A's gate is
+/// false, x is true.
+static SPENT: Derivation = Derivation {
+    rows: &[(
+        "outspent 0 0: -d0 a5 i0 by d0.1 b3.0 b5.2 b4.1 a4.1 a5.2 a3.0",
+        "Ok(At(0))",
+    )],
+    spans: &[SPAN],
+    text: b"25 -10 6 2 0 21 11 19 15 6 10 2 0\n",
+};
 
 /// The log of an output that was left open, in the numbers of a CNF of 24 clauses.
 #[test]
 fn stitched_log(rt: HostRuntime) -> Result<(), Fail> {
-    let text = b"25 -10 6 2 0 21 11 19 15 6 10 2 0\n";
-    check_entries(&rt, rt.alloc(), two_xors(rt.alloc()), &SPENT, &SPANS, text)
+    check(&rt, rt.alloc(), two_xors(rt.alloc()), &SPENT)
 }

@@ -1,5 +1,5 @@
 use crate::entries::lit;
-use crate::pairs::{expect, net_of, swapped_ands, two_xors};
+use crate::pairs::{Case, check, expect, net_of, swapped_ands, two_xors};
 use lemma_book::{Book, Entry};
 use netlist::Net;
 use std::alloc::{AllocError, Global};
@@ -24,37 +24,24 @@ fn has_root(book: &Book, row: &Row<'_>) -> Result<bool, Fail> {
     Ok(book.root(lit(row.0)?) == lit(row.1)?)
 }
 
-/// Runs the pass, which merges so many gates, and compares roots.
-fn check_book(
-    rt: &impl Abort,
-    alloc: Global,
-    net: &Net,
-    merges: u64,
-    rows: &[Row<'_>],
-) -> Result<(), Fail> {
-    let book = passed(rt, alloc, net, merges)?;
-    for row in rows {
-        expect(rt, row.0, has_root(&book, row)?);
+/// So many gates are merged, and literals have these roots.
+struct Roots(u64, &'static [Row<'static>]);
+
+impl Case for Roots {
+    fn check<A: Abort>(&self, rt: &A, alloc: Global, net: &Net) -> Result<(), Fail> {
+        let book = passed(rt, alloc, net, self.0)?;
+        for row in self.1 {
+            expect(rt, row.0, has_root(&book, row)?);
+        }
+        Ok(())
     }
-    Ok(())
 }
 
-/// The same over a net that a case makes in the call.
-fn check_roots(
-    rt: &impl Abort,
-    alloc: Global,
-    net: Result<Net, Fail>,
-    merges: u64,
-    rows: &[Row<'_>],
-) -> Result<(), Fail> {
-    check_book(rt, alloc, &net?, merges, rows)
-}
-
-static OF_ANDS: [Row<'static>; 1] = [("b3", "a3")];
+static OF_ANDS: Roots = Roots(1, &[("b3", "a3")]);
 
 #[test]
 fn strash_of_swapped_ands(rt: HostRuntime) -> Result<(), Fail> {
-    check_roots(&rt, rt.alloc(), swapped_ands(rt.alloc()), 1, &OF_ANDS)
+    check(&rt, rt.alloc(), swapped_ands(rt.alloc()), &OF_ANDS)
 }
 
 /// Whether the book's first entry is a merge of two steps.
@@ -65,23 +52,28 @@ fn begins_with_two_steps(book: &Book) -> bool {
     }
 }
 
-fn check_steps(rt: &impl Abort, alloc: Global, net: &Net) -> Result<(), Fail> {
-    let book = passed(rt, alloc, net, 1)?;
-    expect(rt, "two steps", begins_with_two_steps(&book));
-    Ok(())
+/// One gate is merged, by two steps.
+struct TwoSteps;
+
+impl Case for TwoSteps {
+    fn check<A: Abort>(&self, rt: &A, alloc: Global, net: &Net) -> Result<(), Fail> {
+        let book = passed(rt, alloc, net, 1)?;
+        expect(rt, "two steps", begins_with_two_steps(&book));
+        Ok(())
+    }
 }
 
 #[test]
 fn steps_of_a_twin(rt: HostRuntime) -> Result<(), Fail> {
-    check_steps(&rt, rt.alloc(), &swapped_ands(rt.alloc())?)
+    check(&rt, rt.alloc(), swapped_ands(rt.alloc()), &TwoSteps)
 }
 
-static OF_XORS: [Row<'static>; 1] = [("b5", "b5")];
+static OF_XORS: Roots = Roots(0, &[("b5", "b5")]);
 
 /// Two XORs by other gates: no gate has a twin.
 #[test]
 fn strash_of_two_xors(rt: HostRuntime) -> Result<(), Fail> {
-    check_roots(&rt, rt.alloc(), two_xors(rt.alloc()), 0, &OF_XORS)
+    check(&rt, rt.alloc(), two_xors(rt.alloc()), &OF_XORS)
 }
 
 /// In A an AND of one literal twice, of a literal and its negation, of an input and true; in B one of true
@@ -93,19 +85,22 @@ fn folds(alloc: Global) -> Result<Net, Fail> {
     net_of(alloc, a, circuit(alloc, &[1], &gates, &[5, 6]))
 }
 
-static OF_FOLDS: [Row<'static>; 6] = [
-    ("a2", "i0"),
-    ("a3", "-t"),
-    ("a4", "i0"),
-    ("b2", "-i0"),
-    ("b3", "-t"),
-    ("b4", "-t"),
-];
+static OF_FOLDS: Roots = Roots(
+    6,
+    &[
+        ("a2", "i0"),
+        ("a3", "-t"),
+        ("a4", "i0"),
+        ("b2", "-i0"),
+        ("b3", "-t"),
+        ("b4", "-t"),
+    ],
+);
 
 /// Gates that merge are merged to what they fold to.
 #[test]
 fn folded_gates(rt: HostRuntime) -> Result<(), Fail> {
-    check_roots(&rt, rt.alloc(), folds(rt.alloc()), 6, &OF_FOLDS)
+    check(&rt, rt.alloc(), folds(rt.alloc()), &OF_FOLDS)
 }
 
 /// Gates 4 are twins, over gates 3 that are twins too.
@@ -118,11 +113,11 @@ fn two_levels(alloc: Global) -> Result<Net, Fail> {
     )
 }
 
-static OF_LEVELS: [Row<'static>; 1] = [("-b4", "-a4")];
+static OF_LEVELS: Roots = Roots(2, &[("-b4", "-a4")]);
 
 /// A gate whose fanins are merged is seen by their roots: B's second gate is a twin of A's by way of
 /// its first.
 #[test]
 fn twins_by_their_roots(rt: HostRuntime) -> Result<(), Fail> {
-    check_roots(&rt, rt.alloc(), two_levels(rt.alloc()), 2, &OF_LEVELS)
+    check(&rt, rt.alloc(), two_levels(rt.alloc()), &OF_LEVELS)
 }

@@ -92,11 +92,11 @@ pub(crate) fn answer_of_gate<R: Refuter>(
     )
 }
 
-/// The model of the answer.
-pub(crate) fn model_of(answer: Refuted) -> Result<Vec<Lit>, Fail> {
+/// The model of the answer, or nothing where it has none.
+pub(crate) fn model_of(answer: &Refuted) -> &[Lit] {
     match answer {
-        Refuted::No(model) => Ok(model.into_vec()),
-        _ => Err("no model".into()),
+        Refuted::No(model) => model.as_slice(),
+        _ => &[],
     }
 }
 
