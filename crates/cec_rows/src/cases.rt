@@ -147,7 +147,7 @@ fn merged_to_input_and_false(rt: HostRuntime) {
 }
 
 /// Whether a run said that output 0 differs where one of the inputs is 1.
-fn is_apart(ran: &Result<Ran, AllocError>) -> bool {
+fn is_apart(ran: Result<Ran, AllocError>) -> bool {
     let Ok(ran) = ran else {
         return false;
     };
@@ -163,7 +163,7 @@ const AND_AND_OR: [(&str, &[u8]); 2] = [
 /// The AND of both inputs against their OR: some pattern tells them apart before any query.
 #[test]
 fn outputs_apart_by_a_pattern(rt: HostRuntime) {
-    assert!(rt; is_apart(&run_words(&rt, &AND_AND_OR, &WORDS, &[])));
+    assert!(rt; is_apart(run_words(&rt, &AND_AND_OR, &WORDS, &[])));
 }
 
 static TIGHT_BUDGETS: Case<'_> = Case {
@@ -192,7 +192,7 @@ fn logged(kept: &[Kept]) -> usize {
 }
 
 /// Whether the log of the first output has one line in the book that a run handed back.
-fn has_logged_one(ran: &Result<Ran, AllocError>) -> bool {
+fn has_logged_one(ran: Result<Ran, AllocError>) -> bool {
     match ran {
         Ok(ran) => logged(ran.kept.as_slice()) == 1,
         Err(AllocError) => false,
@@ -202,7 +202,7 @@ fn has_logged_one(ran: &Result<Ran, AllocError>) -> bool {
 /// The log of an open output stands in the book that the run hands back.
 #[test]
 fn log_of_tight_budgets(rt: HostRuntime) {
-    assert!(rt; has_logged_one(&run_words(&rt, &XORS, &TIGHT, &[])));
+    assert!(rt; has_logged_one(run_words(&rt, &XORS, &TIGHT, &[])));
 }
 
 static ONE_OUTPUT_EQUAL_AND_ONE_OPEN: Case<'_> = Case {
@@ -313,7 +313,7 @@ fn missing_file(rt: HostRuntime) {
 
 /// Whether a run on words that are no request ends so: it reads nothing, and says help or warns of how it is
 /// used.
-fn is_told(ran: &Result<Ran, AllocError>, status: Status) -> bool {
+fn is_told(ran: Result<Ran, AllocError>, status: Status) -> bool {
     let Ok(ran) = ran else {
         return false;
     };
@@ -326,7 +326,7 @@ fn is_told(ran: &Result<Ran, AllocError>, status: Status) -> bool {
 /// Runs the program on each of these words.
 fn check_words(rt: &(impl Threads + Wait + Abort + AllocGlobal), rows: &[&[&str]], status: Status) {
     for words in rows {
-        let is_told = is_told(&run_words(rt, &SWAPPED, words, &[]), status);
+        let is_told = is_told(run_words(rt, &SWAPPED, words, &[]), status);
         assert!(rt; is_told, "{words:?}");
     }
 }

@@ -61,7 +61,7 @@ fn hand_written_proofs(rt: HostRuntime) -> Result<(), Fail> {
 /// Checks the proof that a check left, and asks how that ends.
 fn check_left(
     rt: &(impl Threads + Wait + Abort + AllocGlobal),
-    ran: &Result<Ran, AllocError>,
+    ran: Result<Ran, AllocError>,
     end: &Case<'_>,
 ) {
     let Ok(ran) = ran else {
@@ -76,12 +76,12 @@ static REFUTATION: Case<'_> = VERIFIED;
 
 #[test]
 fn own_refutation(rt: HostRuntime) {
-    check_left(&rt, &run_words(&rt, &SWAPPED, &WORDS, &[]), &REFUTATION);
+    check_left(&rt, run_words(&rt, &SWAPPED, &WORDS, &[]), &REFUTATION);
 }
 
 static LOG: Case<'_> = NO_EMPTY;
 
 #[test]
 fn own_log(rt: HostRuntime) {
-    check_left(&rt, &run_words(&rt, &XORS, &TIGHT, &[]), &LOG);
+    check_left(&rt, run_words(&rt, &XORS, &TIGHT, &[]), &LOG);
 }

@@ -2,8 +2,8 @@
 use crate::desk::Holds::Bytes;
 use crate::desk::{BAD_INPUT, Case, EQUIVALENT, Ran, check_cases, check_over, run_words};
 use crate::files::{SWAPPED_A, SWAPPED_B, SWAPPED_CNF, WORDS};
-use std::alloc::{AllocError, Global};
-use std::test::Fail;
+use std::alloc::AllocError;
+use std::test::*;
 
 /// A file that is whole, beside one with a fault.
 const WHOLE_B: (&str, &[u8]) = ("B", SWAPPED_A);
@@ -77,18 +77,41 @@ fn ascii_faults(rt: HostRuntime) {
     check_cases(&rt, &ASCII_FAULTS);
 }
 
+const BAD_HEADER: &str = "cec: A: bad header\n";
+
 /// The line of a file of which so many bytes are left: up to byte 12 the header is cut, and before byte 25 a
 /// line that has to be there.
-fn line_after(alloc: Global, n: u64) -> Result<String, AllocError> {
-    match n {
-        0..=12 => String::from_str(alloc, "cec: A: bad header\n"),
-        13..=24 => format!(in alloc; "cec: A: ends too early at byte {n}\n"),
-        _ => Ok(String::new(alloc)),
-    }
-}
+const LINES_AFTER: [&str; 26] = [
+    BAD_HEADER,
+    BAD_HEADER,
+    BAD_HEADER,
+    BAD_HEADER,
+    BAD_HEADER,
+    BAD_HEADER,
+    BAD_HEADER,
+    BAD_HEADER,
+    BAD_HEADER,
+    BAD_HEADER,
+    BAD_HEADER,
+    BAD_HEADER,
+    BAD_HEADER,
+    "cec: A: ends too early at byte 13\n",
+    "cec: A: ends too early at byte 14\n",
+    "cec: A: ends too early at byte 15\n",
+    "cec: A: ends too early at byte 16\n",
+    "cec: A: ends too early at byte 17\n",
+    "cec: A: ends too early at byte 18\n",
+    "cec: A: ends too early at byte 19\n",
+    "cec: A: ends too early at byte 20\n",
+    "cec: A: ends too early at byte 21\n",
+    "cec: A: ends too early at byte 22\n",
+    "cec: A: ends too early at byte 23\n",
+    "cec: A: ends too early at byte 24\n",
+    "",
+];
 
 /// Whether a run warned of this line.
-fn has_warned(ran: &Result<Ran, AllocError>, line: &str) -> bool {
+fn has_warned(ran: Result<Ran, AllocError>, line: &str) -> bool {
     match ran {
         Ok(ran) => ran.desk.warned() == line.as_bytes(),
         Err(AllocError) => false,
@@ -96,14 +119,12 @@ fn has_warned(ran: &Result<Ran, AllocError>, line: &str) -> bool {
 }
 
 #[test]
-fn cut_at_each_byte(rt: HostRuntime) -> Result<(), Fail> {
-    for n in 0..26u64 {
-        let line = line_after(rt.alloc(), n)?;
-        let files = [("A", &SWAPPED_A[..n as usize]), WHOLE_B];
-        let ran = run_words(&rt, &files, &WORDS, &[]);
-        assert!(rt; has_warned(&ran, line.as_str()), "after {n} bytes");
+fn cut_at_each_byte(rt: HostRuntime) {
+    for n in 0..26usize {
+        let files = [("A", &SWAPPED_A[..n]), WHOLE_B];
+        let is_warned = has_warned(run_words(&rt, &files, &WORDS, &[]), LINES_AFTER[n]);
+        assert!(rt; is_warned, "after {n} bytes");
     }
-    Ok(())
 }
 
 static COMMENT_AND_LAST_NEWLINE: [Case<'_>; 2] = [
