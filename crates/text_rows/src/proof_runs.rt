@@ -16,8 +16,8 @@ const FIRST: &str = "13 -4 5 0 2 3 7 0\n";
 
 const OTHERS: &str = "14 4 -5 0 5 6 4 0\n15 -6 4 0 8 14 0\n16 -6 0 15 13 9 0\n17 0 16 12 0\n";
 
-/// A case: the files, whose text stands in two parts, and the calls of the desk that fail; the status that the
-/// command should answer, what it should say and warn, and the names of the files that it should read.
+/// A case: the files, whose text stands in two parts, and the calls of the desk that fail; the status that
+/// the command should answer, what it should say and warn, and the names of the files that it should read.
 #[derive(Clone, Copy)]
 struct Row {
     files: &'static [(&'static str, [&'static str; 2])],
