@@ -27,17 +27,19 @@ fn put_formula(alloc: Global, desk: &mut MemDesk, clauses: &[Clause<Dim>]) -> Re
 }
 
 /// Whether the file is this text then.
-fn is_printed(alloc: Global, clauses: &[Clause<Dim>], text: &[u8]) -> Result<bool, PutErr> {
-    let mut desk = desk_with(alloc, &[], &[])?;
-    put_formula(alloc, &mut desk, clauses)?;
-    Ok(desk.file("cnf") == Some(text))
+fn is_printed(alloc: Global, desk: &mut MemDesk, clauses: &[Clause<Dim>], text: &[u8]) -> bool
+    requires { (state_of desk.old).started ≡ None }
+{
+    put_formula(alloc, desk, clauses).is_ok() && desk.file("cnf") == Some(text)
 }
 
 #[test]
 fn dimacs_print(rt: HostRuntime) -> Result<(), Fail> {
-    let clauses = clauses_of(rt.alloc(), &[&[Dim::new(1, false)], &[]])?;
+    let alloc = rt.alloc();
+    let mut desk = desk_with(alloc, &[], &[])?;
+    let clauses = clauses_of(alloc, &[&[Dim::new(1, false)], &[]])?;
     let text = b"p cnf 1 2\n1 0\n0\n";
-    assert!(rt; is_printed(rt.alloc(), clauses.as_slice(), text)?);
+    assert!(rt; is_printed(alloc, &mut desk, clauses.as_slice(), text));
     Ok(())
 }
 
