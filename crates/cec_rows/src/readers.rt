@@ -5,7 +5,7 @@ use crate::files::{SWAPPED_A, SWAPPED_B, SWAPPED_CNF, WORDS};
 use std::alloc::AllocError;
 use std::test::*;
 
-/// A file that is whole, beside one with a fault.
+/// A file that is whole, beside the one that is tried.
 const WHOLE_B: (&str, &[u8]) = ("B", SWAPPED_A);
 
 /// A check that the first file ends.
