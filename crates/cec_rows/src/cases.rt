@@ -3,12 +3,13 @@ use crate::desk::Holds::{Begins, Bytes, Ends, Lines, Missing};
 use crate::desk::{
     BAD_INPUT, Case, DIFFERENT, EQUIVALENT, Ran, check_case, check_cases, run_words,
 };
-use crate::files::{SWAPPED_A, SWAPPED_B, SWAPPED_CNF, TIGHT, WORDS, XOR_X, XOR_Y};
+use crate::files::{SWAPPED, SWAPPED_A, SWAPPED_B, SWAPPED_CNF, TIGHT, WORDS, XORS};
 use cec_top::{Kept, Status};
 use lemma_book::Entry;
+use std::alloc::AllocError;
 use std::process::Abort;
 use std::sync::Wait;
-use std::test::Fail;
+use std::test::*;
 use std::thread::Threads;
 
 const EMPTY: &[u8] = b"aag 0 0 0 0 0\n";
@@ -106,12 +107,12 @@ fn and_against_false(rt: HostRuntime) {
 
 static TWO_XORS: [Case<'_>; 2] = [
     Case {
-        files: &[("A", XOR_X), ("B", XOR_Y)],
+        files: &XORS,
         left: &[("p.0.cnf", Begins(b"p cnf 10 24\n"))],
         ..EQUIVALENT
     },
     Case {
-        files: &[("A", XOR_X), ("B", XOR_Y)],
+        files: &XORS,
         words: &["check", "A", "B", "--sweep-budget", "1"],
         ..EQUIVALENT
     },
@@ -145,19 +146,28 @@ fn merged_to_input_and_false(rt: HostRuntime) {
     check_case(&rt, &MERGED_TO_INPUT_AND_FALSE);
 }
 
+/// Whether a run said that output 0 differs where one of the inputs is 1.
+fn is_apart(ran: Result<Ran, AllocError>) -> bool {
+    let Ok(ran) = ran else {
+        return false;
+    };
+    ran.desk.said() == b"DIFFERENT\noutput 0\ninput 01\n".as_slice()
+        || ran.desk.said() == b"DIFFERENT\noutput 0\ninput 10\n".as_slice()
+}
+
+const AND_AND_OR: [(&str, &[u8]); 2] = [
+    ("A", SWAPPED_A),
+    ("B", b"aag 3 2 0 1 1\n2\n4\n7\n6 3 5\n"),
+];
+
 /// The AND of both inputs against their OR: some pattern tells them apart before any query.
 #[test]
-fn outputs_apart_by_a_pattern(rt: HostRuntime) -> Result<(), Fail> {
-    let files = [("A", SWAPPED_A), ("B", b"aag 3 2 0 1 1\n2\n4\n7\n6 3 5\n")];
-    let ran = run_words(&rt, &files, &WORDS, &[])?;
-    let said = ran.desk.said();
-    let first = said == b"DIFFERENT\noutput 0\ninput 01\n".as_slice();
-    assert!(rt; first || said == b"DIFFERENT\noutput 0\ninput 10\n".as_slice());
-    Ok(())
+fn outputs_apart_by_a_pattern(rt: HostRuntime) {
+    assert!(rt; is_apart(run_words(&rt, &AND_AND_OR, &WORDS, &[])));
 }
 
 static TIGHT_BUDGETS: Case<'_> = Case {
-    files: &[("A", XOR_X), ("B", XOR_Y)],
+    files: &XORS,
     words: &TIGHT,
     status: Status::Undecided,
     said: "UNDECIDED\noutput 0 lines 25-25\n",
@@ -181,12 +191,18 @@ fn logged(kept: &[Kept]) -> usize {
     }
 }
 
+/// Whether the log of the first output has one line in the book that a run handed back.
+fn has_logged_one(ran: Result<Ran, AllocError>) -> bool {
+    match ran {
+        Ok(ran) => logged(ran.kept.as_slice()) == 1,
+        Err(AllocError) => false,
+    }
+}
+
 /// The log of an open output stands in the book that the run hands back.
 #[test]
-fn log_of_tight_budgets(rt: HostRuntime) -> Result<(), Fail> {
-    let ran = run_words(&rt, &[("A", XOR_X), ("B", XOR_Y)], &TIGHT, &[])?;
-    assert!(rt; logged(ran.kept.as_slice()) == 1);
-    Ok(())
+fn log_of_tight_budgets(rt: HostRuntime) {
+    assert!(rt; has_logged_one(run_words(&rt, &XORS, &TIGHT, &[])));
 }
 
 static ONE_OUTPUT_EQUAL_AND_ONE_OPEN: Case<'_> = Case {
@@ -209,7 +225,7 @@ fn one_output_equal_and_one_open(rt: HostRuntime) {
 
 static TIGHT_BUDGET_WITHOUT_FILES: [Case<'_>; 2] = [
     Case {
-        files: &[("A", XOR_X), ("B", XOR_Y)],
+        files: &XORS,
         words: &["check", "A", "B", "--sweep-budget", "1", "--budget", "1"],
         status: Status::Undecided,
         said: "UNDECIDED\noutput 0\n",
@@ -217,7 +233,7 @@ static TIGHT_BUDGET_WITHOUT_FILES: [Case<'_>; 2] = [
         ..EQUIVALENT
     },
     Case {
-        files: &[("A", XOR_X), ("B", XOR_Y)],
+        files: &XORS,
         words: &["check", "A", "B"],
         ..EQUIVALENT
     },
@@ -268,7 +284,7 @@ fn input_counts_differ(rt: HostRuntime) {
 }
 
 static FAILING_PROOF_WRITE: Case<'_> = Case {
-    files: &[("A", SWAPPED_A), ("B", SWAPPED_B)],
+    files: &SWAPPED,
     fails: &[6],
     status: Status::CannotWrite,
     said: "",
@@ -297,7 +313,10 @@ fn missing_file(rt: HostRuntime) {
 
 /// Whether a run on words that are no request ends so: it reads nothing, and says help or warns of how it is
 /// used.
-fn is_told(ran: &Ran, status: Status) -> bool {
+fn is_told(ran: Result<Ran, AllocError>, status: Status) -> bool {
+    let Ok(ran) = ran else {
+        return false;
+    };
     ran.status == status
         && ran.desk.said().is_empty() == (status == Status::BadUsage)
         && ran.desk.warned().is_empty() == (status == Status::Done)
@@ -305,16 +324,11 @@ fn is_told(ran: &Ran, status: Status) -> bool {
 }
 
 /// Runs the program on each of these words.
-fn check_words(
-    rt: &(impl Threads + Wait + Abort + AllocGlobal),
-    rows: &[&[&str]],
-    status: Status,
-) -> Result<(), Fail> {
+fn check_words(rt: &(impl Threads + Wait + Abort + AllocGlobal), rows: &[&[&str]], status: Status) {
     for words in rows {
-        let ran = run_words(rt, &[("A", SWAPPED_A), ("B", SWAPPED_B)], words, &[])?;
-        assert!(rt; is_told(&ran, status), "{words:?}");
+        let is_told = is_told(run_words(rt, &SWAPPED, words, &[]), status);
+        assert!(rt; is_told, "{words:?}");
     }
-    Ok(())
 }
 
 const REFUSED: [&[&str]; 12] = [
@@ -333,8 +347,8 @@ const REFUSED: [&[&str]; 12] = [
 ];
 
 #[test]
-fn words_that_are_refused(rt: HostRuntime) -> Result<(), Fail> {
-    check_words(&rt, &REFUSED, Status::BadUsage)
+fn words_that_are_refused(rt: HostRuntime) {
+    check_words(&rt, &REFUSED, Status::BadUsage);
 }
 
 static NO_SUCH_COMMAND: Case<'_> = Case {
@@ -353,8 +367,8 @@ fn no_such_command(rt: HostRuntime) {
 const HELP: [&[&str]; 3] = [&["--help"], &["check", "--help"], &["lrat", "-h"]];
 
 #[test]
-fn words_that_want_help(rt: HostRuntime) -> Result<(), Fail> {
-    check_words(&rt, &HELP, Status::Done)
+fn words_that_want_help(rt: HostRuntime) {
+    check_words(&rt, &HELP, Status::Done);
 }
 
 static HELP_THAT_CANNOT_BE_SAID: Case<'_> = Case {

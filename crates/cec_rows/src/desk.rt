@@ -153,12 +153,21 @@ fn check_end(rt: &impl Abort, ran: &Ran, case: &Case<'_>) {
     }
 }
 
-/// Runs a case, and asks how it ends and what it leaves.
-pub(crate) fn check_case(rt: &(impl Threads + Wait + Abort + AllocGlobal), case: &Case<'_>) {
-    match run_words(rt, case.files, case.words, case.fails) {
+/// Runs a case over these files, and asks how it ends and what it leaves.
+pub(crate) fn check_over(
+    rt: &(impl Threads + Wait + Abort + AllocGlobal),
+    files: &[(&str, &[u8])],
+    case: &Case<'_>,
+) {
+    match run_words(rt, files, case.words, case.fails) {
         Ok(ran) => check_end(rt, &ran, case),
         Err(AllocError) => check(rt, case, "memory", false),
     }
+}
+
+/// The same over the files of the case.
+pub(crate) fn check_case(rt: &(impl Threads + Wait + Abort + AllocGlobal), case: &Case<'_>) {
+    check_over(rt, case.files, case);
 }
 
 pub(crate) fn check_cases(rt: &(impl Threads + Wait + Abort + AllocGlobal), cases: &[Case<'_>]) {

@@ -17,6 +17,12 @@ pub(crate) const XOR_X: &[u8] = b"aag 5 2 0 1 3\n2\n4\n11\n6 2 5\n8 3 4\n10 7 9\
 /// Their XOR by other gates.
 pub(crate) const XOR_Y: &[u8] = b"aag 5 2 0 1 3\n2\n4\n10\n6 2 4\n8 3 5\n10 7 9\n";
 
+/// The two ANDs, as the files of a check.
+pub(crate) const SWAPPED: [(&str, &[u8]); 2] = [("A", SWAPPED_A), ("B", SWAPPED_B)];
+
+/// The two XORs, likewise.
+pub(crate) const XORS: [(&str, &[u8]); 2] = [("A", XOR_X), ("B", XOR_Y)];
+
 /// A check whose files are left.
 pub(crate) const WORDS: [&str; 5] = ["check", "A", "B", "--out", "p"];
 

@@ -1,8 +1,8 @@
 //! Proofs that are checked against formulas, those of the program among them.
-use crate::desk::{BAD_INPUT, Case, check_case, run_words};
-use crate::files::{SWAPPED_A, SWAPPED_B, SWAPPED_CNF, TIGHT, WORDS, XOR_X, XOR_Y};
+use crate::desk::{BAD_INPUT, Case, Ran, check, check_over, run_words};
+use crate::files::{SWAPPED, SWAPPED_CNF, TIGHT, WORDS, XORS};
 use cec_top::Status;
-use desk_port::MemDesk;
+use std::alloc::AllocError;
 use std::process::Abort;
 use std::sync::Wait;
 use std::test::Fail;
@@ -53,40 +53,35 @@ static HAND_WRITTEN: [(&str, &str, Case<'_>); 5] = [
 fn hand_written_proofs(rt: HostRuntime) -> Result<(), Fail> {
     for (first, rest, end) in &HAND_WRITTEN {
         let proof = format!(in rt.alloc(); "{first}{rest}")?;
-        let files = &[("C", SWAPPED_CNF), ("P", proof.as_bytes())];
-        check_case(&rt, &Case { files, ..*end });
+        check_over(&rt, &[("C", SWAPPED_CNF), ("P", proof.as_bytes())], end);
     }
     Ok(())
 }
 
 /// Checks the proof that a check left, and asks how that ends.
-fn check_left<'x>(
+fn check_left(
     rt: &(impl Threads + Wait + Abort + AllocGlobal),
-    desk: &'x MemDesk,
-    status: Status,
-    said: &'x str,
+    ran: Result<Ran, AllocError>,
+    end: &Case<'_>,
 ) {
-    let cnf = desk.file("p.0.cnf").unwrap_or(b"");
-    let proof = desk.file("p.0.lrat").unwrap_or(b"");
-    let case = Case {
-        files: &[("C", cnf), ("P", proof)],
-        status,
-        said,
-        ..BAD_PROOF
+    let Ok(ran) = ran else {
+        return check(rt, end, "memory", false);
     };
-    check_case(rt, &case);
+    let cnf = ran.desk.file("p.0.cnf").unwrap_or(b"");
+    let proof = ran.desk.file("p.0.lrat").unwrap_or(b"");
+    check_over(rt, &[("C", cnf), ("P", proof)], end);
 }
 
-#[test]
-fn own_refutation(rt: HostRuntime) -> Result<(), Fail> {
-    let ran = run_words(&rt, &[("A", SWAPPED_A), ("B", SWAPPED_B)], &WORDS, &[])?;
-    check_left(&rt, &ran.desk, Status::Done, "VERIFIED\n");
-    Ok(())
-}
+static REFUTATION: Case<'_> = VERIFIED;
 
 #[test]
-fn own_log(rt: HostRuntime) -> Result<(), Fail> {
-    let ran = run_words(&rt, &[("A", XOR_X), ("B", XOR_Y)], &TIGHT, &[])?;
-    check_left(&rt, &ran.desk, Status::No, "REFUSED no empty clause\n");
-    Ok(())
+fn own_refutation(rt: HostRuntime) {
+    check_left(&rt, run_words(&rt, &SWAPPED, &WORDS, &[]), &REFUTATION);
+}
+
+static LOG: Case<'_> = NO_EMPTY;
+
+#[test]
+fn own_log(rt: HostRuntime) {
+    check_left(&rt, run_words(&rt, &XORS, &TIGHT, &[]), &LOG);
 }

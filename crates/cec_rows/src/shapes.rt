@@ -1,7 +1,7 @@
 //! Checks whose answers have shapes that the small cases don't reach: entries of two kinds in one book, an
 //! input outside a cone, a chain of a thousand merges.
 use crate::desk::Holds::{Begins, Ends, Lines};
-use crate::desk::{Case, DIFFERENT, EQUIVALENT, check_case};
+use crate::desk::{Case, DIFFERENT, EQUIVALENT, check_case, check_over};
 use crate::files::TIGHT;
 use cec_top::Status;
 use std::alloc::{AllocError, Global};
@@ -47,28 +47,28 @@ fn input_outside_the_cone(rt: HostRuntime) {
     check_case(&rt, &INPUT_OUTSIDE_THE_CONE);
 }
 
-/// A chain of AND gates over one input, each of the one before and the input, and last the AND of the chain
-/// and false.
-fn chain(alloc: Global, gates: u32) -> Result<String, AllocError> {
-    let last = 2 * (gates as u64 + 2);
-    let mut text = format!(in alloc; "aag {} 1 0 1 {}\n2\n{last}\n", last / 2, gates as u64 + 1)?;
-    for gate in 0..gates as u64 {
-        write!(text, "{} {} 2\n", 2 * gate + 4, 2 * gate + 2)?;
+/// A chain of a thousand AND gates over one input, each of the one before and the input, and last the AND of
+/// the chain and false.
+fn chain(alloc: Global) -> Result<String, AllocError> {
+    let mut text = String::from_str(alloc, "aag 1002 1 0 1 1001\n2\n2004\n")?;
+    for gate in 2..1002u64 {
+        write!(text, "{} {} 2\n", 2 * gate, 2 * gate - 2)?;
     }
-    write!(text, "{last} {} 0\n", last - 2)?;
+    text.push_str("2004 2002 0\n")?;
     Ok(text)
 }
+
+static THOUSAND_MERGES: Case<'_> = Case {
+    left: &[("p.0.cnf", Begins(b"p cnf 2005 6012\n"))],
+    ..EQUIVALENT
+};
 
 /// Both sides have 1,001 gates, each of which is merged with the input or with false.
 #[test]
 fn chain_of_a_thousand_merges(rt: HostRuntime) -> Result<(), Fail> {
-    let text = chain(rt.alloc(), 1000)?;
-    let case = Case {
-        files: &[("A", text.as_bytes()), ("B", text.as_bytes())],
-        left: &[("p.0.cnf", Begins(b"p cnf 2005 6012\n"))],
-        ..EQUIVALENT
-    };
-    check_case(&rt, &case);
+    let text = chain(rt.alloc())?;
+    let files = [("A", text.as_bytes()), ("B", text.as_bytes())];
+    check_over(&rt, &files, &THOUSAND_MERGES);
     Ok(())
 }
 

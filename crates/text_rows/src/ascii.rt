@@ -1,5 +1,5 @@
 use crate::checks::check;
-use crate::circuits::{check_fault, is_and};
+use crate::circuits::{check_fault, is_and, is_read};
 use aiger_ascii::read;
 use byte_scan::{AigerErr, NUMBER_LIMIT};
 use netlist::Circuit;
@@ -18,9 +18,9 @@ fn check_faults(rt: &impl Abort, alloc: Global, rows: &[(&[u8], AigerErr)]) {
 
 #[test]
 fn one_gate(rt: HostRuntime) {
-    check(&rt, "an AND", is_and(&read(rt.alloc(), AND), 2, 4));
+    check(&rt, "an AND", is_and(read(rt.alloc(), AND), 2, 4));
     let cut = &AND[..25];
-    check(&rt, "no last LF", is_and(&read(rt.alloc(), cut), 2, 4));
+    check(&rt, "no last LF", is_and(read(rt.alloc(), cut), 2, 4));
 }
 
 #[test]
@@ -63,7 +63,7 @@ const ACCEPTED: [(&str, &[u8]); 12] = [
 #[test]
 fn accepted(rt: HostRuntime) {
     for (name, bytes) in &ACCEPTED {
-        check(&rt, name, read(rt.alloc(), bytes).is_ok());
+        check(&rt, name, is_read(read(rt.alloc(), bytes)));
     }
 }
 

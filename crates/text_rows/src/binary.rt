@@ -1,5 +1,5 @@
 use crate::checks::check;
-use crate::circuits::{check_fault, has_gate, is_and};
+use crate::circuits::{check_fault, has_gate, is_and, is_read};
 use aiger_binary::read;
 use byte_scan::AigerErr;
 use netlist::And;
@@ -10,10 +10,10 @@ const AND: &[u8] = b"aig 3 2 0 1 1\n6\n\x02\x02";
 
 #[test]
 fn one_gate(rt: HostRuntime) {
-    check(&rt, "an AND", is_and(&read(rt.alloc(), AND), 4, 2));
+    check(&rt, "an AND", is_and(read(rt.alloc(), AND), 4, 2));
     // a delta needn't be shortest: 82 00 is 2
     let bytes = b"aig 3 2 0 1 1\n6\n\x82\x00\x02";
-    check(&rt, "a long delta", is_and(&read(rt.alloc(), bytes), 4, 2));
+    check(&rt, "a long delta", is_and(read(rt.alloc(), bytes), 4, 2));
 }
 
 #[test]
@@ -51,7 +51,7 @@ const ACCEPTED: [(&str, &[u8]); 8] = [
 #[test]
 fn accepted(rt: HostRuntime) {
     for (name, bytes) in &ACCEPTED {
-        check(&rt, name, read(rt.alloc(), bytes).is_ok());
+        check(&rt, name, is_read(read(rt.alloc(), bytes)));
     }
 }
 

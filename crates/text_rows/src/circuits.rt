@@ -13,6 +13,11 @@ pub(crate) fn check_fault(
     assert!(rt; found == want, "at {bytes:?}");
 }
 
+/// Whether a circuit was read.
+pub(crate) fn is_read(found: Result<Circuit, AigerErr>) -> bool {
+    found.is_ok()
+}
+
 /// Whether a circuit was read with this gate alone.
 pub(crate) fn has_gate(found: &Result<Circuit, AigerErr>, gate: And) -> bool {
     match found {
@@ -23,7 +28,7 @@ pub(crate) fn has_gate(found: &Result<Circuit, AigerErr>, gate: And) -> bool {
 
 /// Whether a circuit of two inputs was read whose one output is the AND of them, with its fanins in this
 /// order.
-pub(crate) fn is_and(found: &Result<Circuit, AigerErr>, left: u32, right: u32) -> bool {
+pub(crate) fn is_and(found: Result<Circuit, AigerErr>, left: u32, right: u32) -> bool {
     match found {
         Ok(circuit) => {
             circuit.inputs() == [1, 2].as_slice()

@@ -99,8 +99,8 @@ fn shows_put(desk: &MemDesk) -> bool {
 #[test]
 fn quiet_desk(rt: HostRuntime) -> Result<(), Fail> {
     let mut desk = desk_with(rt.alloc(), &[], &[])?;
-    put(&mut desk, "o", b"ab")?;
-    check(&rt, "put", shows_put(&desk));
+    let is_put = put(&mut desk, "o", b"ab").is_ok();
+    check(&rt, "put", is_put && shows_put(&desk));
     Ok(())
 }
 

@@ -2,6 +2,7 @@
 ghost use Rattle.std.specs.Prelude.{◌≡◌, None};
 ghost use Rattle.desk_port.specs.MemDesk.{state_of};
 
+use crate::checks::check;
 use crate::desks::desk_with;
 use desk_port::{Desk, MemDesk, PutErr};
 use endings::{Content, READ_LIMIT, Status, Stop, end, read_file, say, warn, write_file};
@@ -10,17 +11,23 @@ use std::process::Abort;
 use std::test::Fail;
 
 /// Whether a command ends with this code, and warns of this line.
-fn ends(alloc: Global, desk: &mut MemDesk, stop: &Stop, code: u8, line: &str) -> bool {
-    end(alloc, desk, &["A", "B"], stop).code() == code && desk.warned() == line.as_bytes()
+fn ends(
+    alloc: Global,
+    desk: Result<MemDesk, AllocError>,
+    stop: &Stop,
+    code: u8,
+    line: &str,
+) -> bool {
+    let Ok(mut desk) = desk else {
+        return false;
+    };
+    end(alloc, &mut desk, &["A", "B"], stop).code() == code && desk.warned() == line.as_bytes()
 }
 
 /// Ends a command on a desk that fails at these calls, and compares its status and what it warns.
 fn check_end(rt: &impl Abort, alloc: Global, stop: &Stop, fails: &[u64], code: u8, line: &str) {
-    let is_so = match desk_with(alloc, &[], fails) {
-        Ok(mut desk) => ends(alloc, &mut desk, stop, code, line),
-        Err(AllocError) => false,
-    };
-    assert!(rt; is_so, "{line}");
+    let desk = desk_with(alloc, &[], fails);
+    check(rt, line, ends(alloc, desk, stop, code, line));
 }
 
 /// The same on a desk that fails nowhere, and on one where the warning fails: the status stays.

@@ -5,7 +5,7 @@ use crate::desks::desk_with;
 use desk_port::{Desk, MemDesk, PutErr};
 use dimacs_text::{CnfErr, print, read};
 use lits::{Clause, ClauseErr, Dim, Listed};
-use std::alloc::{AllocError, Global};
+use std::alloc::Global;
 use std::process::Abort;
 use std::test::Fail;
 
@@ -27,17 +27,19 @@ fn put_formula(alloc: Global, desk: &mut MemDesk, clauses: &[Clause<Dim>]) -> Re
 }
 
 /// Whether the file is this text then.
-fn is_printed(alloc: Global, clauses: &[Clause<Dim>], text: &[u8]) -> Result<bool, PutErr> {
-    let mut desk = desk_with(alloc, &[], &[])?;
-    put_formula(alloc, &mut desk, clauses)?;
-    Ok(desk.file("cnf") == Some(text))
+fn is_printed(alloc: Global, desk: &mut MemDesk, clauses: &[Clause<Dim>], text: &[u8]) -> bool
+    requires { (state_of desk.old).started ≡ None }
+{
+    put_formula(alloc, desk, clauses).is_ok() && desk.file("cnf") == Some(text)
 }
 
 #[test]
 fn dimacs_print(rt: HostRuntime) -> Result<(), Fail> {
-    let clauses = clauses_of(rt.alloc(), &[&[Dim::new(1, false)], &[]])?;
+    let alloc = rt.alloc();
+    let mut desk = desk_with(alloc, &[], &[])?;
+    let clauses = clauses_of(alloc, &[&[Dim::new(1, false)], &[]])?;
     let text = b"p cnf 1 2\n1 0\n0\n";
-    assert!(rt; is_printed(rt.alloc(), clauses.as_slice(), text)?);
+    assert!(rt; is_printed(alloc, &mut desk, clauses.as_slice(), text));
     Ok(())
 }
 
@@ -150,14 +152,13 @@ fn words_and_comments(rt: HostRuntime) {
 }
 
 /// A clause of 50 variables, each twice and with `-1` behind it.
-fn wide_text(alloc: Global) -> Result<String, AllocError> {
-    let mut text = String::from_str(alloc, "p cnf 50 1\n")?;
-    for var in 1..=50u64 {
-        write!(text, "{var} {var} -1\n")?;
-    }
-    text.push_str("0\n")?;
-    Ok(text)
-}
+const WIDE: &[u8] =
+    b"p cnf 50 1\n1 1 -1\n2 2 -1\n3 3 -1\n4 4 -1\n5 5 -1\n6 6 -1\n7 7 -1\n8 8 -1\n9 9 -1\n\
+    10 10 -1\n11 11 -1\n12 12 -1\n13 13 -1\n14 14 -1\n15 15 -1\n16 16 -1\n17 17 -1\n18 18 -1\n\
+    19 19 -1\n20 20 -1\n21 21 -1\n22 22 -1\n23 23 -1\n24 24 -1\n25 25 -1\n26 26 -1\n27 27 -1\n\
+    28 28 -1\n29 29 -1\n30 30 -1\n31 31 -1\n32 32 -1\n33 33 -1\n34 34 -1\n35 35 -1\n36 36 -1\n\
+    37 37 -1\n38 38 -1\n39 39 -1\n40 40 -1\n41 41 -1\n42 42 -1\n43 43 -1\n44 44 -1\n45 45 -1\n\
+    46 46 -1\n47 47 -1\n48 48 -1\n49 49 -1\n50 50 -1\n0\n";
 
 const WIDE_CLAUSE: &[i32] = &[
     1, -1, 2, 3, 4, 5, 6, 7, 8, 9, 10, 11, 12, 13, 14, 15, 16, 17, 18, 19, 20, 21, 22, 23, 24, 25,
@@ -166,10 +167,8 @@ const WIDE_CLAUSE: &[i32] = &[
 ];
 
 #[test]
-fn wide_clause(rt: HostRuntime) -> Result<(), Fail> {
-    let text = wide_text(rt.alloc())?;
-    check_read(&rt, rt.alloc(), text.as_bytes(), 50, &[WIDE_CLAUSE]);
-    Ok(())
+fn wide_clause(rt: HostRuntime) {
+    check_read(&rt, rt.alloc(), WIDE, 50, &[WIDE_CLAUSE]);
 }
 
 const BAD_HEADERS: [&[u8]; 17] = [

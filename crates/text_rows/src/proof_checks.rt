@@ -5,7 +5,7 @@ use lrat_checker::{Verdict, check};
 use lrat_text::{Line, LratStep};
 use std::alloc::{AllocError, Global};
 use std::process::Abort;
-use std::test::Fail;
+use std::test::*;
 use unit_prop::{BadStep, Why};
 
 /// The formula of two swapped ANDs with their outputs compared, `4` being one AND and `5` the other.
@@ -40,37 +40,35 @@ fn verdict_of(want: &Want) -> Verdict {
     }
 }
 
-/// What the checker says of a formula and a proof text.
-fn verdict(alloc: Global, formula: &[u8], proof: &str) -> Result<Verdict, Fail> {
-    let cnf = dimacs_text::read(alloc, formula)?;
-    let lines = lrat_text::read(alloc, proof.as_bytes(), cnf.clauses.len() as u64)?;
-    Ok(check(alloc, &cnf, lines.as_slice())?)
+/// What the checker says of a formula and a proof text, where both can be read.
+fn verdict(alloc: Global, formula: &[u8], proof: &str) -> Option<Verdict> {
+    let cnf = dimacs_text::read(alloc, formula).ok()?;
+    let lines = lrat_text::read(alloc, proof.as_bytes(), cnf.clauses.len() as u64).ok()?;
+    check(alloc, &cnf, lines.as_slice()).ok()
 }
 
 /// A proof text in three parts, and what the checker should say.
 type Row = ([&'static str; 3], Want);
 
-/// Checks the text that the parts make, and compares the verdict.
-fn check_row(rt: &impl Abort, alloc: Global, formula: &[u8], row: &Row) -> Result<(), Fail> {
-    let ([first, second, rest], want) = row;
-    let text = format!(in alloc; "{first}{second}{rest}")?;
-    let found = verdict(alloc, formula, text.as_str())?;
-    assert!(rt; found == verdict_of(want), "{text}");
-    Ok(())
+/// What it says of the text that the parts make.
+fn verdict_on(alloc: Global, formula: &[u8], parts: &[&str; 3]) -> Option<Verdict> {
+    let [first, second, rest] = parts;
+    let text = format!(in alloc; "{first}{second}{rest}").ok()?;
+    verdict(alloc, formula, text.as_str())
 }
 
-fn check_rows(rt: &impl Abort, alloc: Global, formula: &[u8], rows: &[Row]) -> Result<(), Fail> {
-    for row in rows {
-        check_row(rt, alloc, formula, row)?;
+fn check_rows(rt: &impl Abort, alloc: Global, formula: &[u8], rows: &[Row]) {
+    for (parts, want) in rows {
+        let found = verdict_on(alloc, formula, parts);
+        assert!(rt; found == Some(verdict_of(want)), "{parts:?}");
     }
-    Ok(())
 }
 
 static LRAT_CHECK: [Row; 1] = [(["3 0 2 0\n", "", ""], Refuted)];
 
 #[test]
-fn lrat_check(rt: HostRuntime) -> Result<(), Fail> {
-    check_rows(&rt, rt.alloc(), WITH_EMPTY, &LRAT_CHECK)
+fn lrat_check(rt: HostRuntime) {
+    check_rows(&rt, rt.alloc(), WITH_EMPTY, &LRAT_CHECK);
 }
 
 const FIRST: &str = "13 -4 5 0 2 3 7 0\n";
@@ -89,8 +87,8 @@ static HAND_WRITTEN: [Row; 4] = [
 ];
 
 #[test]
-fn hand_written_proofs(rt: HostRuntime) -> Result<(), Fail> {
-    check_rows(&rt, rt.alloc(), SWAPPED_AND, &HAND_WRITTEN)
+fn hand_written_proofs(rt: HostRuntime) {
+    check_rows(&rt, rt.alloc(), SWAPPED_AND, &HAND_WRITTEN);
 }
 
 const KEPT: &str = "13 -5 4 0 5 4 6 0\n";
@@ -106,8 +104,8 @@ static DELETED: [Row; 3] = [
 ];
 
 #[test]
-fn deleted_clauses(rt: HostRuntime) -> Result<(), Fail> {
-    check_rows(&rt, rt.alloc(), SWAPPED_AND, &DELETED)
+fn deleted_clauses(rt: HostRuntime) {
+    check_rows(&rt, rt.alloc(), SWAPPED_AND, &DELETED);
 }
 
 static AFTER_EMPTY: [Row; 6] = [
@@ -121,8 +119,8 @@ static AFTER_EMPTY: [Row; 6] = [
 ];
 
 #[test]
-fn lines_after_the_empty_clause(rt: HostRuntime) -> Result<(), Fail> {
-    check_rows(&rt, rt.alloc(), WITH_EMPTY, &AFTER_EMPTY)
+fn lines_after_the_empty_clause(rt: HostRuntime) {
+    check_rows(&rt, rt.alloc(), WITH_EMPTY, &AFTER_EMPTY);
 }
 
 static FIRST_BAD: [Row; 12] = [
@@ -159,8 +157,8 @@ static FIRST_BAD: [Row; 12] = [
 ];
 
 #[test]
-fn first_bad_lines(rt: HostRuntime) -> Result<(), Fail> {
-    check_rows(&rt, rt.alloc(), ALL_PAIRS, &FIRST_BAD)
+fn first_bad_lines(rt: HostRuntime) {
+    check_rows(&rt, rt.alloc(), ALL_PAIRS, &FIRST_BAD);
 }
 
 /// The clause of the literals from 1 to 1000000.

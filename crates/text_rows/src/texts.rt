@@ -1,19 +1,16 @@
 //! The texts of the faults of files, which no clause says.
+use crate::checks::{check, is_text};
 use byte_scan::AigerErr;
 use dimacs_text::CnfErr;
 use lrat_text::LratErr;
-use std::alloc::{AllocError, Global};
+use std::alloc::Global;
 use std::fmt::Display;
 use std::process::Abort;
 use std::test::*;
 
 /// Compares the text of a fault.
 fn check_text<E: Display>(rt: &impl Abort, alloc: Global, fault: &E, text: &str) {
-    let is_said = match fault.to_string(alloc) {
-        Ok(said) => said.as_str() == text,
-        Err(AllocError) => false,
-    };
-    assert!(rt; is_said, "{text}");
+    check(rt, text, is_text(fault.to_string(alloc), text));
 }
 
 const CIRCUITS: [(AigerErr, &str); 13] = [

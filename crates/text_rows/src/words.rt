@@ -1,7 +1,8 @@
+use crate::checks::{check, is_text};
 use command_line::{Asked, CheckWords, Refusal, read};
 use std::alloc::{AllocError, Global};
 use std::process::Abort;
-use std::test::Fail;
+use std::test::*;
 use workload_gen::Kind;
 
 const PROGRAM_HELP: &str = "help: \
@@ -321,43 +322,36 @@ fn answer(alloc: Global, line: &str) -> Result<String, AllocError> {
     told(alloc, &read(alloc, words_of(alloc, line)?.as_slice()))
 }
 
-fn check_told(rt: &impl Abort, alloc: Global, line: &str, expected: &str) -> Result<(), Fail> {
-    let text = answer(alloc, line)?;
-    assert!(rt; text.as_str() == expected, "{line}: {text}");
-    Ok(())
-}
-
-fn check_rows(rt: &impl Abort, alloc: Global, rows: &[(&str, &str)]) -> Result<(), Fail> {
+fn check_told(rt: &impl Abort, alloc: Global, rows: &[(&str, &str)]) {
     for (line, expected) in rows {
-        check_told(rt, alloc, line, expected)?;
+        check(rt, line, is_text(answer(alloc, line), expected));
     }
-    Ok(())
 }
 
 #[test]
-fn help_and_usage_texts(rt: HostRuntime) -> Result<(), Fail> {
-    check_rows(&rt, rt.alloc(), &HELP_AND_USAGE)
+fn help_and_usage_texts(rt: HostRuntime) {
+    check_told(&rt, rt.alloc(), &HELP_AND_USAGE);
 }
 
 #[test]
-fn taken_words(rt: HostRuntime) -> Result<(), Fail> {
-    check_rows(&rt, rt.alloc(), &TAKEN)
+fn taken_words(rt: HostRuntime) {
+    check_told(&rt, rt.alloc(), &TAKEN);
 }
 
-fn check_refused(rt: &impl Abort, alloc: Global, line: &str, expected: &str) -> Result<(), Fail> {
-    let text = answer(alloc, line)?;
-    let is_refused = match text.as_str().strip_prefix("usage: error: ") {
+/// Whether the answer is a refusal whose text begins so.
+fn is_refused(told: Result<String, AllocError>, expected: &str) -> bool {
+    let Ok(text) = told else {
+        return false;
+    };
+    match text.as_str().strip_prefix("usage: error: ") {
         Some(rest) => rest.starts_with(expected),
         None => false,
-    };
-    assert!(rt; is_refused, "{line}: {text}");
-    Ok(())
+    }
 }
 
 #[test]
-fn refused_words(rt: HostRuntime) -> Result<(), Fail> {
+fn refused_words(rt: HostRuntime) {
     for (line, expected) in &REFUSED {
-        check_refused(&rt, rt.alloc(), line, expected)?;
+        check(&rt, line, is_refused(answer(rt.alloc(), line), expected));
     }
-    Ok(())
 }
