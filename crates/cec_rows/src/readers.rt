@@ -77,24 +77,11 @@ fn ascii_faults(rt: HostRuntime) {
     check_cases(&rt, &ASCII_FAULTS);
 }
 
-const BAD_HEADER: &str = "cec: A: bad header\n";
+/// How many bytes the header of the file has that is cut.
+const HEADER: usize = 13;
 
-/// The line of a file of which so many bytes are left: up to byte 12 the header is cut, and before byte 25 a
-/// line that has to be there.
-const LINES_AFTER: [&str; 26] = [
-    BAD_HEADER,
-    BAD_HEADER,
-    BAD_HEADER,
-    BAD_HEADER,
-    BAD_HEADER,
-    BAD_HEADER,
-    BAD_HEADER,
-    BAD_HEADER,
-    BAD_HEADER,
-    BAD_HEADER,
-    BAD_HEADER,
-    BAD_HEADER,
-    BAD_HEADER,
+/// The line of a file that is cut behind its header, where a line is missing that has to be there.
+const LINES_BEHIND_HEADER: [&str; 12] = [
     "cec: A: ends too early at byte 13\n",
     "cec: A: ends too early at byte 14\n",
     "cec: A: ends too early at byte 15\n",
@@ -107,8 +94,18 @@ const LINES_AFTER: [&str; 26] = [
     "cec: A: ends too early at byte 22\n",
     "cec: A: ends too early at byte 23\n",
     "cec: A: ends too early at byte 24\n",
-    "",
 ];
+
+/// The line of a file of which so many bytes are left, or nothing where all that has to be there is.
+fn line_after(bytes: usize) -> &'static str {
+    if bytes < HEADER {
+        return "cec: A: bad header\n";
+    }
+    match LINES_BEHIND_HEADER.get(bytes - HEADER) {
+        Some(line) => line,
+        None => "",
+    }
+}
 
 /// Whether a run warned of this line.
 fn has_warned(ran: Result<Ran, AllocError>, line: &str) -> bool {
@@ -122,7 +119,7 @@ fn has_warned(ran: Result<Ran, AllocError>, line: &str) -> bool {
 fn cut_at_each_byte(rt: HostRuntime) {
     for n in 0..26usize {
         let files = [("A", &SWAPPED_A[..n]), WHOLE_B];
-        let is_warned = has_warned(run_words(&rt, &files, &WORDS, &[]), LINES_AFTER[n]);
+        let is_warned = has_warned(run_words(&rt, &files, &WORDS, &[]), line_after(n));
         assert!(rt; is_warned, "after {n} bytes");
     }
 }
