@@ -1,5 +1,4 @@
 //! Worked cases and small formulas, for any solver.
-ghost use Rattle.std.specs.Prelude.{◌≡◌, true};
 
 use crate::bases::{
     base_of, cone_of_xor, drawn_base, is_base, one_gate, parity_chains, turned, twin_gates,
