@@ -6,7 +6,7 @@ use crate::node::{Node, Side};
 /// A variable or its negation.
 ///
 /// `Default` gives the literal that fills the unused room of a short clause; its value is never read.
-pub trait Literal: Copy + Ord + Default {
+pub trait Literal: Copy + Eq + Default {
     ghost opposite: { Self → Self };
 
     /// The literal of the same variable with the other sign.
@@ -27,7 +27,7 @@ pub trait Literal: Copy + Ord + Default {
 }
 
 /// A node, or its negation where `neg` is set. `Const` without `neg` is true.
-#[derive(Clone, Copy, Debug, PartialEq, Eq, PartialOrd, Ord, Hash)]
+#[derive(Clone, Copy, Debug, PartialEq, Eq, Hash)]
 pub struct Lit {
     pub node: Node,
     pub neg: bool,
