@@ -1,5 +1,5 @@
 /// The nine numbers of an AIGER header, under the letters of its definition.
-#[derive(Clone, Copy, Debug, PartialEq, Eq)]
+#[derive(Clone, Copy, PartialEq, Eq)]
 pub struct Header {
     /// The greatest variable.
     pub m: u32,

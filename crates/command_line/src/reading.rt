@@ -13,7 +13,7 @@ use clap::{ArgMatches, Error};
 use std::alloc::{AllocError, Global};
 
 /// Why words ask for nothing that the program does.
-#[derive(Debug, Drop)]
+#[derive(Drop)]
 pub enum Refusal {
     /// They ask for help, which is this text.
     Help(String),

@@ -2,7 +2,7 @@ ghost use Rattle.std.specs.Prelude.{◌≡◌};
 ghost use Rattle.endings.specs.Status.{code_of};
 
 /// How a command ends. Each way has an exit status of its own, for scripts.
-#[derive(Clone, Copy, Debug, PartialEq, Eq)]
+#[derive(Clone, Copy, PartialEq, Eq)]
 pub enum Status {
     /// The circuits are equivalent, the proof refutes the formula, or help was said.
     Done,

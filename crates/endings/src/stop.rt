@@ -7,7 +7,7 @@ use std::alloc::AllocError;
 
 /// Why a command ends without a verdict. Files are numbered from 0, in the order in which the command reads
 /// them.
-#[derive(Drop, Debug)]
+#[derive(Drop)]
 pub enum Stop {
     CannotRead(usize),
     /// The file has more bytes than the limit.

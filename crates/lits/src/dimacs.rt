@@ -4,7 +4,7 @@ use crate::literal::Literal;
 use std::marker::Model;
 
 /// A literal of a DIMACS file: a variable from 1 to 2,147,483,647, or its negation where `neg` is set.
-#[derive(Clone, Copy, Debug, PartialEq, Eq)]
+#[derive(Clone, Copy, PartialEq, Eq)]
 pub struct Dim {
     var: u32,
     neg: bool,

@@ -27,7 +27,7 @@ pub trait Literal: Copy + Eq + Default {
 }
 
 /// A node, or its negation where `neg` is set. `Const` without `neg` is true.
-#[derive(Clone, Copy, Debug, PartialEq, Eq, Hash)]
+#[derive(Clone, Copy, PartialEq, Eq, Hash)]
 pub struct Lit {
     pub node: Node,
     pub neg: bool,

@@ -1,5 +1,5 @@
 /// One of the two circuits that are compared.
-#[derive(Clone, Copy, Debug, PartialEq, Eq, Hash)]
+#[derive(Clone, Copy, PartialEq, Eq, Hash)]
 pub enum Side {
     A,
     B,
@@ -9,7 +9,7 @@ pub enum Side {
 ///
 /// Inputs and XORs are named by their index from 0, gates by their circuit and their AIGER variable, so that
 /// an edit of one gate renames no other node.
-#[derive(Clone, Copy, Debug, PartialEq, Eq, Hash)]
+#[derive(Clone, Copy, PartialEq, Eq, Hash)]
 pub enum Node {
     /// The constant true.
     Const,

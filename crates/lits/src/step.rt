@@ -4,7 +4,7 @@ use crate::literal::Lit;
 use crate::node::Node;
 
 /// The name of a clause that a proof step cites.
-#[derive(Clone, Copy, Debug, PartialEq, Eq)]
+#[derive(Clone, Copy, PartialEq, Eq)]
 pub enum Ref {
     /// Clause `k`, from 0, of those that define the node.
     Axiom(Node, u8),

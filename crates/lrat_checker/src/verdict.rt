@@ -1,7 +1,7 @@
 use unit_prop::BadStep;
 
 /// What a checker says of the lines of a proof.
-#[derive(Clone, Copy, Debug, PartialEq, Eq)]
+#[derive(Clone, Copy, PartialEq, Eq)]
 pub enum Verdict {
     /// Each line is a step, and one adds the empty clause.
     Refuted,

@@ -1,7 +1,7 @@
 use lits::{Dim, Listed};
 
 /// A step of a proof, which changes the clauses that are live.
-#[derive(Debug, Drop)]
+#[derive(Drop)]
 pub enum LratStep {
     /// A clause joins the live ones under an id of its own; the hints are the ids of the clauses that show
     /// it.
@@ -17,7 +17,7 @@ pub enum LratStep {
 }
 
 /// A step of a proof text, and the number of its line from 1.
-#[derive(Debug, Drop)]
+#[derive(Drop)]
 pub struct Line {
     pub at: u64,
     pub step: LratStep,

@@ -3,7 +3,7 @@ use lits::{Lit, Node};
 /// An AND gate: the variable that it defines, and its fanins as AIGER literals.
 ///
 /// Variable v is the literal 2v, and its negation 2v + 1; 0 is false and 1 is true.
-#[derive(Clone, Copy, Debug, PartialEq, Eq)]
+#[derive(Clone, Copy, PartialEq, Eq)]
 pub struct And {
     pub var: u32,
     pub left: u32,
@@ -11,7 +11,7 @@ pub struct And {
 }
 
 /// What defines a node of a net: a gate is the AND of the two literals, an XOR tells whether they differ.
-#[derive(Clone, Copy, Debug, PartialEq, Eq)]
+#[derive(Clone, Copy, PartialEq, Eq)]
 pub struct Definition {
     pub node: Node,
     pub left: Lit,
@@ -19,21 +19,21 @@ pub struct Definition {
 }
 
 /// A literal by the position of its node.
-#[derive(Clone, Copy, Debug, PartialEq, Eq)]
+#[derive(Clone, Copy, PartialEq, Eq)]
 pub struct Placed {
     pub position: u32,
     pub neg: bool,
 }
 
 /// The two literals that a gate is the AND of, by their positions.
-#[derive(Clone, Copy, Debug, PartialEq, Eq)]
+#[derive(Clone, Copy, PartialEq, Eq)]
 pub struct Fanins {
     pub left: Placed,
     pub right: Placed,
 }
 
 /// What gives a variable of a circuit its value.
-#[derive(Clone, Copy, Debug, PartialEq, Eq)]
+#[derive(Clone, Copy, PartialEq, Eq)]
 pub enum Source {
     /// The variable 0, which is false.
     Constant,

@@ -17,7 +17,7 @@ use std::alloc::{AllocError, Global};
 use std::marker::Model;
 
 /// How many inputs, gates and outputs a pair of circuits has.
-#[derive(Clone, Copy, Debug)]
+#[derive(Clone, Copy)]
 pub struct Sizes {
     pub inputs: u32,
     pub gates_a: u32,

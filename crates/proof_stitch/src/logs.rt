@@ -12,7 +12,7 @@ use netlist::Net;
 use std::alloc::{AllocError, Global};
 
 /// The lines of a derivation that are an output's log: the ids of its first and last clause.
-#[derive(Clone, Copy, Debug, PartialEq, Eq)]
+#[derive(Clone, Copy, PartialEq, Eq)]
 pub struct Span {
     pub output: u32,
     pub first: u64,

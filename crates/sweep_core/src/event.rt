@@ -12,7 +12,7 @@ pub enum Event {
 }
 
 /// What an event answers its worker.
-#[derive(Clone, Copy, Debug, PartialEq, Eq)]
+#[derive(Clone, Copy, PartialEq, Eq)]
 pub enum Reply {
     /// The number drawn; none where all tasks were drawn.
     Task(Option<u64>),

@@ -8,7 +8,7 @@ use lits::{Clause, Listed, Literal, LiteralSet};
 use std::alloc::{AllocError, Global};
 
 /// What unit propagation makes of clauses and the literals that it starts from.
-#[derive(Debug, Drop)]
+#[derive(Drop)]
 pub enum Closure<L> {
     /// It finds a literal beside its negation, or a clause that is wholly false.
     Clash,

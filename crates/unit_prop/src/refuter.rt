@@ -8,7 +8,7 @@ use lits::{Clause, Listed, Lit, Named, Ref, Step};
 use std::alloc::{AllocError, Global};
 
 /// What a query says of its target.
-#[derive(Debug, Drop)]
+#[derive(Drop)]
 pub enum Refuted {
     /// The base implies the target: these hints make it a step over base and log.
     Yes(Listed<Ref>),

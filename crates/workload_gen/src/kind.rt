@@ -1,5 +1,5 @@
 /// Which function the two circuits compute.
-#[derive(Clone, Copy, Debug, PartialEq, Eq)]
+#[derive(Clone, Copy, PartialEq, Eq)]
 pub enum Kind {
     /// The sum of two numbers of N bits.
     Adder,
