@@ -33,7 +33,7 @@ pub struct Fanins {
 }
 
 /// What gives a variable of a circuit its value.
-#[derive(Clone, Copy, PartialEq, Eq)]
+#[derive(Clone, Copy)]
 pub enum Source {
     /// The variable 0, which is false.
     Constant,

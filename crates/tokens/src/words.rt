@@ -37,7 +37,7 @@ impl Blanks for Whitespace {
 }
 
 /// The words of a line that are left, in order.
-#[derive(Clone, Copy)]
+#[derive(Drop)]
 pub struct Words<'a, B> {
     line: &'a [u8],
     blanks: PhantomData<B>,

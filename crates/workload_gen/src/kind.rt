@@ -1,5 +1,5 @@
 /// Which function the two circuits compute.
-#[derive(Clone, Copy, PartialEq, Eq)]
+#[derive(Clone, Copy)]
 pub enum Kind {
     /// The sum of two numbers of N bits.
     Adder,
