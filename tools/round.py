@@ -29,6 +29,7 @@ MEASURING = {
 }
 
 JUDGING = {
+    "fuzz/wrong_bodies.py": NONE,
     "fuzz/wrong_search.py": NONE,
     "fuzz/workloads.py": FIRST,
     "fuzz/books.py": NONE,
