@@ -47,7 +47,7 @@ fn lines_and_statuses(rt: HostRuntime) -> Result<(), Fail> {
 struct Letters;
 
 impl Content for Letters {
-    ghost use Rattle.std.specs.Prelude.{codes};
+    ghost use Rattle.std.specs.Prelude.{◌≡◌, codes};
 
     type Told = u8;
 
