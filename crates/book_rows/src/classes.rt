@@ -48,13 +48,13 @@ fn are_tasks(
     Ok(found.as_slice() == expected)
 }
 
-/// What is to be asked where the book is empty.
-struct Tasks(&'static [Task]);
+/// What is to be asked once these entries were offered to an empty book.
+struct Tasks(&'static [Row<'static>], &'static [Task]);
 
 impl Case for Tasks {
     fn check<A: Abort>(&self, rt: &A, alloc: Global, net: &Net) -> Result<(), Fail> {
-        let are_expected = are_tasks(rt, alloc, net, &Book::new(alloc, 1, 1), self.0)?;
-        expect(rt, "the tasks", are_expected);
+        let book = book_of(rt, alloc, net, 1, self.0)?;
+        expect(rt, "the tasks", are_tasks(rt, alloc, net, &book, self.1)?);
         Ok(())
     }
 }
@@ -72,35 +72,17 @@ const PAIR: Task = Task {
     },
 };
 
-static OF_XORS: Tasks = Tasks(&[PAIR]);
+static OF_XORS: Tasks = Tasks(&[], &[PAIR]);
 
-#[test]
-fn tasks_of_two_xors(rt: HostRuntime) -> Result<(), Fail> {
-    check(&rt, rt.alloc(), two_xors(rt.alloc()), &OF_XORS)
-}
-
-/// What a query with a budget of one clause learned of the pair: where both gates are true, so is x.
-static SPENT: [Row<'static>; 1] = [(
-    "spent b5 -a5 0: -b5 -a5 i0 by b5.1 b4.2 a5.1 a4.2",
-    "Ok(At(0))",
-)];
-
-/// Nothing is to be asked after that query.
-struct NoTask;
-
-impl Case for NoTask {
-    fn check<A: Abort>(&self, rt: &A, alloc: Global, net: &Net) -> Result<(), Fail> {
-        let book = book_of(rt, alloc, net, 1, &SPENT)?;
-        expect(rt, "no task", are_tasks(rt, alloc, net, &book, &[])?);
-        Ok(())
-    }
-}
-
-/// A pair whose budget was spent is no task again.
-#[test]
-fn spent_pair(rt: HostRuntime) -> Result<(), Fail> {
-    check(&rt, rt.alloc(), two_xors(rt.alloc()), &NoTask)
-}
+/// What a query with a budget of one clause learned of the pair: where both gates are true, so is x. A pair
+/// whose budget was spent is no task again.
+static SPENT: Tasks = Tasks(
+    &[(
+        "spent b5 -a5 0: -b5 -a5 i0 by b5.1 b4.2 a5.1 a4.2",
+        "Ok(At(0))",
+    )],
+    &[],
+);
 
 const FIRST: Lit = Lit {
     node: A5,
@@ -140,32 +122,37 @@ fn complements(alloc: Global) -> Result<Net, Fail> {
     net_of(alloc, a, two_input_circuit(alloc, &[and(3, 5, 1)], 6))
 }
 
-static OF_COMPLEMENTS: Tasks = Tasks(&[
-    Task {
-        node: Node::Gate(Side::A, 3),
-        lit: Lit {
-            node: Node::Input(1),
-            neg: false,
-        },
-    },
-    Task {
-        node: Node::Gate(Side::A, 4),
-        lit: Lit {
-            node: Node::Const,
-            neg: true,
-        },
-    },
-    Task {
-        node: Node::Gate(Side::B, 3),
-        lit: Lit {
-            node: Node::Input(1),
-            neg: true,
-        },
-    },
-]);
-
 /// Gates that are an input, its negation and false: their classes begin with the input and with the constant.
+static OF_COMPLEMENTS: Tasks = Tasks(
+    &[],
+    &[
+        Task {
+            node: Node::Gate(Side::A, 3),
+            lit: Lit {
+                node: Node::Input(1),
+                neg: false,
+            },
+        },
+        Task {
+            node: Node::Gate(Side::A, 4),
+            lit: Lit {
+                node: Node::Const,
+                neg: true,
+            },
+        },
+        Task {
+            node: Node::Gate(Side::B, 3),
+            lit: Lit {
+                node: Node::Input(1),
+                neg: true,
+            },
+        },
+    ],
+);
+
 #[test]
-fn classes_with_complements(rt: HostRuntime) -> Result<(), Fail> {
+fn tasks_of_classes(rt: HostRuntime) -> Result<(), Fail> {
+    check(&rt, rt.alloc(), two_xors(rt.alloc()), &OF_XORS)?;
+    check(&rt, rt.alloc(), two_xors(rt.alloc()), &SPENT)?;
     check(&rt, rt.alloc(), complements(rt.alloc()), &OF_COMPLEMENTS)
 }

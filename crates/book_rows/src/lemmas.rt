@@ -96,351 +96,318 @@ fn offer_to(
 
 /// Entries that are offered to an empty book over a net, with one clause for each query or, where logs are
 /// long, two.
-struct Offering {
-    are_long: bool,
-    rows: &'static [Row<'static>],
-}
+type Offering = (bool, &'static [Row<'static>]);
 
-impl Case for Offering {
+/// Offerings over a net, each to a book of its own.
+struct Offerings(&'static [Offering]);
+
+impl Case for Offerings {
     fn check<A: Abort>(&self, rt: &A, alloc: Global, net: &Net) -> Result<(), Fail> {
-        let budget = if self.are_long { 2 } else { 1 };
-        offer_to(rt, alloc, net, budget, self.rows)
+        for (are_long, rows) in self.0 {
+            let budget = if *are_long { 2 } else { 1 };
+            offer_to(rt, alloc, net, budget, rows)?;
+        }
+        Ok(())
     }
 }
 
 /// A merge without a hint, with node and target exchanged, whole, and once more.
-static OFFERS: Offering = Offering {
-    are_long: false,
-    rows: &[
-        (
-            "merge b3 a3: -b3 a3 by b3.1 a3.2; b3 -a3 by a3.0 a3.1 b3.2",
-            "Err(Bad(Step(0, BadStep { hint: 0, why: NotFalse })))",
-        ),
-        (
-            "merge a3 b3: -b3 a3 by b3.0 b3.1 a3.2; b3 -a3 by a3.0 a3.1 b3.2",
-            "Err(Bad(NotEarlier))",
-        ),
-        (MERGE, "Ok(At(0))"),
-        (MERGE, "Ok(Already(0))"),
-    ],
-};
+const OFFERS: &[Row<'static>] = &[
+    (
+        "merge b3 a3: -b3 a3 by b3.1 a3.2; b3 -a3 by a3.0 a3.1 b3.2",
+        "Err(Bad(Step(0, BadStep { hint: 0, why: NotFalse })))",
+    ),
+    (
+        "merge a3 b3: -b3 a3 by b3.0 b3.1 a3.2; b3 -a3 by a3.0 a3.1 b3.2",
+        "Err(Bad(NotEarlier))",
+    ),
+    (MERGE, "Ok(At(0))"),
+    (MERGE, "Ok(Already(0))"),
+];
+
+/// Each cause that is found without looking at steps.
+const NAMES_AND_SIZES: &[Row<'static>] = &[
+    // A gate that isn't there; an input; an XOR, which has no position.
+    (
+        "merge b9 a3: -b3 a3 by b3.0 b3.1 a3.2; b3 -a3 by a3.0 a3.1 b3.2",
+        "Err(Bad(NoNode))",
+    ),
+    (
+        "merge b3 i2: -b3 a3 by b3.0 b3.1 a3.2; b3 -a3 by a3.0 a3.1 b3.2",
+        "Err(Bad(NoNode))",
+    ),
+    (
+        "merge d0 a3: -b3 a3 by b3.0 b3.1 a3.2; b3 -a3 by a3.0 a3.1 b3.2",
+        "Err(Bad(NoNode))",
+    ),
+    ("apart a3 d0: 10", "Err(Bad(NoNode))"),
+    ("spent b9 a3 0: -b3 a3 by b3.1", "Err(Bad(NoNode))"),
+    // An output that isn't there.
+    ("out 1: -d0 by d0.0", "Err(Bad(NoNode))"),
+    ("outapart 1: 10", "Err(Bad(NoNode))"),
+    ("outspent 1 0: -d0 by d0.0", "Err(Bad(NoNode))"),
+    // A literal of a step.
+    (
+        "merge b3 a3: -b3 i1 i7 by b3.0; -b3 a3 by b3.0 b3.1 a3.2; b3 -a3 by a3.0 a3.1 b3.2",
+        "Err(Bad(NoNode))",
+    ),
+    ("spent b3 a3 0: -b3 i7 by b3.0", "Err(Bad(NoNode))"),
+    ("out 0: -d1 by d0.0; -d0 by d0.0", "Err(Bad(NoNode))"),
+    // Target that isn't earlier, by all else good.
+    (
+        "merge a3 b3: -a3 b3 by a3.0 a3.1 b3.2; a3 -b3 by b3.0 b3.1 a3.2",
+        "Err(Bad(NotEarlier))",
+    ),
+    ("apart i0 a3: 10", "Err(Bad(NotEarlier))"),
+    // Equal values; an input of another length.
+    ("apart a3 i0: 11", "Err(NotApart)"),
+    ("apart a3 -i0: 10", "Err(NotApart)"),
+    ("apart a3 i0: 1", "Err(NotApart)"),
+    ("apart a3 i0: 100", "Err(NotApart)"),
+    ("outapart 0: 10", "Err(NotApart)"),
+    ("outapart 0: ", "Err(NotApart)"),
+    // Last clauses.
+    ("merge b3 a3: -b3 a3 by b3.0 b3.1 a3.2", "Err(Bad(Shape))"),
+    (
+        "merge b3 a3: b3 -a3 by a3.0 a3.1 b3.2; -b3 a3 by b3.0 b3.1 a3.2",
+        "Err(Bad(Shape))",
+    ),
+    (
+        "merge b3 -a3: -b3 a3 by b3.0 b3.1 a3.2; b3 -a3 by a3.0 a3.1 b3.2",
+        "Err(Bad(Shape))",
+    ),
+    (
+        "merge b3 a3: -b3 a3 by b3.0 b3.1 a3.2; b3 -a3 by a3.0 a3.1 b3.2; -b3 a3 by b3.0 b3.1 a3.2",
+        "Err(Bad(Shape))",
+    ),
+    ("out 0: -d0 a3 by d0.0", "Err(Bad(Shape))"),
+    // Counts.
+    (
+        "merge b3 a3: -b3 i1 by b3.0; -b3 i0 by b3.1; -b3 a3 by b3.0 b3.1 a3.2; b3 -a3 by a3.0 a3.1 b3.2",
+        "Err(Bad(Count))",
+    ),
+    ("spent b3 a3 0: ", "Err(Bad(Count))"),
+    ("outspent 0 0: ", "Err(Bad(Count))"),
+];
+
+/// Each cause that is found in steps.
+const STEPS: &[Row<'static>] = &[
+    // Hints that are no clauses: an axiom, one of an XOR, an entry's, the step's own, a later step's.
+    (
+        "merge b3 a3: -b3 a3 by b3.3; b3 -a3 by a3.0 a3.1 b3.2",
+        "Err(Bad(Step(0, BadStep { hint: 1, why: NoClause })))",
+    ),
+    (
+        "merge b3 a3: -b3 a3 by b3.0 d0.0; b3 -a3 by a3.0 a3.1 b3.2",
+        "Err(Bad(Step(0, BadStep { hint: 2, why: NoClause })))",
+    ),
+    (
+        "merge b3 a3: -b3 a3 by e0.0; b3 -a3 by a3.0 a3.1 b3.2",
+        "Err(Bad(Step(0, BadStep { hint: 1, why: NoClause })))",
+    ),
+    (
+        "merge b3 a3: -b3 a3 by s0; b3 -a3 by a3.0 a3.1 b3.2",
+        "Err(Bad(Step(0, BadStep { hint: 1, why: NoClause })))",
+    ),
+    (
+        "merge b3 a3: -b3 a3 by s1; b3 -a3 by a3.0 a3.1 b3.2",
+        "Err(Bad(Step(0, BadStep { hint: 1, why: NoClause })))",
+    ),
+    // The other causes.
+    (
+        "merge b3 a3: -b3 a3 by b3.0 b3.1 a3.2 a3.0; b3 -a3 by a3.0 a3.1 b3.2",
+        "Err(Bad(Step(0, BadStep { hint: 4, why: AfterFalse })))",
+    ),
+    (
+        "merge b3 a3: -b3 a3 by b3.0 b3.1 a3.2; b3 -a3 by b3.0",
+        "Err(Bad(Step(1, BadStep { hint: 1, why: Satisfied })))",
+    ),
+    (
+        "merge b3 a3: -b3 a3 by b3.0 b3.1 a3.2; b3 -a3 by a3.0 a3.0 b3.2",
+        "Err(Bad(Step(1, BadStep { hint: 2, why: Satisfied })))",
+    ),
+    (
+        "merge b3 a3: -b3 a3 by a3.2 b3.0 b3.1; b3 -a3 by a3.0 a3.1 b3.2",
+        "Err(Bad(Step(0, BadStep { hint: 1, why: TwoFree })))",
+    ),
+    (
+        "merge b3 a3: -b3 a3 by; b3 -a3 by a3.0 a3.1 b3.2",
+        "Err(Bad(Step(0, BadStep { hint: 0, why: NotFalse })))",
+    ),
+    (
+        "merge b3 a3: -b3 a3 by b3.0 b3.1 a3.2; b3 -a3 by a3.0 a3.1",
+        "Err(Bad(Step(1, BadStep { hint: 0, why: NotFalse })))",
+    ),
+    (
+        "out 0: -d0 by d0.0",
+        "Err(Bad(Step(0, BadStep { hint: 1, why: TwoFree })))",
+    ),
+    (
+        "out 0: -d0 a3 by d0.0; -d0 by s0",
+        "Err(Bad(Step(0, BadStep { hint: 0, why: NotFalse })))",
+    ),
+    // An axiom is nothing new.
+    ("spent b3 a3 0: -b3 i1 by b3.0", "Err(Bad(NotNew(0)))"),
+    ("outspent 0 0: -b3 i1 by b3.0", "Err(Bad(NotNew(0)))"),
+];
+
+/// Two causes stand, and the earlier is told.
+const PAIRS: &[Row<'static>] = &[
+    // Name and place in order; name and last clauses.
+    (
+        "merge a3 b9: -b3 a3 by b3.0 b3.1 a3.2; b3 -a3 by a3.0 a3.1 b3.2",
+        "Err(Bad(NoNode))",
+    ),
+    ("merge b9 a3: ", "Err(Bad(NoNode))"),
+    ("outapart 1: 11", "Err(Bad(NoNode))"),
+    // Place in order, then values, last clauses, count, or entries that were seen.
+    ("apart a3 a3: 10", "Err(Bad(NotEarlier))"),
+    ("apart a3 b3: 1", "Err(Bad(NotEarlier))"),
+    ("merge a3 b3: ", "Err(Bad(NotEarlier))"),
+    ("spent a3 b3 0: ", "Err(Bad(NotEarlier))"),
+    ("spent a3 b3 7: -b3 i1 by b3.0", "Err(Bad(NotEarlier))"),
+    // Last clauses, then count or a step.
+    (
+        "merge b3 a3: -b3 i1 by b3.0; -b3 i0 by b3.1; -b3 i1 by b3.0; -b3 i1 by b3.0",
+        "Err(Bad(Shape))",
+    ),
+    ("merge b3 a3: -b3 a3 by a3.2", "Err(Bad(Shape))"),
+    // Count, then entries that were seen or a step.
+    ("spent b3 a3 7: ", "Err(Bad(Count))"),
+    (
+        "merge b3 a3: -b3 i1 by; -b3 i0 by b3.1; -b3 a3 by b3.0 b3.1 a3.2; b3 -a3 by a3.0 a3.1 b3.2",
+        "Err(Bad(Count))",
+    ),
+    // Entries that were seen, then a step or a clause that isn't new.
+    ("spent b3 a3 7: -b3 i1 by", "Err(Bad(Seen))"),
+    ("outspent 0 7: -b3 i1 by b3.0", "Err(Bad(Seen))"),
+    // A step, then a clause that isn't new; an earlier step, then a later.
+    (
+        "spent b3 a3 0: -b3 i1 by",
+        "Err(Bad(Step(0, BadStep { hint: 0, why: NotFalse })))",
+    ),
+    (
+        "merge b3 a3: -b3 a3 by; b3 -a3 by",
+        "Err(Bad(Step(0, BadStep { hint: 0, why: NotFalse })))",
+    ),
+];
+
+/// A merge, its output, and what comes after them.
+const SETTLED: &[Row<'static>] = &[
+    (MERGE, "Ok(At(0))"),
+    (OUT, "Ok(At(1))"),
+    // What is settled, whatever else is wrong.
+    ("merge b3 i0: ", "Ok(Already(0))"),
+    ("merge b3 b3: ", "Ok(Already(0))"),
+    ("out 0: ", "Ok(Already(1))"),
+    ("outapart 0: 11", "Ok(Already(1))"),
+    ("outspent 0 9: ", "Ok(Already(1))"),
+    // But not what isn't there.
+    ("merge b3 i9: ", "Err(Bad(NoNode))"),
+    // No Apart is settled.
+    ("apart a3 i0: 10", "Ok(At(2))"),
+    ("apart a3 i0: 10", "Ok(At(3))"),
+    ("apart b3 i0: 10", "Ok(At(4))"),
+    // An Out's unit, which no step may cite, and clauses that an Apart and a Merge don't have.
+    (
+        "merge a3 i0: -a3 i0 by e1.0; a3 -i0 by a3.2",
+        "Err(Bad(Step(0, BadStep { hint: 1, why: NoClause })))",
+    ),
+    (
+        "merge a3 i0: -a3 i0 by e2.0; a3 -i0 by a3.2",
+        "Err(Bad(Step(0, BadStep { hint: 1, why: NoClause })))",
+    ),
+    (
+        "merge a3 i0: -a3 i0 by e0.2; a3 -i0 by a3.2",
+        "Err(Bad(Step(0, BadStep { hint: 1, why: NoClause })))",
+    ),
+];
+
+static OF_ANDS: Offerings = Offerings(&[
+    (false, OFFERS),
+    (false, NAMES_AND_SIZES),
+    (false, STEPS),
+    (false, PAIRS),
+    (false, SETTLED),
+]);
 
 #[test]
 fn offers(rt: HostRuntime) -> Result<(), Fail> {
-    check(&rt, rt.alloc(), swapped_ands(rt.alloc()), &OFFERS)
-}
-
-/// Each cause that is found without looking at steps.
-static NAMES_AND_SIZES: Offering = Offering {
-    are_long: false,
-    rows: &[
-        // A gate that isn't there; an input; an XOR, which has no position.
-        (
-            "merge b9 a3: -b3 a3 by b3.0 b3.1 a3.2; b3 -a3 by a3.0 a3.1 b3.2",
-            "Err(Bad(NoNode))",
-        ),
-        (
-            "merge b3 i2: -b3 a3 by b3.0 b3.1 a3.2; b3 -a3 by a3.0 a3.1 b3.2",
-            "Err(Bad(NoNode))",
-        ),
-        (
-            "merge d0 a3: -b3 a3 by b3.0 b3.1 a3.2; b3 -a3 by a3.0 a3.1 b3.2",
-            "Err(Bad(NoNode))",
-        ),
-        ("apart a3 d0: 10", "Err(Bad(NoNode))"),
-        ("spent b9 a3 0: -b3 a3 by b3.1", "Err(Bad(NoNode))"),
-        // An output that isn't there.
-        ("out 1: -d0 by d0.0", "Err(Bad(NoNode))"),
-        ("outapart 1: 10", "Err(Bad(NoNode))"),
-        ("outspent 1 0: -d0 by d0.0", "Err(Bad(NoNode))"),
-        // A literal of a step.
-        (
-            "merge b3 a3: -b3 i1 i7 by b3.0; -b3 a3 by b3.0 b3.1 a3.2; b3 -a3 by a3.0 a3.1 b3.2",
-            "Err(Bad(NoNode))",
-        ),
-        ("spent b3 a3 0: -b3 i7 by b3.0", "Err(Bad(NoNode))"),
-        ("out 0: -d1 by d0.0; -d0 by d0.0", "Err(Bad(NoNode))"),
-        // Target that isn't earlier, by all else good.
-        (
-            "merge a3 b3: -a3 b3 by a3.0 a3.1 b3.2; a3 -b3 by b3.0 b3.1 a3.2",
-            "Err(Bad(NotEarlier))",
-        ),
-        ("apart i0 a3: 10", "Err(Bad(NotEarlier))"),
-        // Equal values; an input of another length.
-        ("apart a3 i0: 11", "Err(NotApart)"),
-        ("apart a3 -i0: 10", "Err(NotApart)"),
-        ("apart a3 i0: 1", "Err(NotApart)"),
-        ("apart a3 i0: 100", "Err(NotApart)"),
-        ("outapart 0: 10", "Err(NotApart)"),
-        ("outapart 0: ", "Err(NotApart)"),
-        // Last clauses.
-        ("merge b3 a3: -b3 a3 by b3.0 b3.1 a3.2", "Err(Bad(Shape))"),
-        (
-            "merge b3 a3: b3 -a3 by a3.0 a3.1 b3.2; -b3 a3 by b3.0 b3.1 a3.2",
-            "Err(Bad(Shape))",
-        ),
-        (
-            "merge b3 -a3: -b3 a3 by b3.0 b3.1 a3.2; b3 -a3 by a3.0 a3.1 b3.2",
-            "Err(Bad(Shape))",
-        ),
-        (
-            "merge b3 a3: -b3 a3 by b3.0 b3.1 a3.2; b3 -a3 by a3.0 a3.1 b3.2; -b3 a3 by b3.0 b3.1 a3.2",
-            "Err(Bad(Shape))",
-        ),
-        ("out 0: -d0 a3 by d0.0", "Err(Bad(Shape))"),
-        // Counts.
-        (
-            "merge b3 a3: -b3 i1 by b3.0; -b3 i0 by b3.1; -b3 a3 by b3.0 b3.1 a3.2; b3 -a3 by a3.0 a3.1 b3.2",
-            "Err(Bad(Count))",
-        ),
-        ("spent b3 a3 0: ", "Err(Bad(Count))"),
-        ("outspent 0 0: ", "Err(Bad(Count))"),
-    ],
-};
-
-#[test]
-fn faults_of_names_and_sizes(rt: HostRuntime) -> Result<(), Fail> {
-    check(&rt, rt.alloc(), swapped_ands(rt.alloc()), &NAMES_AND_SIZES)
-}
-
-/// Each cause that is found in steps.
-static STEPS: Offering = Offering {
-    are_long: false,
-    rows: &[
-        // Hints that are no clauses: an axiom, one of an XOR, an entry's, the step's own, a later step's.
-        (
-            "merge b3 a3: -b3 a3 by b3.3; b3 -a3 by a3.0 a3.1 b3.2",
-            "Err(Bad(Step(0, BadStep { hint: 1, why: NoClause })))",
-        ),
-        (
-            "merge b3 a3: -b3 a3 by b3.0 d0.0; b3 -a3 by a3.0 a3.1 b3.2",
-            "Err(Bad(Step(0, BadStep { hint: 2, why: NoClause })))",
-        ),
-        (
-            "merge b3 a3: -b3 a3 by e0.0; b3 -a3 by a3.0 a3.1 b3.2",
-            "Err(Bad(Step(0, BadStep { hint: 1, why: NoClause })))",
-        ),
-        (
-            "merge b3 a3: -b3 a3 by s0; b3 -a3 by a3.0 a3.1 b3.2",
-            "Err(Bad(Step(0, BadStep { hint: 1, why: NoClause })))",
-        ),
-        (
-            "merge b3 a3: -b3 a3 by s1; b3 -a3 by a3.0 a3.1 b3.2",
-            "Err(Bad(Step(0, BadStep { hint: 1, why: NoClause })))",
-        ),
-        // The other causes.
-        (
-            "merge b3 a3: -b3 a3 by b3.0 b3.1 a3.2 a3.0; b3 -a3 by a3.0 a3.1 b3.2",
-            "Err(Bad(Step(0, BadStep { hint: 4, why: AfterFalse })))",
-        ),
-        (
-            "merge b3 a3: -b3 a3 by b3.0 b3.1 a3.2; b3 -a3 by b3.0",
-            "Err(Bad(Step(1, BadStep { hint: 1, why: Satisfied })))",
-        ),
-        (
-            "merge b3 a3: -b3 a3 by b3.0 b3.1 a3.2; b3 -a3 by a3.0 a3.0 b3.2",
-            "Err(Bad(Step(1, BadStep { hint: 2, why: Satisfied })))",
-        ),
-        (
-            "merge b3 a3: -b3 a3 by a3.2 b3.0 b3.1; b3 -a3 by a3.0 a3.1 b3.2",
-            "Err(Bad(Step(0, BadStep { hint: 1, why: TwoFree })))",
-        ),
-        (
-            "merge b3 a3: -b3 a3 by; b3 -a3 by a3.0 a3.1 b3.2",
-            "Err(Bad(Step(0, BadStep { hint: 0, why: NotFalse })))",
-        ),
-        (
-            "merge b3 a3: -b3 a3 by b3.0 b3.1 a3.2; b3 -a3 by a3.0 a3.1",
-            "Err(Bad(Step(1, BadStep { hint: 0, why: NotFalse })))",
-        ),
-        (
-            "out 0: -d0 by d0.0",
-            "Err(Bad(Step(0, BadStep { hint: 1, why: TwoFree })))",
-        ),
-        (
-            "out 0: -d0 a3 by d0.0; -d0 by s0",
-            "Err(Bad(Step(0, BadStep { hint: 0, why: NotFalse })))",
-        ),
-        // An axiom is nothing new.
-        ("spent b3 a3 0: -b3 i1 by b3.0", "Err(Bad(NotNew(0)))"),
-        ("outspent 0 0: -b3 i1 by b3.0", "Err(Bad(NotNew(0)))"),
-    ],
-};
-
-#[test]
-fn faults_of_steps(rt: HostRuntime) -> Result<(), Fail> {
-    check(&rt, rt.alloc(), swapped_ands(rt.alloc()), &STEPS)
-}
-
-/// Two causes stand, and the earlier is told.
-static PAIRS: Offering = Offering {
-    are_long: false,
-    rows: &[
-        // Name and place in order; name and last clauses.
-        (
-            "merge a3 b9: -b3 a3 by b3.0 b3.1 a3.2; b3 -a3 by a3.0 a3.1 b3.2",
-            "Err(Bad(NoNode))",
-        ),
-        ("merge b9 a3: ", "Err(Bad(NoNode))"),
-        ("outapart 1: 11", "Err(Bad(NoNode))"),
-        // Place in order, then values, last clauses, count, or entries that were seen.
-        ("apart a3 a3: 10", "Err(Bad(NotEarlier))"),
-        ("apart a3 b3: 1", "Err(Bad(NotEarlier))"),
-        ("merge a3 b3: ", "Err(Bad(NotEarlier))"),
-        ("spent a3 b3 0: ", "Err(Bad(NotEarlier))"),
-        ("spent a3 b3 7: -b3 i1 by b3.0", "Err(Bad(NotEarlier))"),
-        // Last clauses, then count or a step.
-        (
-            "merge b3 a3: -b3 i1 by b3.0; -b3 i0 by b3.1; -b3 i1 by b3.0; -b3 i1 by b3.0",
-            "Err(Bad(Shape))",
-        ),
-        ("merge b3 a3: -b3 a3 by a3.2", "Err(Bad(Shape))"),
-        // Count, then entries that were seen or a step.
-        ("spent b3 a3 7: ", "Err(Bad(Count))"),
-        (
-            "merge b3 a3: -b3 i1 by; -b3 i0 by b3.1; -b3 a3 by b3.0 b3.1 a3.2; b3 -a3 by a3.0 a3.1 b3.2",
-            "Err(Bad(Count))",
-        ),
-        // Entries that were seen, then a step or a clause that isn't new.
-        ("spent b3 a3 7: -b3 i1 by", "Err(Bad(Seen))"),
-        ("outspent 0 7: -b3 i1 by b3.0", "Err(Bad(Seen))"),
-        // A step, then a clause that isn't new; an earlier step, then a later.
-        (
-            "spent b3 a3 0: -b3 i1 by",
-            "Err(Bad(Step(0, BadStep { hint: 0, why: NotFalse })))",
-        ),
-        (
-            "merge b3 a3: -b3 a3 by; b3 -a3 by",
-            "Err(Bad(Step(0, BadStep { hint: 0, why: NotFalse })))",
-        ),
-    ],
-};
-
-#[test]
-fn earlier_of_two_faults(rt: HostRuntime) -> Result<(), Fail> {
-    check(&rt, rt.alloc(), swapped_ands(rt.alloc()), &PAIRS)
-}
-
-/// A merge, its output, and what comes after them.
-static SETTLED: Offering = Offering {
-    are_long: false,
-    rows: &[
-        (MERGE, "Ok(At(0))"),
-        (OUT, "Ok(At(1))"),
-        // What is settled, whatever else is wrong.
-        ("merge b3 i0: ", "Ok(Already(0))"),
-        ("merge b3 b3: ", "Ok(Already(0))"),
-        ("out 0: ", "Ok(Already(1))"),
-        ("outapart 0: 11", "Ok(Already(1))"),
-        ("outspent 0 9: ", "Ok(Already(1))"),
-        // But not what isn't there.
-        ("merge b3 i9: ", "Err(Bad(NoNode))"),
-        // No Apart is settled.
-        ("apart a3 i0: 10", "Ok(At(2))"),
-        ("apart a3 i0: 10", "Ok(At(3))"),
-        ("apart b3 i0: 10", "Ok(At(4))"),
-        // An Out's unit, which no step may cite, and clauses that an Apart and a Merge don't have.
-        (
-            "merge a3 i0: -a3 i0 by e1.0; a3 -i0 by a3.2",
-            "Err(Bad(Step(0, BadStep { hint: 1, why: NoClause })))",
-        ),
-        (
-            "merge a3 i0: -a3 i0 by e2.0; a3 -i0 by a3.2",
-            "Err(Bad(Step(0, BadStep { hint: 1, why: NoClause })))",
-        ),
-        (
-            "merge a3 i0: -a3 i0 by e0.2; a3 -i0 by a3.2",
-            "Err(Bad(Step(0, BadStep { hint: 1, why: NoClause })))",
-        ),
-    ],
-};
-
-#[test]
-fn settled_entries(rt: HostRuntime) -> Result<(), Fail> {
-    check(&rt, rt.alloc(), swapped_ands(rt.alloc()), &SETTLED)
+    check(&rt, rt.alloc(), swapped_ands(rt.alloc()), &OF_ANDS)
 }
 
 /// Logs of one clause.
-static LOGS: Offering = Offering {
-    are_long: false,
-    rows: &[
-        // Counts, entries that were seen, and what is to be earlier, by all else good.
-        (
-            "spent a5 -b5 0: -b5 -a5 i0 by b5.1 b4.2 a5.1 a4.2",
-            "Err(Bad(NotEarlier))",
-        ),
-        (
-            "spent b5 -a5 0: -b5 -a5 i0 by b5.1 b4.2 a5.1 a4.2; -b5 -a5 by s0 b5.0 b3.2 a5.0 a3.2",
-            "Err(Bad(Count))",
-        ),
-        (
-            "spent b5 -a5 1: -b5 -a5 i0 by b5.1 b4.2 a5.1 a4.2",
-            "Err(Bad(Seen))",
-        ),
-        (
-            "outspent 0 1: -d0 a5 i0 by d0.1 b3.0 b5.2 b4.1 a4.1 a5.2 a3.0",
-            "Err(Bad(Seen))",
-        ),
-        // A hint too few, and clauses that aren't new.
-        (
-            "spent b5 -a5 0: -b5 -a5 i0 by b5.1 b4.2 a5.1",
-            "Err(Bad(Step(0, BadStep { hint: 0, why: NotFalse })))",
-        ),
-        ("spent b5 -a5 0: -b5 -b3 by b5.0", "Err(Bad(NotNew(0)))"),
-        ("outspent 0 0: -b5 -b3 by b5.0", "Err(Bad(NotNew(0)))"),
-        // Good logs.
-        (
-            "spent b5 -a5 0: -b5 -a5 i0 by b5.1 b4.2 a5.1 a4.2",
-            "Ok(At(0))",
-        ),
-        (
-            "outspent 0 1: -d0 a5 i0 by d0.1 b3.0 b5.2 b4.1 a4.1 a5.2 a3.0",
-            "Ok(At(1))",
-        ),
-        (
-            "outspent 0 1: -d0 a5 i0 by d0.1 b3.0 b5.2 b4.1 a4.1 a5.2 a3.0",
-            "Ok(Already(1))",
-        ),
-    ],
-};
+const LOGS: &[Row<'static>] = &[
+    // Counts, entries that were seen, and what is to be earlier, by all else good.
+    (
+        "spent a5 -b5 0: -b5 -a5 i0 by b5.1 b4.2 a5.1 a4.2",
+        "Err(Bad(NotEarlier))",
+    ),
+    (
+        "spent b5 -a5 0: -b5 -a5 i0 by b5.1 b4.2 a5.1 a4.2; -b5 -a5 by s0 b5.0 b3.2 a5.0 a3.2",
+        "Err(Bad(Count))",
+    ),
+    (
+        "spent b5 -a5 1: -b5 -a5 i0 by b5.1 b4.2 a5.1 a4.2",
+        "Err(Bad(Seen))",
+    ),
+    (
+        "outspent 0 1: -d0 a5 i0 by d0.1 b3.0 b5.2 b4.1 a4.1 a5.2 a3.0",
+        "Err(Bad(Seen))",
+    ),
+    // A hint too few, and clauses that aren't new.
+    (
+        "spent b5 -a5 0: -b5 -a5 i0 by b5.1 b4.2 a5.1",
+        "Err(Bad(Step(0, BadStep { hint: 0, why: NotFalse })))",
+    ),
+    ("spent b5 -a5 0: -b5 -b3 by b5.0", "Err(Bad(NotNew(0)))"),
+    ("outspent 0 0: -b5 -b3 by b5.0", "Err(Bad(NotNew(0)))"),
+    // Good logs.
+    (
+        "spent b5 -a5 0: -b5 -a5 i0 by b5.1 b4.2 a5.1 a4.2",
+        "Ok(At(0))",
+    ),
+    (
+        "outspent 0 1: -d0 a5 i0 by d0.1 b3.0 b5.2 b4.1 a4.1 a5.2 a3.0",
+        "Ok(At(1))",
+    ),
+    (
+        "outspent 0 1: -d0 a5 i0 by d0.1 b3.0 b5.2 b4.1 a4.1 a5.2 a3.0",
+        "Ok(Already(1))",
+    ),
+];
+
+/// Logs of two clauses, and a merge by two learned clauses.
+const LONGER_LOGS: &[Row<'static>] = &[
+    // The log's second clause is the first once more.
+    (
+        "spent b5 -a5 0: -b5 -a5 i0 by b5.1 b4.2 a5.1 a4.2; -b5 -a5 i0 by b5.1 b4.2 a5.1 a4.2",
+        "Err(Bad(NotNew(1)))",
+    ),
+    (
+        "spent b5 -a5 0: -b5 -a5 i0 by b5.1 b4.2 a5.1 a4.2; -b5 -a5 by s0 b5.0 b3.2 a5.0 a3.2",
+        "Ok(At(0))",
+    ),
+    // A step cites those before it.
+    (
+        "merge b5 -a5: b5 a5 -i0 by b4.0 b5.2 b3.1 a3.1 a5.2 a4.0; \
+            -b5 -a5 i0 by b5.1 b4.2 a5.1 a4.2; -b5 -a5 by s0 b5.0 b3.2 a5.0 a3.2; \
+            b5 a5 by s1 b3.0 b5.2 b4.1 a4.1 a5.2 a3.0",
+        "Err(Bad(Step(2, BadStep { hint: 1, why: Satisfied })))",
+    ),
+    (
+        "merge b5 -a5: -b5 -a5 i0 by b5.1 b4.2 a5.1 a4.2; \
+            b5 a5 -i0 by b4.0 b5.2 b3.1 a3.1 a5.2 a4.0; -b5 -a5 by s0 b5.0 b3.2 a5.0 a3.2; \
+            b5 a5 by s1 b3.0 b5.2 b4.1 a4.1 a5.2 a3.0",
+        "Ok(At(1))",
+    ),
+];
+
+static OF_XORS: Offerings = Offerings(&[(false, LOGS), (true, LONGER_LOGS)]);
 
 #[test]
 fn logs_of_queries(rt: HostRuntime) -> Result<(), Fail> {
-    check(&rt, rt.alloc(), two_xors(rt.alloc()), &LOGS)
-}
-
-/// Logs of two clauses, and a merge by two learned clauses.
-static LONGER_LOGS: Offering = Offering {
-    are_long: true,
-    rows: &[
-        // The log's second clause is the first once more.
-        (
-            "spent b5 -a5 0: -b5 -a5 i0 by b5.1 b4.2 a5.1 a4.2; -b5 -a5 i0 by b5.1 b4.2 a5.1 a4.2",
-            "Err(Bad(NotNew(1)))",
-        ),
-        (
-            "spent b5 -a5 0: -b5 -a5 i0 by b5.1 b4.2 a5.1 a4.2; -b5 -a5 by s0 b5.0 b3.2 a5.0 a3.2",
-            "Ok(At(0))",
-        ),
-        // A step cites those before it.
-        (
-            "merge b5 -a5: b5 a5 -i0 by b4.0 b5.2 b3.1 a3.1 a5.2 a4.0; \
-            -b5 -a5 i0 by b5.1 b4.2 a5.1 a4.2; -b5 -a5 by s0 b5.0 b3.2 a5.0 a3.2; \
-            b5 a5 by s1 b3.0 b5.2 b4.1 a4.1 a5.2 a3.0",
-            "Err(Bad(Step(2, BadStep { hint: 1, why: Satisfied })))",
-        ),
-        (
-            "merge b5 -a5: -b5 -a5 i0 by b5.1 b4.2 a5.1 a4.2; \
-            b5 a5 -i0 by b4.0 b5.2 b3.1 a3.1 a5.2 a4.0; -b5 -a5 by s0 b5.0 b3.2 a5.0 a3.2; \
-            b5 a5 by s1 b3.0 b5.2 b4.1 a4.1 a5.2 a3.0",
-            "Ok(At(1))",
-        ),
-    ],
-};
-
-#[test]
-fn longer_logs(rt: HostRuntime) -> Result<(), Fail> {
-    check(&rt, rt.alloc(), two_xors(rt.alloc()), &LONGER_LOGS)
+    check(&rt, rt.alloc(), two_xors(rt.alloc()), &OF_XORS)
 }
 
 const A3: Node = Node::Gate(Side::A, 3);
@@ -514,50 +481,22 @@ fn is_copied(alloc: Global, book: &Book) -> Result<bool, Fail> {
     Ok(is_copy(&book.copy(alloc)?))
 }
 
-/// What is read of a book with the one entry that merges the swapped ANDs.
-enum Read {
-    /// The cone of the merged gate.
-    Cone,
-    /// The gate's root, and the entries that lead to it.
-    Root,
-    /// A copy of the book, which has two clauses for outputs in place of one.
-    Copy,
-}
+/// What is read of a book with the one entry that merges the swapped ANDs, and two clauses for outputs: the
+/// cone of the merged gate, which has its merge's clauses and those of the gate that it stands for, and none
+/// of its own; the gate's root, and the entries that lead to it; a copy.
+struct Readers;
 
-/// Whether the book reads as it has to.
-fn is_read(alloc: Global, net: &Net, book: &Book, read: &Read) -> Result<bool, Fail>
-    requires { IsLegal net.now book.now }
-{
-    match read {
-        Read::Cone => has_names(alloc, net, book),
-        Read::Root => has_root(alloc, book),
-        Read::Copy => is_copied(alloc, book),
-    }
-}
-
-impl Case for Read {
+impl Case for Readers {
     fn check<A: Abort>(&self, rt: &A, alloc: Global, net: &Net) -> Result<(), Fail> {
-        let budget = if matches!(self, Read::Copy) { 2 } else { 1 };
-        let book = book_of(rt, alloc, net, budget, OFFERS.rows)?;
-        expect(rt, "what is read", is_read(alloc, net, &book, self)?);
+        let book = book_of(rt, alloc, net, 2, OFFERS)?;
+        expect(rt, "the cone", has_names(alloc, net, &book)?);
+        expect(rt, "root and path", has_root(alloc, &book)?);
+        expect(rt, "a copy", is_copied(alloc, &book)?);
         Ok(())
     }
 }
 
-/// The cone of the merged gate has its merge's clauses and those of the gate that it stands for, and none
-/// of its own.
 #[test]
 fn book_readers(rt: HostRuntime) -> Result<(), Fail> {
-    check(&rt, rt.alloc(), swapped_ands(rt.alloc()), &Read::Cone)
-}
-
-#[test]
-fn root_and_path(rt: HostRuntime) -> Result<(), Fail> {
-    check(&rt, rt.alloc(), swapped_ands(rt.alloc()), &Read::Root)
-}
-
-/// Copies a book with one entry, and with other numbers of clauses for pairs and for outputs.
-#[test]
-fn copy_of_a_book(rt: HostRuntime) -> Result<(), Fail> {
-    check(&rt, rt.alloc(), swapped_ands(rt.alloc()), &Read::Copy)
+    check(&rt, rt.alloc(), swapped_ands(rt.alloc()), &Readers)
 }

@@ -34,14 +34,7 @@ fn miter_of(alloc: Global, net: &Net) -> Result<String, AllocError> {
     lines(alloc, net.miter(alloc)?.as_slice())
 }
 
-/// Checks that the miter's clauses are these lines of a DIMACS file.
-fn check_lines(rt: &impl Abort, alloc: Global, net: &Net, expected: &str) -> Result<(), Fail> {
-    let text = miter_of(alloc, net)?;
-    assert!(rt; text.as_str() == expected, "{text}");
-    Ok(())
-}
-
-/// The same of the circuits' miter.
+/// Checks that the clauses of the circuits' miter are these lines of a DIMACS file.
 fn is_miter(
     rt: &impl Abort,
     alloc: Global,
@@ -49,7 +42,9 @@ fn is_miter(
     b: Result<Circuit, AllocError>,
     expected: &str,
 ) -> Result<(), Fail> {
-    check_lines(rt, alloc, &pairs::net_of(alloc, a, b)?, expected)
+    let text = miter_of(alloc, &pairs::net_of(alloc, a, b)?)?;
+    assert!(rt; text.as_str() == expected, "{text}");
+    Ok(())
 }
 
 #[test]
@@ -191,53 +186,18 @@ fn is_so(net: &Net, fact: &Fact) -> bool {
     }
 }
 
-fn check_facts(rt: &impl Abort, net: &Net, facts: &[Fact]) {
-    for (place, fact) in facts.iter().enumerate() {
-        assert!(rt; is_so(net, fact), "fact {place}");
-    }
-}
-
-/// What is so of a net.
-struct Facts(&'static [Fact]);
+/// What is so of a net, each with a name.
+struct Facts(&'static [(&'static str, Fact)]);
 
 impl Case for Facts {
-    fn check<A: Abort>(&self, rt: &A, _alloc: Global, net: &Net) -> Result<(), Fail> {
-        check_facts(rt, net, self.0);
+    fn check<A: Abort>(&self, rt: &A, alloc: Global, net: &Net) -> Result<(), Fail> {
+        for (name, fact) in self.0 {
+            expect(rt, name, is_so(net, fact));
+        }
+        expect(rt, "a copy", is_copy(net, &net.copy(alloc)?));
         Ok(())
     }
 }
-
-const GATE: Node = Node::Gate(Side::B, 3);
-
-#[test]
-fn net_of(rt: HostRuntime) -> Result<(), Fail> {
-    check(&rt, rt.alloc(), swapped_ands(rt.alloc()), &POSITIONS)
-}
-
-static POSITIONS: Facts = Facts(&[
-    Fact::Position(GATE, Some(4)),
-    Fact::Position(Node::Gate(Side::B, 2), None),
-    Fact::Position(Node::Input(1), Some(2)),
-    Fact::Position(Node::Xor(0), None),
-]);
-
-#[test]
-fn miter_of_n1(rt: HostRuntime) -> Result<(), Fail> {
-    check(&rt, rt.alloc(), swapped_ands(rt.alloc()), &NUMBERS)
-}
-
-const NOT_GATE: Lit = Lit {
-    node: GATE,
-    neg: true,
-};
-
-static NUMBERS: Facts = Facts(&[
-    Fact::ClauseNumber(GATE, 2, Some(7)),
-    Fact::ClauseNumber(GATE, 3, None),
-    Fact::ClauseNumber(Node::Xor(0), 0, Some(8)),
-    Fact::Number(NOT_GATE, -5),
-    Fact::AxiomBegins(GATE, NOT_GATE),
-]);
 
 /// Whether the copy has the gates and the numbers of the net.
 fn is_copy(net: &Net, copy: &Net) -> bool {
@@ -246,26 +206,12 @@ fn is_copy(net: &Net, copy: &Net) -> bool {
         && copy.clause_number(GATE, 2) == Some(7)
 }
 
-/// A copy is as the net.
-struct Copied;
+const GATE: Node = Node::Gate(Side::B, 3);
 
-impl Case for Copied {
-    fn check<A: Abort>(&self, rt: &A, alloc: Global, net: &Net) -> Result<(), Fail> {
-        expect(rt, "a copy", is_copy(net, &net.copy(alloc)?));
-        Ok(())
-    }
-}
-
-#[test]
-fn copy_of_a_net(rt: HostRuntime) -> Result<(), Fail> {
-    check(&rt, rt.alloc(), swapped_ands(rt.alloc()), &Copied)
-}
-
-/// What is read of a net: what defines a node, its axioms, sizes, literals and sides.
-#[test]
-fn readers_of_a_net(rt: HostRuntime) -> Result<(), Fail> {
-    check(&rt, rt.alloc(), swapped_ands(rt.alloc()), &READERS)
-}
+const NOT_GATE: Lit = Lit {
+    node: GATE,
+    neg: true,
+};
 
 const DEFINITION: Definition = Definition {
     node: GATE,
@@ -279,20 +225,34 @@ const DEFINITION: Definition = Definition {
     },
 };
 
-static READERS: Facts = Facts(&[
-    Fact::Definition(GATE, Some(DEFINITION)),
-    Fact::Definition(Node::Const, None),
-    Fact::Axioms(Node::Const, 1),
-    Fact::Axioms(Node::Input(0), 0),
-    Fact::Axioms(GATE, 3),
-    Fact::Axioms(Node::Xor(0), 4),
-    Fact::Sizes(5, 6, 12, 1),
-    Fact::Literal(Side::B, 7, true),
-    Fact::Literal(Side::B, 8, false),
-    Fact::Output(Side::A, 0, true),
-    Fact::Output(Side::A, 1, false),
-    Fact::Circuit(Side::B, &[1, 2], &[6], 1),
+static OF_ANDS: Facts = Facts(&[
+    ("net_of", Fact::Position(GATE, Some(4))),
+    ("net_of", Fact::Position(Node::Gate(Side::B, 2), None)),
+    ("net_of", Fact::Position(Node::Input(1), Some(2))),
+    ("net_of", Fact::Position(Node::Xor(0), None)),
+    ("miter_of_n1", Fact::ClauseNumber(GATE, 2, Some(7))),
+    ("miter_of_n1", Fact::ClauseNumber(GATE, 3, None)),
+    ("miter_of_n1", Fact::ClauseNumber(Node::Xor(0), 0, Some(8))),
+    ("miter_of_n1", Fact::Number(NOT_GATE, -5)),
+    ("miter_of_n1", Fact::AxiomBegins(GATE, NOT_GATE)),
+    ("a gate", Fact::Definition(GATE, Some(DEFINITION))),
+    ("no gate", Fact::Definition(Node::Const, None)),
+    ("axioms of the constant", Fact::Axioms(Node::Const, 1)),
+    ("axioms of an input", Fact::Axioms(Node::Input(0), 0)),
+    ("axioms of a gate", Fact::Axioms(GATE, 3)),
+    ("axioms of an XOR", Fact::Axioms(Node::Xor(0), 4)),
+    ("sizes", Fact::Sizes(5, 6, 12, 1)),
+    ("a literal", Fact::Literal(Side::B, 7, true)),
+    ("no literal", Fact::Literal(Side::B, 8, false)),
+    ("an output", Fact::Output(Side::A, 0, true)),
+    ("no output", Fact::Output(Side::A, 1, false)),
+    ("a side", Fact::Circuit(Side::B, &[1, 2], &[6], 1)),
 ]);
+
+#[test]
+fn net_of(rt: HostRuntime) -> Result<(), Fail> {
+    check(&rt, rt.alloc(), swapped_ands(rt.alloc()), &OF_ANDS)
+}
 
 /// The AND of the inputs, and one over a constant and a complement.
 fn one_and_another(alloc: Global) -> Result<Net, Fail> {
@@ -327,10 +287,10 @@ const OF_TRUE: Fanins = Fanins {
 };
 
 static FANINS: Facts = Facts(&[
-    Fact::Fanins(0, Some(OF_INPUTS)),
-    Fact::Fanins(1, Some(OF_TRUE)),
-    Fact::Fanins(2, None),
-    Fact::AllFanins(&[OF_INPUTS, OF_TRUE]),
+    ("the first gate's", Fact::Fanins(0, Some(OF_INPUTS))),
+    ("the second gate's", Fact::Fanins(1, Some(OF_TRUE))),
+    ("no third gate's", Fact::Fanins(2, None)),
+    ("all gates'", Fact::AllFanins(&[OF_INPUTS, OF_TRUE])),
 ]);
 
 fn check_places(rt: &impl Abort, table: &VariableTable) {

@@ -173,47 +173,41 @@ fn words_of(entry: &Entry) -> &'static str {
 /// What is asked, and the answer in words.
 type Question = (Asked, &'static str);
 
-impl Case for Question {
+/// What is asked over a net.
+struct Questions(&'static [Question]);
+
+impl Case for Questions {
     fn check<A: Abort>(&self, rt: &A, alloc: Global, net: &Net) -> Result<(), Fail> {
-        let entry = answer(rt, alloc, net, &self.0)?;
-        expect(rt, self.1, words_of(&entry) == self.1);
+        for (asked, expected) in self.0 {
+            let entry = answer(rt, alloc, net, asked)?;
+            expect(rt, expected, words_of(&entry) == *expected);
+        }
         Ok(())
     }
 }
 
-static LAST: Question = (Asked::LastGates, "the last gates are merged");
+static OF_XORS: Questions = Questions(&[
+    // pair_merge
+    (Asked::LastGates, "the last gates are merged"),
+    // output_query
+    (Asked::Output, "equal"),
+    // For want of units there is a log of one clause over the empty book.
+    (Asked::OutputWithinOne, "a log of one clause"),
+]);
 
 #[test]
-fn pair_merge(rt: HostRuntime) -> Result<(), Fail> {
-    check(&rt, rt.alloc(), two_xors(rt.alloc()), &LAST)
+fn pair_merge_and_output_query(rt: HostRuntime) -> Result<(), Fail> {
+    check(&rt, rt.alloc(), two_xors(rt.alloc()), &OF_XORS)
 }
 
-static APART: Question = (Asked::AndAndInput, "apart by 10");
+static OF_ANDS: Questions = Questions(&[
+    // pair_apart: the AND of both inputs is the first one but where the second is false.
+    (Asked::AndAndInput, "apart by 10"),
+    // An output whose roots are equal.
+    (Asked::Merged, "equal by two steps"),
+]);
 
-/// The AND of both inputs is the first one but where the second is false.
 #[test]
 fn pair_apart(rt: HostRuntime) -> Result<(), Fail> {
-    check(&rt, rt.alloc(), swapped_ands(rt.alloc()), &APART)
-}
-
-static OUTPUT: Question = (Asked::Output, "equal");
-
-#[test]
-fn output_query(rt: HostRuntime) -> Result<(), Fail> {
-    check(&rt, rt.alloc(), two_xors(rt.alloc()), &OUTPUT)
-}
-
-static WITHIN_ONE: Question = (Asked::OutputWithinOne, "a log of one clause");
-
-/// For want of units there is a log of one clause over the empty book.
-#[test]
-fn output_query_within_one_clause(rt: HostRuntime) -> Result<(), Fail> {
-    check(&rt, rt.alloc(), two_xors(rt.alloc()), &WITHIN_ONE)
-}
-
-static EQUAL_ROOTS: Question = (Asked::Merged, "equal by two steps");
-
-#[test]
-fn output_of_equal_roots(rt: HostRuntime) -> Result<(), Fail> {
-    check(&rt, rt.alloc(), swapped_ands(rt.alloc()), &EQUAL_ROOTS)
+    check(&rt, rt.alloc(), swapped_ands(rt.alloc()), &OF_ANDS)
 }

@@ -120,52 +120,35 @@ fn found_by_new(alloc: Global, net: &Net, asked: &Asked) -> Result<&'static str,
 /// What a search is asked, and what it finds.
 type Row = (Asked, &'static str);
 
-impl Case for Row {
+/// What new searches of a net are asked.
+struct Searches(&'static [Row]);
+
+impl Case for Searches {
     fn check<A: Abort>(&self, rt: &A, alloc: Global, net: &Net) -> Result<(), Fail> {
-        expect(rt, self.1, found_by_new(alloc, net, &self.0)? == self.1);
+        for (asked, expected) in self.0 {
+            expect(rt, expected, found_by_new(alloc, net, asked)? == *expected);
+        }
         Ok(())
     }
 }
 
-static MERGED: Row = (Asked::Pair(5, true, 10), "merge");
-
-#[test]
-fn two_forms_of_an_xor_are_merged(rt: HostRuntime) -> Result<(), Fail> {
-    check(&rt, rt.alloc(), equal(rt.alloc()), &MERGED)
-}
-
-static EQUAL: Row = (Asked::Output, "out");
-
-#[test]
-fn two_forms_of_an_output_are_equal(rt: HostRuntime) -> Result<(), Fail> {
-    check(&rt, rt.alloc(), equal(rt.alloc()), &EQUAL)
-}
-
-static APART: Row = (Asked::Pair(3, false, 10), "apart");
-
-#[test]
-fn gates_that_differ_are_apart(rt: HostRuntime) -> Result<(), Fail> {
-    check(&rt, rt.alloc(), different(rt.alloc()), &APART)
-}
-
-static WITHOUT_CHOICES: Row = (Asked::Pair(5, true, 0), "none");
-
-#[test]
-fn a_search_without_choices_gives_up(rt: HostRuntime) -> Result<(), Fail> {
-    check(&rt, rt.alloc(), equal(rt.alloc()), &WITHOUT_CHOICES)
-}
-
-static DIFFERENT: Row = (Asked::Difference, "first of two is true");
+static EQUAL: Searches = Searches(&[
+    // Two forms of an XOR.
+    (Asked::Pair(5, true, 10), "merge"),
+    (Asked::Output, "out"),
+    // A search without choices gives up.
+    (Asked::Pair(5, true, 0), "none"),
+    (Asked::Difference, "none"),
+]);
 
 /// The AND and the first input without the second differ exactly where the first input is true.
+static DIFFERENT: Searches = Searches(&[
+    (Asked::Pair(3, false, 10), "apart"),
+    (Asked::Difference, "first of two is true"),
+]);
+
 #[test]
-fn a_pattern_shows_outputs_that_differ(rt: HostRuntime) -> Result<(), Fail> {
+fn what_searches_find(rt: HostRuntime) -> Result<(), Fail> {
+    check(&rt, rt.alloc(), equal(rt.alloc()), &EQUAL)?;
     check(&rt, rt.alloc(), different(rt.alloc()), &DIFFERENT)
-}
-
-static NO_PATTERN: Row = (Asked::Difference, "none");
-
-#[test]
-fn no_pattern_shows_equal_outputs_to_differ(rt: HostRuntime) -> Result<(), Fail> {
-    check(&rt, rt.alloc(), equal(rt.alloc()), &NO_PATTERN)
 }

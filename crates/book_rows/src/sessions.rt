@@ -123,40 +123,9 @@ fn with_more_inputs(alloc: Global) -> Pair {
     ))
 }
 
-#[test]
-fn unlike_circuits(rt: HostRuntime) -> Result<(), Fail> {
-    let refused = refusal(rt.alloc(), with_more_inputs(rt.alloc()))?;
-    expect(&rt, "more inputs", refused == Some(Unlike::Inputs(2, 3)));
-    Ok(())
-}
-
-/// The structural pass merges the one gate, and the output needs no search.
-#[test]
-fn equal_by_structure(rt: HostRuntime) -> Result<(), Fail> {
-    let pair = swapped_ands(rt.alloc());
-    let expected = ("equivalent", "merged, equal");
-    check_pair(&rt, rt.alloc(), pair, DEFAULTS, expected)
-}
-
 /// An AND, and false.
 fn and_and_false(alloc: Global) -> Pair {
     Ok((one_gate(alloc, 2, 4)?, circuit(alloc, &[1, 2], &[], &[0])?))
-}
-
-/// A pattern tells the output apart, and only x = y = 1 can.
-#[test]
-fn different_by_a_pattern(rt: HostRuntime) -> Result<(), Fail> {
-    let pair = and_and_false(rt.alloc());
-    let expected = ("different at 0 on 11", "apart");
-    check_pair(&rt, rt.alloc(), pair, DEFAULTS, expected)
-}
-
-/// No gate is a twin of another; a round merges the last one to the complement of A's.
-#[test]
-fn equal_by_a_round(rt: HostRuntime) -> Result<(), Fail> {
-    let pair = two_xors(rt.alloc());
-    let expected = ("equivalent", "the last gates are merged");
-    check_pair(&rt, rt.alloc(), pair, DEFAULTS, expected)
 }
 
 const ENOUGH_FOR_OUTPUTS: Options = Options {
@@ -166,14 +135,6 @@ const ENOUGH_FOR_OUTPUTS: Options = Options {
     out_budget: 100_000,
 };
 
-/// A pair whose budget of one clause is spent leaves the output to its own query, which has enough.
-#[test]
-fn equal_by_its_output(rt: HostRuntime) -> Result<(), Fail> {
-    let pair = two_xors(rt.alloc());
-    let expected = ("equivalent", "given up, equal");
-    check_pair(&rt, rt.alloc(), pair, ENOUGH_FOR_OUTPUTS, expected)
-}
-
 const ONE_CLAUSE: Options = Options {
     seed: 1,
     words: 4,
@@ -181,10 +142,29 @@ const ONE_CLAUSE: Options = Options {
     out_budget: 1,
 };
 
-/// With a budget of one clause for the output too it stays open.
 #[test]
-fn undecided_within_budgets(rt: HostRuntime) -> Result<(), Fail> {
-    let pair = two_xors(rt.alloc());
+fn unlike_equal_and_different_circuits(rt: HostRuntime) -> Result<(), Fail> {
+    let alloc = rt.alloc();
+    let refused = refusal(alloc, with_more_inputs(alloc))?;
+    expect(&rt, "more inputs", refused == Some(Unlike::Inputs(2, 3)));
+    // The structural pass merges the one gate, and the output needs no search.
+    let expected = ("equivalent", "merged, equal");
+    check_pair(&rt, alloc, swapped_ands(alloc), DEFAULTS, expected)?;
+    // A pattern tells the output apart, and only x = y = 1 can.
+    let expected = ("different at 0 on 11", "apart");
+    check_pair(&rt, alloc, and_and_false(alloc), DEFAULTS, expected)
+}
+
+#[test]
+fn two_xors_within_budgets(rt: HostRuntime) -> Result<(), Fail> {
+    let alloc = rt.alloc();
+    // No gate is a twin of another; a round merges the last one to the complement of A's.
+    let expected = ("equivalent", "the last gates are merged");
+    check_pair(&rt, alloc, two_xors(alloc), DEFAULTS, expected)?;
+    // A pair whose budget of one clause is spent leaves the output to its own query, which has enough.
+    let expected = ("equivalent", "given up, equal");
+    check_pair(&rt, alloc, two_xors(alloc), ENOUGH_FOR_OUTPUTS, expected)?;
+    // With a budget of one clause for the output too it stays open.
     let expected = ("undecided at 0", "a log of one clause");
-    check_pair(&rt, rt.alloc(), pair, ONE_CLAUSE, expected)
+    check_pair(&rt, alloc, two_xors(alloc), ONE_CLAUSE, expected)
 }

@@ -82,13 +82,8 @@ fn nothing(alloc: Global) -> Result<Net, Fail> {
     )
 }
 
-static OF_NOTHING: Refutation = Refutation(b"3 0 2 0\n");
-
 /// The miter's last clause is empty.
-#[test]
-fn stitched_from_nothing(rt: HostRuntime) -> Result<(), Fail> {
-    check(&rt, rt.alloc(), nothing(rt.alloc()), &OF_NOTHING)
-}
+static OF_NOTHING: Refutation = Refutation(b"3 0 2 0\n");
 
 /// Whether the derivation has these spans of open outputs, and the desk these bytes.
 fn is_derived(
@@ -121,18 +116,12 @@ impl Case for Derivation {
     }
 }
 
-/// A merge and its output.
+/// The steps of a merge and of its output, in the numbers of the CNF: 1 to 12 are its clauses.
 static EQUAL: Derivation = Derivation {
     rows: &[(MERGE, "Ok(At(0))"), (OUT, "Ok(At(1))")],
     spans: &[],
     text: b"13 -5 4 0 5 6 4 0\n14 5 -4 0 2 3 7 0\n15 -6 4 0 8 13 0\n16 -6 0 15 9 14 0\n",
 };
-
-/// The steps of a merge and of its output, in the numbers of the CNF: 1 to 12 are its clauses.
-#[test]
-fn stitched_entries(rt: HostRuntime) -> Result<(), Fail> {
-    check(&rt, rt.alloc(), swapped_ands(rt.alloc()), &EQUAL)
-}
 
 const SPAN: Span = Span {
     output: 0,
@@ -141,7 +130,7 @@ const SPAN: Span = Span {
 };
 
 /// What a query of two XORs learned with a budget of one clause: where the output differs and A's gate is
-/// false, x is true.
+/// false, x is true. The log of the output that was left open, in the numbers of a CNF of 24 clauses.
 static SPENT: Derivation = Derivation {
     rows: &[(
         "outspent 0 0: -d0 a5 i0 by d0.1 b3.0 b5.2 b4.1 a4.1 a5.2 a3.0",
@@ -151,8 +140,9 @@ static SPENT: Derivation = Derivation {
     text: b"25 -10 6 2 0 21 11 19 15 6 10 2 0\n",
 };
 
-/// The log of an output that was left open, in the numbers of a CNF of 24 clauses.
 #[test]
-fn stitched_log(rt: HostRuntime) -> Result<(), Fail> {
+fn stitched(rt: HostRuntime) -> Result<(), Fail> {
+    check(&rt, rt.alloc(), nothing(rt.alloc()), &OF_NOTHING)?;
+    check(&rt, rt.alloc(), swapped_ands(rt.alloc()), &EQUAL)?;
     check(&rt, rt.alloc(), two_xors(rt.alloc()), &SPENT)
 }

@@ -24,12 +24,22 @@ fn has_root(book: &Book, row: &Row<'_>) -> Result<bool, Fail> {
     Ok(book.root(lit(row.0)?) == lit(row.1)?)
 }
 
+/// Whether the book is empty, or its first entry is a merge of two steps.
+fn begins_with_two_steps(book: &Book) -> bool {
+    match book.entry(0) {
+        Some(Entry::Merge { steps, .. }) => steps.len() == 2,
+        Some(_) => false,
+        None => true,
+    }
+}
+
 /// So many gates are merged, and literals have these roots.
 struct Roots(u64, &'static [Row<'static>]);
 
 impl Case for Roots {
     fn check<A: Abort>(&self, rt: &A, alloc: Global, net: &Net) -> Result<(), Fail> {
         let book = passed(rt, alloc, net, self.0)?;
+        expect(rt, "two steps", begins_with_two_steps(&book));
         for row in self.1 {
             expect(rt, row.0, has_root(&book, row)?);
         }
@@ -39,40 +49,12 @@ impl Case for Roots {
 
 static OF_ANDS: Roots = Roots(1, &[("b3", "a3")]);
 
-#[test]
-fn strash_of_swapped_ands(rt: HostRuntime) -> Result<(), Fail> {
-    check(&rt, rt.alloc(), swapped_ands(rt.alloc()), &OF_ANDS)
-}
-
-/// Whether the book's first entry is a merge of two steps.
-fn begins_with_two_steps(book: &Book) -> bool {
-    match book.entry(0) {
-        Some(Entry::Merge { steps, .. }) => steps.len() == 2,
-        _ => false,
-    }
-}
-
-/// One gate is merged, by two steps.
-struct TwoSteps;
-
-impl Case for TwoSteps {
-    fn check<A: Abort>(&self, rt: &A, alloc: Global, net: &Net) -> Result<(), Fail> {
-        let book = passed(rt, alloc, net, 1)?;
-        expect(rt, "two steps", begins_with_two_steps(&book));
-        Ok(())
-    }
-}
-
-#[test]
-fn steps_of_a_twin(rt: HostRuntime) -> Result<(), Fail> {
-    check(&rt, rt.alloc(), swapped_ands(rt.alloc()), &TwoSteps)
-}
-
+/// Two XORs by other gates: no gate has a twin.
 static OF_XORS: Roots = Roots(0, &[("b5", "b5")]);
 
-/// Two XORs by other gates: no gate has a twin.
 #[test]
-fn strash_of_two_xors(rt: HostRuntime) -> Result<(), Fail> {
+fn strash(rt: HostRuntime) -> Result<(), Fail> {
+    check(&rt, rt.alloc(), swapped_ands(rt.alloc()), &OF_ANDS)?;
     check(&rt, rt.alloc(), two_xors(rt.alloc()), &OF_XORS)
 }
 
@@ -85,6 +67,7 @@ fn folds(alloc: Global) -> Result<Net, Fail> {
     net_of(alloc, a, circuit(alloc, &[1], &gates, &[5, 6]))
 }
 
+/// Gates that merge are merged to what they fold to.
 static OF_FOLDS: Roots = Roots(
     6,
     &[
@@ -97,12 +80,6 @@ static OF_FOLDS: Roots = Roots(
     ],
 );
 
-/// Gates that merge are merged to what they fold to.
-#[test]
-fn folded_gates(rt: HostRuntime) -> Result<(), Fail> {
-    check(&rt, rt.alloc(), folds(rt.alloc()), &OF_FOLDS)
-}
-
 /// Gates 4 are twins, over gates 3 that are twins too.
 fn two_levels(alloc: Global) -> Result<Net, Fail> {
     let a = two_input_circuit(alloc, &[and(3, 2, 4), and(4, 7, 2)], 8);
@@ -113,11 +90,12 @@ fn two_levels(alloc: Global) -> Result<Net, Fail> {
     )
 }
 
-static OF_LEVELS: Roots = Roots(2, &[("-b4", "-a4")]);
-
 /// A gate whose fanins are merged is seen by their roots: B's second gate is a twin of A's by way of
 /// its first.
+static OF_LEVELS: Roots = Roots(2, &[("-b4", "-a4")]);
+
 #[test]
-fn twins_by_their_roots(rt: HostRuntime) -> Result<(), Fail> {
+fn folds_and_twins_by_their_roots(rt: HostRuntime) -> Result<(), Fail> {
+    check(&rt, rt.alloc(), folds(rt.alloc()), &OF_FOLDS)?;
     check(&rt, rt.alloc(), two_levels(rt.alloc()), &OF_LEVELS)
 }

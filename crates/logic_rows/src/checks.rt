@@ -9,18 +9,13 @@ use std::process::Abort;
 use std::test::Fail;
 use unit_prop::{Closure, Refuted, Refuter, StepCheck, StepErr, close_under};
 
-/// The clause of an earlier step.
-fn own_clause(log: &[Step], place: u64) -> Option<&Clause<Lit>> {
-    match log.get(place as usize) {
-        Some(step) => Some(&step.clause),
-        None => None,
-    }
-}
-
 /// The clause of the name in base and log.
 fn clause_named<'a>(base: &'a [Named], log: &'a [Step], name: Ref) -> Option<&'a Clause<Lit>> {
     if let Ref::Own(place) = name {
-        return own_clause(log, place);
+        return match log.get(place as usize) {
+            Some(step) => Some(&step.clause),
+            None => None,
+        };
     }
     for named in base {
         if named.by == name {
@@ -48,17 +43,6 @@ fn is_step(
     Ok(check.end().is_ok())
 }
 
-/// The negations of all literals of the clause but one.
-fn other_negations(alloc: Global, clause: &Clause<Lit>, lit: Lit) -> Result<Vec<Lit>, Fail> {
-    let mut given = Vec::new(alloc);
-    for other in clause.lits() {
-        if *other != lit {
-            given.push(other.not())?;
-        }
-    }
-    Ok(given)
-}
-
 /// Whether the closure of the clauses and of the negations of all literals but one lacks that one and
 /// doesn't clash.
 fn is_open(
@@ -67,7 +51,12 @@ fn is_open(
     clause: &Clause<Lit>,
     lit: Lit,
 ) -> Result<bool, Fail> {
-    let given = other_negations(alloc, clause, lit)?;
+    let mut given = Vec::new(alloc);
+    for other in clause.lits() {
+        if *other != lit {
+            given.push(other.not())?;
+        }
+    }
     match close_under(alloc, clauses, given.as_slice())? {
         Closure::Clash => Ok(false),
         Closure::Free(found) => Ok(!found.as_slice().contains(&lit)),

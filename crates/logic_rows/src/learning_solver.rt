@@ -12,11 +12,6 @@ use std::process::Abort;
 use std::test::Fail;
 use unit_prop::Refuter;
 
-#[test]
-fn refuter_yes(rt: HostRuntime) -> Result<(), Fail> {
-    check_yes(&rt, rt.alloc(), WatchSolver::new(rt.alloc())?)
-}
-
 /// Whether these are both inputs and the gate, in any order.
 fn are_all_true(model: &[Lit]) -> bool {
     model.len() == 3 && model.contains(&X) && model.contains(&Y) && model.contains(&A)
@@ -28,16 +23,13 @@ fn check_model<R: Refuter>(rt: &impl Abort, alloc: Global, mut solver: R) -> Res
     Ok(())
 }
 
-#[test]
-fn refuter_no(rt: HostRuntime) -> Result<(), Fail> {
-    check_model(&rt, rt.alloc(), WatchSolver::new(rt.alloc())?)
-}
-
 /// Whether so many units and the clauses learned are as many as there were.
 fn is_paid<R: Refuter>(solver: &R, left: u64, units: u64) -> bool {
     left.saturating_add(solver.log().len() as u64) == units
 }
 
+/// A budget of one unit is spent for one clause; with units enough the outputs are equal, and each clause
+/// that was learned is new.
 fn check_paid<R: Refuter>(rt: &impl Abort, alloc: Global, mut solver: R) -> Result<(), Fail> {
     check_spent(rt, alloc, &mut solver)?;
     let left = left_of_many(rt, alloc, &mut solver)?;
@@ -49,13 +41,7 @@ fn check_paid<R: Refuter>(rt: &impl Abort, alloc: Global, mut solver: R) -> Resu
     Ok(())
 }
 
-/// A budget of one unit is spent for one clause; with units enough the outputs are equal, and each clause
-/// that was learned is new.
-#[test]
-fn refuter_spent(rt: HostRuntime) -> Result<(), Fail> {
-    check_paid(&rt, rt.alloc(), WatchSolver::new(rt.alloc())?)
-}
-
+/// What was learned stays in the next query, until the next start.
 fn check_queries<R: Refuter>(rt: &impl Abort, alloc: Global, mut solver: R) -> Result<(), Fail> {
     let left = left_of_second_query(rt, alloc, &mut solver)?;
     expect(
@@ -66,23 +52,19 @@ fn check_queries<R: Refuter>(rt: &impl Abort, alloc: Global, mut solver: R) -> R
     check_start(rt, alloc, &mut solver)
 }
 
-/// What was learned stays in the next query, until the next start.
 #[test]
-fn log_of_queries(rt: HostRuntime) -> Result<(), Fail> {
-    check_queries(&rt, rt.alloc(), WatchSolver::new(rt.alloc())?)
+fn refuter_yes_no_and_spent(rt: HostRuntime) -> Result<(), Fail> {
+    let alloc = rt.alloc();
+    check_yes(&rt, alloc, WatchSolver::new(alloc)?)?;
+    check_model(&rt, alloc, WatchSolver::new(alloc)?)?;
+    check_paid(&rt, alloc, WatchSolver::new(alloc)?)?;
+    check_queries(&rt, alloc, WatchSolver::new(alloc)?)
 }
 
 #[test]
-fn small_bases(rt: HostRuntime) -> Result<(), Fail> {
-    check_rows(&rt, rt.alloc(), WatchSolver::new(rt.alloc())?, false)
-}
-
-#[test]
-fn parity_chains_agree(rt: HostRuntime) -> Result<(), Fail> {
-    check_chains(&rt, rt.alloc(), WatchSolver::new(rt.alloc())?, 1000, false)
-}
-
-#[test]
-fn drawn_bases(rt: HostRuntime) -> Result<(), Fail> {
-    check_drawn(&rt, rt.alloc(), WatchSolver::new(rt.alloc())?, false)
+fn bases_and_parity_chains(rt: HostRuntime) -> Result<(), Fail> {
+    let alloc = rt.alloc();
+    check_rows(&rt, alloc, WatchSolver::new(alloc)?, false)?;
+    check_chains(&rt, alloc, WatchSolver::new(alloc)?, 1000, false)?;
+    check_drawn(&rt, alloc, WatchSolver::new(alloc)?, false)
 }

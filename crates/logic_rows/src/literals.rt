@@ -22,14 +22,6 @@ fn is_tautology(alloc: Global, numbers: &[i32]) -> Result<bool, Fail> {
     ))
 }
 
-#[test]
-fn clauses_of_literals(rt: HostRuntime) -> Result<(), Fail> {
-    let alloc = rt.alloc();
-    expect(&rt, "a clause", is_clause(alloc, &[2, 2, -3], &[2, -3])?);
-    expect(&rt, "a tautology", is_tautology(alloc, &[2, -2])?);
-    Ok(())
-}
-
 /// Eighteen literals that differ, and two of them once more.
 const LONG: [i32; 20] = [
     1, 2, 3, 4, 5, 6, 7, 8, 9, 10, 11, 12, 13, 14, 15, 16, 17, 18, 9, 1,
@@ -41,13 +33,15 @@ const LONG_TAUTOLOGY: [i32; 20] = [
 ];
 
 #[test]
-fn long_clauses(rt: HostRuntime) -> Result<(), Fail> {
-    let is_kept = is_clause(rt.alloc(), &LONG, &LONG[..18])?;
-    expect(&rt, "a clause", is_kept);
+fn clauses_of_literals(rt: HostRuntime) -> Result<(), Fail> {
+    let alloc = rt.alloc();
+    expect(&rt, "a clause", is_clause(alloc, &[2, 2, -3], &[2, -3])?);
+    expect(&rt, "a tautology", is_tautology(alloc, &[2, -2])?);
+    expect(&rt, "long", is_clause(alloc, &LONG, &LONG[..18])?);
     expect(
         &rt,
-        "a tautology",
-        is_tautology(rt.alloc(), &LONG_TAUTOLOGY)?,
+        "a long tautology",
+        is_tautology(alloc, &LONG_TAUTOLOGY)?,
     );
     Ok(())
 }
@@ -57,12 +51,11 @@ fn is_literal(number: i32, var: u32, neg: bool) -> bool {
     let Some(dim) = Dim::of(number) else {
         return false;
     };
-    dim.var() == var && dim.is_negated() == neg && is_opposite(dim.not(), dim)
-}
-
-/// Whether one is the negation of the other.
-fn is_opposite(one: Dim, other: Dim) -> bool {
-    one.not() == other && one.is_negated() != other.is_negated()
+    let opposite = dim.not();
+    dim.var() == var
+        && dim.is_negated() == neg
+        && opposite.is_negated() != neg
+        && opposite.not() == dim
 }
 
 /// The greatest variable.
@@ -117,28 +110,13 @@ fn is_unit(alloc: Global) -> Result<bool, AllocError> {
     Ok(unit.lits() == UNIT.as_slice())
 }
 
-#[test]
-fn clause_of_nodes(rt: HostRuntime) -> Result<(), Fail> {
-    expect(&rt, "a copy", is_copied(rt.alloc())?);
-    expect(&rt, "a unit", is_unit(rt.alloc())?);
-    Ok(())
-}
-
 const TRUE_LITS: [Lit; 2] = [B, X];
 
 const FALSE_LITS: [Lit; 1] = [B];
 
-fn check_reads(rt: &impl Abort, clause: &Clause<Lit>) {
-    expect(rt, "has x", clause.has(X));
-    expect(rt, "has no negation of x", !clause.has(NOT_X));
-    expect(rt, "holds by x", clause.holds(&TRUE_LITS));
-    expect(rt, "doesn't hold by b", !clause.holds(&FALSE_LITS));
-}
-
-#[test]
-fn literals_of_a_clause(rt: HostRuntime) -> Result<(), Fail> {
-    check_reads(&rt, &gate_or_input(rt.alloc())?);
-    Ok(())
+/// Whether the clause has x, not its negation, and holds by x, not by the gate.
+fn is_read(clause: &Clause<Lit>) -> bool {
+    clause.has(X) && !clause.has(NOT_X) && clause.holds(&TRUE_LITS) && !clause.holds(&FALSE_LITS)
 }
 
 const NAME: Ref = Ref::Axiom(Node::Gate(Side::B, 3), 1);
@@ -158,16 +136,20 @@ fn step_of_named(alloc: Global) -> Result<Step, Fail> {
     })
 }
 
-fn check_hints(rt: &impl Abort, hints: Listed<Ref>) {
-    expect(rt, "the hints", hints.as_slice() == HINTS.as_slice());
-    expect(rt, "their number", hints.len() == 2);
-    expect(rt, "there are some", !hints.is_empty());
-    expect(rt, "all as a vector", hints.into_vec().len() == 2);
+/// Whether these are the two hints, also as a vector.
+fn are_hints(hints: Listed<Ref>) -> bool {
+    hints.as_slice() == HINTS.as_slice()
+        && hints.len() == 2
+        && !hints.is_empty()
+        && hints.into_vec().len() == 2
 }
 
 #[test]
-fn hints_of_a_step(rt: HostRuntime) -> Result<(), Fail> {
-    check_hints(&rt, step_of_named(rt.alloc())?.hints);
+fn clause_of_nodes(rt: HostRuntime) -> Result<(), Fail> {
+    expect(&rt, "a copy", is_copied(rt.alloc())?);
+    expect(&rt, "a unit", is_unit(rt.alloc())?);
+    expect(&rt, "what it has", is_read(&gate_or_input(rt.alloc())?));
+    expect(&rt, "hints", are_hints(step_of_named(rt.alloc())?.hints));
     Ok(())
 }
 
@@ -185,38 +167,22 @@ fn set_of_three(alloc: Global) -> Result<LiteralSet<Dim>, Fail> {
     Ok(set)
 }
 
-fn check_members(rt: &impl Abort, set: &LiteralSet<Dim>) {
-    expect(rt, "7 is third", set.place(Dim::new(7, false)) == Some(2));
-    expect(
-        rt,
-        "-7 has no place",
-        set.place(Dim::new(7, true)).is_none(),
-    );
-    expect(rt, "5 is there", set.has(Dim::new(5, false)));
-    expect(rt, "-5 isn't there", !set.has(Dim::new(5, true)));
-    expect(rt, "-2 is there", set.has(Dim::new(2, true)));
-    expect(rt, "2 isn't there", !set.has(Dim::new(2, false)));
+/// Whether the set has these literals, 7 in the third place, and not their negations.
+fn has_three(set: &LiteralSet<Dim>) -> bool {
+    set.place(Dim::new(7, false)) == Some(2)
+        && set.place(Dim::new(7, true)).is_none()
+        && set.has(Dim::new(5, false))
+        && !set.has(Dim::new(5, true))
+        && set.has(Dim::new(2, true))
+        && !set.has(Dim::new(2, false))
 }
 
-#[test]
-fn literal_sets(rt: HostRuntime) -> Result<(), Fail> {
-    check_members(&rt, &set_of_three(rt.alloc())?);
-    Ok(())
-}
-
-/// Adds a literal that is there, and clears the set.
-fn check_cleared(rt: &impl Abort, alloc: Global, mut set: LiteralSet<Dim>) -> Result<(), Fail> {
+/// Adds a literal that is there, which changes nothing, and clears the set; whether it is empty then.
+fn is_cleared(alloc: Global, mut set: LiteralSet<Dim>) -> Result<bool, Fail> {
     set.add(Dim::new(5, false))?;
-    expect(rt, "a literal twice", are(alloc, set.lits(), &THREE)?);
+    let is_same = are(alloc, set.lits(), &THREE)?;
     set.clear();
-    expect(rt, "cleared", set.lits().is_empty());
-    expect(rt, "cleared as a vector", set.into_vec().is_empty());
-    Ok(())
-}
-
-#[test]
-fn sets_that_are_cleared(rt: HostRuntime) -> Result<(), Fail> {
-    check_cleared(&rt, rt.alloc(), set_of_three(rt.alloc())?)
+    Ok(is_same && set.lits().is_empty() && set.into_vec().is_empty())
 }
 
 /// Whether the set of the numbers has just the others, in order.
@@ -226,12 +192,6 @@ fn is_set(alloc: Global, numbers: &[i32], kept: &[i32]) -> Result<bool, Fail> {
 }
 
 const REPEATED: [i32; 5] = [5, -2, 5, 2, -2];
-
-#[test]
-fn sets_of_repeated_literals(rt: HostRuntime) -> Result<(), Fail> {
-    expect(&rt, "the set", is_set(rt.alloc(), &REPEATED, &[5, -2, 2])?);
-    Ok(())
-}
 
 /// Puts 99 literals that differ into the set, of which each third is negated.
 fn fill(set: &mut LiteralSet<Dim>) -> Result<(), Fail> {
@@ -254,6 +214,7 @@ fn is_filled(set: &LiteralSet<Dim>) -> bool {
         && set.place(Dim::new(98, false)) == Some(97)
 }
 
+/// Also once more, after it was cleared.
 fn check_filled(rt: &impl Abort, set: &mut LiteralSet<Dim>) -> Result<(), Fail> {
     fill(set)?;
     expect(rt, "filled", is_filled(set));
@@ -262,8 +223,11 @@ fn check_filled(rt: &impl Abort, set: &mut LiteralSet<Dim>) -> Result<(), Fail> 
     Ok(())
 }
 
-/// Also once more, after it was cleared.
 #[test]
-fn large_literal_sets(rt: HostRuntime) -> Result<(), Fail> {
-    check_filled(&rt, &mut LiteralSet::new(rt.alloc()))
+fn literal_sets(rt: HostRuntime) -> Result<(), Fail> {
+    let alloc = rt.alloc();
+    expect(&rt, "repeated", is_set(alloc, &REPEATED, &[5, -2, 2])?);
+    expect(&rt, "three", has_three(&set_of_three(alloc)?));
+    expect(&rt, "cleared", is_cleared(alloc, set_of_three(alloc)?)?);
+    check_filled(&rt, &mut LiteralSet::new(alloc))
 }

@@ -12,11 +12,6 @@ use std::process::Abort;
 use std::test::Fail;
 use unit_prop::Refuter;
 
-#[test]
-fn refuter_yes(rt: HostRuntime) -> Result<(), Fail> {
-    check_yes(&rt, rt.alloc(), PlainSolver::new(rt.alloc()))
-}
-
 const MODEL: [Lit; 3] = [A, X, Y];
 
 fn check_model<R: Refuter>(rt: &impl Abort, alloc: Global, mut solver: R) -> Result<(), Fail> {
@@ -25,11 +20,6 @@ fn check_model<R: Refuter>(rt: &impl Abort, alloc: Global, mut solver: R) -> Res
     expect(rt, "no unit is spent", left == 100);
     expect(rt, "nothing is learned", solver.log().is_empty());
     Ok(())
-}
-
-#[test]
-fn refuter_no(rt: HostRuntime) -> Result<(), Fail> {
-    check_model(&rt, rt.alloc(), PlainSolver::new(rt.alloc()))
 }
 
 /// What the plan learns first, by its definition: the gate, x and y decided false, then the first clauses
@@ -65,11 +55,7 @@ fn check_first<R: Refuter>(rt: &impl Abort, alloc: Global, mut solver: R) -> Res
     Ok(())
 }
 
-#[test]
-fn refuter_spent(rt: HostRuntime) -> Result<(), Fail> {
-    check_first(&rt, rt.alloc(), PlainSolver::new(rt.alloc()))
-}
-
+/// What was learned stays in the next queries, until the next start.
 fn check_queries<R: Refuter>(rt: &impl Abort, alloc: Global, mut solver: R) -> Result<(), Fail> {
     let left = left_of_second_query(rt, alloc, &mut solver)?;
     expect(rt, "two units are spent", left == 99_998);
@@ -77,23 +63,19 @@ fn check_queries<R: Refuter>(rt: &impl Abort, alloc: Global, mut solver: R) -> R
     check_start(rt, alloc, &mut solver)
 }
 
-/// What was learned stays in the next queries, until the next start.
 #[test]
-fn log_of_queries(rt: HostRuntime) -> Result<(), Fail> {
-    check_queries(&rt, rt.alloc(), PlainSolver::new(rt.alloc()))
+fn refuter_yes_no_and_spent(rt: HostRuntime) -> Result<(), Fail> {
+    let alloc = rt.alloc();
+    check_yes(&rt, alloc, PlainSolver::new(alloc))?;
+    check_model(&rt, alloc, PlainSolver::new(alloc))?;
+    check_first(&rt, alloc, PlainSolver::new(alloc))?;
+    check_queries(&rt, alloc, PlainSolver::new(alloc))
 }
 
 #[test]
-fn small_bases(rt: HostRuntime) -> Result<(), Fail> {
-    check_rows(&rt, rt.alloc(), PlainSolver::new(rt.alloc()), true)
-}
-
-#[test]
-fn parity_chains_agree(rt: HostRuntime) -> Result<(), Fail> {
-    check_chains(&rt, rt.alloc(), PlainSolver::new(rt.alloc()), 100, true)
-}
-
-#[test]
-fn drawn_bases(rt: HostRuntime) -> Result<(), Fail> {
-    check_drawn(&rt, rt.alloc(), PlainSolver::new(rt.alloc()), true)
+fn bases_and_parity_chains(rt: HostRuntime) -> Result<(), Fail> {
+    let alloc = rt.alloc();
+    check_rows(&rt, alloc, PlainSolver::new(alloc), true)?;
+    check_chains(&rt, alloc, PlainSolver::new(alloc), 100, true)?;
+    check_drawn(&rt, alloc, PlainSolver::new(alloc), true)
 }

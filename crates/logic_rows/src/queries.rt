@@ -133,34 +133,19 @@ pub(crate) fn left_of_many<R: Refuter>(
     )
 }
 
-/// One unit is spent, and then as many as the answer takes; the units that are left of 100000.
-fn left_of_two<R: Refuter>(
-    rt: &impl Abort,
-    alloc: Global,
-    solver: &mut R,
-    base: &[Named],
-    target: &Clause<Lit>,
-) -> Result<u64, Fail> {
-    solved(rt, alloc, solver, base, target, 1)?;
-    let (answer, left) = asked(rt, alloc, solver, base, target, 100_000)?;
-    expect(rt, "the outputs are equal", verdict(&answer) == Some(true));
-    Ok(left)
-}
-
-/// What was learned in a query that was given up stays in the next. The units that are left of 100000.
+/// What was learned in a query that was given up, of one unit, stays in the next, which takes as many as the
+/// answer does. The units that are left of 100000.
 pub(crate) fn left_of_second_query<R: Refuter>(
     rt: &impl Abort,
     alloc: Global,
     solver: &mut R,
 ) -> Result<u64, Fail> {
+    let target = clause_of(alloc, &EQUAL_OUTPUTS)?;
     let base = cone_of_xor(alloc)?;
-    left_of_two(
-        rt,
-        alloc,
-        solver,
-        base.as_slice(),
-        &clause_of(alloc, &EQUAL_OUTPUTS)?,
-    )
+    solved(rt, alloc, solver, base.as_slice(), &target, 1)?;
+    let (answer, left) = asked(rt, alloc, solver, base.as_slice(), &target, 100_000)?;
+    expect(rt, "the outputs are equal", verdict(&answer) == Some(true));
+    Ok(left)
 }
 
 /// A start forgets what was learned.
@@ -233,30 +218,8 @@ pub(crate) fn check_rows<R: Refuter>(
     Ok(())
 }
 
-/// Two chains of XORs over so many inputs, from either end, have the same value; the units that are left.
-fn left_of_chains<R: Refuter>(
-    rt: &impl Abort,
-    alloc: Global,
-    solver: &mut R,
-    inputs: u32,
-    target: (bool, bool, bool),
-    budget: u64,
-) -> Result<u64, Fail> {
-    let (first_neg, second_neg, implied) = target;
-    let (base, first, second) = parity_chains(alloc, inputs)?;
-    let lits = [turned(first, first_neg), turned(second, second_neg)];
-    left_of(
-        rt,
-        alloc,
-        solver,
-        base.as_slice(),
-        &lits,
-        budget,
-        Some(implied),
-    )
-}
-
-/// Chains over so many inputs, whose equality takes so many units of a solver that goes by the plan.
+/// Two chains of XORs over so many inputs, from either end, have the same value, which takes so many units of
+/// a solver that goes by the plan.
 fn check_targets<R: Refuter>(
     rt: &impl Abort,
     alloc: Global,
@@ -266,9 +229,12 @@ fn check_targets<R: Refuter>(
     by_plan: bool,
 ) -> Result<(), Fail> {
     let (inputs, units) = chain;
-    for target in CHAIN_TARGETS.as_slice() {
-        let left = left_of_chains(rt, alloc, solver, inputs, *target, budget)?;
-        let spent = if target.2 { units } else { 0 };
+    let (base, first, second) = parity_chains(alloc, inputs)?;
+    for (first_neg, second_neg, implied) in CHAIN_TARGETS.as_slice() {
+        let lits = [turned(first, *first_neg), turned(second, *second_neg)];
+        let wanted = Some(*implied);
+        let left = left_of(rt, alloc, solver, base.as_slice(), &lits, budget, wanted)?;
+        let spent = if *implied { units } else { 0 };
         expect(
             rt,
             "the chain's units",
@@ -292,19 +258,8 @@ pub(crate) fn check_chains<R: Refuter>(
     Ok(())
 }
 
-/// Clauses that are drawn are unsatisfiable or not, as it is said; the units that are left of 100.
-fn left_of_drawn<R: Refuter>(
-    rt: &impl Abort,
-    alloc: Global,
-    solver: &mut R,
-    seed: u32,
-    implied: bool,
-) -> Result<u64, Fail> {
-    let base = drawn_base(alloc, seed)?;
-    left_of(rt, alloc, solver, base.as_slice(), &[], 100, Some(implied))
-}
-
-/// Clauses that are drawn, with the units that a solver takes that goes by the plan.
+/// Clauses that are drawn are unsatisfiable or not, as it is said, with the units that a solver takes that
+/// goes by the plan.
 pub(crate) fn check_drawn<R: Refuter>(
     rt: &impl Abort,
     alloc: Global,
@@ -312,7 +267,9 @@ pub(crate) fn check_drawn<R: Refuter>(
     by_plan: bool,
 ) -> Result<(), Fail> {
     for (seed, implied, units) in DRAWN.as_slice() {
-        let left = left_of_drawn(rt, alloc, &mut solver, *seed, *implied)?;
+        let base = drawn_base(alloc, *seed)?;
+        let wanted = Some(*implied);
+        let left = left_of(rt, alloc, &mut solver, base.as_slice(), &[], 100, wanted)?;
         assert!(rt;
             !by_plan || left.saturating_add(*units) == 100,
             "seed {seed}"

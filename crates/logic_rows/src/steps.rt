@@ -4,7 +4,6 @@ use crate::clauses::{
 };
 use lits::{Clause, Dim, Lit, Named, Ref};
 use std::alloc::Global;
-use std::process::Abort;
 use std::test::Fail;
 use unit_prop::{BadStep, Clauses, Closure, StepCheck, Why};
 
@@ -73,18 +72,6 @@ static CLOSURES: [Closed<'static>; 6] = [
     ),
 ];
 
-fn check_closures(rt: &impl Abort, alloc: Global, rows: &[Closed]) -> Result<(), Fail> {
-    for (name, lists, given, want) in rows {
-        expect(rt, name, closes_to(alloc, lists, given, *want)?);
-    }
-    Ok(())
-}
-
-#[test]
-fn close_under(rt: HostRuntime) -> Result<(), Fail> {
-    check_closures(&rt, rt.alloc(), &CLOSURES)
-}
-
 /// The clauses of a step's hints, by their places from 0.
 #[derive(Drop)]
 struct Hints<'a>(&'a [Clause<Dim>]);
@@ -120,22 +107,6 @@ fn has_fault(alloc: Global, check: &mut StepCheck<Dim>, case: &Judged) -> Result
     Ok(fault == want)
 }
 
-fn judge_by(
-    rt: &impl Abort,
-    alloc: Global,
-    check: &mut StepCheck<Dim>,
-    cases: &[Judged],
-) -> Result<(), Fail> {
-    for case in cases {
-        expect(rt, case.0, has_fault(alloc, check, case)?);
-    }
-    Ok(())
-}
-
-fn judge(rt: &impl Abort, alloc: Global, cases: &[Judged]) -> Result<(), Fail> {
-    judge_by(rt, alloc, &mut StepCheck::new(alloc), cases)
-}
-
 /// Clauses from which -5 or 4 follows: 4 and 5 are the AND of 2 and 3.
 const TWIN: &[&[i32]] = &[&[-5, 3], &[4, -2, -3], &[-5, 2]];
 
@@ -146,20 +117,6 @@ const NOT_FALSE: Option<BadStep> = Some(BadStep {
     hint: 0,
     why: Why::NotFalse,
 });
-
-/// Two gates that compute the same: the first step of their proof, the same without its last hint, and with
-/// a literal twice.
-static STEPS: [Judged<'static>; 4] = [
-    ("the empty clause", &[], &[&[]], &[0], None),
-    ("twin gates", &[-5, 4], TWIN, &[0, 1, 2], None),
-    ("without the last hint", &[-5, 4], CUT, &[0, 1], NOT_FALSE),
-    ("a literal twice", &[-5, 4, 4], TWIN, &[0, 1, 2], None),
-];
-
-#[test]
-fn step_check(rt: HostRuntime) -> Result<(), Fail> {
-    judge(&rt, rt.alloc(), &STEPS)
-}
 
 const TAUTOLOGY: Option<BadStep> = Some(BadStep {
     hint: 0,
@@ -186,7 +143,14 @@ const NO_CLAUSE: Option<BadStep> = Some(BadStep {
     why: Why::NoClause,
 });
 
-static FAULTS: [Judged<'static>; 7] = [
+static STEPS: [Judged<'static>; 11] = [
+    // Two gates that compute the same: the first step of their proof, the same without its last hint, and
+    // with a literal twice.
+    ("the empty clause", &[], &[&[]], &[0], None),
+    ("twin gates", &[-5, 4], TWIN, &[0, 1, 2], None),
+    ("without the last hint", &[-5, 4], CUT, &[0, 1], NOT_FALSE),
+    ("a literal twice", &[-5, 4, 4], TWIN, &[0, 1, 2], None),
+    // Faults.
     ("no hint", &[1], &[], &[], NOT_FALSE),
     ("a tautology", &[1, -1], &[&[]], &[0], TAUTOLOGY),
     ("a true hint", &[1], &[&[2], &[2, 3]], &[0, 1], SATISFIED),
@@ -201,11 +165,6 @@ static FAULTS: [Judged<'static>; 7] = [
     ),
     ("no such hint", &[1], &[&[2, 1]], &[0, 1], NO_CLAUSE),
 ];
-
-#[test]
-fn faults_of_steps(rt: HostRuntime) -> Result<(), Fail> {
-    judge(&rt, rt.alloc(), &FAULTS)
-}
 
 /// Clauses from which gate B implies gate A, both the AND of the first two inputs.
 const IMPLYING: [&[Lit]; 3] = [&[NOT_B, Y], &[NOT_B, X], &[A, NOT_X, NOT_Y]];
@@ -224,7 +183,11 @@ fn add(check: &mut StepCheck<Lit>, clause: &[Lit], hints: &[&[Lit]]) -> Result<(
 }
 
 #[test]
-fn steps_over_nodes(rt: HostRuntime) -> Result<(), Fail> {
+fn step_check(rt: HostRuntime) -> Result<(), Fail> {
+    let mut check = StepCheck::new(rt.alloc());
+    for case in &STEPS {
+        expect(&rt, case.0, has_fault(rt.alloc(), &mut check, case)?);
+    }
     add(&mut StepCheck::new(rt.alloc()), &IMPLICATION, &IMPLYING)
 }
 
@@ -248,11 +211,19 @@ fn has_just(found: &Closure<Lit>, lits: &[Lit]) -> bool {
     }
 }
 
+/// Whether gate B, which is given, closes to the other gate and the inputs.
+fn closes_over_nodes(alloc: Global) -> Result<bool, Fail> {
+    let axioms = implying(alloc)?;
+    let found = unit_prop::close_under(alloc, axioms.as_slice(), &GIVEN)?;
+    Ok(has_just(&found, &FOUND))
+}
+
 #[test]
-fn close_under_nodes(rt: HostRuntime) -> Result<(), Fail> {
-    let axioms = implying(rt.alloc())?;
-    let found = unit_prop::close_under(rt.alloc(), axioms.as_slice(), &GIVEN)?;
-    expect(&rt, "the closure", has_just(&found, &FOUND));
+fn close_under(rt: HostRuntime) -> Result<(), Fail> {
+    for (name, lists, given, want) in &CLOSURES {
+        expect(&rt, name, closes_to(rt.alloc(), lists, given, *want)?);
+    }
+    expect(&rt, "over nodes", closes_over_nodes(rt.alloc())?);
     Ok(())
 }
 
@@ -299,20 +270,15 @@ static SCANS: [Scanned<'static>; 3] = [
     ("A is false", &[NOT_A], None),
 ];
 
-fn check_scans(
-    rt: &impl Abort,
-    alloc: Global,
-    base: &[Named],
-    rows: &[Scanned],
-) -> Result<(), Fail> {
-    for (name, lits, want) in rows {
-        expect(rt, name, scans_to(alloc, base, lits, *want)?);
-    }
-    Ok(())
-}
-
 #[test]
 fn hints_of_twin_gates(rt: HostRuntime) -> Result<(), Fail> {
-    let alloc = rt.alloc();
-    check_scans(&rt, alloc, twin_gates(alloc)?.as_slice(), &SCANS)
+    let base = twin_gates(rt.alloc())?;
+    for (name, lits, want) in &SCANS {
+        expect(
+            &rt,
+            name,
+            scans_to(rt.alloc(), base.as_slice(), lits, *want)?,
+        );
+    }
+    Ok(())
 }

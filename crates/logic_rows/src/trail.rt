@@ -1,4 +1,4 @@
-//! Tests of `Trail`: each is a list of moves, among them what the trail has to be after those before.
+//! Walks of `Trail`: each is a list of moves, among them what the trail has to be after those before.
 use crate::clauses::{clause, input};
 use std::alloc::Global;
 use std::process::Abort;
@@ -28,20 +28,13 @@ enum Move {
     Codes,
 }
 
-fn add(alloc: Global, trail: &mut Trail, numbers: &[i32]) -> Result<bool, Fail> {
-    let clause = clause(alloc, numbers)?;
-    if trail.level() != 0 {
-        return Ok(false);
-    }
-    trail.add(&clause)?;
-    Ok(true)
-}
-
 fn add_all(alloc: Global, trail: &mut Trail, lists: &[&[i32]]) -> Result<bool, Fail> {
     for numbers in lists {
-        if !add(alloc, trail, numbers)? {
+        let clause = clause(alloc, numbers)?;
+        if trail.level() != 0 {
             return Ok(false);
         }
+        trail.add(&clause)?;
     }
     Ok(true)
 }
@@ -113,102 +106,93 @@ fn goes(alloc: Global, trail: &mut Trail, step: &Move) -> Result<bool, Fail> {
     }
 }
 
-fn make_all(rt: &impl Abort, alloc: Global, trail: &mut Trail, moves: &[Move]) -> Result<(), Fail> {
+/// A name, and the moves that are made on a new trail.
+type Walk = (&'static str, &'static [Move]);
+
+fn make_all(
+    rt: &impl Abort,
+    alloc: Global,
+    trail: &mut Trail,
+    (name, moves): &Walk,
+) -> Result<(), Fail> {
     for (place, step) in moves.iter().enumerate() {
-        assert!(rt; goes(alloc, trail, step)?, "move {place}");
+        assert!(rt; goes(alloc, trail, step)?, "{name}, move {place}");
     }
     Ok(())
 }
 
-/// Makes the moves on a new trail.
-fn check(rt: &impl Abort, alloc: Global, moves: &[Move]) -> Result<(), Fail> {
-    make_all(rt, alloc, &mut Trail::new(alloc)?, moves)
-}
-
 #[test]
-fn close_under(rt: HostRuntime) -> Result<(), Fail> {
-    check(&rt, rt.alloc(), &CLOSURE)
+fn walks(rt: HostRuntime) -> Result<(), Fail> {
+    for walk in &WALKS {
+        make_all(&rt, rt.alloc(), &mut Trail::new(rt.alloc())?, walk)?;
+    }
+    Ok(())
 }
-
-static CLOSURE: [Move; 3] = [
-    Move::Add(&[&[1, -2, 1], &[2, 2, 2]]),
-    Move::Quiet,
-    Move::Has(&[(2, 0, Some(1)), (1, 0, Some(0))]),
-];
-
-#[test]
-fn close_under_clashes(rt: HostRuntime) -> Result<(), Fail> {
-    check(&rt, rt.alloc(), &OPPOSITE)
-}
-
-static OPPOSITE: [Move; 2] = [Move::Add(&[&[1, 1, 1], &[-1, -1, -1]]), Move::Clash];
 
 /// The clauses of a gate 3 that is the AND of 1 and 2.
 const GATE: Move = Move::Add(&[&[-3, 1, 1], &[-3, 2, 2], &[3, -1, -2]]);
 
-#[test]
-fn levels_and_reasons(rt: HostRuntime) -> Result<(), Fail> {
-    check(&rt, rt.alloc(), &LEVELS)
-}
-
-/// Both inputs are decided true.
-static LEVELS: [Move; 7] = [
-    GATE,
-    Move::Decide(1),
-    Move::Quiet,
-    Move::Decide(2),
-    Move::Quiet,
-    Move::Has(&[(1, 1, None), (2, 2, None), (3, 2, Some(2))]),
-    Move::Counts(2, 3, 3),
+static WALKS: [Walk; 6] = [
+    (
+        "close_under",
+        &[
+            Move::Add(&[&[1, -2, 1], &[2, 2, 2]]),
+            Move::Quiet,
+            Move::Has(&[(2, 0, Some(1)), (1, 0, Some(0))]),
+        ],
+    ),
+    (
+        "close_under clashes",
+        &[Move::Add(&[&[1, 1, 1], &[-1, -1, -1]]), Move::Clash],
+    ),
+    (
+        "levels and reasons, both inputs being decided true",
+        &[
+            GATE,
+            Move::Decide(1),
+            Move::Quiet,
+            Move::Decide(2),
+            Move::Quiet,
+            Move::Has(&[(1, 1, None), (2, 2, None), (3, 2, Some(2))]),
+            Move::Counts(2, 3, 3),
+        ],
+    ),
+    // After a step back other literals are decided, with the watches that the first ones left.
+    (
+        "back to a level",
+        &[
+            GATE,
+            Move::Decide(1),
+            Move::Quiet,
+            Move::Decide(2),
+            Move::Quiet,
+            Move::Back(1),
+            Move::Has(&[(1, 1, None)]),
+            Move::Decide(-3),
+            Move::Quiet,
+            Move::Has(&[(1, 1, None), (-3, 2, None), (-2, 2, Some(2))]),
+            Move::Back(0),
+            Move::Has(&[]),
+        ],
+    ),
+    // Two clauses over three literals whose watched literals become false together: the one that is named is
+    // wholly negated. The clause that is learned of it forces its literal.
+    (
+        "a negated clause",
+        &[
+            Move::Add(&[&[1, 2, 3], &[1, 2, -3]]),
+            Move::Decide(-1),
+            Move::Quiet,
+            Move::Has(&[(-1, 1, None)]),
+            Move::Decide(-2),
+            Move::Clash,
+            Move::Back(1),
+            Move::Back(0),
+            Move::Add(&[&[1, 2, 2]]),
+            Move::Decide(-1),
+            Move::Quiet,
+            Move::Has(&[(-1, 1, None), (2, 1, Some(2))]),
+        ],
+    ),
+    ("codes", &[GATE, Move::Decide(3), Move::Quiet, Move::Codes]),
 ];
-
-/// After a step back other literals are decided, with the watches that the first ones left.
-#[test]
-fn back_to_a_level(rt: HostRuntime) -> Result<(), Fail> {
-    check(&rt, rt.alloc(), &BACK)
-}
-
-static BACK: [Move; 12] = [
-    GATE,
-    Move::Decide(1),
-    Move::Quiet,
-    Move::Decide(2),
-    Move::Quiet,
-    Move::Back(1),
-    Move::Has(&[(1, 1, None)]),
-    Move::Decide(-3),
-    Move::Quiet,
-    Move::Has(&[(1, 1, None), (-3, 2, None), (-2, 2, Some(2))]),
-    Move::Back(0),
-    Move::Has(&[]),
-];
-
-/// The one that is named is wholly negated.
-#[test]
-fn negated_clause(rt: HostRuntime) -> Result<(), Fail> {
-    check(&rt, rt.alloc(), &NEGATED)
-}
-
-/// Two clauses over three literals whose watched literals become false together, and the clause that is
-/// learned of it, which forces its literal.
-static NEGATED: [Move; 12] = [
-    Move::Add(&[&[1, 2, 3], &[1, 2, -3]]),
-    Move::Decide(-1),
-    Move::Quiet,
-    Move::Has(&[(-1, 1, None)]),
-    Move::Decide(-2),
-    Move::Clash,
-    Move::Back(1),
-    Move::Back(0),
-    Move::Add(&[&[1, 2, 2]]),
-    Move::Decide(-1),
-    Move::Quiet,
-    Move::Has(&[(-1, 1, None), (2, 1, Some(2))]),
-];
-
-#[test]
-fn codes(rt: HostRuntime) -> Result<(), Fail> {
-    check(&rt, rt.alloc(), &CODES)
-}
-
-static CODES: [Move; 4] = [GATE, Move::Decide(3), Move::Quiet, Move::Codes];

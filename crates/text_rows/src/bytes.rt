@@ -55,7 +55,7 @@ fn numbers(bytes: &[u8]) -> Result<[u32; 5], AigerErr> {
     Ok([header.m, header.i, header.l, header.o, header.a])
 }
 
-const HEADERS: [(&[u8], Result<[u32; 5], AigerErr>); 19] = [
+static HEADERS: [(&[u8], Result<[u32; 5], AigerErr>); 19] = [
     (b"aag 3 2 0 1 1\n2\n", Ok([3, 2, 0, 1, 1])),
     (b"aag 3 2 0 1 1", Ok([3, 2, 0, 1, 1])),
     (b"aag 3 02 0 1 000001 0 0 0 0\n", Ok([3, 2, 0, 1, 1])),
@@ -85,10 +85,7 @@ fn headers(rt: HostRuntime) {
     for (bytes, want) in &HEADERS {
         assert!(rt; numbers(bytes) == *want, "at {bytes:?}");
     }
-}
-
-#[test]
-fn header_of_a_binary_file(rt: HostRuntime) {
+    // a binary file's
     let mut scan = Scan::new(b"aig 3 2 0 1 1\n6\n");
     let is_read = header(&mut scan, b'i').is_ok();
     check(&rt, "M is I and A", is_read && scan.at() == 14);

@@ -13,11 +13,6 @@ pub(crate) fn check_fault(
     assert!(rt; found == want, "at {bytes:?}");
 }
 
-/// Whether a circuit was read.
-pub(crate) fn is_read(found: Result<Circuit, AigerErr>) -> bool {
-    found.is_ok()
-}
-
 /// Whether a circuit was read with this gate alone.
 pub(crate) fn has_gate(found: &Result<Circuit, AigerErr>, gate: And) -> bool {
     match found {

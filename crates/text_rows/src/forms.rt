@@ -3,7 +3,7 @@ use aiger_file::read;
 use byte_scan::AigerErr;
 use std::test::*;
 
-const FORMS: [(&[u8], Option<AigerErr>); 9] = [
+static FORMS: [(&[u8], Option<AigerErr>); 9] = [
     (b"aag 3 2 0 1 1\n2\n4\n6\n6 2 4\n", None),
     (b"aig 3 2 0 1 1\n6\n\x02\x02", None),
     (b"", Some(AigerErr::BadHeader)),

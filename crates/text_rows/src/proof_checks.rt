@@ -4,7 +4,6 @@ use lits::{Dim, Listed};
 use lrat_checker::{Verdict, check};
 use lrat_text::{Line, LratStep};
 use std::alloc::{AllocError, Global};
-use std::process::Abort;
 use std::test::*;
 use unit_prop::{BadStep, Why};
 
@@ -47,118 +46,97 @@ fn verdict(alloc: Global, formula: &[u8], proof: &str) -> Option<Verdict> {
     check(alloc, &cnf, lines.as_slice()).ok()
 }
 
-/// A proof text in three parts, and what the checker should say.
-type Row = ([&'static str; 3], Want);
+/// A formula, a proof text, and what the checker should say.
+type Row = (&'static [u8], &'static str, Want);
 
-/// What it says of the text that the parts make.
-fn verdict_on(alloc: Global, formula: &[u8], parts: &[&str; 3]) -> Option<Verdict> {
-    let [first, second, rest] = parts;
-    let text = format!(in alloc; "{first}{second}{rest}").ok()?;
-    verdict(alloc, formula, text.as_str())
-}
-
-fn check_rows(rt: &impl Abort, alloc: Global, formula: &[u8], rows: &[Row]) {
-    for (parts, want) in rows {
-        let found = verdict_on(alloc, formula, parts);
-        assert!(rt; found == Some(verdict_of(want)), "{parts:?}");
-    }
-}
-
-static LRAT_CHECK: [Row; 1] = [(["3 0 2 0\n", "", ""], Refuted)];
-
-#[test]
-fn lrat_check(rt: HostRuntime) {
-    check_rows(&rt, rt.alloc(), WITH_EMPTY, &LRAT_CHECK);
-}
-
-const FIRST: &str = "13 -4 5 0 2 3 7 0\n";
-
-const OTHERS: &str = "14 4 -5 0 5 6 4 0\n15 -6 4 0 8 14 0\n16 -6 0 15 13 9 0\n17 0 16 12 0\n";
-
-static HAND_WRITTEN: [Row; 4] = [
-    ([FIRST, "", OTHERS], Refuted),
-    // A hint that is doubled.
+static CHECKS: [Row; 26] = [
+    (WITH_EMPTY, "3 0 2 0\n", Refuted),
+    // Proofs that were written by hand: whole, with a hint that is doubled, cut, and with a deletion.
     (
-        ["13 -4 5 0 2 2 3 7 0\n", "", OTHERS],
-        Bad(1, 2, Why::Satisfied),
-    ),
-    ([FIRST, "", ""], NoEmpty),
-    ([FIRST, "13 d 99 0\n", OTHERS], Refuted),
-];
-
-#[test]
-fn hand_written_proofs(rt: HostRuntime) {
-    check_rows(&rt, rt.alloc(), SWAPPED_AND, &HAND_WRITTEN);
-}
-
-const KEPT: &str = "13 -5 4 0 5 4 6 0\n";
-
-const DELETING: &str =
-    "14 5 -4 0 2 3 7 0\n15 -6 4 0 8 13 0\n15 d 13 0\n16 -6 0 15 14 9 0\n16 d 14 15 0\n17 0 16 12 0\n";
-
-static DELETED: [Row; 3] = [
-    ([KEPT, "", DELETING], Refuted),
-    ([KEPT, "13 d 13 0\n", DELETING], Bad(4, 2, Why::NoClause)),
-    // A clause of the formula.
-    ([KEPT, "13 d 11 7 0\n", DELETING], Bad(3, 3, Why::NoClause)),
-];
-
-#[test]
-fn deleted_clauses(rt: HostRuntime) {
-    check_rows(&rt, rt.alloc(), SWAPPED_AND, &DELETED);
-}
-
-static AFTER_EMPTY: [Row; 6] = [
-    // The empty clause of the formula isn't one that a line adds.
-    (["", "", ""], NoEmpty),
-    (["3 1 0 1 0\n", "", ""], NoEmpty),
-    (["3 0 2 0\n", "4 1 0 1 0\n", ""], Refuted),
-    (["3 0 2 0\n", "3 d 3 2 0\n", "4 1 0 1 0\n"], Refuted),
-    (["3 0 2 0\n", "4 1 0 9 0\n", ""], Bad(2, 1, Why::NoClause)),
-    (["3 0 2 0\n", "4 2 0 1 0\n", ""], Bad(2, 0, Why::NotFalse)),
-];
-
-#[test]
-fn lines_after_the_empty_clause(rt: HostRuntime) {
-    check_rows(&rt, rt.alloc(), WITH_EMPTY, &AFTER_EMPTY);
-}
-
-static FIRST_BAD: [Row; 12] = [
-    (["5 2 0 1 2 0\n", "6 0 5 3 4 0\n", ""], Refuted),
-    // Ids may have gaps, and a repeated literal counts once.
-    (
-        [
-            "1000 2 2 0 1 2 0\n",
-            "999999999999999999 0 1000 3 4 0\n",
-            "",
-        ],
+        SWAPPED_AND,
+        "13 -4 5 0 2 3 7 0\n\
+        14 4 -5 0 5 6 4 0\n15 -6 4 0 8 14 0\n16 -6 0 15 13 9 0\n17 0 16 12 0\n",
         Refuted,
     ),
     (
-        ["1000 2 0 1 2 0\n", "1000 d 1000 0\n", "1001 0 1000 3 4 0\n"],
+        SWAPPED_AND,
+        "13 -4 5 0 2 2 3 7 0\n\
+        14 4 -5 0 5 6 4 0\n15 -6 4 0 8 14 0\n16 -6 0 15 13 9 0\n17 0 16 12 0\n",
+        Bad(1, 2, Why::Satisfied),
+    ),
+    (SWAPPED_AND, "13 -4 5 0 2 3 7 0\n", NoEmpty),
+    (
+        SWAPPED_AND,
+        "13 -4 5 0 2 3 7 0\n13 d 99 0\n\
+        14 4 -5 0 5 6 4 0\n15 -6 4 0 8 14 0\n16 -6 0 15 13 9 0\n17 0 16 12 0\n",
+        Refuted,
+    ),
+    // Clauses that are deleted: once they have served, a lemma before that, and a clause of the formula.
+    (
+        SWAPPED_AND,
+        "13 -5 4 0 5 4 6 0\n\
+        14 5 -4 0 2 3 7 0\n15 -6 4 0 8 13 0\n15 d 13 0\n16 -6 0 15 14 9 0\n16 d 14 15 0\n17 0 16 12 0\n",
+        Refuted,
+    ),
+    (
+        SWAPPED_AND,
+        "13 -5 4 0 5 4 6 0\n13 d 13 0\n\
+        14 5 -4 0 2 3 7 0\n15 -6 4 0 8 13 0\n15 d 13 0\n16 -6 0 15 14 9 0\n16 d 14 15 0\n17 0 16 12 0\n",
+        Bad(4, 2, Why::NoClause),
+    ),
+    (
+        SWAPPED_AND,
+        "13 -5 4 0 5 4 6 0\n13 d 11 7 0\n\
+        14 5 -4 0 2 3 7 0\n15 -6 4 0 8 13 0\n15 d 13 0\n16 -6 0 15 14 9 0\n16 d 14 15 0\n17 0 16 12 0\n",
+        Bad(3, 3, Why::NoClause),
+    ),
+    // The empty clause of the formula isn't one that a line adds.
+    (WITH_EMPTY, "", NoEmpty),
+    (WITH_EMPTY, "3 1 0 1 0\n", NoEmpty),
+    // Lines after the empty clause.
+    (WITH_EMPTY, "3 0 2 0\n4 1 0 1 0\n", Refuted),
+    (WITH_EMPTY, "3 0 2 0\n3 d 3 2 0\n4 1 0 1 0\n", Refuted),
+    (WITH_EMPTY, "3 0 2 0\n4 1 0 9 0\n", Bad(2, 1, Why::NoClause)),
+    (WITH_EMPTY, "3 0 2 0\n4 2 0 1 0\n", Bad(2, 0, Why::NotFalse)),
+    (ALL_PAIRS, "5 2 0 1 2 0\n6 0 5 3 4 0\n", Refuted),
+    // Ids may have gaps, and a repeated literal counts once.
+    (
+        ALL_PAIRS,
+        "1000 2 2 0 1 2 0\n999999999999999999 0 1000 3 4 0\n",
+        Refuted,
+    ),
+    // First bad lines.
+    (
+        ALL_PAIRS,
+        "1000 2 0 1 2 0\n1000 d 1000 0\n1001 0 1000 3 4 0\n",
         Bad(3, 1, Why::NoClause),
     ),
-    (["5 2 -2 0 1 2 0\n", "", ""], Bad(1, 0, Why::Tautology)),
-    (["5 2 0 0\n", "", ""], Bad(1, 0, Why::NotFalse)),
+    (ALL_PAIRS, "5 2 -2 0 1 2 0\n", Bad(1, 0, Why::Tautology)),
+    (ALL_PAIRS, "5 2 0 0\n", Bad(1, 0, Why::NotFalse)),
     (
-        ["\n5 2 0 1 2 0\n", " \n", "6 0 5 3 0\n"],
+        ALL_PAIRS,
+        "\n5 2 0 1 2 0\n \n6 0 5 3 0\n",
         Bad(4, 0, Why::NotFalse),
     ),
-    (["5 0 1 0\n", "", ""], Bad(1, 1, Why::TwoFree)),
-    (["5 2 0 1 1 0\n", "", ""], Bad(1, 2, Why::Satisfied)),
-    (["5 2 0 1 2 3 0\n", "", ""], Bad(1, 3, Why::AfterFalse)),
-    (["5 2 0 1 2 9 0\n", "", ""], Bad(1, 3, Why::NoClause)),
-    (["5 2 0 5 0\n", "", ""], Bad(1, 1, Why::NoClause)),
+    (ALL_PAIRS, "5 0 1 0\n", Bad(1, 1, Why::TwoFree)),
+    (ALL_PAIRS, "5 2 0 1 1 0\n", Bad(1, 2, Why::Satisfied)),
+    (ALL_PAIRS, "5 2 0 1 2 3 0\n", Bad(1, 3, Why::AfterFalse)),
+    (ALL_PAIRS, "5 2 0 1 2 9 0\n", Bad(1, 3, Why::NoClause)),
+    (ALL_PAIRS, "5 2 0 5 0\n", Bad(1, 1, Why::NoClause)),
     // The first of two bad lines is told.
     (
-        ["5 2 0 1 2 0\n", "6 0 9 0\n", "7 0 1 0\n"],
+        ALL_PAIRS,
+        "5 2 0 1 2 0\n6 0 9 0\n7 0 1 0\n",
         Bad(2, 1, Why::NoClause),
     ),
 ];
 
 #[test]
-fn first_bad_lines(rt: HostRuntime) {
-    check_rows(&rt, rt.alloc(), ALL_PAIRS, &FIRST_BAD);
+fn lrat_check(rt: HostRuntime) {
+    for (formula, proof, want) in &CHECKS {
+        let found = verdict(rt.alloc(), formula, proof);
+        assert!(rt; found == Some(verdict_of(want)), "{proof}");
+    }
 }
 
 /// The clause of the literals from 1 to 1000000.
@@ -170,24 +148,18 @@ fn wide(alloc: Global) -> Result<Listed<Dim>, AllocError> {
     Ok(Listed::of(dims))
 }
 
-fn wide_formula(alloc: Global) -> Result<Cnf, AllocError> {
-    Ok(Cnf {
-        variables: 1_000_000,
-        clauses: Listed::of(vec![in alloc; wide(alloc)?]?),
-    })
-}
-
-fn wide_lines(alloc: Global) -> Result<Vec<Line>, AllocError> {
+/// What the checker says of a line that adds this clause to a formula that has it.
+fn wide_verdict(alloc: Global) -> Result<Verdict, AllocError> {
     let step = LratStep::Add {
         id: 9,
         clause: wide(alloc)?,
         hints: Listed::of(vec![in alloc; 1]?),
     };
-    Ok(vec![in alloc; Line { at: 1, step }]?)
-}
-
-fn wide_verdict(alloc: Global) -> Result<Verdict, AllocError> {
-    check(alloc, &wide_formula(alloc)?, wide_lines(alloc)?.as_slice())
+    let cnf = Cnf {
+        variables: 1_000_000,
+        clauses: Listed::of(vec![in alloc; wide(alloc)?]?),
+    };
+    check(alloc, &cnf, &[Line { at: 1, step }])
 }
 
 // Each of them is looked up at once: the clause that is added is the formula's own.

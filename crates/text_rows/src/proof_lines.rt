@@ -13,27 +13,15 @@ fn addition(alloc: Global, id: u64, clause: &[Dim], hints: &[u64]) -> Result<Lra
     })
 }
 
-fn deletion(alloc: Global, ids: &[u64]) -> Result<LratStep, AllocError> {
-    Ok(LratStep::Del {
-        ids: Listed::of(Vec::from_slice(alloc, ids)?),
-    })
-}
-
-/// The id of the last addition behind a step.
-fn id_behind(last: u64, step: &LratStep) -> u64 {
-    match step {
-        LratStep::Add { id, .. } => *id,
-        LratStep::Del { .. } => last,
-    }
-}
-
 /// The steps written again, each with the last addition's id before it.
 fn written(alloc: Global, lines: &[Line]) -> Result<Vec<u8>, AllocError> {
     let mut text = Vec::new(alloc);
     let mut last = 0;
     for line in lines {
         push_line(&mut text, last, &line.step)?;
-        last = id_behind(last, &line.step);
+        if let LratStep::Add { id, .. } = &line.step {
+            last = *id;
+        }
     }
     Ok(text)
 }
@@ -71,14 +59,6 @@ fn check_read(rt: &impl Abort, alloc: Global, clauses: u64, text: &[u8], again: 
     assert!(rt; is_read, "at {text:?}");
 }
 
-/// Reads a text for a formula of so many clauses, and compares its fault.
-fn check_fault(rt: &impl Abort, alloc: Global, clauses: u64, text: &[u8], fault: LratErr) {
-    assert!(rt;
-        read(alloc, text, clauses).err() == Some(fault),
-        "at {text:?}"
-    );
-}
-
 #[test]
 fn lrat_line(rt: HostRuntime) -> Result<(), Fail> {
     let line = b"3 0 2 0\n";
@@ -86,7 +66,8 @@ fn lrat_line(rt: HostRuntime) -> Result<(), Fail> {
     let is_written = are_written(rt.alloc(), &[Line { at: 1, step }], line);
     check(&rt, "written", is_written);
     check_read(&rt, rt.alloc(), 2, line, line, &[1]);
-    check_fault(&rt, rt.alloc(), 3, line, LratErr::Order(1));
+    let fault = read(rt.alloc(), line, 3).err();
+    check(&rt, "of three clauses", fault == Some(LratErr::Order(1)));
     Ok(())
 }
 
@@ -95,7 +76,8 @@ fn push_steps(text: &mut Vec<u8>, alloc: Global) -> Result<(), AllocError> {
     let clause = [Dim::new(2_147_483_647, true), Dim::new(1, false)];
     let id = 999_999_999_999_999_999;
     push_line(text, 5, &addition(alloc, id, &clause, &[7, 12])?)?;
-    push_line(text, 13, &deletion(alloc, &[3, 99])?)
+    let ids = Listed::of(Vec::from_slice(alloc, &[3, 99])?);
+    push_line(text, 13, &LratStep::Del { ids })
 }
 
 #[test]
@@ -108,7 +90,7 @@ fn written_steps(rt: HostRuntime) -> Result<(), Fail> {
 }
 
 /// A text, the text that its steps are written by, and the numbers of its lines.
-const READ_TEXTS: [(&[u8], &[u8], &[u64]); 4] = [
+static READ_TEXTS: [(&[u8], &[u8], &[u64]); 4] = [
     (
         b"13 -4 5 0 2 3 7 0\n13 d 99 0\n14 4 -5 0 5 6 4 0\n17 0 16 12 0\n",
         b"13 -4 5 0 2 3 7 0\n13 d 99 0\n14 4 -5 0 5 6 4 0\n17 0 16 12 0\n",
@@ -129,21 +111,9 @@ const READ_TEXTS: [(&[u8], &[u8], &[u64]); 4] = [
     ),
 ];
 
-#[test]
-fn read_texts(rt: HostRuntime) {
-    for (text, again, at) in &READ_TEXTS {
-        check_read(&rt, rt.alloc(), 12, text, again, at);
-    }
-}
-
-/// Reads each text, for a formula of 12 clauses, and compares its fault.
-fn check_faults(rt: &impl Abort, alloc: Global, rows: &[(&[u8], LratErr)]) {
-    for (text, fault) in rows {
-        check_fault(rt, alloc, 12, text, *fault);
-    }
-}
-
-const NO_NUMBERS: [(&[u8], LratErr); 11] = [
+/// A text, and its first fault.
+static FAULTS: [(&[u8], LratErr); 32] = [
+    // words that are no numbers
     (b"13 -0 0 1 0\n", LratErr::BadNumber(1)),
     (b"13 1 0 1 0\n\nx 0 1 0\n", LratErr::BadNumber(3)),
     (b"13 1 0 1 0\r\n", LratErr::BadNumber(1)),
@@ -155,14 +125,7 @@ const NO_NUMBERS: [(&[u8], LratErr); 11] = [
     (b"13 1 d 0\n", LratErr::BadNumber(1)),
     (b"x d 1 0\n", LratErr::BadNumber(1)),
     (b"-00 d 1 0\n", LratErr::BadNumber(1)),
-];
-
-#[test]
-fn words_that_are_no_numbers(rt: HostRuntime) {
-    check_faults(&rt, rt.alloc(), &NO_NUMBERS);
-}
-
-const OUT_OF_PLACE: [(&[u8], LratErr); 11] = [
+    // numbers out of place
     (b"0 1 0 1 0\n", LratErr::BadNumber(1)),
     (b"-13 1 0 1 0\n", LratErr::BadNumber(1)),
     (b"1000000000000000000 1 0 1 0\n", LratErr::BadNumber(1)),
@@ -174,14 +137,7 @@ const OUT_OF_PLACE: [(&[u8], LratErr); 11] = [
     (b"13 d -1 0\n", LratErr::BadNumber(1)),
     (b"13 d 1000000000000000000 0\n", LratErr::BadNumber(1)),
     (b"13 d 1 0 2\n", LratErr::BadNumber(1)),
-];
-
-#[test]
-fn numbers_out_of_place(rt: HostRuntime) {
-    check_faults(&rt, rt.alloc(), &OUT_OF_PLACE);
-}
-
-const WHOLE_LINES: [(&[u8], LratErr); 10] = [
+    // whole lines
     // A missing 0 is judged before the id and the hints.
     (b"13\n", LratErr::Truncated(1)),
     (b"12 1\n", LratErr::Truncated(1)),
@@ -195,7 +151,14 @@ const WHOLE_LINES: [(&[u8], LratErr); 10] = [
     (b"13 1 0 1 0\n14 2 0 1 -1 0\n", LratErr::Rat(2)),
 ];
 
+/// Each for a formula of 12 clauses.
 #[test]
-fn faults_of_whole_lines(rt: HostRuntime) {
-    check_faults(&rt, rt.alloc(), &WHOLE_LINES);
+fn read_texts(rt: HostRuntime) {
+    for (text, again, at) in &READ_TEXTS {
+        check_read(&rt, rt.alloc(), 12, text, again, at);
+    }
+    for (text, fault) in &FAULTS {
+        let found = read(rt.alloc(), text, 12).err();
+        assert!(rt; found == Some(*fault), "at {text:?}");
+    }
 }

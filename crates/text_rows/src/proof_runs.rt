@@ -12,15 +12,17 @@ const CNF: &str =
     "p cnf 6 12\n1 0\n-4 2 0\n-4 3 0\n4 -2 -3 0\n-5 3 0\n-5 2 0\n5 -3 -2 0\n-6 4 5 0\n\
     -6 -4 -5 0\n6 -4 5 0\n6 4 -5 0\n6 0\n";
 
+/// The proof that its outputs are equal, and its first line.
+const PROOF: &str = "13 -4 5 0 2 3 7 0\n\
+        14 4 -5 0 5 6 4 0\n15 -6 4 0 8 14 0\n16 -6 0 15 13 9 0\n17 0 16 12 0\n";
+
 const FIRST: &str = "13 -4 5 0 2 3 7 0\n";
 
-const OTHERS: &str = "14 4 -5 0 5 6 4 0\n15 -6 4 0 8 14 0\n16 -6 0 15 13 9 0\n17 0 16 12 0\n";
-
-/// A case: the files, whose text stands in two parts, and the calls of the desk that fail; the status that
+/// A case: the files, and the calls of the desk that fail; the status that
 /// the command should answer, what it should say and warn, and the names of the files that it should read.
 #[derive(Clone, Copy)]
 struct Row {
-    files: &'static [(&'static str, [&'static str; 2])],
+    files: &'static [(&'static str, &'static str)],
     fails: &'static [u64],
     status: Status,
     said: &'static str,
@@ -30,7 +32,7 @@ struct Row {
 
 /// The CNF and its proof.
 const VERIFIED: Row = Row {
-    files: &[("C", [CNF, ""]), ("P", [FIRST, OTHERS])],
+    files: &[("C", CNF), ("P", PROOF)],
     fails: &[],
     status: Status::Done,
     said: "VERIFIED\n",
@@ -74,137 +76,118 @@ fn check_row(rt: &impl Abort, alloc: Global, row: &Row) {
     assert!(rt; is_met, "{}{}", row.said, row.warned);
 }
 
-fn check_rows(rt: &impl Abort, alloc: Global, rows: &[Row]) {
-    for row in rows {
-        check_row(rt, alloc, row);
-    }
-}
-
-static HAND_WRITTEN: [Row; 5] = [
+static RUNS: [Row; 26] = [
+    // the worked proofs
     VERIFIED,
     Row {
-        files: &[("C", [CNF, ""]), ("P", ["13 -4 5 0 2 2 3 7 0\n", OTHERS])],
+        files: &[
+            ("C", CNF),
+            (
+                "P",
+                "13 -4 5 0 2 2 3 7 0\n\
+            14 4 -5 0 5 6 4 0\n15 -6 4 0 8 14 0\n16 -6 0 15 13 9 0\n17 0 16 12 0\n",
+            ),
+        ],
         said: "REFUSED line 1\n",
         ..NOT_VERIFIED
     },
     Row {
-        files: &[("C", [CNF, ""]), ("P", ["13 -4 5 0 -2 3 7 0\n", OTHERS])],
+        files: &[
+            ("C", CNF),
+            (
+                "P",
+                "13 -4 5 0 -2 3 7 0\n\
+            14 4 -5 0 5 6 4 0\n15 -6 4 0 8 14 0\n16 -6 0 15 13 9 0\n17 0 16 12 0\n",
+            ),
+        ],
         warned: "cec: P: line 1: negative hint\n",
         ..BAD_PROOF
     },
     Row {
-        files: &[("C", [CNF, ""]), ("P", [FIRST, ""])],
+        files: &[("C", CNF), ("P", FIRST)],
         said: "REFUSED no empty clause\n",
         ..NOT_VERIFIED
     },
     Row {
         files: &[
-            ("C", [CNF, ""]),
-            ("P", ["13 -4 5 0 2 3 7 0\n13 d 99 0\n", OTHERS]),
+            ("C", CNF),
+            (
+                "P",
+                "13 -4 5 0 2 3 7 0\n13 d 99 0\n\
+            14 4 -5 0 5 6 4 0\n15 -6 4 0 8 14 0\n16 -6 0 15 13 9 0\n17 0 16 12 0\n",
+            ),
         ],
         ..VERIFIED
     },
-];
-
-#[test]
-fn hand_written_proofs(rt: HostRuntime) {
-    check_rows(&rt, rt.alloc(), &HAND_WRITTEN);
-}
-
-/// A line without words has a number too.
-static REFUSED: [Row; 3] = [
+    // a line without words has a number too
     Row {
-        files: &[
-            ("C", [CNF, ""]),
-            ("P", ["13 -4 5 0 2 3 7 0\n\n14 4 -5 0 5 6 0\n", ""]),
-        ],
+        files: &[("C", CNF), ("P", "13 -4 5 0 2 3 7 0\n\n14 4 -5 0 5 6 0\n")],
         said: "REFUSED line 3\n",
         ..NOT_VERIFIED
     },
     Row {
-        files: &[("C", [CNF, ""]), ("P", ["13 1 0 14 0\n", ""])],
+        files: &[("C", CNF), ("P", "13 1 0 14 0\n")],
         said: "REFUSED line 1\n",
         ..NOT_VERIFIED
     },
     Row {
-        files: &[("C", [CNF, ""]), ("P", ["", ""])],
+        files: &[("C", CNF), ("P", "")],
         said: "REFUSED no empty clause\n",
         ..NOT_VERIFIED
     },
-];
-
-#[test]
-fn numbers_of_refused_lines(rt: HostRuntime) {
-    check_rows(&rt, rt.alloc(), &REFUSED);
-}
-
-static FAULTY_FORMULAS: [Row; 6] = [
+    // faults of the formula
     Row {
-        files: &[("C", ["", ""])],
+        files: &[("C", "")],
         warned: "cec: C: bad header\n",
         ..BAD_CNF
     },
     Row {
-        files: &[("C", ["p dnf 1 1\n1 0\n", ""])],
+        files: &[("C", "p dnf 1 1\n1 0\n")],
         warned: "cec: C: bad header\n",
         ..BAD_CNF
     },
     Row {
-        files: &[("C", ["p cnf 1 1\nx 0\n", ""])],
+        files: &[("C", "p cnf 1 1\nx 0\n")],
         warned: "cec: C: bad number at byte 10\n",
         ..BAD_CNF
     },
     Row {
-        files: &[("C", ["p cnf 1 1\n2 0\n", ""])],
+        files: &[("C", "p cnf 1 1\n2 0\n")],
         warned: "cec: C: variable of 2 is too large\n",
         ..BAD_CNF
     },
     Row {
-        files: &[("C", ["p cnf 1 2\n1 0\n", ""])],
+        files: &[("C", "p cnf 1 2\n1 0\n")],
         warned: "cec: C: 2 clauses announced, 1 found\n",
         ..BAD_CNF
     },
     Row {
-        files: &[("C", ["p cnf 1 1\n1", ""])],
+        files: &[("C", "p cnf 1 1\n1")],
         warned: "cec: C: ends too early at byte 11\n",
         ..BAD_CNF
     },
-];
-
-#[test]
-fn faulty_formulas(rt: HostRuntime) {
-    check_rows(&rt, rt.alloc(), &FAULTY_FORMULAS);
-}
-
-static FAULTY_PROOFS: [Row; 4] = [
+    // faults of the proof
     Row {
-        files: &[("C", [CNF, ""]), ("P", ["13 x 0 0\n", ""])],
+        files: &[("C", CNF), ("P", "13 x 0 0\n")],
         warned: "cec: P: line 1: bad number\n",
         ..BAD_PROOF
     },
     Row {
-        files: &[("C", [CNF, ""]), ("P", ["\n13 -4 5 0 2 3 7\n", ""])],
+        files: &[("C", CNF), ("P", "\n13 -4 5 0 2 3 7\n")],
         warned: "cec: P: line 2: ends too early\n",
         ..BAD_PROOF
     },
     Row {
-        files: &[("C", [CNF, ""]), ("P", ["12 -4 5 0 2 3 7 0\n", ""])],
+        files: &[("C", CNF), ("P", "12 -4 5 0 2 3 7 0\n")],
         warned: "cec: P: line 1: id out of order\n",
         ..BAD_PROOF
     },
     Row {
-        files: &[("C", [CNF, ""]), ("P", ["13 -4 5 0 2 3 -7 0\n", ""])],
+        files: &[("C", CNF), ("P", "13 -4 5 0 2 3 -7 0\n")],
         warned: "cec: P: line 1: negative hint\n",
         ..BAD_PROOF
     },
-];
-
-#[test]
-fn faulty_proofs(rt: HostRuntime) {
-    check_rows(&rt, rt.alloc(), &FAULTY_PROOFS);
-}
-
-static MISSING: [Row; 3] = [
+    // files that are missing
     Row {
         files: &[],
         status: Status::CannotRead,
@@ -212,26 +195,18 @@ static MISSING: [Row; 3] = [
         ..BAD_CNF
     },
     Row {
-        files: &[("P", [FIRST, ""])],
+        files: &[("P", FIRST)],
         status: Status::CannotRead,
         warned: "cec: C: cannot read\n",
         ..BAD_CNF
     },
     Row {
-        files: &[("C", [CNF, ""])],
+        files: &[("C", CNF)],
         status: Status::CannotRead,
         warned: "cec: P: cannot read\n",
         ..BAD_PROOF
     },
-];
-
-#[test]
-fn missing_files(rt: HostRuntime) {
-    check_rows(&rt, rt.alloc(), &MISSING);
-}
-
-/// The calls are two reads, and what is said or warned.
-static FAILING: [Row; 5] = [
+    // calls that fail: two reads, and what is said or warned
     Row {
         fails: &[0],
         status: Status::CannotRead,
@@ -256,13 +231,16 @@ static FAILING: [Row; 5] = [
         ..BAD_PROOF
     },
     Row {
-        files: &[("C", ["p", ""]), ("P", [FIRST, OTHERS])],
+        files: &[("C", "p"), ("P", PROOF)],
         fails: &[1],
         ..BAD_CNF
     },
 ];
 
+/// The worked proofs, and what else the command meets.
 #[test]
-fn failing_calls(rt: HostRuntime) {
-    check_rows(&rt, rt.alloc(), &FAILING);
+fn hand_written_proofs(rt: HostRuntime) {
+    for row in &RUNS {
+        check_row(&rt, rt.alloc(), row);
+    }
 }

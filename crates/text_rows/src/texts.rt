@@ -8,12 +8,14 @@ use std::fmt::Display;
 use std::process::Abort;
 use std::test::*;
 
-/// Compares the text of a fault.
-fn check_text<E: Display>(rt: &impl Abort, alloc: Global, fault: &E, text: &str) {
-    check(rt, text, is_text(fault.to_string(alloc), text));
+/// Compares the texts of faults.
+fn check_texts<E: Display>(rt: &impl Abort, alloc: Global, rows: &[(E, &str)]) {
+    for (fault, text) in rows {
+        check(rt, text, is_text(fault.to_string(alloc), text));
+    }
 }
 
-const CIRCUITS: [(AigerErr, &str); 13] = [
+static CIRCUITS: [(AigerErr, &str); 13] = [
     (AigerErr::BadHeader, "bad header"),
     (AigerErr::TooLarge(16777217), "16777217 is above 16777216"),
     (AigerErr::HasLatches(1), "1 latches"),
@@ -29,14 +31,7 @@ const CIRCUITS: [(AigerErr, &str); 13] = [
     (AigerErr::NoMemory, "out of memory"),
 ];
 
-#[test]
-fn of_circuits(rt: HostRuntime) {
-    for (fault, text) in &CIRCUITS {
-        check_text(&rt, rt.alloc(), fault, text);
-    }
-}
-
-const FORMULAS: [(CnfErr, &str); 6] = [
+static FORMULAS: [(CnfErr, &str); 6] = [
     (CnfErr::BadHeader, "bad header"),
     (CnfErr::BadNumber(10), "bad number at byte 10"),
     (CnfErr::Var(7), "variable of 7 is too large"),
@@ -45,14 +40,7 @@ const FORMULAS: [(CnfErr, &str); 6] = [
     (CnfErr::NoMemory, "out of memory"),
 ];
 
-#[test]
-fn of_formulas(rt: HostRuntime) {
-    for (fault, text) in &FORMULAS {
-        check_text(&rt, rt.alloc(), fault, text);
-    }
-}
-
-const PROOFS: [(LratErr, &str); 5] = [
+static PROOFS: [(LratErr, &str); 5] = [
     (LratErr::BadNumber(1), "line 1: bad number"),
     (LratErr::Truncated(20), "line 20: ends too early"),
     (LratErr::Order(3), "line 3: id out of order"),
@@ -61,8 +49,8 @@ const PROOFS: [(LratErr, &str); 5] = [
 ];
 
 #[test]
-fn of_proofs(rt: HostRuntime) {
-    for (fault, text) in &PROOFS {
-        check_text(&rt, rt.alloc(), fault, text);
-    }
+fn of_faults(rt: HostRuntime) {
+    check_texts(&rt, rt.alloc(), &CIRCUITS);
+    check_texts(&rt, rt.alloc(), &FORMULAS);
+    check_texts(&rt, rt.alloc(), &PROOFS);
 }

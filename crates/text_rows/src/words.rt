@@ -1,9 +1,7 @@
 use crate::checks::{check, is_text};
 use command_line::{Asked, CheckWords, Refusal, read};
 use std::alloc::{AllocError, Global};
-use std::process::Abort;
 use std::test::*;
-use workload_gen::Kind;
 
 const PROGRAM_HELP: &str = "help: \
 Decide whether circuits compute the same, and leave a proof that others can check
@@ -113,8 +111,8 @@ For more information, try '--help'.
 
 const NO_HELP: &str = "usage: cec: no command help\n";
 
-/// Words, and the text that they are told.
-const HELP_AND_USAGE: [(&str, &str); 10] = [
+/// Words, and what they are told.
+static TOLD: [(&str, &str); 30] = [
     ("cec --help", PROGRAM_HELP),
     ("cec -h", PROGRAM_HELP),
     ("cec check --help", CHECK_HELP),
@@ -125,10 +123,6 @@ const HELP_AND_USAGE: [(&str, &str); 10] = [
     ("cec self help 1", NO_KIND),
     ("cec help", NO_HELP),
     ("cec help check", NO_HELP),
-];
-
-/// Words, and what they are told.
-const TAKEN: [(&str, &str); 20] = [
     (
         "cec check x y",
         "x and y, to nowhere, by 1, 4, 100 and 100000",
@@ -194,13 +188,13 @@ const TAKEN: [(&str, &str); 20] = [
         "x and y, to p, by 1, 6, 5 and 100000",
     ),
     ("cec lrat f p", "p of f"),
-    ("cec self adder 1", "an adder of 1"),
-    ("cec self parity 4096", "a parity of 4096"),
-    ("cec self comparator +08", "a comparator of 8"),
+    ("cec self adder 1", "Adder of 1"),
+    ("cec self parity 4096", "Parity of 4096"),
+    ("cec self comparator +08", "Comparator of 8"),
 ];
 
 /// Words, and how the text of their refusal begins.
-const REFUSED: [(&str, &str); 21] = [
+static REFUSED: [(&str, &str); 21] = [
     (
         "cec check x y --budget 0",
         "invalid value '0' for '--budget <N>': 0 is not in 1..=1000000000\n",
@@ -297,20 +291,12 @@ fn told_check(alloc: Global, check: &CheckWords<'_>) -> Result<String, AllocErro
     )
 }
 
-fn name_of(kind: Kind) -> &'static str {
-    match kind {
-        Kind::Adder => "an adder",
-        Kind::Parity => "a parity",
-        Kind::Comparator => "a comparator",
-    }
-}
-
 /// What `read` answered: the request, or the text of the refusal with its kind before it.
 fn told(alloc: Global, answer: &Result<Asked<'_>, Refusal>) -> Result<String, AllocError> {
     match answer {
         Ok(Asked::Check(check)) => told_check(alloc, check),
         Ok(Asked::Lrat(lrat)) => format!(in alloc; "{} of {}", lrat.proof, lrat.cnf),
-        Ok(Asked::SelfCheck(own)) => format!(in alloc; "{} of {}", name_of(own.kind), own.n),
+        Ok(Asked::SelfCheck(own)) => format!(in alloc; "{:?} of {}", own.kind, own.n),
         Err(Refusal::Help(text)) => format!(in alloc; "help: {text}"),
         Err(Refusal::Usage(text)) => format!(in alloc; "usage: {text}"),
         Err(Refusal::NoMemory) => Err(AllocError),
@@ -320,22 +306,6 @@ fn told(alloc: Global, answer: &Result<Asked<'_>, Refusal>) -> Result<String, Al
 /// What the words of a line are told.
 fn answer(alloc: Global, line: &str) -> Result<String, AllocError> {
     told(alloc, &read(alloc, words_of(alloc, line)?.as_slice()))
-}
-
-fn check_told(rt: &impl Abort, alloc: Global, rows: &[(&str, &str)]) {
-    for (line, expected) in rows {
-        check(rt, line, is_text(answer(alloc, line), expected));
-    }
-}
-
-#[test]
-fn help_and_usage_texts(rt: HostRuntime) {
-    check_told(&rt, rt.alloc(), &HELP_AND_USAGE);
-}
-
-#[test]
-fn taken_words(rt: HostRuntime) {
-    check_told(&rt, rt.alloc(), &TAKEN);
 }
 
 /// Whether the answer is a refusal whose text begins so.
@@ -350,7 +320,10 @@ fn is_refused(told: Result<String, AllocError>, expected: &str) -> bool {
 }
 
 #[test]
-fn refused_words(rt: HostRuntime) {
+fn words_of_commands(rt: HostRuntime) {
+    for (line, expected) in &TOLD {
+        check(&rt, line, is_text(answer(rt.alloc(), line), expected));
+    }
     for (line, expected) in &REFUSED {
         check(&rt, line, is_refused(answer(rt.alloc(), line), expected));
     }
