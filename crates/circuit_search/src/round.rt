@@ -42,7 +42,7 @@ impl Engine {
         if self.trail.level() > 0 {
             return self.go_on();
         }
-        let refuted = self.assume(first, second)?;
+        let refuted = self.trail.assume(first, second)?;
         if refuted != NONE {
             return self.meet(refuted);
         }
@@ -58,7 +58,7 @@ impl Engine {
             return Ok(Some(Outcome::Open));
         }
         self.left.decisions -= 1;
-        self.decide(code)?;
+        self.trail.decide(code)?;
         Ok(None)
     }
 
