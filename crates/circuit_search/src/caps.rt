@@ -1,5 +1,5 @@
 /// How far a search goes before it gives up.
-#[derive(Clone, Copy, Debug, PartialEq, Eq)]
+#[derive(Clone, Copy)]
 pub struct Caps {
     /// How many clauses it may learn.
     pub conflicts: u64,
