@@ -1,4 +1,4 @@
-use crate::table::{at, count, has, mark, part, put};
+use crate::table::{at, count, has, mark, part};
 use std::alloc::{AllocError, Global};
 
 /// Where hints stand.
@@ -8,14 +8,20 @@ pub(crate) struct Hints {
     pub(crate) len: u32,
 }
 
+/// A clause that was learned.
+#[derive(Clone, Copy)]
+struct Lesson {
+    clause: u32,
+    hints: Hints,
+    /// Its number among those that the entry needs, and 1; 0 where it doesn't need it.
+    number: u32,
+}
+
 /// What a query learned: clauses, each with the clauses that show it by unit propagation, in order; and the
 /// tools to find these.
 #[derive(Drop)]
 pub(crate) struct Lessons {
-    /// The numbers of the lessons' clauses.
-    clauses: Vec<u32>,
-    /// The hints of each lesson.
-    spans: Vec<Hints>,
+    lessons: Vec<Lesson>,
     hints: Vec<u32>,
     /// Which variables a conflict comes from.
     marked: Vec<bool>,
@@ -23,33 +29,27 @@ pub(crate) struct Lessons {
     pub(crate) lits: Vec<u32>,
     /// Its hints, the last one first.
     pub(crate) trace: Vec<u32>,
-    /// For each lesson its number among those that an entry needs, and 1; 0 where none needs it.
-    pub(crate) order: Vec<u32>,
 }
 
 impl Lessons {
     /// No lessons.
     pub(crate) fn new(alloc: Global) -> Lessons {
         Lessons {
-            clauses: Vec::new(alloc),
-            spans: Vec::new(alloc),
+            lessons: Vec::new(alloc),
             hints: Vec::new(alloc),
             marked: Vec::new(alloc),
             lits: Vec::new(alloc),
             trace: Vec::new(alloc),
-            order: Vec::new(alloc),
         }
     }
 
     /// Forgets all.
     pub(crate) fn clear(&mut self) {
-        self.clauses.clear();
-        self.spans.clear();
+        self.lessons.clear();
         self.hints.clear();
         self.marked.clear();
         self.lits.clear();
         self.trace.clear();
-        self.order.clear();
     }
 
     /// Makes room for one more variable.
@@ -92,25 +92,32 @@ impl Lessons {
 
     /// Notes a lesson.
     pub(crate) fn push(&mut self, clause: u32, hints: Hints) -> Result<(), AllocError> {
-        self.clauses.push(clause)?;
-        self.spans.push(hints)?;
+        let number = 0;
+        self.lessons.push(Lesson {
+            clause,
+            hints,
+            number,
+        })?;
         Ok(())
     }
 
     /// How many lessons there are.
     pub(crate) fn len(&self) -> u32 {
-        count(self.clauses.len())
+        count(self.lessons.len())
     }
 
     /// The number of a lesson's clause.
     pub(crate) fn clause(&self, lesson: u32) -> u32 {
-        at(&self.clauses, lesson)
+        match self.lessons.get(lesson as usize) {
+            Some(lesson) => lesson.clause,
+            None => 0,
+        }
     }
 
     /// Where the hints of a lesson stand.
     pub(crate) fn span(&self, lesson: u32) -> Hints {
-        match self.spans.get(lesson as usize) {
-            Some(span) => *span,
+        match self.lessons.get(lesson as usize) {
+            Some(lesson) => lesson.hints,
             None => Hints { start: 0, len: 0 },
         }
     }
@@ -120,29 +127,38 @@ impl Lessons {
         part(&self.hints, hints.start, hints.len)
     }
 
-    /// Whether an entry needs the lesson.
+    /// Whether the entry needs the lesson.
     pub(crate) fn is_reached(&self, lesson: u32) -> bool {
-        at(&self.order, lesson) > 0
+        match self.lessons.get(lesson as usize) {
+            Some(lesson) => lesson.number > 0,
+            None => false,
+        }
     }
 
-    /// Notes that an entry needs the lesson.
+    /// Notes that the entry needs the lesson.
     pub(crate) fn set_reached(&mut self, lesson: u32) {
-        put(&mut self.order, lesson, 1);
+        let lesson = lesson as usize;
+        if lesson < self.lessons.len() {
+            self.lessons[lesson].number = 1;
+        }
     }
 
-    /// Numbers the lessons that an entry needs.
+    /// Numbers the lessons that the entry needs.
     pub(crate) fn number_reached(&mut self) {
         let mut number: u32 = 0;
-        for slot in self.order.iter_mut() {
-            if *slot > 0 {
+        for lesson in self.lessons.iter_mut() {
+            if lesson.number > 0 {
                 number = number.saturating_add(1);
-                *slot = number;
+                lesson.number = number;
             }
         }
     }
 
-    /// The number of a lesson among those that an entry needs.
+    /// The number of a lesson among those that the entry needs.
     pub(crate) fn number(&self, lesson: u32) -> u32 {
-        at(&self.order, lesson).saturating_sub(1)
+        match self.lessons.get(lesson as usize) {
+            Some(lesson) => lesson.number.saturating_sub(1),
+            None => 0,
+        }
     }
 }

@@ -4,12 +4,12 @@ ghost use Rattle.circuit_search.specs.Answer.{SettlesOutput, SettlesPair};
 use crate::caps::Caps;
 use crate::engine::Engine;
 use crate::lessons::Hints;
-use crate::merges::code_of;
+use crate::merges::lit_code;
 use crate::round::Outcome;
 use crate::table::count;
 use lemma_book::{Entry, Task};
 use lits::{Listed, Lit, Literal, Node, Ref, Side, Step};
-use netlist::{Net, Placed};
+use netlist::Net;
 use std::alloc::{AllocError, Global};
 
 /// What was found out of two codes.
@@ -83,19 +83,13 @@ impl Engine {
         second: Lit,
         caps: Caps,
     ) -> Result<Found, AllocError> {
-        let positions = (net.position(first.node), net.position(second.node));
-        let (Some(first_place), Some(second_place)) = positions else {
+        let codes = (lit_code(net, first), lit_code(net, second));
+        let (Some(first), Some(second)) = codes else {
             return Ok(Found::Open);
         };
         self.begin(caps)?;
-        let first = self.code(code_of(Placed {
-            position: first_place,
-            neg: first.neg,
-        }))?;
-        let second = self.code(code_of(Placed {
-            position: second_place,
-            neg: second.neg,
-        }))?;
+        let first = self.code(first)?;
+        let second = self.code(second)?;
         if first / 2 == second / 2 {
             return Ok(Found::Open);
         }
@@ -143,8 +137,7 @@ impl Engine {
         there: Hints,
         back: Hints,
     ) -> Result<Vec<Step>, AllocError> {
-        self.reach(alloc, there, back)?;
-        let mut steps = self.steps(alloc, net)?;
+        let mut steps = self.steps(alloc, net, there, back)?;
         self.add_step(alloc, net, &[first.not(), second], &[], there, &mut steps)?;
         self.add_step(alloc, net, &[first, second.not()], &[], back, &mut steps)?;
         Ok(steps)
@@ -163,19 +156,33 @@ impl Engine {
     ) -> Result<Option<Entry>, AllocError>
         ensures { IfOk result (λ o. IfSome o (SettlesOutput output)) }
     {
-        let equal = Lit {
-            node: Node::Xor(output),
-            neg: true,
-        };
-        self.reach(alloc, back, there)?;
-        let mut steps = self.steps(alloc, net)?;
-        let before = self.own(count(steps.len()));
-        let one = Ref::Axiom(Node::Xor(output), 0);
-        let both = Ref::Axiom(Node::Xor(output), 1);
-        self.add_step(alloc, net, &[equal, first], &[one], back, &mut steps)?;
-        self.add_step(alloc, net, &[equal], &[before, both], there, &mut steps)?;
+        let mut steps = self.steps(alloc, net, back, there)?;
+        self.add_cases(alloc, net, output, first, there, back, &mut steps)?;
         let steps = Listed::of(self.equalities.proof(alloc, &steps)?);
         Ok(Some(Entry::Out { output, steps }))
+    }
+
+    /// Puts the steps last of an output's two cases.
+    fn add_cases(
+        &self,
+        alloc: Global,
+        net: &Net,
+        output: u32,
+        first: Lit,
+        there: Hints,
+        back: Hints,
+        steps: &mut Vec<Step>,
+    ) -> Result<(), AllocError> {
+        let xor = Node::Xor(output);
+        let equal = Lit {
+            node: xor,
+            neg: true,
+        };
+        let before = self.own(count(steps.len()));
+        let one = Ref::Axiom(xor, 0);
+        let both = Ref::Axiom(xor, 1);
+        self.add_step(alloc, net, &[equal, first], &[one], back, steps)?;
+        self.add_step(alloc, net, &[equal], &[before, both], there, steps)
     }
 
     /// The entry of an output that is one literal in both circuits.

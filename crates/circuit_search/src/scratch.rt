@@ -1,8 +1,8 @@
-use crate::merges::code_of;
+use crate::merges::lit_code;
 use crate::table::{at, count, put};
 use lemma_book::Task;
 use lits::Side;
-use netlist::{Net, Placed};
+use netlist::Net;
 use rand_core::SeedableRng;
 use rand_core::utils::NextWord;
 use rand_pcg::Lcg128Xsl64;
@@ -134,10 +134,8 @@ impl Scratch {
     pub(crate) fn sift(&mut self, net: &Net, tasks: &[Task]) -> Result<(), AllocError> {
         self.forget();
         for task in tasks {
-            let positions = (net.position(task.node), net.position(task.lit.node));
-            if let (Some(node), Some(position)) = positions {
-                let neg = task.lit.neg;
-                let target = code_of(Placed { position, neg });
+            let pair = (net.position(task.node), lit_code(net, task.lit));
+            if let (Some(node), Some(target)) = pair {
                 self.asked.push(Asked { node, target })?;
             }
         }

@@ -8,25 +8,17 @@ use std::alloc::{AllocError, Global};
 
 impl Engine {
     /// Numbers the lessons that two lists of hints lead to, in order. The others are left out: a merge may
-    /// have so many steps and no more.
-    pub(crate) fn reach(
-        &mut self,
-        alloc: Global,
-        first: Hints,
-        second: Hints,
-    ) -> Result<(), AllocError> {
-        let len = self.lessons.len();
-        self.lessons.order = vec![in alloc; 0; len as usize]?;
+    /// have so many steps and no more. A query has one entry, so this is done once in it.
+    fn reach(&mut self, first: Hints, second: Hints) {
         self.reach_from(first);
         self.reach_from(second);
-        for lesson in (0..len).rev() {
+        for lesson in (0..self.lessons.len()).rev() {
             if self.lessons.is_reached(lesson) {
                 let hints = self.lessons.span(lesson);
                 self.reach_from(hints);
             }
         }
         self.lessons.number_reached();
-        Ok(())
     }
 
     /// Marks the lessons among the hints.
@@ -39,8 +31,15 @@ impl Engine {
         }
     }
 
-    /// The steps of the lessons that were reached.
-    pub(crate) fn steps(&self, alloc: Global, net: &Net) -> Result<Vec<Step>, AllocError> {
+    /// The steps of the lessons that two lists of hints lead to.
+    pub(crate) fn steps(
+        &mut self,
+        alloc: Global,
+        net: &Net,
+        first: Hints,
+        second: Hints,
+    ) -> Result<Vec<Step>, AllocError> {
+        self.reach(first, second);
         let mut steps = Vec::new(alloc);
         for lesson in 0..self.lessons.len() {
             if self.lessons.is_reached(lesson) {

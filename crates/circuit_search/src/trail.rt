@@ -60,8 +60,7 @@ impl Trail {
 
     /// Makes room for one more variable.
     pub(crate) fn grow(&mut self) -> Result<(), AllocError> {
-        self.values.push(FREE)?;
-        self.values.push(FREE)?;
+        self.values.extend_from_slice(&[FREE, FREE])?;
         self.levels.push(0)?;
         self.reasons.push(NONE)?;
         Ok(())

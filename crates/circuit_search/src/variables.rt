@@ -13,8 +13,7 @@ pub(crate) struct Variables {
     /// For each variable its node's position.
     positions: Vec<u32>,
     /// For each variable the codes of its gate's fanins, if it is a gate that was loaded; else 0.
-    left: Vec<u32>,
-    right: Vec<u32>,
+    fanins: Vec<(u32, u32)>,
     /// Whether the clauses of each variable were loaded.
     loaded: Vec<bool>,
 }
@@ -25,8 +24,7 @@ impl Variables {
         Ok(Variables {
             numbers: vec![in alloc; 0; positions as usize]?,
             positions: Vec::new(alloc),
-            left: Vec::new(alloc),
-            right: Vec::new(alloc),
+            fanins: Vec::new(alloc),
             loaded: Vec::new(alloc),
         })
     }
@@ -37,8 +35,7 @@ impl Variables {
             put(&mut self.numbers, *position, 0);
         }
         self.positions.clear();
-        self.left.clear();
-        self.right.clear();
+        self.fanins.clear();
         self.loaded.clear();
     }
 
@@ -55,8 +52,7 @@ impl Variables {
         }
         let number = self.len();
         self.positions.push(position)?;
-        self.left.push(0)?;
-        self.right.push(0)?;
+        self.fanins.push((0, 0))?;
         self.loaded.push(false)?;
         put(&mut self.numbers, position, number);
         Ok((number, true))
@@ -69,13 +65,18 @@ impl Variables {
 
     /// The codes of the fanins of a gate that was loaded.
     pub(crate) fn fanins(&self, var: u32) -> (u32, u32) {
-        (at(&self.left, var), at(&self.right, var))
+        match self.fanins.get(var as usize) {
+            Some(fanins) => *fanins,
+            None => (0, 0),
+        }
     }
 
     /// Notes the codes of a gate's fanins.
     pub(crate) fn note_fanins(&mut self, var: u32, left: u32, right: u32) {
-        put(&mut self.left, var, left);
-        put(&mut self.right, var, right);
+        let var = var as usize;
+        if var < self.fanins.len() {
+            self.fanins[var] = (left, right);
+        }
     }
 
     /// Whether the variable's clauses were loaded before now; afterwards they were.
