@@ -67,10 +67,4 @@ impl Engine {
             self.put(&[lit, left ^ 1, right ^ 1], name)
         }
     }
-
-    /// Adds a clause and does what it asks for.
-    fn put(&mut self, lits: &[u32], name: Name) -> Result<u32, AllocError> {
-        let clause = self.add(lits, name)?;
-        self.settle(clause)
-    }
 }

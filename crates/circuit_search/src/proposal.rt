@@ -6,7 +6,7 @@ use crate::engine::Engine;
 use crate::lessons::Hints;
 use crate::merges::lit_code;
 use crate::round::Outcome;
-use crate::table::count;
+use crate::table::{count, mark};
 use lemma_book::{Entry, Task};
 use lits::{Listed, Lit, Literal, Node, Ref, Side, Step};
 use netlist::Net;
@@ -157,22 +157,6 @@ impl Engine {
         ensures { IfOk result (λ o. IfSome o (SettlesOutput output)) }
     {
         let mut steps = self.steps(alloc, net, back, there)?;
-        self.add_cases(alloc, net, output, first, there, back, &mut steps)?;
-        let steps = Listed::of(self.equalities.proof(alloc, &steps)?);
-        Ok(Some(Entry::Out { output, steps }))
-    }
-
-    /// Puts the steps last of an output's two cases.
-    fn add_cases(
-        &self,
-        alloc: Global,
-        net: &Net,
-        output: u32,
-        first: Lit,
-        there: Hints,
-        back: Hints,
-        steps: &mut Vec<Step>,
-    ) -> Result<(), AllocError> {
         let xor = Node::Xor(output);
         let equal = Lit {
             node: xor,
@@ -181,8 +165,10 @@ impl Engine {
         let before = self.own(count(steps.len()));
         let one = Ref::Axiom(xor, 0);
         let both = Ref::Axiom(xor, 1);
-        self.add_step(alloc, net, &[equal, first], &[one], back, steps)?;
-        self.add_step(alloc, net, &[equal], &[before, both], there, steps)
+        self.add_step(alloc, net, &[equal, first], &[one], back, &mut steps)?;
+        self.add_step(alloc, net, &[equal], &[before, both], there, &mut steps)?;
+        let steps = Listed::of(self.equalities.proof(alloc, &steps)?);
+        Ok(Some(Entry::Out { output, steps }))
     }
 
     /// The entry of an output that is one literal in both circuits.
@@ -210,7 +196,12 @@ impl Engine {
     /// The inputs on which the codes that were asked for are both true.
     fn input(&self, alloc: Global, net: &Net) -> Result<Listed<bool>, AllocError> {
         let mut input = vec![in alloc; false; net.circuit(Side::A).inputs().len()]?;
-        self.set_inputs(&mut input);
+        for code in self.trail.lits() {
+            let position = self.variables.position(*code / 2);
+            if *code & 1 == 0 && self.merges.is_input(position) {
+                mark(&mut input, position.wrapping_sub(1), true);
+            }
+        }
         Ok(Listed::of(input))
     }
 }

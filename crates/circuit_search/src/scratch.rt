@@ -80,8 +80,8 @@ impl Scratch {
         for _ in 0..u64::from(self.inputs).saturating_mul(u64::from(words)) {
             let _drawn = generator.next_word();
         }
-        for _ in 0..u64::from(self.inputs).saturating_mul(u64::from(EVEN)) {
-            self.words.push(generator.next_word())?;
+        for _ in 0..EVEN {
+            self.draw_rare(&mut generator, 0, 0)?;
         }
         for often in 0..RARE {
             self.draw_rare(&mut generator, often, 0)?;
@@ -94,7 +94,7 @@ impl Scratch {
         Ok(())
     }
 
-    /// Draws a word of each input that is seldom another one than this.
+    /// Draws a word of each input, of which a bit differs from this one once in 2, 4, 8 and so on.
     fn draw_rare(
         &mut self,
         generator: &mut Lcg128Xsl64,
@@ -221,7 +221,7 @@ impl Scratch {
     }
 
     /// The inputs' truth values in a pattern.
-    fn input(&self, alloc: Global, pattern: u32) -> Result<Vec<bool>, AllocError> {
+    pub(crate) fn input(&self, alloc: Global, pattern: u32) -> Result<Vec<bool>, AllocError> {
         let mut input = Vec::new(alloc);
         for index in 0..self.inputs {
             input.push(self.is_true(pattern, index))?;
@@ -278,7 +278,7 @@ impl Scratch {
     }
 
     /// Whether an input is true in a pattern.
-    pub(crate) fn is_true(&self, pattern: u32, input: u32) -> bool {
+    fn is_true(&self, pattern: u32, input: u32) -> bool {
         let word = word_at(&self.words, self.place(pattern / 64, input));
         (word >> (pattern % 64)) & 1 == 1
     }

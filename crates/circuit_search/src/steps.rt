@@ -1,36 +1,11 @@
 use crate::clauses::Name;
 use crate::engine::Engine;
 use crate::lessons::Hints;
-use crate::table::{at, count};
 use lits::{Clause, ClauseErr, Listed, Lit, Node, Ref, Step};
 use netlist::Net;
 use std::alloc::{AllocError, Global};
 
 impl Engine {
-    /// Numbers the lessons that two lists of hints lead to, in order. The others are left out: a merge may
-    /// have so many steps and no more. A query has one entry, so this is done once in it.
-    fn reach(&mut self, first: Hints, second: Hints) {
-        self.reach_from(first);
-        self.reach_from(second);
-        for lesson in (0..self.lessons.len()).rev() {
-            if self.lessons.is_reached(lesson) {
-                let hints = self.lessons.span(lesson);
-                self.reach_from(hints);
-            }
-        }
-        self.lessons.number_reached();
-    }
-
-    /// Marks the lessons among the hints.
-    fn reach_from(&mut self, hints: Hints) {
-        for place in 0..hints.len {
-            let clause = at(self.lessons.hints(hints), place);
-            if let Some(Name::Lesson(lesson)) = self.clauses.name(clause) {
-                self.lessons.set_reached(lesson);
-            }
-        }
-    }
-
     /// The steps of the lessons that two lists of hints lead to.
     pub(crate) fn steps(
         &mut self,
@@ -39,7 +14,7 @@ impl Engine {
         first: Hints,
         second: Hints,
     ) -> Result<Vec<Step>, AllocError> {
-        self.reach(first, second);
+        self.lessons.reach(&self.clauses, first, second);
         let mut steps = Vec::new(alloc);
         for lesson in 0..self.lessons.len() {
             if self.lessons.is_reached(lesson) {
@@ -91,7 +66,7 @@ impl Engine {
     /// What a clause is called in the entry's steps.
     fn name_of(&self, net: &Net, clause: u32) -> Ref {
         match self.clauses.name(clause) {
-            Some(Name::Axiom(var, k)) => Ref::Axiom(self.node(net, var), k),
+            Some(Name::Axiom(var, k)) => Ref::Axiom(node_at(net, self.variables.position(var)), k),
             Some(Name::Entry(place, k)) => Ref::Entry(u64::from(place), k),
             Some(Name::Shown(place)) => Ref::Own(u64::from(place)),
             Some(Name::Lesson(lesson)) => self.own(self.lessons.number(lesson)),
@@ -113,11 +88,6 @@ impl Engine {
             lits.push(lit_at(net, position.wrapping_mul(2) | (*code & 1)))?;
         }
         Ok(lits)
-    }
-
-    /// The node of a variable.
-    fn node(&self, net: &Net, var: u32) -> Node {
-        node_at(net, self.variables.position(var))
     }
 }
 

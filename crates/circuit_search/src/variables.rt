@@ -13,7 +13,8 @@ pub(crate) struct Variables {
     /// For each variable its node's position.
     positions: Vec<u32>,
     /// For each variable the codes of its gate's fanins, if it is a gate that was loaded; else 0.
-    fanins: Vec<(u32, u32)>,
+    left: Vec<u32>,
+    right: Vec<u32>,
     /// Whether the clauses of each variable were loaded.
     loaded: Vec<bool>,
 }
@@ -24,7 +25,8 @@ impl Variables {
         Ok(Variables {
             numbers: vec![in alloc; 0; positions as usize]?,
             positions: Vec::new(alloc),
-            fanins: Vec::new(alloc),
+            left: Vec::new(alloc),
+            right: Vec::new(alloc),
             loaded: Vec::new(alloc),
         })
     }
@@ -35,13 +37,9 @@ impl Variables {
             put(&mut self.numbers, *position, 0);
         }
         self.positions.clear();
-        self.fanins.clear();
+        self.left.clear();
+        self.right.clear();
         self.loaded.clear();
-    }
-
-    /// How many variables there are.
-    pub(crate) fn len(&self) -> u32 {
-        count(self.positions.len())
     }
 
     /// The variable of a position, and whether it is new.
@@ -50,9 +48,10 @@ impl Variables {
         if known > 0 || (position == 0 && !self.positions.is_empty()) {
             return Ok((known, false));
         }
-        let number = self.len();
+        let number = count(self.positions.len());
         self.positions.push(position)?;
-        self.fanins.push((0, 0))?;
+        self.left.push(0)?;
+        self.right.push(0)?;
         self.loaded.push(false)?;
         put(&mut self.numbers, position, number);
         Ok((number, true))
@@ -65,18 +64,13 @@ impl Variables {
 
     /// The codes of the fanins of a gate that was loaded.
     pub(crate) fn fanins(&self, var: u32) -> (u32, u32) {
-        match self.fanins.get(var as usize) {
-            Some(fanins) => *fanins,
-            None => (0, 0),
-        }
+        (at(&self.left, var), at(&self.right, var))
     }
 
     /// Notes the codes of a gate's fanins.
     pub(crate) fn note_fanins(&mut self, var: u32, left: u32, right: u32) {
-        let var = var as usize;
-        if var < self.fanins.len() {
-            self.fanins[var] = (left, right);
-        }
+        put(&mut self.left, var, left);
+        put(&mut self.right, var, right);
     }
 
     /// Whether the variable's clauses were loaded before now; afterwards they were.
