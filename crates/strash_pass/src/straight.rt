@@ -145,9 +145,7 @@ fn straight_hints(alloc: Global, from: &Legs, to: &Legs) -> Result<Vec<Ref>, All
 
 /// Puts the clauses last that lead down one way and up the other.
 fn push_way(down: &[Ref], up: &[Ref], hints: &mut Vec<Ref>) -> Result<(), AllocError> {
-    for by in down {
-        hints.push(*by)?;
-    }
+    hints.extend_from_slice(down)?;
     for by in up.iter().rev() {
         hints.push(other_clause(*by))?;
     }
