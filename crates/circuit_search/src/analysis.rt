@@ -6,27 +6,6 @@ use crate::trail::FALSE;
 use std::alloc::AllocError;
 
 impl Engine {
-    /// The highest level of a false clause's codes, how many of them stand there, and the second highest
-    /// level.
-    pub(crate) fn levels(&self, clause: u32) -> (u32, u32, u32) {
-        let mut highest = 0;
-        let mut many: u32 = 0;
-        let mut second = 0;
-        for code in self.clauses.get(clause) {
-            let level = self.trail.level_of(*code / 2);
-            if level > highest {
-                second = highest;
-                highest = level;
-                many = 1;
-            } else if level == highest {
-                many = many.saturating_add(1);
-            } else if level > second {
-                second = level;
-            }
-        }
-        (highest, many, second)
-    }
-
     /// Learns from a clause that is false at the last level: the clause of the first unique implication
     /// point, by the reasons between it and the conflict (Marques-Silva and Sakallah 1996).
     pub(crate) fn learn(&mut self, conflict: u32) -> Result<(), AllocError> {
@@ -81,11 +60,11 @@ impl Engine {
         let hints = self.lessons.keep_trace()?;
         let name = Name::Lesson(self.lessons.len());
         let number = self.clauses.push(&self.lessons.lits, name)?;
-        let (_, _, second) = self.levels(number);
+        let (_, _, second) = self.trail.levels(self.clauses.get(number));
         self.trail.cut(second);
         self.lessons.push(number, hints)?;
         self.watch(number)?;
-        self.settle(number)?;
+        self.trail.settle(&self.clauses, number)?;
         Ok(())
     }
 

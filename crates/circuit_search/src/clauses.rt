@@ -1,4 +1,5 @@
 use crate::table::{at, count, part};
+use crate::trail::Trail;
 use std::alloc::{AllocError, Global};
 
 /// What a clause is called.
@@ -91,13 +92,24 @@ impl Clauses {
         }
     }
 
+    /// Brings the code that isn't false for longest, of those from a place on, to that place.
+    pub(crate) fn bring(&mut self, trail: &Trail, clause: u32, place: u32) {
+        for other in place..self.len(clause) {
+            let here = trail.false_from(self.lit(clause, place));
+            if trail.false_from(self.lit(clause, other)) > here {
+                self.swap(clause, place, other);
+            }
+        }
+    }
+
     /// Exchanges two places of a clause.
     pub(crate) fn swap(&mut self, clause: u32, first: u32, second: u32) {
-        let Some(span) = self.spans.get(clause as usize).copied() else {
-            return;
+        let start = match self.spans.get(clause as usize) {
+            Some(span) => span.start,
+            None => return,
         };
-        let first = span.start.wrapping_add(first) as usize;
-        let second = span.start.wrapping_add(second) as usize;
+        let first = start.wrapping_add(first) as usize;
+        let second = start.wrapping_add(second) as usize;
         if first < self.lits.len() && second < self.lits.len() {
             self.lits.swap(first, second);
         }

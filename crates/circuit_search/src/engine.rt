@@ -3,8 +3,7 @@ use crate::clauses::{Clauses, Name};
 use crate::equalities::Equalities;
 use crate::lessons::Lessons;
 use crate::merges::Merges;
-use crate::table::NONE;
-use crate::trail::{FALSE, FREE, Trail};
+use crate::trail::Trail;
 use crate::variables::Variables;
 use crate::watches::Watches;
 use lemma_book::Book;
@@ -70,8 +69,8 @@ impl Engine {
         self.left = caps;
         let constant = self.code(0)?;
         let _loaded = self.variables.is_loaded(constant / 2);
-        let clause = self.add(&[constant], Name::Axiom(constant / 2, 0))?;
-        self.trail.assign(constant, clause)
+        self.put(&[constant], Name::Axiom(constant / 2, 0))?;
+        Ok(())
     }
 
     /// The code of a literal that is given by twice its position, and 1 where it is negated.
@@ -85,57 +84,23 @@ impl Engine {
         Ok(number.wrapping_mul(2) | (placed & 1))
     }
 
-    /// Puts a clause last, and gives its number.
-    pub(crate) fn add(&mut self, lits: &[u32], name: Name) -> Result<u32, AllocError> {
+    /// Adds a clause and does what it asks for. Tells its number where it is a conflict.
+    pub(crate) fn put(&mut self, lits: &[u32], name: Name) -> Result<u32, AllocError> {
         let clause = self.clauses.push(lits, name)?;
         self.watch(clause)?;
-        Ok(clause)
+        self.trail.settle(&self.clauses, clause)
     }
 
     /// Watches the clause that was put last by the two of its codes that aren't false for longest.
     pub(crate) fn watch(&mut self, clause: u32) -> Result<(), AllocError> {
         self.watches.grow_clauses()?;
-        self.bring(clause, 0);
-        self.bring(clause, 1);
+        self.clauses.bring(&self.trail, clause, 0);
+        self.clauses.bring(&self.trail, clause, 1);
         if self.clauses.len(clause) > 1 {
             let watch = clause.wrapping_add(1).wrapping_mul(2);
             self.watches.push(self.clauses.lit(clause, 0), watch);
             self.watches.push(self.clauses.lit(clause, 1), watch | 1);
         }
         Ok(())
-    }
-
-    /// Brings the code that isn't false for longest, of those from a place on, to that place.
-    fn bring(&mut self, clause: u32, place: u32) {
-        for other in place..self.clauses.len(clause) {
-            let here = self.rank(self.clauses.lit(clause, place));
-            if self.rank(self.clauses.lit(clause, other)) > here {
-                self.clauses.swap(clause, place, other);
-            }
-        }
-    }
-
-    /// The level from which on a code is false.
-    fn rank(&self, code: u32) -> u32 {
-        if self.trail.value(code) == FALSE {
-            self.trail.level_of(code / 2)
-        } else {
-            NONE
-        }
-    }
-
-    /// What a clause that was added asks for: nothing, or a code that is to be true; its number where it is a
-    /// conflict.
-    pub(crate) fn settle(&mut self, clause: u32) -> Result<u32, AllocError> {
-        let first = self.clauses.lit(clause, 0);
-        if self.trail.value(first) == FALSE {
-            return Ok(clause);
-        }
-        let is_unit = self.clauses.len(clause) < 2
-            || self.trail.value(self.clauses.lit(clause, 1)) == FALSE;
-        if is_unit && self.trail.value(first) == FREE {
-            self.trail.assign(first, clause)?;
-        }
-        Ok(NONE)
     }
 }

@@ -9,10 +9,9 @@ use std::alloc::{AllocError, Global};
 /// equalities: they stand here once, and each proof takes those that it needs.
 #[derive(Drop)]
 pub(crate) struct Equalities {
-    /// For each position the place of the first of the two steps that say it, and 1; 0 where none does.
-    firsts: Vec<u32>,
-    /// For each position the code that its node is equal to.
-    targets: Vec<u32>,
+    /// For each position the place of the first of the two steps that say what its node is equal to, and the
+    /// code that it is.
+    targets: Vec<Option<(u32, u32)>>,
     /// The steps. The hint `Own(k)` is step k of them.
     steps: Vec<Step>,
 }
@@ -21,16 +20,15 @@ impl Equalities {
     /// No equalities, of a net with so many positions.
     pub(crate) fn of(alloc: Global, positions: u32) -> Result<Equalities, AllocError> {
         Ok(Equalities {
-            firsts: vec![in alloc; 0; positions as usize]?,
-            targets: vec![in alloc; 0; positions as usize]?,
+            targets: vec![in alloc; None; positions as usize]?,
             steps: Vec::new(alloc),
         })
     }
 
     /// Forgets all.
     pub(crate) fn forget(&mut self) {
-        for first in self.firsts.iter_mut() {
-            *first = 0;
+        for target in self.targets.iter_mut() {
+            *target = None;
         }
         self.steps.clear();
     }
@@ -42,9 +40,9 @@ impl Equalities {
 
     /// The place of the first of the two steps that say what a node is equal to, and the code that it is.
     pub(crate) fn target(&self, position: u32) -> Option<(u32, u32)> {
-        match at(&self.firsts, position) {
-            0 => None,
-            first => Some((first - 1, at(&self.targets, position))),
+        match self.targets.get(position as usize) {
+            Some(target) => *target,
+            None => None,
         }
     }
 
@@ -53,14 +51,14 @@ impl Equalities {
         &mut self,
         position: u32,
         target: u32,
-        steps: Vec<Step>,
+        mut steps: Vec<Step>,
     ) -> Result<(), AllocError> {
-        for step in steps {
-            self.steps.push(step)?;
+        self.steps.append(&mut steps)?;
+        let first = self.len().saturating_sub(2);
+        let position = position as usize;
+        if position < self.targets.len() {
+            self.targets[position] = Some((first, target));
         }
-        let first = self.len().saturating_sub(1);
-        put(&mut self.firsts, position, first);
-        put(&mut self.targets, position, target);
         Ok(())
     }
 

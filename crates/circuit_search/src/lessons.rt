@@ -1,3 +1,4 @@
+use crate::clauses::{Clauses, Name};
 use crate::table::{at, count, has, mark, part, put};
 use std::alloc::{AllocError, Global};
 
@@ -23,8 +24,8 @@ pub(crate) struct Lessons {
     pub(crate) lits: Vec<u32>,
     /// Its hints, the last one first.
     pub(crate) trace: Vec<u32>,
-    /// For each lesson its number among those that an entry needs, and 1; 0 where none needs it.
-    pub(crate) order: Vec<u32>,
+    /// For each lesson its number among those that the entry needs, and 1; 0 where it doesn't need it.
+    order: Vec<u32>,
 }
 
 impl Lessons {
@@ -94,6 +95,7 @@ impl Lessons {
     pub(crate) fn push(&mut self, clause: u32, hints: Hints) -> Result<(), AllocError> {
         self.clauses.push(clause)?;
         self.spans.push(hints)?;
+        self.order.push(0)?;
         Ok(())
     }
 
@@ -120,18 +122,37 @@ impl Lessons {
         part(&self.hints, hints.start, hints.len)
     }
 
-    /// Whether an entry needs the lesson.
+    /// Numbers the lessons that two lists of hints lead to, in order. The others are left out: a merge may
+    /// have so many steps and no more. A query has one entry, so this is done once in it.
+    pub(crate) fn reach(&mut self, clauses: &Clauses, first: Hints, second: Hints) {
+        self.reach_from(clauses, first);
+        self.reach_from(clauses, second);
+        for lesson in (0..self.len()).rev() {
+            if self.is_reached(lesson) {
+                let hints = self.span(lesson);
+                self.reach_from(clauses, hints);
+            }
+        }
+        self.number_reached();
+    }
+
+    /// Marks the lessons among the hints.
+    fn reach_from(&mut self, clauses: &Clauses, hints: Hints) {
+        for place in 0..hints.len {
+            let clause = at(self.hints(hints), place);
+            if let Some(Name::Lesson(lesson)) = clauses.name(clause) {
+                put(&mut self.order, lesson, 1);
+            }
+        }
+    }
+
+    /// Whether the entry needs the lesson.
     pub(crate) fn is_reached(&self, lesson: u32) -> bool {
         at(&self.order, lesson) > 0
     }
 
-    /// Notes that an entry needs the lesson.
-    pub(crate) fn set_reached(&mut self, lesson: u32) {
-        put(&mut self.order, lesson, 1);
-    }
-
-    /// Numbers the lessons that an entry needs.
-    pub(crate) fn number_reached(&mut self) {
+    /// Numbers the lessons that were marked.
+    fn number_reached(&mut self) {
         let mut number: u32 = 0;
         for slot in self.order.iter_mut() {
             if *slot > 0 {
@@ -141,7 +162,7 @@ impl Lessons {
         }
     }
 
-    /// The number of a lesson among those that an entry needs.
+    /// The number of a lesson among those that the entry needs.
     pub(crate) fn number(&self, lesson: u32) -> u32 {
         at(&self.order, lesson).saturating_sub(1)
     }

@@ -15,31 +15,31 @@ impl Engine {
         let position = self.variables.position(var);
         if let Some((first, target)) = self.equalities.target(position) {
             if first < self.shown {
-                return self.load_equality(var, first, target);
+                let second = first.wrapping_add(1);
+                return self.load_equal(var, target, Name::Shown(first), Name::Shown(second));
             }
         }
         match self.merges.source(net, position) {
             Source::Free => Ok(NONE),
-            Source::Merged(entry, target) => self.load_merge(var, entry, target),
+            Source::Merged(entry, target) => {
+                self.load_equal(var, target, Name::Entry(entry, 0), Name::Entry(entry, 1))
+            }
             Source::Gate(left, right) => self.load_gate(var, left, right),
         }
     }
 
-    /// Loads the two clauses of a merge.
-    fn load_merge(&mut self, var: u32, entry: u32, target: u32) -> Result<u32, AllocError> {
+    /// Loads the two clauses, by these names, that say that a variable is equal to a code.
+    fn load_equal(
+        &mut self,
+        var: u32,
+        target: u32,
+        first: Name,
+        second: Name,
+    ) -> Result<u32, AllocError> {
         let lit = var.wrapping_mul(2);
         let target = self.code(target)?;
-        let below = self.put(&[lit | 1, target], Name::Entry(entry, 0))?;
-        let above = self.put(&[lit, target ^ 1], Name::Entry(entry, 1))?;
-        Ok(below.min(above))
-    }
-
-    /// Loads the two clauses of an equality.
-    fn load_equality(&mut self, var: u32, first: u32, target: u32) -> Result<u32, AllocError> {
-        let lit = var.wrapping_mul(2);
-        let target = self.code(target)?;
-        let below = self.put(&[lit | 1, target], Name::Shown(first))?;
-        let above = self.put(&[lit, target ^ 1], Name::Shown(first.wrapping_add(1)))?;
+        let below = self.put(&[lit | 1, target], first)?;
+        let above = self.put(&[lit, target ^ 1], second)?;
         Ok(below.min(above))
     }
 
@@ -66,11 +66,5 @@ impl Engine {
         } else {
             self.put(&[lit, left ^ 1, right ^ 1], name)
         }
-    }
-
-    /// Adds a clause and does what it asks for.
-    fn put(&mut self, lits: &[u32], name: Name) -> Result<u32, AllocError> {
-        let clause = self.add(lits, name)?;
-        self.settle(clause)
     }
 }

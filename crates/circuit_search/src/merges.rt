@@ -112,24 +112,16 @@ impl Merges {
         let Ok(place) = u32::try_from(place) else {
             return;
         };
-        if let (Some(position), Some(target)) = (net.position(node), net.position(lit.node)) {
+        if let (Some(position), Some(target)) = (net.position(node), lit_code(net, lit)) {
             put(&mut self.entries, position, place.saturating_add(1));
-            let target = Placed {
-                position: target,
-                neg: lit.neg,
-            };
-            put(&mut self.targets, position, code_of(target));
+            put(&mut self.targets, position, target);
         }
     }
 
     /// Notes that the query of a pair spent its budget.
     fn note_spent(&mut self, net: &Net, node: Node, lit: Lit) {
-        if let (Some(position), Some(target)) = (net.position(node), net.position(lit.node)) {
-            let target = Placed {
-                position: target,
-                neg: lit.neg,
-            };
-            put(&mut self.spent, position, code_of(target).saturating_add(1));
+        if let (Some(position), Some(target)) = (net.position(node), lit_code(net, lit)) {
+            put(&mut self.spent, position, target.saturating_add(1));
         }
     }
 
@@ -160,7 +152,18 @@ impl Merges {
     }
 }
 
+/// The code of a literal, if its node is in the net.
+pub(crate) fn lit_code(net: &Net, lit: Lit) -> Option<u32> {
+    match net.position(lit.node) {
+        Some(position) => Some(code_of(Placed {
+            position,
+            neg: lit.neg,
+        })),
+        None => None,
+    }
+}
+
 /// The code of a literal by its position.
-pub(crate) fn code_of(placed: Placed) -> u32 {
+fn code_of(placed: Placed) -> u32 {
     placed.position.wrapping_mul(2) | u32::from(placed.neg)
 }

@@ -4,12 +4,12 @@ ghost use Rattle.circuit_search.specs.Answer.{SettlesOutput, SettlesPair};
 use crate::caps::Caps;
 use crate::engine::Engine;
 use crate::lessons::Hints;
-use crate::merges::code_of;
+use crate::merges::lit_code;
 use crate::round::Outcome;
-use crate::table::count;
+use crate::table::{count, mark};
 use lemma_book::{Entry, Task};
 use lits::{Listed, Lit, Literal, Node, Ref, Side, Step};
-use netlist::{Net, Placed};
+use netlist::Net;
 use std::alloc::{AllocError, Global};
 
 /// What was found out of two codes.
@@ -83,19 +83,13 @@ impl Engine {
         second: Lit,
         caps: Caps,
     ) -> Result<Found, AllocError> {
-        let positions = (net.position(first.node), net.position(second.node));
-        let (Some(first_place), Some(second_place)) = positions else {
+        let codes = (lit_code(net, first), lit_code(net, second));
+        let (Some(first), Some(second)) = codes else {
             return Ok(Found::Open);
         };
         self.begin(caps)?;
-        let first = self.code(code_of(Placed {
-            position: first_place,
-            neg: first.neg,
-        }))?;
-        let second = self.code(code_of(Placed {
-            position: second_place,
-            neg: second.neg,
-        }))?;
+        let first = self.code(first)?;
+        let second = self.code(second)?;
         if first / 2 == second / 2 {
             return Ok(Found::Open);
         }
@@ -143,8 +137,7 @@ impl Engine {
         there: Hints,
         back: Hints,
     ) -> Result<Vec<Step>, AllocError> {
-        self.reach(alloc, there, back)?;
-        let mut steps = self.steps(alloc, net)?;
+        let mut steps = self.steps(alloc, net, there, back)?;
         self.add_step(alloc, net, &[first.not(), second], &[], there, &mut steps)?;
         self.add_step(alloc, net, &[first, second.not()], &[], back, &mut steps)?;
         Ok(steps)
@@ -163,15 +156,15 @@ impl Engine {
     ) -> Result<Option<Entry>, AllocError>
         ensures { IfOk result (λ o. IfSome o (SettlesOutput output)) }
     {
+        let mut steps = self.steps(alloc, net, back, there)?;
+        let xor = Node::Xor(output);
         let equal = Lit {
-            node: Node::Xor(output),
+            node: xor,
             neg: true,
         };
-        self.reach(alloc, back, there)?;
-        let mut steps = self.steps(alloc, net)?;
         let before = self.own(count(steps.len()));
-        let one = Ref::Axiom(Node::Xor(output), 0);
-        let both = Ref::Axiom(Node::Xor(output), 1);
+        let one = Ref::Axiom(xor, 0);
+        let both = Ref::Axiom(xor, 1);
         self.add_step(alloc, net, &[equal, first], &[one], back, &mut steps)?;
         self.add_step(alloc, net, &[equal], &[before, both], there, &mut steps)?;
         let steps = Listed::of(self.equalities.proof(alloc, &steps)?);
@@ -203,7 +196,12 @@ impl Engine {
     /// The inputs on which the codes that were asked for are both true.
     fn input(&self, alloc: Global, net: &Net) -> Result<Listed<bool>, AllocError> {
         let mut input = vec![in alloc; false; net.circuit(Side::A).inputs().len()]?;
-        self.set_inputs(&mut input);
+        for code in self.trail.lits() {
+            let position = self.variables.position(*code / 2);
+            if *code & 1 == 0 && self.merges.is_input(position) {
+                mark(&mut input, position.wrapping_sub(1), true);
+            }
+        }
         Ok(Listed::of(input))
     }
 }

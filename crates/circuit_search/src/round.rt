@@ -1,6 +1,6 @@
 use crate::engine::Engine;
 use crate::lessons::Hints;
-use crate::table::{NONE, mark};
+use crate::table::NONE;
 use netlist::Net;
 use std::alloc::AllocError;
 
@@ -42,7 +42,7 @@ impl Engine {
         if self.trail.level() > 0 {
             return self.go_on();
         }
-        let refuted = self.assume(first, second)?;
+        let refuted = self.trail.assume(first, second)?;
         if refuted != NONE {
             return self.meet(refuted);
         }
@@ -58,14 +58,14 @@ impl Engine {
             return Ok(Some(Outcome::Open));
         }
         self.left.decisions -= 1;
-        self.decide(code)?;
+        self.trail.decide(code)?;
         Ok(None)
     }
 
     /// Answers a conflict of what is assumed, and learns from any other. A clause that came late may have one
     /// code alone at its highest level: then it should have forced that code earlier, and does so now.
     fn meet(&mut self, conflict: u32) -> Result<Option<Outcome>, AllocError> {
-        let (level, many, second) = self.levels(conflict);
+        let (level, many, second) = self.trail.levels(self.clauses.get(conflict));
         if level <= 1 {
             return Ok(Some(Outcome::Refuted(self.refutation(conflict)?)));
         }
@@ -92,15 +92,5 @@ impl Engine {
         }
         self.trail.cut(second);
         self.trail.assign(forced, clause)
-    }
-
-    /// Makes the inputs true that the trail makes true.
-    pub(crate) fn set_inputs(&self, input: &mut [bool]) {
-        for code in self.trail.lits() {
-            let position = self.variables.position(*code / 2);
-            if *code & 1 == 0 && self.merges.is_input(position) {
-                mark(input, position.wrapping_sub(1), true);
-            }
-        }
     }
 }

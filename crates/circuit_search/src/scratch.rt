@@ -1,8 +1,8 @@
-use crate::merges::code_of;
+use crate::merges::lit_code;
 use crate::table::{at, count, put};
 use lemma_book::Task;
 use lits::Side;
-use netlist::{Net, Placed};
+use netlist::Net;
 use rand_core::SeedableRng;
 use rand_core::utils::NextWord;
 use rand_pcg::Lcg128Xsl64;
@@ -80,8 +80,8 @@ impl Scratch {
         for _ in 0..u64::from(self.inputs).saturating_mul(u64::from(words)) {
             let _drawn = generator.next_word();
         }
-        for _ in 0..u64::from(self.inputs).saturating_mul(u64::from(EVEN)) {
-            self.words.push(generator.next_word())?;
+        for _ in 0..EVEN {
+            self.draw_rare(&mut generator, 0, 0)?;
         }
         for often in 0..RARE {
             self.draw_rare(&mut generator, often, 0)?;
@@ -94,7 +94,7 @@ impl Scratch {
         Ok(())
     }
 
-    /// Draws a word of each input that is seldom another one than this.
+    /// Draws a word of each input, of which a bit differs from this one once in 2, 4, 8 and so on.
     fn draw_rare(
         &mut self,
         generator: &mut Lcg128Xsl64,
@@ -134,10 +134,8 @@ impl Scratch {
     pub(crate) fn sift(&mut self, net: &Net, tasks: &[Task]) -> Result<(), AllocError> {
         self.forget();
         for task in tasks {
-            let positions = (net.position(task.node), net.position(task.lit.node));
-            if let (Some(node), Some(position)) = positions {
-                let neg = task.lit.neg;
-                let target = code_of(Placed { position, neg });
+            let pair = (net.position(task.node), lit_code(net, task.lit));
+            if let (Some(node), Some(target)) = pair {
                 self.asked.push(Asked { node, target })?;
             }
         }
@@ -223,7 +221,7 @@ impl Scratch {
     }
 
     /// The inputs' truth values in a pattern.
-    fn input(&self, alloc: Global, pattern: u32) -> Result<Vec<bool>, AllocError> {
+    pub(crate) fn input(&self, alloc: Global, pattern: u32) -> Result<Vec<bool>, AllocError> {
         let mut input = Vec::new(alloc);
         for index in 0..self.inputs {
             input.push(self.is_true(pattern, index))?;
@@ -280,7 +278,7 @@ impl Scratch {
     }
 
     /// Whether an input is true in a pattern.
-    pub(crate) fn is_true(&self, pattern: u32, input: u32) -> bool {
+    fn is_true(&self, pattern: u32, input: u32) -> bool {
         let word = word_at(&self.words, self.place(pattern / 64, input));
         (word >> (pattern % 64)) & 1 == 1
     }

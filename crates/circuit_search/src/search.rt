@@ -6,9 +6,8 @@ ghost use Rattle.circuit_search.specs.Answer.{Finds, SettlesOutput, SettlesPair}
 use crate::caps::Caps;
 use crate::engine::Engine;
 use crate::scratch::Scratch;
-use crate::table::{count, mark};
 use lemma_book::{Book, Entry, Judgement, Task};
-use lits::{Listed, Side};
+use lits::Listed;
 use netlist::Net;
 use std::alloc::{AllocError, Global};
 
@@ -31,8 +30,8 @@ impl Search {
         ensures { IfOk result (λ s. s.dropped ≡ 0) }
     {
         Ok(Search {
-            engine: Engine::of(alloc, net)?,
             scratch: Scratch::of(alloc, net, seed, words)?,
+            engine: Engine::of(alloc, net)?,
             is_known: false,
             dropped: 0,
         })
@@ -125,23 +124,8 @@ impl Search {
         let Some(pattern) = self.scratch.pattern(position) else {
             return Ok(None);
         };
-        let input = self.pattern_input(alloc, net, pattern)?;
+        let input = Listed::of(self.scratch.input(alloc, pattern)?);
         Ok(Some(Entry::Apart { node, lit, input }))
-    }
-
-    /// The inputs' truth values in a pattern.
-    fn pattern_input(
-        &self,
-        alloc: Global,
-        net: &Net,
-        pattern: u32,
-    ) -> Result<Listed<bool>, AllocError> {
-        let mut input = vec![in alloc; false; net.circuit(Side::A).inputs().len()]?;
-        for place in 0..count(input.len()) {
-            let value = self.scratch.is_true(pattern, place);
-            mark(&mut input, place, value);
-        }
-        Ok(Listed::of(input))
     }
 
     /// The entry, if it is good over the book.

@@ -1,46 +1,20 @@
 use crate::clauses::Name;
 use crate::engine::Engine;
 use crate::lessons::Hints;
-use crate::table::{at, count};
 use lits::{Clause, ClauseErr, Listed, Lit, Node, Ref, Step};
 use netlist::Net;
 use std::alloc::{AllocError, Global};
 
 impl Engine {
-    /// Numbers the lessons that two lists of hints lead to, in order. The others are left out: a merge may
-    /// have so many steps and no more.
-    pub(crate) fn reach(
+    /// The steps of the lessons that two lists of hints lead to.
+    pub(crate) fn steps(
         &mut self,
         alloc: Global,
+        net: &Net,
         first: Hints,
         second: Hints,
-    ) -> Result<(), AllocError> {
-        let len = self.lessons.len();
-        self.lessons.order = vec![in alloc; 0; len as usize]?;
-        self.reach_from(first);
-        self.reach_from(second);
-        for lesson in (0..len).rev() {
-            if self.lessons.is_reached(lesson) {
-                let hints = self.lessons.span(lesson);
-                self.reach_from(hints);
-            }
-        }
-        self.lessons.number_reached();
-        Ok(())
-    }
-
-    /// Marks the lessons among the hints.
-    fn reach_from(&mut self, hints: Hints) {
-        for place in 0..hints.len {
-            let clause = at(self.lessons.hints(hints), place);
-            if let Some(Name::Lesson(lesson)) = self.clauses.name(clause) {
-                self.lessons.set_reached(lesson);
-            }
-        }
-    }
-
-    /// The steps of the lessons that were reached.
-    pub(crate) fn steps(&self, alloc: Global, net: &Net) -> Result<Vec<Step>, AllocError> {
+    ) -> Result<Vec<Step>, AllocError> {
+        self.lessons.reach(&self.clauses, first, second);
         let mut steps = Vec::new(alloc);
         for lesson in 0..self.lessons.len() {
             if self.lessons.is_reached(lesson) {
@@ -92,7 +66,7 @@ impl Engine {
     /// What a clause is called in the entry's steps.
     fn name_of(&self, net: &Net, clause: u32) -> Ref {
         match self.clauses.name(clause) {
-            Some(Name::Axiom(var, k)) => Ref::Axiom(self.node(net, var), k),
+            Some(Name::Axiom(var, k)) => Ref::Axiom(node_at(net, self.variables.position(var)), k),
             Some(Name::Entry(place, k)) => Ref::Entry(u64::from(place), k),
             Some(Name::Shown(place)) => Ref::Own(u64::from(place)),
             Some(Name::Lesson(lesson)) => self.own(self.lessons.number(lesson)),
@@ -114,11 +88,6 @@ impl Engine {
             lits.push(lit_at(net, position.wrapping_mul(2) | (*code & 1)))?;
         }
         Ok(lits)
-    }
-
-    /// The node of a variable.
-    fn node(&self, net: &Net, var: u32) -> Node {
-        node_at(net, self.variables.position(var))
     }
 }
 

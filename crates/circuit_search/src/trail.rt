@@ -1,3 +1,4 @@
+use crate::clauses::Clauses;
 use crate::table::{NONE, at, count, put};
 use std::alloc::{AllocError, Global};
 
@@ -60,8 +61,7 @@ impl Trail {
 
     /// Makes room for one more variable.
     pub(crate) fn grow(&mut self) -> Result<(), AllocError> {
-        self.values.push(FREE)?;
-        self.values.push(FREE)?;
+        self.values.extend_from_slice(&[FREE, FREE])?;
         self.levels.push(0)?;
         self.reasons.push(NONE)?;
         Ok(())
@@ -81,6 +81,36 @@ impl Trail {
     /// The clause that forced a variable.
     pub(crate) fn reason(&self, var: u32) -> u32 {
         at(&self.reasons, var)
+    }
+
+    /// The level from which on a code is false.
+    pub(crate) fn false_from(&self, code: u32) -> u32 {
+        if self.value(code) == FALSE {
+            self.level_of(code / 2)
+        } else {
+            NONE
+        }
+    }
+
+    /// The highest level of a false clause's codes, how many of them stand there, and the second highest
+    /// level.
+    pub(crate) fn levels(&self, clause: &[u32]) -> (u32, u32, u32) {
+        let mut highest = 0;
+        let mut many: u32 = 0;
+        let mut second = 0;
+        for code in clause {
+            let level = self.level_of(*code / 2);
+            if level > highest {
+                second = highest;
+                highest = level;
+                many = 1;
+            } else if level == highest {
+                many = many.saturating_add(1);
+            } else if level > second {
+                second = level;
+            }
+        }
+        (highest, many, second)
     }
 
     /// The level that was begun last.
@@ -104,6 +134,20 @@ impl Trail {
         Ok(())
     }
 
+    /// What a clause that was added asks for: nothing, or a code that is to be true; its number where it is a
+    /// conflict.
+    pub(crate) fn settle(&mut self, clauses: &Clauses, clause: u32) -> Result<u32, AllocError> {
+        let first = clauses.lit(clause, 0);
+        if self.value(first) == FALSE {
+            return Ok(clause);
+        }
+        let is_unit = clauses.len(clause) < 2 || self.value(clauses.lit(clause, 1)) == FALSE;
+        if is_unit && self.value(first) == FREE {
+            self.assign(first, clause)?;
+        }
+        Ok(NONE)
+    }
+
     /// Begins a level.
     pub(crate) fn begin(&mut self) -> Result<(), AllocError> {
         let start = Start {
@@ -116,17 +160,20 @@ impl Trail {
 
     /// The next code that is to be propagated.
     pub(crate) fn next(&mut self) -> Option<u32> {
-        let next = self.lits.get(self.head as usize).copied();
-        if next.is_some() {
-            self.head = self.head.saturating_add(1);
+        match self.lits.get(self.head as usize) {
+            Some(code) => {
+                self.head = self.head.saturating_add(1);
+                Some(*code)
+            }
+            None => None,
         }
-        next
     }
 
     /// Gives the levels above this one up.
     pub(crate) fn cut(&mut self, level: u32) {
-        let Some(start) = self.starts.get(level as usize).copied() else {
-            return;
+        let start = match self.starts.get(level as usize) {
+            Some(start) => *start,
+            None => return,
         };
         for place in start.lits..count(self.lits.len()) {
             let code = at(&self.lits, place);

@@ -42,18 +42,13 @@ impl Variables {
         self.loaded.clear();
     }
 
-    /// How many variables there are.
-    pub(crate) fn len(&self) -> u32 {
-        count(self.positions.len())
-    }
-
     /// The variable of a position, and whether it is new.
     pub(crate) fn number(&mut self, position: u32) -> Result<(u32, bool), AllocError> {
         let known = at(&self.numbers, position);
         if known > 0 || (position == 0 && !self.positions.is_empty()) {
             return Ok((known, false));
         }
-        let number = self.len();
+        let number = count(self.positions.len());
         self.positions.push(position)?;
         self.left.push(0)?;
         self.right.push(0)?;

@@ -29,20 +29,15 @@ impl Watches {
 
     /// Makes room for one more variable.
     pub(crate) fn grow(&mut self) -> Result<(), AllocError> {
-        self.heads.push(0)?;
-        self.heads.push(0)?;
-        Ok(())
+        self.heads.extend_from_slice(&[0, 0])
     }
 
     /// Makes room for one more clause.
     pub(crate) fn grow_clauses(&mut self) -> Result<(), AllocError> {
         if self.links.is_empty() {
-            self.links.push(0)?;
-            self.links.push(0)?;
+            self.links.extend_from_slice(&[0, 0])?;
         }
-        self.links.push(0)?;
-        self.links.push(0)?;
-        Ok(())
+        self.links.extend_from_slice(&[0, 0])
     }
 
     /// The first watch of a code.

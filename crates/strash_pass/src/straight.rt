@@ -7,6 +7,7 @@ use lemma_book::{Book, Entry, Offered, Refused, Subject};
 use lits::{Clause, ClauseErr, Listed, Lit, Literal, Node, Ref, Step};
 use netlist::{Definition, Net};
 use std::alloc::{AllocError, Global};
+use std::mem::swap;
 
 /// Merges a gate to its twin by hints that are read off the structure, and tells whether the book took the
 /// merge: from a gate to its fanins, from each fanin along the merges on its way to the other gate's, and to
@@ -57,29 +58,22 @@ fn straight_steps(
     gate: Definition,
     twin: Definition,
 ) -> Result<Vec<Step>, AllocError> {
-    let (left_root, left) = way_of(alloc, book, gate.left)?;
-    let (_root, right) = way_of(alloc, book, gate.right)?;
-    let (first_root, first) = way_of(alloc, book, twin.left)?;
-    let (_root, second) = way_of(alloc, book, twin.right)?;
-    let node = gate.node;
-    let mut one = Legs { node, left, right };
-    let node = twin.node;
-    let mut other = if first_root == left_root {
-        Legs {
-            node,
-            left: first,
-            right: second,
-        }
-    } else {
-        Legs {
-            node,
-            left: second,
-            right: first,
-        }
-    };
+    let (root, mut one) = legs_of(alloc, book, gate)?;
+    let (first_root, mut other) = legs_of(alloc, book, twin)?;
+    if first_root != root {
+        swap(&mut other.left, &mut other.right);
+    }
     part(&mut one.left, &mut other.left);
     part(&mut one.right, &mut other.right);
     both_steps(alloc, &one, &other)
+}
+
+/// The legs of a gate, and the root of its left fanin.
+fn legs_of(alloc: Global, book: &Book, gate: Definition) -> Result<(Lit, Legs), AllocError> {
+    let (root, left) = way_of(alloc, book, gate.left)?;
+    let (_root, right) = way_of(alloc, book, gate.right)?;
+    let node = gate.node;
+    Ok((root, Legs { node, left, right }))
 }
 
 /// The root of a literal, and for each merge on the way there the clause that leads on.
@@ -115,32 +109,23 @@ fn part(way: &mut Vec<Ref>, other: &mut Vec<Ref>) {
 fn both_steps(alloc: Global, one: &Legs, other: &Legs) -> Result<Vec<Step>, AllocError> {
     let mut steps = Vec::with_capacity(alloc, 2)?;
     let below = [literal(one.node, true), literal(other.node, false)];
-    push_step(
-        alloc,
-        &mut steps,
-        &below,
-        straight_hints(alloc, one, other)?,
-    )?;
+    push_step(alloc, &below, one, other, &mut steps)?;
     let above = [literal(one.node, false), literal(other.node, true)];
-    push_step(
-        alloc,
-        &mut steps,
-        &above,
-        straight_hints(alloc, other, one)?,
-    )?;
+    push_step(alloc, &above, other, one, &mut steps)?;
     Ok(steps)
 }
 
-/// Puts a step last, if its literals are a clause.
+/// Puts the step last that leads from one gate that is true to another, if its literals are a clause.
 fn push_step(
     alloc: Global,
-    steps: &mut Vec<Step>,
     lits: &[Lit],
-    hints: Vec<Ref>,
+    from: &Legs,
+    to: &Legs,
+    steps: &mut Vec<Step>,
 ) -> Result<(), AllocError> {
+    let hints = Listed::of(straight_hints(alloc, from, to)?);
     match Clause::of(alloc, lits) {
         Ok(clause) => {
-            let hints = Listed::of(hints);
             steps.push(Step { clause, hints })?;
             Ok(())
         }
@@ -151,9 +136,7 @@ fn push_step(
 
 /// The hints that lead from one gate that is true to another.
 fn straight_hints(alloc: Global, from: &Legs, to: &Legs) -> Result<Vec<Ref>, AllocError> {
-    let mut hints = Vec::with_capacity(alloc, 5)?;
-    hints.push(Ref::Axiom(from.node, 0))?;
-    hints.push(Ref::Axiom(from.node, 1))?;
+    let mut hints = Vec::from_slice(alloc, &[Ref::Axiom(from.node, 0), Ref::Axiom(from.node, 1)])?;
     push_way(&from.left, &to.left, &mut hints)?;
     push_way(&from.right, &to.right, &mut hints)?;
     hints.push(Ref::Axiom(to.node, 2))?;
@@ -162,9 +145,7 @@ fn straight_hints(alloc: Global, from: &Legs, to: &Legs) -> Result<Vec<Ref>, All
 
 /// Puts the clauses last that lead down one way and up the other.
 fn push_way(down: &[Ref], up: &[Ref], hints: &mut Vec<Ref>) -> Result<(), AllocError> {
-    for by in down {
-        hints.push(*by)?;
-    }
+    hints.extend_from_slice(down)?;
     for by in up.iter().rev() {
         hints.push(other_clause(*by))?;
     }

@@ -41,10 +41,14 @@ pub fn merge_folded(
 }
 
 /// The way with the constant, where one of the literals is it.
-fn with_constant(way: Vec<Lit>, left: Lit, right: Lit, target: Lit) -> Result<Vec<Lit>, AllocError>
+fn with_constant(
+    mut way: Vec<Lit>,
+    left: Lit,
+    right: Lit,
+    target: Lit,
+) -> Result<Vec<Lit>, AllocError>
     ensures { IfOk result (λ v. v.items ≡ way.items ++ constant_among left right target) }
 {
-    let mut way = way;
     if left.node == Node::Const || right.node == Node::Const || target.node == Node::Const {
         way.push(Lit {
             node: Node::Const,
