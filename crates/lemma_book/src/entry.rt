@@ -4,7 +4,7 @@ ghost use Rattle.lemma_book.specs.Entry.{subject_of};
 use lits::{Listed, Lit, Node, Step};
 
 /// A pair to be settled: whether a gate has the value of a literal of an earlier node.
-#[derive(Clone, Copy, Debug, PartialEq, Eq, Hash)]
+#[derive(Clone, Copy, PartialEq, Eq, Hash)]
 pub struct Task {
     pub node: Node,
     pub lit: Lit,
@@ -55,7 +55,7 @@ pub enum Entry {
 }
 
 /// What a book has one entry of at most: a node's merge, and what is known of an output.
-#[derive(Clone, Copy, Debug, PartialEq, Eq, Hash)]
+#[derive(Clone, Copy, PartialEq, Eq, Hash)]
 pub enum Subject {
     Merged(Node),
     Output(u32),

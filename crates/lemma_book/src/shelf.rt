@@ -12,7 +12,7 @@ use std::marker::Model;
 use std::sync::Arc;
 
 /// By what an entry is found: its subject, or the pair for which it spent a budget.
-#[derive(Clone, Copy, Debug, PartialEq, Eq, Hash)]
+#[derive(Clone, Copy, PartialEq, Eq, Hash)]
 pub enum Key {
     On(Subject),
     SpentOn(Task),

@@ -1,6 +1,6 @@
 /// What one turn at a shared book comes to: an entry's own place, the place of the entry that settles
 /// it, or how many entries the book has.
-#[derive(Clone, Copy, Debug, PartialEq, Eq)]
+#[derive(Clone, Copy)]
 pub enum What {
     At(u64),
     Already(u64),
@@ -8,7 +8,7 @@ pub enum What {
 }
 
 /// A turn at a shared book, and the number of the pass whose turn it was.
-#[derive(Clone, Copy, Debug, PartialEq, Eq)]
+#[derive(Clone, Copy)]
 pub struct Turn {
     pub pass: u64,
     pub what: What,
