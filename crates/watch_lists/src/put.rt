@@ -1,7 +1,7 @@
 use lits::Lit;
 
 /// A literal of a trail.
-#[derive(Clone, Copy, Debug, PartialEq, Eq)]
+#[derive(Clone, Copy, PartialEq, Eq)]
 pub struct Put {
     pub lit: Lit,
     /// The level at which it was put.
