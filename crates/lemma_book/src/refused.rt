@@ -37,7 +37,7 @@ pub enum Refused {
 }
 
 /// What a book says of an entry, before it takes it.
-#[derive(Clone, Copy, PartialEq, Eq)]
+#[derive(Clone, Copy)]
 pub enum Judgement {
     Good,
     /// The entry at this place settles it.

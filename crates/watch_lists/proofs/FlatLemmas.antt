@@ -1,6 +1,6 @@
 -- Pieces of a flat list.
 use Rattle.std.proofs.Common.{Bool, true, false, ◌≡◌, ℕ, zero, suc, ◌+◌, ◌-◌, ◌<◌, ◌≤◌, List, [], ◌∷◌, ◌++◌, length, refl, sym, ap, ◌∙◌, subst, arith, get_or, take, drop, set, map, ◌⊎◌, inl, inr}
-use Rattle.std.proofs.lemmas.List.{same_lists, get_or-map, length-map, length-set, get_or-set_same, get_or-set_other, drop-set-add, drop-set-lt, take-set-le, take-append-le, drop-append-le, drop_at, take_all, length-take, length-drop, map-append, drop-take, take-take, take_more, get_or_append_left, get_or_push, length_push, set-set}
+use Rattle.std.proofs.lemmas.List.{same_lists, length-append, get_or-map, length-map, length-set, get_or-set_same, get_or-set_other, drop-set-add, drop-set-lt, take-set-le, take-append-le, drop-append-le, drop_at, take_all, length-take, length-drop, map-append, drop-take, take-take, take_more, get_or_append_left, get_or_push, length_push, set-set}
 use Rattle.std.proofs.lemmas.List.Elements.{filter-append}
 use Rattle.std.specs.Prelude.{filter}
 use Rattle.watch_lists.specs.Flat.{piece, span_at, no_span, AreSpans}
@@ -77,6 +77,39 @@ pieces-push lits more spans are =
             let low : (span_at spans j).start ≤ length lits = omega (arith, w.0, w.1) in
             ap (λ (l : List ℕ). take ((span_at spans j).end - (span_at spans j).start) l) (drop-append-le (span_at spans j).start lits more low)
             ∙ take-append-le ((span_at spans j).end - (span_at spans j).start) (drop (span_at spans j).start lits) more (omega (arith, length-drop (span_at spans j).start lits, w.0, w.1))
+
+-- its span stands behind those that were there
+module _ (lits more : List ℕ) (spans : List Span) (are : AreSpans spans lits) where
+  abbrev next : Span
+  next = record { start = length lits; end = length lits + length more }
+
+  span-old : (i : ℕ) → i < length spans → span_at (spans ++ next ∷ []) i ≡ span_at spans i
+  span-old i h = get_or_append_left spans (next ∷ []) no_span i h
+
+  span-next : (i : ℕ) → i ≡ length spans → span_at (spans ++ next ∷ []) i ≡ next
+  span-next i e = subst (λ (k : ℕ). span_at (spans ++ next ∷ []) k ≡ next) (sym e) (get_or_push spans next no_span (length spans) refl)
+
+  within-more : (i : ℕ) → i < length (spans ++ next ∷ []) → (i < length spans) ⊎ ((i ≡ length spans) ⊎ (length spans < i))
+      → ((span_at (spans ++ next ∷ []) i).start ≤ (span_at (spans ++ next ∷ []) i).end) × ((span_at (spans ++ next ∷ []) i).end ≤ length (lits ++ more))
+  within-more i h (inl less) = subst (λ (s : Span). (s.start ≤ s.end) × (s.end ≤ length (lits ++ more))) (sym (span-old i less))
+      ((are.within i less).0, omega (arith, (are.within i less).1, length-append lits more))
+  within-more i h (inr (inl same)) = subst (λ (s : Span). (s.start ≤ s.end) × (s.end ≤ length (lits ++ more))) (sym (span-next i same))
+      (omega arith, omega (arith, length-append lits more))
+  within-more i h (inr (inr past)) = absurd (omega (arith, h, past, length_push spans next))
+
+  apart-more : (i j : ℕ) → i < j → j < length (spans ++ next ∷ []) → (j < length spans) ⊎ ((j ≡ length spans) ⊎ (length spans < j))
+      → (span_at (spans ++ next ∷ []) i).end ≤ (span_at (spans ++ next ∷ []) j).start
+  apart-more i j a b (inl less) = subst (λ (s : Span). s.end ≤ (span_at (spans ++ next ∷ []) j).start) (sym (span-old i (omega arith)))
+      (subst (λ (s : Span). (span_at spans i).end ≤ s.start) (sym (span-old j less)) (are.apart i j a less))
+  apart-more i j a b (inr (inl same)) = subst (λ (s : Span). s.end ≤ (span_at (spans ++ next ∷ []) j).start) (sym (span-old i (omega arith)))
+      (subst (λ (s : Span). (span_at spans i).end ≤ s.start) (sym (span-next j same)) (are.within i (omega arith)).1)
+  apart-more i j a b (inr (inr past)) = absurd (omega (arith, b, past, length_push spans next))
+
+  pub spans-push : AreSpans (spans ++ record { start = length lits; end = length lits + length more } ∷ []) (lits ++ more)
+  spans-push = record {
+    within = λ i h. within-more i h (cases3 i (length spans));
+    apart = λ i j a b. apart-more i j a b (cases3 j (length spans));
+  }
 
 -- what a shorter list has of a piece before its end
 piece-short : (lits : List ℕ) (s : Span) (m : ℕ) → s.start ≤ s.end → s.end ≤ m → piece (take m lits) s ≡ piece lits s

@@ -1,11 +1,16 @@
-use Rattle.std.proofs.Common.{ℕ, ◌≤◌, ◌≡◌, ap, length, arith, subst, Option}
-use Rattle.std.specs.Prelude.{IfSome, IfNone}
+use Rattle.std.proofs.Common.{ℕ, ◌≤◌, ◌≡◌, ap, length, arith, subst, Option, Result, Ok, Err}
+use Rattle.std.specs.Prelude.{IfSome, IfNone, IfOk, OnErr}
 use Rattle.std.proofs.lemmas.Result.{IfOk-weaker}
-use Rattle.watch_lists.specs.State.{IsStuck, Stays}
+use Rattle.watch_lists.specs.State.{IsEngine, IsPropagated, IsStuck, Stays}
 use Rattle.watch_lists.specs.declared.engine.Engine.{Engine}
-use Rattle.watch_lists.proofs.LevelLemmas.{propagated, propagated-stuck, conflict-clashes}
+use Rattle.watch_lists.proofs.LevelLemmas.{propagated, propagated-stuck, propagated-engine, conflict-clashes}
 use Rattle.watch_lists.proofs.TurnLemmas.{stays-trans, stays-holds}
 use Rattle.watch_lists.proofs.engine.Engine.propagate.Goals as goal
+
+-- the engine is one whether its turns ended or memory did
+after-turns : {E : Type 0} (e : Engine) (r : Result (Option ℕ) E) → IfOk r (IsPropagated e) → OnErr r (IsEngine e) → IsEngine e
+after-turns e (Ok o) ok err = propagated-engine e o ok
+after-turns e (Err x) ok err = err
 
 -- no clause is left without a pair
 all-watched : (mid new : Engine) → length mid.work ≡ length mid.clauses → Stays mid new → length new.clauses ≤ length new.work
@@ -31,3 +36,12 @@ returns-in-None-clause-some c = IfOk-weaker c.turns.result _ _ (λ r h. propagat
 pub returns-in-None-clause-stays : goal.returns-in-None-clause-stays
 returns-in-None-clause-stays c =
     stays-trans c.args.self.now c.attach_all.new.self c.turns.new.self (stays-holds c.args.self.now c.attach_all.new.self c.attach_all.ensures.keeps) c.turns.ensures.keeps
+
+pub returns-in-None-clause-engine : goal.returns-in-None-clause-engine
+returns-in-None-clause-engine c = after-turns c.turns.new.self c.turns.result c.turns.ensures.ok c.turns.ensures.err
+
+pub returns-in-Some-clause-stays : goal.returns-in-Some-clause-stays
+returns-in-Some-clause-stays c = stays-holds c.args.self.now c.attach_all.new.self c.attach_all.ensures.keeps
+
+pub returns-in_err-clause-clause-stays : goal.returns-in_err-clause-clause-stays
+returns-in_err-clause-clause-stays c = stays-holds c.args.self.now c.attach_all.new.self c.attach_all.ensures.keeps
