@@ -52,6 +52,7 @@ fn check_queries<R: Refuter>(rt: &impl Abort, alloc: Global, mut solver: R) -> R
     check_start(rt, alloc, &mut solver)
 }
 
+/// The cases refuter_yes, refuter_no and refuter_spent, and the log of queries that follow each other.
 #[test]
 fn refuter_yes_no_and_spent(rt: HostRuntime) -> Result<(), Fail> {
     let alloc = rt.alloc();

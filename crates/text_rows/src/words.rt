@@ -2,6 +2,7 @@ use crate::checks::{check, is_text};
 use command_line::{Asked, CheckWords, Refusal, read};
 use std::alloc::{AllocError, Global};
 use std::test::*;
+use workload_gen::Kind;
 
 const PROGRAM_HELP: &str = "help: \
 Decide whether circuits compute the same, and leave a proof that others can check
@@ -188,9 +189,9 @@ static TOLD: [(&str, &str); 30] = [
         "x and y, to p, by 1, 6, 5 and 100000",
     ),
     ("cec lrat f p", "p of f"),
-    ("cec self adder 1", "Adder of 1"),
-    ("cec self parity 4096", "Parity of 4096"),
-    ("cec self comparator +08", "Comparator of 8"),
+    ("cec self adder 1", "an adder of 1"),
+    ("cec self parity 4096", "a parity of 4096"),
+    ("cec self comparator +08", "a comparator of 8"),
 ];
 
 /// Words, and how the text of their refusal begins.
@@ -291,12 +292,20 @@ fn told_check(alloc: Global, check: &CheckWords<'_>) -> Result<String, AllocErro
     )
 }
 
+fn name_of(kind: Kind) -> &'static str {
+    match kind {
+        Kind::Adder => "an adder",
+        Kind::Parity => "a parity",
+        Kind::Comparator => "a comparator",
+    }
+}
+
 /// What `read` answered: the request, or the text of the refusal with its kind before it.
 fn told(alloc: Global, answer: &Result<Asked<'_>, Refusal>) -> Result<String, AllocError> {
     match answer {
         Ok(Asked::Check(check)) => told_check(alloc, check),
         Ok(Asked::Lrat(lrat)) => format!(in alloc; "{} of {}", lrat.proof, lrat.cnf),
-        Ok(Asked::SelfCheck(own)) => format!(in alloc; "{:?} of {}", own.kind, own.n),
+        Ok(Asked::SelfCheck(own)) => format!(in alloc; "{} of {}", name_of(own.kind), own.n),
         Err(Refusal::Help(text)) => format!(in alloc; "help: {text}"),
         Err(Refusal::Usage(text)) => format!(in alloc; "usage: {text}"),
         Err(Refusal::NoMemory) => Err(AllocError),
