@@ -300,5 +300,9 @@ fn model(alloc: Global, trail: &Trail) -> Result<Listed<Lit>, AllocError>
 fn values(alloc: Global, puts: &[Put]) -> Result<Vec<Lit>, AllocError>
     ensures { IfOk result (λ lits. lits.items ≡ lits_of puts.now) }
 {
-    puts.iter().map(|put| put.lit).collect(alloc)
+    let mut lits = Vec::with_capacity(alloc, puts.len())?;
+    for put in puts {
+        lits.push(put.lit)?;
+    }
+    Ok(lits)
 }
