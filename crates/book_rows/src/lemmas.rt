@@ -3,7 +3,7 @@ ghost use Rattle.lemma_book.specs.Book.{IsLegal};
 ghost use Rattle.lemma_book.specs.Cone.{AreThere};
 ghost use Rattle.std.specs.Bool.{OnTrue};
 
-use crate::entries::{self, MERGE, OUT};
+use crate::entries::{self, MERGE};
 use crate::pairs::{Case, check, expect, swapped_ands, two_xors};
 use lemma_book::{Book, Entry, Offered, Refused};
 use lits::{Lit, Named, Node, Ref, Side};
@@ -80,248 +80,157 @@ pub(crate) fn book_of(
     Ok(book)
 }
 
-/// Offers the entries to an empty book over a net, with so many clauses for each query.
-fn offer_to(
+/// Offers the entries to one book, in order: each line with an arrow has one, and the answer to it.
+fn offer_lines(
     rt: &impl Abort,
     alloc: Global,
     net: &Net,
-    budget: u64,
-    rows: &[Row<'_>],
+    book: &mut Book,
+    text: &str,
 ) -> Result<(), Fail>
-    requires some { 1 ≤ budget }
-    requires range { budget ≤ 1000000000 }
+    requires { IsLegal net.now book.old }
 {
-    offer_all(rt, alloc, net, &mut Book::new(alloc, budget, budget), rows)
+    for line in text.split('\n') {
+        if let Some(row) = line.split_once(" => ") {
+            let answer = answer(alloc, net, book, row.0)?;
+            check_answer(rt, alloc, row, answer)?;
+        }
+    }
+    Ok(())
 }
 
-/// Entries that are offered to an empty book over a net, with one clause for each query or, where logs are
-/// long, two.
-type Offering = (bool, &'static [Row<'static>]);
+/// Entries by lines that are offered to an empty book over a net, with one clause for each query or, where
+/// logs are long, two. Text, since each row of a table of so many costs the prover half a second.
+type Offering = (bool, &'static str);
 
 /// Offerings over a net, each to a book of its own.
 struct Offerings(&'static [Offering]);
 
 impl Case for Offerings {
     fn check<A: Abort>(&self, rt: &A, alloc: Global, net: &Net) -> Result<(), Fail> {
-        for (are_long, rows) in self.0 {
+        for (are_long, text) in self.0 {
             let budget = if *are_long { 2 } else { 1 };
-            offer_to(rt, alloc, net, budget, rows)?;
+            offer_lines(rt, alloc, net, &mut Book::new(alloc, budget, budget), text)?;
         }
         Ok(())
     }
 }
 
 /// A merge without a hint, with node and target exchanged, whole, and once more.
-const OFFERS: &[Row<'static>] = &[
-    (
-        "merge b3 a3: -b3 a3 by b3.1 a3.2; b3 -a3 by a3.0 a3.1 b3.2",
-        "Err(Bad(Step(0, BadStep { hint: 0, why: NotFalse })))",
-    ),
-    (
-        "merge a3 b3: -b3 a3 by b3.0 b3.1 a3.2; b3 -a3 by a3.0 a3.1 b3.2",
-        "Err(Bad(NotEarlier))",
-    ),
-    (MERGE, "Ok(At(0))"),
-    (MERGE, "Ok(Already(0))"),
-];
+const OFFERS: &str = "\
+merge b3 a3: -b3 a3 by b3.1 a3.2; b3 -a3 by a3.0 a3.1 b3.2 => Err(Bad(Step(0, BadStep { hint: 0, why: NotFalse })))
+merge a3 b3: -b3 a3 by b3.0 b3.1 a3.2; b3 -a3 by a3.0 a3.1 b3.2 => Err(Bad(NotEarlier))
+merge b3 a3: -b3 a3 by b3.0 b3.1 a3.2; b3 -a3 by a3.0 a3.1 b3.2 => Ok(At(0))
+merge b3 a3: -b3 a3 by b3.0 b3.1 a3.2; b3 -a3 by a3.0 a3.1 b3.2 => Ok(Already(0))
+";
 
 /// Each cause that is found without looking at steps.
-const NAMES_AND_SIZES: &[Row<'static>] = &[
-    // A gate that isn't there; an input; an XOR, which has no position.
-    (
-        "merge b9 a3: -b3 a3 by b3.0 b3.1 a3.2; b3 -a3 by a3.0 a3.1 b3.2",
-        "Err(Bad(NoNode))",
-    ),
-    (
-        "merge b3 i2: -b3 a3 by b3.0 b3.1 a3.2; b3 -a3 by a3.0 a3.1 b3.2",
-        "Err(Bad(NoNode))",
-    ),
-    (
-        "merge d0 a3: -b3 a3 by b3.0 b3.1 a3.2; b3 -a3 by a3.0 a3.1 b3.2",
-        "Err(Bad(NoNode))",
-    ),
-    ("apart a3 d0: 10", "Err(Bad(NoNode))"),
-    ("spent b9 a3 0: -b3 a3 by b3.1", "Err(Bad(NoNode))"),
-    // An output that isn't there.
-    ("out 1: -d0 by d0.0", "Err(Bad(NoNode))"),
-    ("outapart 1: 10", "Err(Bad(NoNode))"),
-    ("outspent 1 0: -d0 by d0.0", "Err(Bad(NoNode))"),
-    // A literal of a step.
-    (
-        "merge b3 a3: -b3 i1 i7 by b3.0; -b3 a3 by b3.0 b3.1 a3.2; b3 -a3 by a3.0 a3.1 b3.2",
-        "Err(Bad(NoNode))",
-    ),
-    ("spent b3 a3 0: -b3 i7 by b3.0", "Err(Bad(NoNode))"),
-    ("out 0: -d1 by d0.0; -d0 by d0.0", "Err(Bad(NoNode))"),
-    // Target that isn't earlier, by all else good.
-    (
-        "merge a3 b3: -a3 b3 by a3.0 a3.1 b3.2; a3 -b3 by b3.0 b3.1 a3.2",
-        "Err(Bad(NotEarlier))",
-    ),
-    ("apart i0 a3: 10", "Err(Bad(NotEarlier))"),
-    // Equal values; an input of another length.
-    ("apart a3 i0: 11", "Err(NotApart)"),
-    ("apart a3 -i0: 10", "Err(NotApart)"),
-    ("apart a3 i0: 1", "Err(NotApart)"),
-    ("apart a3 i0: 100", "Err(NotApart)"),
-    ("outapart 0: 10", "Err(NotApart)"),
-    ("outapart 0: ", "Err(NotApart)"),
-    // Last clauses.
-    ("merge b3 a3: -b3 a3 by b3.0 b3.1 a3.2", "Err(Bad(Shape))"),
-    (
-        "merge b3 a3: b3 -a3 by a3.0 a3.1 b3.2; -b3 a3 by b3.0 b3.1 a3.2",
-        "Err(Bad(Shape))",
-    ),
-    (
-        "merge b3 -a3: -b3 a3 by b3.0 b3.1 a3.2; b3 -a3 by a3.0 a3.1 b3.2",
-        "Err(Bad(Shape))",
-    ),
-    (
-        "merge b3 a3: -b3 a3 by b3.0 b3.1 a3.2; b3 -a3 by a3.0 a3.1 b3.2; -b3 a3 by b3.0 b3.1 a3.2",
-        "Err(Bad(Shape))",
-    ),
-    ("out 0: -d0 a3 by d0.0", "Err(Bad(Shape))"),
-    // Counts.
-    (
-        "merge b3 a3: -b3 i1 by b3.0; -b3 i0 by b3.1; -b3 a3 by b3.0 b3.1 a3.2; b3 -a3 by a3.0 a3.1 b3.2",
-        "Err(Bad(Count))",
-    ),
-    ("spent b3 a3 0: ", "Err(Bad(Count))"),
-    ("outspent 0 0: ", "Err(Bad(Count))"),
-];
+const NAMES_AND_SIZES: &str = "\
+# A gate that isn't there; an input; an XOR, which has no position.
+merge b9 a3: -b3 a3 by b3.0 b3.1 a3.2; b3 -a3 by a3.0 a3.1 b3.2 => Err(Bad(NoNode))
+merge b3 i2: -b3 a3 by b3.0 b3.1 a3.2; b3 -a3 by a3.0 a3.1 b3.2 => Err(Bad(NoNode))
+merge d0 a3: -b3 a3 by b3.0 b3.1 a3.2; b3 -a3 by a3.0 a3.1 b3.2 => Err(Bad(NoNode))
+apart a3 d0: 10 => Err(Bad(NoNode))
+spent b9 a3 0: -b3 a3 by b3.1 => Err(Bad(NoNode))
+# An output that isn't there.
+out 1: -d0 by d0.0 => Err(Bad(NoNode))
+outapart 1: 10 => Err(Bad(NoNode))
+outspent 1 0: -d0 by d0.0 => Err(Bad(NoNode))
+# A literal of a step.
+merge b3 a3: -b3 i1 i7 by b3.0; -b3 a3 by b3.0 b3.1 a3.2; b3 -a3 by a3.0 a3.1 b3.2 => Err(Bad(NoNode))
+spent b3 a3 0: -b3 i7 by b3.0 => Err(Bad(NoNode))
+out 0: -d1 by d0.0; -d0 by d0.0 => Err(Bad(NoNode))
+# Target that isn't earlier, by all else good.
+merge a3 b3: -a3 b3 by a3.0 a3.1 b3.2; a3 -b3 by b3.0 b3.1 a3.2 => Err(Bad(NotEarlier))
+apart i0 a3: 10 => Err(Bad(NotEarlier))
+# Equal values; an input of another length.
+apart a3 i0: 11 => Err(NotApart)
+apart a3 -i0: 10 => Err(NotApart)
+apart a3 i0: 1 => Err(NotApart)
+apart a3 i0: 100 => Err(NotApart)
+outapart 0: 10 => Err(NotApart)
+outapart 0:  => Err(NotApart)
+# Last clauses.
+merge b3 a3: -b3 a3 by b3.0 b3.1 a3.2 => Err(Bad(Shape))
+merge b3 a3: b3 -a3 by a3.0 a3.1 b3.2; -b3 a3 by b3.0 b3.1 a3.2 => Err(Bad(Shape))
+merge b3 -a3: -b3 a3 by b3.0 b3.1 a3.2; b3 -a3 by a3.0 a3.1 b3.2 => Err(Bad(Shape))
+merge b3 a3: -b3 a3 by b3.0 b3.1 a3.2; b3 -a3 by a3.0 a3.1 b3.2; -b3 a3 by b3.0 b3.1 a3.2 => Err(Bad(Shape))
+out 0: -d0 a3 by d0.0 => Err(Bad(Shape))
+# Counts.
+merge b3 a3: -b3 i1 by b3.0; -b3 i0 by b3.1; -b3 a3 by b3.0 b3.1 a3.2; b3 -a3 by a3.0 a3.1 b3.2 => Err(Bad(Count))
+spent b3 a3 0:  => Err(Bad(Count))
+outspent 0 0:  => Err(Bad(Count))
+";
 
 /// Each cause that is found in steps.
-const STEPS: &[Row<'static>] = &[
-    // Hints that are no clauses: an axiom, one of an XOR, an entry's, the step's own, a later step's.
-    (
-        "merge b3 a3: -b3 a3 by b3.3; b3 -a3 by a3.0 a3.1 b3.2",
-        "Err(Bad(Step(0, BadStep { hint: 1, why: NoClause })))",
-    ),
-    (
-        "merge b3 a3: -b3 a3 by b3.0 d0.0; b3 -a3 by a3.0 a3.1 b3.2",
-        "Err(Bad(Step(0, BadStep { hint: 2, why: NoClause })))",
-    ),
-    (
-        "merge b3 a3: -b3 a3 by e0.0; b3 -a3 by a3.0 a3.1 b3.2",
-        "Err(Bad(Step(0, BadStep { hint: 1, why: NoClause })))",
-    ),
-    (
-        "merge b3 a3: -b3 a3 by s0; b3 -a3 by a3.0 a3.1 b3.2",
-        "Err(Bad(Step(0, BadStep { hint: 1, why: NoClause })))",
-    ),
-    (
-        "merge b3 a3: -b3 a3 by s1; b3 -a3 by a3.0 a3.1 b3.2",
-        "Err(Bad(Step(0, BadStep { hint: 1, why: NoClause })))",
-    ),
-    // The other causes.
-    (
-        "merge b3 a3: -b3 a3 by b3.0 b3.1 a3.2 a3.0; b3 -a3 by a3.0 a3.1 b3.2",
-        "Err(Bad(Step(0, BadStep { hint: 4, why: AfterFalse })))",
-    ),
-    (
-        "merge b3 a3: -b3 a3 by b3.0 b3.1 a3.2; b3 -a3 by b3.0",
-        "Err(Bad(Step(1, BadStep { hint: 1, why: Satisfied })))",
-    ),
-    (
-        "merge b3 a3: -b3 a3 by b3.0 b3.1 a3.2; b3 -a3 by a3.0 a3.0 b3.2",
-        "Err(Bad(Step(1, BadStep { hint: 2, why: Satisfied })))",
-    ),
-    (
-        "merge b3 a3: -b3 a3 by a3.2 b3.0 b3.1; b3 -a3 by a3.0 a3.1 b3.2",
-        "Err(Bad(Step(0, BadStep { hint: 1, why: TwoFree })))",
-    ),
-    (
-        "merge b3 a3: -b3 a3 by; b3 -a3 by a3.0 a3.1 b3.2",
-        "Err(Bad(Step(0, BadStep { hint: 0, why: NotFalse })))",
-    ),
-    (
-        "merge b3 a3: -b3 a3 by b3.0 b3.1 a3.2; b3 -a3 by a3.0 a3.1",
-        "Err(Bad(Step(1, BadStep { hint: 0, why: NotFalse })))",
-    ),
-    (
-        "out 0: -d0 by d0.0",
-        "Err(Bad(Step(0, BadStep { hint: 1, why: TwoFree })))",
-    ),
-    (
-        "out 0: -d0 a3 by d0.0; -d0 by s0",
-        "Err(Bad(Step(0, BadStep { hint: 0, why: NotFalse })))",
-    ),
-    // An axiom is nothing new.
-    ("spent b3 a3 0: -b3 i1 by b3.0", "Err(Bad(NotNew(0)))"),
-    ("outspent 0 0: -b3 i1 by b3.0", "Err(Bad(NotNew(0)))"),
-];
+const STEPS: &str = "\
+# Hints that are no clauses: an axiom, one of an XOR, an entry's, the step's own, a later step's.
+merge b3 a3: -b3 a3 by b3.3; b3 -a3 by a3.0 a3.1 b3.2 => Err(Bad(Step(0, BadStep { hint: 1, why: NoClause })))
+merge b3 a3: -b3 a3 by b3.0 d0.0; b3 -a3 by a3.0 a3.1 b3.2 => Err(Bad(Step(0, BadStep { hint: 2, why: NoClause })))
+merge b3 a3: -b3 a3 by e0.0; b3 -a3 by a3.0 a3.1 b3.2 => Err(Bad(Step(0, BadStep { hint: 1, why: NoClause })))
+merge b3 a3: -b3 a3 by s0; b3 -a3 by a3.0 a3.1 b3.2 => Err(Bad(Step(0, BadStep { hint: 1, why: NoClause })))
+merge b3 a3: -b3 a3 by s1; b3 -a3 by a3.0 a3.1 b3.2 => Err(Bad(Step(0, BadStep { hint: 1, why: NoClause })))
+# The other causes.
+merge b3 a3: -b3 a3 by b3.0 b3.1 a3.2 a3.0; b3 -a3 by a3.0 a3.1 b3.2 => Err(Bad(Step(0, BadStep { hint: 4, why: AfterFalse })))
+merge b3 a3: -b3 a3 by b3.0 b3.1 a3.2; b3 -a3 by b3.0 => Err(Bad(Step(1, BadStep { hint: 1, why: Satisfied })))
+merge b3 a3: -b3 a3 by b3.0 b3.1 a3.2; b3 -a3 by a3.0 a3.0 b3.2 => Err(Bad(Step(1, BadStep { hint: 2, why: Satisfied })))
+merge b3 a3: -b3 a3 by a3.2 b3.0 b3.1; b3 -a3 by a3.0 a3.1 b3.2 => Err(Bad(Step(0, BadStep { hint: 1, why: TwoFree })))
+merge b3 a3: -b3 a3 by; b3 -a3 by a3.0 a3.1 b3.2 => Err(Bad(Step(0, BadStep { hint: 0, why: NotFalse })))
+merge b3 a3: -b3 a3 by b3.0 b3.1 a3.2; b3 -a3 by a3.0 a3.1 => Err(Bad(Step(1, BadStep { hint: 0, why: NotFalse })))
+out 0: -d0 by d0.0 => Err(Bad(Step(0, BadStep { hint: 1, why: TwoFree })))
+out 0: -d0 a3 by d0.0; -d0 by s0 => Err(Bad(Step(0, BadStep { hint: 0, why: NotFalse })))
+# An axiom is nothing new.
+spent b3 a3 0: -b3 i1 by b3.0 => Err(Bad(NotNew(0)))
+outspent 0 0: -b3 i1 by b3.0 => Err(Bad(NotNew(0)))
+";
 
 /// Two causes stand, and the earlier is told.
-const PAIRS: &[Row<'static>] = &[
-    // Name and place in order; name and last clauses.
-    (
-        "merge a3 b9: -b3 a3 by b3.0 b3.1 a3.2; b3 -a3 by a3.0 a3.1 b3.2",
-        "Err(Bad(NoNode))",
-    ),
-    ("merge b9 a3: ", "Err(Bad(NoNode))"),
-    ("outapart 1: 11", "Err(Bad(NoNode))"),
-    // Place in order, then values, last clauses, count, or entries that were seen.
-    ("apart a3 a3: 10", "Err(Bad(NotEarlier))"),
-    ("apart a3 b3: 1", "Err(Bad(NotEarlier))"),
-    ("merge a3 b3: ", "Err(Bad(NotEarlier))"),
-    ("spent a3 b3 0: ", "Err(Bad(NotEarlier))"),
-    ("spent a3 b3 7: -b3 i1 by b3.0", "Err(Bad(NotEarlier))"),
-    // Last clauses, then count or a step.
-    (
-        "merge b3 a3: -b3 i1 by b3.0; -b3 i0 by b3.1; -b3 i1 by b3.0; -b3 i1 by b3.0",
-        "Err(Bad(Shape))",
-    ),
-    ("merge b3 a3: -b3 a3 by a3.2", "Err(Bad(Shape))"),
-    // Count, then entries that were seen or a step.
-    ("spent b3 a3 7: ", "Err(Bad(Count))"),
-    (
-        "merge b3 a3: -b3 i1 by; -b3 i0 by b3.1; -b3 a3 by b3.0 b3.1 a3.2; b3 -a3 by a3.0 a3.1 b3.2",
-        "Err(Bad(Count))",
-    ),
-    // Entries that were seen, then a step or a clause that isn't new.
-    ("spent b3 a3 7: -b3 i1 by", "Err(Bad(Seen))"),
-    ("outspent 0 7: -b3 i1 by b3.0", "Err(Bad(Seen))"),
-    // A step, then a clause that isn't new; an earlier step, then a later.
-    (
-        "spent b3 a3 0: -b3 i1 by",
-        "Err(Bad(Step(0, BadStep { hint: 0, why: NotFalse })))",
-    ),
-    (
-        "merge b3 a3: -b3 a3 by; b3 -a3 by",
-        "Err(Bad(Step(0, BadStep { hint: 0, why: NotFalse })))",
-    ),
-];
+const PAIRS: &str = "\
+# Name and place in order; name and last clauses.
+merge a3 b9: -b3 a3 by b3.0 b3.1 a3.2; b3 -a3 by a3.0 a3.1 b3.2 => Err(Bad(NoNode))
+merge b9 a3:  => Err(Bad(NoNode))
+outapart 1: 11 => Err(Bad(NoNode))
+# Place in order, then values, last clauses, count, or entries that were seen.
+apart a3 a3: 10 => Err(Bad(NotEarlier))
+apart a3 b3: 1 => Err(Bad(NotEarlier))
+merge a3 b3:  => Err(Bad(NotEarlier))
+spent a3 b3 0:  => Err(Bad(NotEarlier))
+spent a3 b3 7: -b3 i1 by b3.0 => Err(Bad(NotEarlier))
+# Last clauses, then count or a step.
+merge b3 a3: -b3 i1 by b3.0; -b3 i0 by b3.1; -b3 i1 by b3.0; -b3 i1 by b3.0 => Err(Bad(Shape))
+merge b3 a3: -b3 a3 by a3.2 => Err(Bad(Shape))
+# Count, then entries that were seen or a step.
+spent b3 a3 7:  => Err(Bad(Count))
+merge b3 a3: -b3 i1 by; -b3 i0 by b3.1; -b3 a3 by b3.0 b3.1 a3.2; b3 -a3 by a3.0 a3.1 b3.2 => Err(Bad(Count))
+# Entries that were seen, then a step or a clause that isn't new.
+spent b3 a3 7: -b3 i1 by => Err(Bad(Seen))
+outspent 0 7: -b3 i1 by b3.0 => Err(Bad(Seen))
+# A step, then a clause that isn't new; an earlier step, then a later.
+spent b3 a3 0: -b3 i1 by => Err(Bad(Step(0, BadStep { hint: 0, why: NotFalse })))
+merge b3 a3: -b3 a3 by; b3 -a3 by => Err(Bad(Step(0, BadStep { hint: 0, why: NotFalse })))
+";
 
 /// A merge, its output, and what comes after them.
-const SETTLED: &[Row<'static>] = &[
-    (MERGE, "Ok(At(0))"),
-    (OUT, "Ok(At(1))"),
-    // What is settled, whatever else is wrong.
-    ("merge b3 i0: ", "Ok(Already(0))"),
-    ("merge b3 b3: ", "Ok(Already(0))"),
-    ("out 0: ", "Ok(Already(1))"),
-    ("outapart 0: 11", "Ok(Already(1))"),
-    ("outspent 0 9: ", "Ok(Already(1))"),
-    // But not what isn't there.
-    ("merge b3 i9: ", "Err(Bad(NoNode))"),
-    // No Apart is settled.
-    ("apart a3 i0: 10", "Ok(At(2))"),
-    ("apart a3 i0: 10", "Ok(At(3))"),
-    ("apart b3 i0: 10", "Ok(At(4))"),
-    // An Out's unit, which no step may cite, and clauses that an Apart and a Merge don't have.
-    (
-        "merge a3 i0: -a3 i0 by e1.0; a3 -i0 by a3.2",
-        "Err(Bad(Step(0, BadStep { hint: 1, why: NoClause })))",
-    ),
-    (
-        "merge a3 i0: -a3 i0 by e2.0; a3 -i0 by a3.2",
-        "Err(Bad(Step(0, BadStep { hint: 1, why: NoClause })))",
-    ),
-    (
-        "merge a3 i0: -a3 i0 by e0.2; a3 -i0 by a3.2",
-        "Err(Bad(Step(0, BadStep { hint: 1, why: NoClause })))",
-    ),
-];
+const SETTLED: &str = "\
+merge b3 a3: -b3 a3 by b3.0 b3.1 a3.2; b3 -a3 by a3.0 a3.1 b3.2 => Ok(At(0))
+out 0: -d0 a3 by d0.0 e0.0; -d0 by s0 d0.1 e0.1 => Ok(At(1))
+# What is settled, whatever else is wrong.
+merge b3 i0:  => Ok(Already(0))
+merge b3 b3:  => Ok(Already(0))
+out 0:  => Ok(Already(1))
+outapart 0: 11 => Ok(Already(1))
+outspent 0 9:  => Ok(Already(1))
+# But not what isn't there.
+merge b3 i9:  => Err(Bad(NoNode))
+# No Apart is settled.
+apart a3 i0: 10 => Ok(At(2))
+apart a3 i0: 10 => Ok(At(3))
+apart b3 i0: 10 => Ok(At(4))
+# An Out's unit, which no step may cite, and clauses that an Apart and a Merge don't have.
+merge a3 i0: -a3 i0 by e1.0; a3 -i0 by a3.2 => Err(Bad(Step(0, BadStep { hint: 1, why: NoClause })))
+merge a3 i0: -a3 i0 by e2.0; a3 -i0 by a3.2 => Err(Bad(Step(0, BadStep { hint: 1, why: NoClause })))
+merge a3 i0: -a3 i0 by e0.2; a3 -i0 by a3.2 => Err(Bad(Step(0, BadStep { hint: 1, why: NoClause })))
+";
 
 static OF_ANDS: Offerings = Offerings(&[
     (false, OFFERS),
@@ -337,71 +246,31 @@ fn offers(rt: HostRuntime) -> Result<(), Fail> {
 }
 
 /// Logs of one clause.
-const LOGS: &[Row<'static>] = &[
-    // Counts, entries that were seen, and what is to be earlier, by all else good.
-    (
-        "spent a5 -b5 0: -b5 -a5 i0 by b5.1 b4.2 a5.1 a4.2",
-        "Err(Bad(NotEarlier))",
-    ),
-    (
-        "spent b5 -a5 0: -b5 -a5 i0 by b5.1 b4.2 a5.1 a4.2; -b5 -a5 by s0 b5.0 b3.2 a5.0 a3.2",
-        "Err(Bad(Count))",
-    ),
-    (
-        "spent b5 -a5 1: -b5 -a5 i0 by b5.1 b4.2 a5.1 a4.2",
-        "Err(Bad(Seen))",
-    ),
-    (
-        "outspent 0 1: -d0 a5 i0 by d0.1 b3.0 b5.2 b4.1 a4.1 a5.2 a3.0",
-        "Err(Bad(Seen))",
-    ),
-    // A hint too few, and clauses that aren't new.
-    (
-        "spent b5 -a5 0: -b5 -a5 i0 by b5.1 b4.2 a5.1",
-        "Err(Bad(Step(0, BadStep { hint: 0, why: NotFalse })))",
-    ),
-    ("spent b5 -a5 0: -b5 -b3 by b5.0", "Err(Bad(NotNew(0)))"),
-    ("outspent 0 0: -b5 -b3 by b5.0", "Err(Bad(NotNew(0)))"),
-    // Good logs.
-    (
-        "spent b5 -a5 0: -b5 -a5 i0 by b5.1 b4.2 a5.1 a4.2",
-        "Ok(At(0))",
-    ),
-    (
-        "outspent 0 1: -d0 a5 i0 by d0.1 b3.0 b5.2 b4.1 a4.1 a5.2 a3.0",
-        "Ok(At(1))",
-    ),
-    (
-        "outspent 0 1: -d0 a5 i0 by d0.1 b3.0 b5.2 b4.1 a4.1 a5.2 a3.0",
-        "Ok(Already(1))",
-    ),
-];
+const LOGS: &str = "\
+# Counts, entries that were seen, and what is to be earlier, by all else good.
+spent a5 -b5 0: -b5 -a5 i0 by b5.1 b4.2 a5.1 a4.2 => Err(Bad(NotEarlier))
+spent b5 -a5 0: -b5 -a5 i0 by b5.1 b4.2 a5.1 a4.2; -b5 -a5 by s0 b5.0 b3.2 a5.0 a3.2 => Err(Bad(Count))
+spent b5 -a5 1: -b5 -a5 i0 by b5.1 b4.2 a5.1 a4.2 => Err(Bad(Seen))
+outspent 0 1: -d0 a5 i0 by d0.1 b3.0 b5.2 b4.1 a4.1 a5.2 a3.0 => Err(Bad(Seen))
+# A hint too few, and clauses that aren't new.
+spent b5 -a5 0: -b5 -a5 i0 by b5.1 b4.2 a5.1 => Err(Bad(Step(0, BadStep { hint: 0, why: NotFalse })))
+spent b5 -a5 0: -b5 -b3 by b5.0 => Err(Bad(NotNew(0)))
+outspent 0 0: -b5 -b3 by b5.0 => Err(Bad(NotNew(0)))
+# Good logs.
+spent b5 -a5 0: -b5 -a5 i0 by b5.1 b4.2 a5.1 a4.2 => Ok(At(0))
+outspent 0 1: -d0 a5 i0 by d0.1 b3.0 b5.2 b4.1 a4.1 a5.2 a3.0 => Ok(At(1))
+outspent 0 1: -d0 a5 i0 by d0.1 b3.0 b5.2 b4.1 a4.1 a5.2 a3.0 => Ok(Already(1))
+";
 
 /// Logs of two clauses, and a merge by two learned clauses.
-const LONGER_LOGS: &[Row<'static>] = &[
-    // The log's second clause is the first once more.
-    (
-        "spent b5 -a5 0: -b5 -a5 i0 by b5.1 b4.2 a5.1 a4.2; -b5 -a5 i0 by b5.1 b4.2 a5.1 a4.2",
-        "Err(Bad(NotNew(1)))",
-    ),
-    (
-        "spent b5 -a5 0: -b5 -a5 i0 by b5.1 b4.2 a5.1 a4.2; -b5 -a5 by s0 b5.0 b3.2 a5.0 a3.2",
-        "Ok(At(0))",
-    ),
-    // A step cites those before it.
-    (
-        "merge b5 -a5: b5 a5 -i0 by b4.0 b5.2 b3.1 a3.1 a5.2 a4.0; \
-            -b5 -a5 i0 by b5.1 b4.2 a5.1 a4.2; -b5 -a5 by s0 b5.0 b3.2 a5.0 a3.2; \
-            b5 a5 by s1 b3.0 b5.2 b4.1 a4.1 a5.2 a3.0",
-        "Err(Bad(Step(2, BadStep { hint: 1, why: Satisfied })))",
-    ),
-    (
-        "merge b5 -a5: -b5 -a5 i0 by b5.1 b4.2 a5.1 a4.2; \
-            b5 a5 -i0 by b4.0 b5.2 b3.1 a3.1 a5.2 a4.0; -b5 -a5 by s0 b5.0 b3.2 a5.0 a3.2; \
-            b5 a5 by s1 b3.0 b5.2 b4.1 a4.1 a5.2 a3.0",
-        "Ok(At(1))",
-    ),
-];
+const LONGER_LOGS: &str = "\
+# The log's second clause is the first once more.
+spent b5 -a5 0: -b5 -a5 i0 by b5.1 b4.2 a5.1 a4.2; -b5 -a5 i0 by b5.1 b4.2 a5.1 a4.2 => Err(Bad(NotNew(1)))
+spent b5 -a5 0: -b5 -a5 i0 by b5.1 b4.2 a5.1 a4.2; -b5 -a5 by s0 b5.0 b3.2 a5.0 a3.2 => Ok(At(0))
+# A step cites those before it.
+merge b5 -a5: b5 a5 -i0 by b4.0 b5.2 b3.1 a3.1 a5.2 a4.0; -b5 -a5 i0 by b5.1 b4.2 a5.1 a4.2; -b5 -a5 by s0 b5.0 b3.2 a5.0 a3.2; b5 a5 by s1 b3.0 b5.2 b4.1 a4.1 a5.2 a3.0 => Err(Bad(Step(2, BadStep { hint: 1, why: Satisfied })))
+merge b5 -a5: -b5 -a5 i0 by b5.1 b4.2 a5.1 a4.2; b5 a5 -i0 by b4.0 b5.2 b3.1 a3.1 a5.2 a4.0; -b5 -a5 by s0 b5.0 b3.2 a5.0 a3.2; b5 a5 by s1 b3.0 b5.2 b4.1 a4.1 a5.2 a3.0 => Ok(At(1))
+";
 
 static OF_XORS: Offerings = Offerings(&[(false, LOGS), (true, LONGER_LOGS)]);
 
@@ -481,6 +350,8 @@ fn is_copied(alloc: Global, book: &Book) -> Result<bool, Fail> {
     Ok(is_copy(&book.copy(alloc)?))
 }
 
+static MERGED: [Row<'static>; 1] = [(MERGE, "Ok(At(0))")];
+
 /// What is read of a book with the one entry that merges the swapped ANDs, and two clauses for outputs: the
 /// cone of the merged gate, which has its merge's clauses and those of the gate that it stands for, and none
 /// of its own; the gate's root, and the entries that lead to it; a copy.
@@ -488,7 +359,7 @@ struct Readers;
 
 impl Case for Readers {
     fn check<A: Abort>(&self, rt: &A, alloc: Global, net: &Net) -> Result<(), Fail> {
-        let book = book_of(rt, alloc, net, 2, OFFERS)?;
+        let book = book_of(rt, alloc, net, 2, &MERGED)?;
         expect(rt, "the cone", has_names(alloc, net, &book)?);
         expect(rt, "root and path", has_root(alloc, &book)?);
         expect(rt, "a copy", is_copied(alloc, &book)?);

@@ -133,19 +133,34 @@ pub(crate) fn left_of_many<R: Refuter>(
     )
 }
 
-/// What was learned in a query that was given up, of one unit, stays in the next, which takes as many as the
-/// answer does. The units that are left of 100000.
+/// One unit is spent, and then as many as the answer takes; the units that are left of 100000.
+fn left_of_two<R: Refuter>(
+    rt: &impl Abort,
+    alloc: Global,
+    solver: &mut R,
+    base: &[Named],
+    target: &Clause<Lit>,
+) -> Result<u64, Fail> {
+    solved(rt, alloc, solver, base, target, 1)?;
+    let (answer, left) = asked(rt, alloc, solver, base, target, 100_000)?;
+    expect(rt, "the outputs are equal", verdict(&answer) == Some(true));
+    Ok(left)
+}
+
+/// What was learned in a query that was given up stays in the next. The units that are left of 100000.
 pub(crate) fn left_of_second_query<R: Refuter>(
     rt: &impl Abort,
     alloc: Global,
     solver: &mut R,
 ) -> Result<u64, Fail> {
-    let target = clause_of(alloc, &EQUAL_OUTPUTS)?;
     let base = cone_of_xor(alloc)?;
-    solved(rt, alloc, solver, base.as_slice(), &target, 1)?;
-    let (answer, left) = asked(rt, alloc, solver, base.as_slice(), &target, 100_000)?;
-    expect(rt, "the outputs are equal", verdict(&answer) == Some(true));
-    Ok(left)
+    left_of_two(
+        rt,
+        alloc,
+        solver,
+        base.as_slice(),
+        &clause_of(alloc, &EQUAL_OUTPUTS)?,
+    )
 }
 
 /// A start forgets what was learned.
