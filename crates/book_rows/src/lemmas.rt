@@ -118,7 +118,8 @@ impl Case for Offerings {
 
 /// A merge without a hint, with node and target exchanged, whole, and once more.
 const OFFERS: &str = "\
-merge b3 a3: -b3 a3 by b3.1 a3.2; b3 -a3 by a3.0 a3.1 b3.2 => Err(Bad(Step(0, BadStep { hint: 0, why: NotFalse })))
+merge b3 a3: -b3 a3 by b3.1 a3.2; b3 -a3 by a3.0 a3.1 b3.2 \
+    => Err(Bad(Step(0, BadStep { hint: 0, why: NotFalse })))
 merge a3 b3: -b3 a3 by b3.0 b3.1 a3.2; b3 -a3 by a3.0 a3.1 b3.2 => Err(Bad(NotEarlier))
 merge b3 a3: -b3 a3 by b3.0 b3.1 a3.2; b3 -a3 by a3.0 a3.1 b3.2 => Ok(At(0))
 merge b3 a3: -b3 a3 by b3.0 b3.1 a3.2; b3 -a3 by a3.0 a3.1 b3.2 => Ok(Already(0))
@@ -157,7 +158,8 @@ merge b3 -a3: -b3 a3 by b3.0 b3.1 a3.2; b3 -a3 by a3.0 a3.1 b3.2 => Err(Bad(Shap
 merge b3 a3: -b3 a3 by b3.0 b3.1 a3.2; b3 -a3 by a3.0 a3.1 b3.2; -b3 a3 by b3.0 b3.1 a3.2 => Err(Bad(Shape))
 out 0: -d0 a3 by d0.0 => Err(Bad(Shape))
 # Counts.
-merge b3 a3: -b3 i1 by b3.0; -b3 i0 by b3.1; -b3 a3 by b3.0 b3.1 a3.2; b3 -a3 by a3.0 a3.1 b3.2 => Err(Bad(Count))
+merge b3 a3: -b3 i1 by b3.0; -b3 i0 by b3.1; -b3 a3 by b3.0 b3.1 a3.2; \
+    b3 -a3 by a3.0 a3.1 b3.2 => Err(Bad(Count))
 spent b3 a3 0:  => Err(Bad(Count))
 outspent 0 0:  => Err(Bad(Count))
 ";
@@ -166,17 +168,23 @@ outspent 0 0:  => Err(Bad(Count))
 const STEPS: &str = "\
 # Hints that are no clauses: an axiom, one of an XOR, an entry's, the step's own, a later step's.
 merge b3 a3: -b3 a3 by b3.3; b3 -a3 by a3.0 a3.1 b3.2 => Err(Bad(Step(0, BadStep { hint: 1, why: NoClause })))
-merge b3 a3: -b3 a3 by b3.0 d0.0; b3 -a3 by a3.0 a3.1 b3.2 => Err(Bad(Step(0, BadStep { hint: 2, why: NoClause })))
+merge b3 a3: -b3 a3 by b3.0 d0.0; b3 -a3 by a3.0 a3.1 b3.2 \
+    => Err(Bad(Step(0, BadStep { hint: 2, why: NoClause })))
 merge b3 a3: -b3 a3 by e0.0; b3 -a3 by a3.0 a3.1 b3.2 => Err(Bad(Step(0, BadStep { hint: 1, why: NoClause })))
 merge b3 a3: -b3 a3 by s0; b3 -a3 by a3.0 a3.1 b3.2 => Err(Bad(Step(0, BadStep { hint: 1, why: NoClause })))
 merge b3 a3: -b3 a3 by s1; b3 -a3 by a3.0 a3.1 b3.2 => Err(Bad(Step(0, BadStep { hint: 1, why: NoClause })))
 # The other causes.
-merge b3 a3: -b3 a3 by b3.0 b3.1 a3.2 a3.0; b3 -a3 by a3.0 a3.1 b3.2 => Err(Bad(Step(0, BadStep { hint: 4, why: AfterFalse })))
-merge b3 a3: -b3 a3 by b3.0 b3.1 a3.2; b3 -a3 by b3.0 => Err(Bad(Step(1, BadStep { hint: 1, why: Satisfied })))
-merge b3 a3: -b3 a3 by b3.0 b3.1 a3.2; b3 -a3 by a3.0 a3.0 b3.2 => Err(Bad(Step(1, BadStep { hint: 2, why: Satisfied })))
-merge b3 a3: -b3 a3 by a3.2 b3.0 b3.1; b3 -a3 by a3.0 a3.1 b3.2 => Err(Bad(Step(0, BadStep { hint: 1, why: TwoFree })))
+merge b3 a3: -b3 a3 by b3.0 b3.1 a3.2 a3.0; b3 -a3 by a3.0 a3.1 b3.2 \
+    => Err(Bad(Step(0, BadStep { hint: 4, why: AfterFalse })))
+merge b3 a3: -b3 a3 by b3.0 b3.1 a3.2; b3 -a3 by b3.0 \
+    => Err(Bad(Step(1, BadStep { hint: 1, why: Satisfied })))
+merge b3 a3: -b3 a3 by b3.0 b3.1 a3.2; b3 -a3 by a3.0 a3.0 b3.2 \
+    => Err(Bad(Step(1, BadStep { hint: 2, why: Satisfied })))
+merge b3 a3: -b3 a3 by a3.2 b3.0 b3.1; b3 -a3 by a3.0 a3.1 b3.2 \
+    => Err(Bad(Step(0, BadStep { hint: 1, why: TwoFree })))
 merge b3 a3: -b3 a3 by; b3 -a3 by a3.0 a3.1 b3.2 => Err(Bad(Step(0, BadStep { hint: 0, why: NotFalse })))
-merge b3 a3: -b3 a3 by b3.0 b3.1 a3.2; b3 -a3 by a3.0 a3.1 => Err(Bad(Step(1, BadStep { hint: 0, why: NotFalse })))
+merge b3 a3: -b3 a3 by b3.0 b3.1 a3.2; b3 -a3 by a3.0 a3.1 \
+    => Err(Bad(Step(1, BadStep { hint: 0, why: NotFalse })))
 out 0: -d0 by d0.0 => Err(Bad(Step(0, BadStep { hint: 1, why: TwoFree })))
 out 0: -d0 a3 by d0.0; -d0 by s0 => Err(Bad(Step(0, BadStep { hint: 0, why: NotFalse })))
 # An axiom is nothing new.
@@ -268,8 +276,11 @@ const LONGER_LOGS: &str = "\
 spent b5 -a5 0: -b5 -a5 i0 by b5.1 b4.2 a5.1 a4.2; -b5 -a5 i0 by b5.1 b4.2 a5.1 a4.2 => Err(Bad(NotNew(1)))
 spent b5 -a5 0: -b5 -a5 i0 by b5.1 b4.2 a5.1 a4.2; -b5 -a5 by s0 b5.0 b3.2 a5.0 a3.2 => Ok(At(0))
 # A step cites those before it.
-merge b5 -a5: b5 a5 -i0 by b4.0 b5.2 b3.1 a3.1 a5.2 a4.0; -b5 -a5 i0 by b5.1 b4.2 a5.1 a4.2; -b5 -a5 by s0 b5.0 b3.2 a5.0 a3.2; b5 a5 by s1 b3.0 b5.2 b4.1 a4.1 a5.2 a3.0 => Err(Bad(Step(2, BadStep { hint: 1, why: Satisfied })))
-merge b5 -a5: -b5 -a5 i0 by b5.1 b4.2 a5.1 a4.2; b5 a5 -i0 by b4.0 b5.2 b3.1 a3.1 a5.2 a4.0; -b5 -a5 by s0 b5.0 b3.2 a5.0 a3.2; b5 a5 by s1 b3.0 b5.2 b4.1 a4.1 a5.2 a3.0 => Ok(At(1))
+merge b5 -a5: b5 a5 -i0 by b4.0 b5.2 b3.1 a3.1 a5.2 a4.0; -b5 -a5 i0 by b5.1 b4.2 a5.1 a4.2; \
+    -b5 -a5 by s0 b5.0 b3.2 a5.0 a3.2; b5 a5 by s1 b3.0 b5.2 b4.1 a4.1 a5.2 a3.0 \
+    => Err(Bad(Step(2, BadStep { hint: 1, why: Satisfied })))
+merge b5 -a5: -b5 -a5 i0 by b5.1 b4.2 a5.1 a4.2; b5 a5 -i0 by b4.0 b5.2 b3.1 a3.1 a5.2 a4.0; \
+    -b5 -a5 by s0 b5.0 b3.2 a5.0 a3.2; b5 a5 by s1 b3.0 b5.2 b4.1 a4.1 a5.2 a3.0 => Ok(At(1))
 ";
 
 static OF_XORS: Offerings = Offerings(&[(false, LOGS), (true, LONGER_LOGS)]);

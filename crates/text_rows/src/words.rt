@@ -140,7 +140,8 @@ cec check x y --budget +007 => x and y, to nowhere, by 1, 4, 100 and 7
 cec check help check => help and check, to nowhere, by 1, 4, 100 and 100000
 cec check -- -x --out => -x and --out, to nowhere, by 1, 4, 100 and 100000
 cec check x y --seed 0 --words 1 --sweep-budget 1 => x and y, to nowhere, by 0, 1, 1 and 100000
-cec check x y --words 64 --seed 18446744073709551615 => x and y, to nowhere, by 18446744073709551615, 64, 100 and 100000
+cec check x y --words 64 --seed 18446744073709551615 \
+    => x and y, to nowhere, by 18446744073709551615, 64, 100 and 100000
 cec check x y --sweep-budget 1000000000 => x and y, to nowhere, by 1, 4, 1000000000 and 100000
 cec check x y --seed=7 --budget 8 => x and y, to nowhere, by 7, 4, 100 and 8
 cec check --sweep-budget 5 x --words 6 y --out p => x and y, to p, by 1, 6, 5 and 100000
