@@ -23,6 +23,7 @@ const CONSTANTS_CNF: &[u8] = b"p cnf 2 4\n1 0\n2 1 0\n2 -1 0\n2 0\n";
 
 static SWAPPED_AND: Case<'_> = Case {
     files: &[("A", SWAPPED_A), ("B", SWAPPED_B), ("other", b"stays")],
+    fails: &[9],
     left: &[
         ("p.0.cnf", Bytes(SWAPPED_CNF)),
         ("p.0.lrat", Ends(b" 0\n")),
@@ -31,6 +32,7 @@ static SWAPPED_AND: Case<'_> = Case {
     ..EQUIVALENT
 };
 
+/// A tenth call would fail, and there are nine: two reads, three for each file, and the verdict is said at once.
 #[test]
 fn swapped_and(rt: HostRuntime) {
     check_case(&rt, &SWAPPED_AND);
@@ -246,11 +248,13 @@ fn tight_budget_without_files(rt: HostRuntime) {
 
 static CONSTANTS_DIFFER: Case<'_> = Case {
     files: &[("A", b"aag 0 0 0 1 0\n0\n"), ("B", b"aag 0 0 0 1 0\n1\n")],
+    fails: &[8],
     said: "DIFFERENT\noutput 0\ninput none\n",
     left: &[("p.0.cnf", Bytes(CONSTANTS_CNF)), ("p.0.lrat", Bytes(b""))],
     ..DIFFERENT
 };
 
+/// A ninth call would fail, and there are eight: an empty file is started and closed, and no byte written.
 #[test]
 fn constants_differ(rt: HostRuntime) {
     check_case(&rt, &CONSTANTS_DIFFER);
