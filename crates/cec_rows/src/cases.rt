@@ -32,7 +32,8 @@ static SWAPPED_AND: Case<'_> = Case {
     ..EQUIVALENT
 };
 
-/// A tenth call would fail, and there are nine: two reads, three for each file, and the verdict is said at once.
+/// A tenth call would fail, and there are nine: two reads, three for each file, and the verdict is said
+/// at once.
 #[test]
 fn swapped_and(rt: HostRuntime) {
     check_case(&rt, &SWAPPED_AND);
