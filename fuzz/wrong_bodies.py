@@ -34,10 +34,12 @@ def copied(room, crates):
 def main():
     every = sorted(folder.name for folder in EDITS.iterdir())
     words = argparse.ArgumentParser(description=__doc__, formatter_class=argparse.RawDescriptionHelpFormatter)
-    words.add_argument("crates", nargs="*", metavar="CRATE", choices=[[], *every])
+    words.add_argument("crates", nargs="*", metavar="CRATE")
     words.add_argument("--all", action="store_true")
     words.add_argument("--seed", type=int, default=SEED)
     asked = words.parse_args()
+    if unknown := sorted({*asked.crates} - {*every}):
+        words.error(f"no wrong bodies of {', '.join(unknown)}")
     if not shutil.which("rt"):
         print("skipped: the toolchain's command rt is not there")
         return 0
@@ -46,7 +48,8 @@ def main():
     with tempfile.TemporaryDirectory() as scratch:
         room = Path(scratch) / "copy"
         copied(room, crates)
-        run = subprocess.run(["rt", "ci", *crates], cwd=room, stdin=subprocess.DEVNULL, stdout=subprocess.PIPE, stderr=subprocess.STDOUT, text=True, check=False)
+        piped = {"stdin": subprocess.DEVNULL, "stdout": subprocess.PIPE, "stderr": subprocess.STDOUT, "text": True}
+        run = subprocess.run(["rt", "ci", *crates], cwd=room, check=False, **piped)
     tried = TRIED.findall(run.stdout)
     for edit, came_to in tried:
         print(f"{edit}: {came_to}")

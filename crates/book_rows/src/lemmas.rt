@@ -80,7 +80,8 @@ pub(crate) fn book_of(
     Ok(book)
 }
 
-/// Offers the entries to one book, in order: each line with an arrow has one, and the answer to it.
+/// Offers the entries to one book, in order: each line has one and behind an arrow the answer to it, but for
+/// notes behind `#`.
 fn offer_lines(
     rt: &impl Abort,
     alloc: Global,
@@ -91,9 +92,12 @@ fn offer_lines(
     requires { IsLegal net.now book.old }
 {
     for line in text.split('\n') {
-        if let Some(row) = line.split_once(" => ") {
-            let answer = answer(alloc, net, book, row.0)?;
-            check_answer(rt, alloc, row, answer)?;
+        match line.split_once(" => ") {
+            Some(row) => {
+                let answer = answer(alloc, net, book, row.0)?;
+                check_answer(rt, alloc, row, answer)?;
+            }
+            None => expect(rt, line, line.is_empty() || line.starts_with('#')),
         }
     }
     Ok(())

@@ -129,7 +129,7 @@ pub record ToldInPart (c : CheckCommand) (net : AigPair) (old new : DeskState) (
   pub breaks : Tells c 0 half old new (Err stop)
   pub keeps : KeepsOn stop kept (kept_from 0 (half ∷ []))
 
--- memory runs out before it has its verdict
+-- memory runs out, and nothing was told or kept
 pub record NotMade (old new : DeskState) (kept : List Kept) (stop : Stop) : Type 0 where
   pub out : stop ≡ OutOfMemory
   pub at : new ≡ old

@@ -1,4 +1,4 @@
-ghost use Rattle.std.specs.Prelude.{◌≡◌, [], IfOk, IfErr, None, Some};
+ghost use Rattle.std.specs.Prelude.{◌≡◌, [], IfOk, IfErr, None};
 ghost use Rattle.netlist.specs.Circuit.{Aig};
 ghost use Rattle.aiger_file.specs.File.{SpellsAiger};
 ghost use Rattle.command_line.specs.Answers.{check_texts, self_texts};

@@ -63,14 +63,24 @@ fn check_queries<R: Refuter>(rt: &impl Abort, alloc: Global, mut solver: R) -> R
     check_start(rt, alloc, &mut solver)
 }
 
-/// The cases refuter_yes, refuter_no and refuter_spent, and the log of queries that follow each other.
 #[test]
-fn refuter_yes_no_and_spent(rt: HostRuntime) -> Result<(), Fail> {
-    let alloc = rt.alloc();
-    check_yes(&rt, alloc, PlainSolver::new(alloc))?;
-    check_model(&rt, alloc, PlainSolver::new(alloc))?;
-    check_first(&rt, alloc, PlainSolver::new(alloc))?;
-    check_queries(&rt, alloc, PlainSolver::new(alloc))
+fn refuter_yes(rt: HostRuntime) -> Result<(), Fail> {
+    check_yes(&rt, rt.alloc(), PlainSolver::new(rt.alloc()))
+}
+
+#[test]
+fn refuter_no(rt: HostRuntime) -> Result<(), Fail> {
+    check_model(&rt, rt.alloc(), PlainSolver::new(rt.alloc()))
+}
+
+#[test]
+fn refuter_spent(rt: HostRuntime) -> Result<(), Fail> {
+    check_first(&rt, rt.alloc(), PlainSolver::new(rt.alloc()))
+}
+
+#[test]
+fn log_of_queries(rt: HostRuntime) -> Result<(), Fail> {
+    check_queries(&rt, rt.alloc(), PlainSolver::new(rt.alloc()))
 }
 
 #[test]

@@ -291,8 +291,11 @@ fn words_of_commands(rt: HostRuntime) {
         check(&rt, line, is_text(answer(rt.alloc(), line), expected));
     }
     for row in TAKEN.split('\n') {
-        if let Some((line, expected)) = row.split_once(" => ") {
-            check(&rt, line, is_text(answer(rt.alloc(), line), expected));
+        match row.split_once(" => ") {
+            Some((line, expected)) => {
+                check(&rt, line, is_text(answer(rt.alloc(), line), expected));
+            }
+            None => check(&rt, row, row.is_empty()),
         }
     }
     for (line, expected) in &REFUSED {

@@ -1,4 +1,4 @@
-use Rattle.std.proofs.Common.{◌∙◌, ℕ, refl, sym, subst, take, arith}
+use Rattle.std.proofs.Common.{◌∙◌, refl, sym, subst, take, arith}
 use Rattle.std.proofs.lemmas.Option.{slice_get_read, slice_get_within, same_Some}
 use Rattle.unit_prop.specs.Log.{IsStepAfter}
 use Rattle.lemma_book.specs.Good.{IsStepAt}
