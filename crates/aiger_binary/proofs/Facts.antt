@@ -6,7 +6,3 @@
 pub use Rattle.aiger_binary.proofs.StackLemmas.{AreBelow-push}
 -- they make a circuit
 pub use Rattle.aiger_binary.proofs.StackLemmas.{IsCircuit-stacked}
--- ---- numbers in order
-
--- one more
-pub use Rattle.aiger_binary.proofs.LoopLemmas.{range_more}

@@ -2,7 +2,7 @@
 use Rattle.std.proofs.Common.{◌≡◌, ◌≢◌, ℕ, zero, suc, ◌+◌, ◌-◌, ◌*◌, ◌<◌, ◌≤◌, min, false, List, [], ◌∷◌, ◌++◌, length, drop, Some, None, Ok, Err, refl, sym, ap, ◌∙◌, arith, length-drop}
 use Rattle.std.specs.Prelude.{nat_lt, slice_get}
 use Rattle.std.proofs.lemmas.Option.{none-some, same_Some}
-use Rattle.std.specs.List.{range_with_len}
+use Rattle.lits.proofs.Facts.{left-more, left-none}
 use Rattle.byte_scan.specs.declared.errors.AigerErr.{AigerErr}
 use Rattle.byte_scan.specs.declared.errors.AigerErr.TheVariants.{Truncated}
 use Rattle.byte_scan.specs.Scanning.{Place, ahead, moved}
@@ -11,37 +11,27 @@ use Rattle.byte_scan.proofs.Facts.{IsFault-bind}
 use Rattle.netlist.specs.declared.gate.And.{And}
 use Rattle.aiger_binary.specs.Binary.{outputs_at, gate_at, gates_at, groups_at, power_of}
 
-more : (n k : ℕ) → k < n → n - k ≡ suc (n - (k + 1))
-more n k lt = omega arith
-
-none : (n k : ℕ) → n ≤ k → n - k ≡ 0
-none n k le = omega arith
-
 pub outputs-step : (n k m : ℕ) (lits : List ℕ) (p : Place) (lit : ℕ) (q : Place) → k < n → literal_line_at m p ≡ Ok (lit, q)
     → outputs_at (n - k) m lits p ≡ outputs_at (n - (k + 1)) m (lits ++ lit ∷ []) q
-outputs-step n k m lits p lit q lt e = rw (more n k lt, e) refl
+outputs-step n k m lits p lit q lt e = rw (left-more n k lt, e) refl
 
 pub outputs-fault : (n k m : ℕ) (lits : List ℕ) (p : Place) (e : AigerErr) → k < n → IsFault e (literal_line_at m p) → IsFault e (outputs_at (n - k) m lits p)
 outputs-fault n k m lits p e lt fault =
-    rw (more n k lt) (IsFault-bind e (literal_line_at m p) (λ lit. outputs_at (n - (k + 1)) m (lits ++ lit.0 ∷ []) lit.1) fault)
+    rw (left-more n k lt) (IsFault-bind e (literal_line_at m p) (λ lit. outputs_at (n - (k + 1)) m (lits ++ lit.0 ∷ []) lit.1) fault)
 
 pub outputs-end : (n k m : ℕ) (lits : List ℕ) (p : Place) → n ≤ k → outputs_at (n - k) m lits p ≡ Ok (lits, p)
-outputs-end n k m lits p le = rw (none n k le) refl
+outputs-end n k m lits p le = rw (left-none n k le) refl
 
 pub gates-step : (n k i : ℕ) (gs : List And) (p : Place) (g : And) (q : Place) → k < n → length gs ≡ k → gate_at k (i + k + 1) p ≡ Ok (g, q)
     → gates_at (n - k) i gs p ≡ gates_at (n - (k + 1)) i (gs ++ g ∷ []) q
-gates-step n k i gs p g q lt count e = rw (more n k lt, count, e) refl
+gates-step n k i gs p g q lt count e = rw (left-more n k lt, count, e) refl
 
 pub gates-fault : (n k i : ℕ) (gs : List And) (p : Place) (e : AigerErr) → k < n → length gs ≡ k → IsFault e (gate_at k (i + k + 1) p) → IsFault e (gates_at (n - k) i gs p)
 gates-fault n k i gs p e lt count fault =
-    rw (more n k lt, count) (IsFault-bind e (gate_at k (i + k + 1) p) (λ g. gates_at (n - (k + 1)) i (gs ++ g.0 ∷ []) g.1) fault)
+    rw (left-more n k lt, count) (IsFault-bind e (gate_at k (i + k + 1) p) (λ g. gates_at (n - (k + 1)) i (gs ++ g.0 ∷ []) g.1) fault)
 
 pub gates-end : (n k i : ℕ) (gs : List And) (p : Place) → n ≤ k → gates_at (n - k) i gs p ≡ Ok (gs, p)
-gates-end n k i gs p le = rw (none n k le) refl
-
-pub range_more : (n a : ℕ) → range_with_len a (suc n) ≡ range_with_len a n ++ (a + n) ∷ []
-range_more zero a = let e : a ≡ a + 0 = omega arith in ap (λ (x : ℕ). x ∷ []) e
-range_more (suc n) a = let e : (a + 1) + n ≡ a + suc n = omega arith in ap (λ (xs : List ℕ). a ∷ xs) (range_more n (a + 1) ∙ rw e refl)
+gates-end n k i gs p le = rw (left-none n k le) refl
 
 pub power-small : (n : ℕ) → n ≤ 4 → power_of n ≤ 268435456
 power-small zero le = omega arith

@@ -6,7 +6,8 @@ use Rattle.std.proofs.lemmas.Bool.Decides.{nat_tests}
 use Rattle.std.proofs.lemmas.List.Folds.{list_any-append}
 use Rattle.std.proofs.Math.Bool.{or-false, or_comm}
 use Rattle.std.proofs.lemmas.Bool.{or_right}
-use Rattle.lits.specs.Clause.{has, no_repeat}
+use Rattle.lits.specs.Clause.{has}
+use Rattle.lits.proofs.Facts.{no_repeat-range}
 use Rattle.netlist.specs.declared.gate.And.{And}
 use Rattle.netlist.specs.Circuit.{IsCircuit, AreOrdered, gate_vars, is_over, var_of, most}
 use Rattle.aiger_binary.specs.Binary.{AreStacked, AreBelow}
@@ -63,14 +64,6 @@ AreOrdered-stacked n known (g ∷ gs) knows stacked =
       },
       AreOrdered-stacked (n + 1) (g.var ∷ known) gs (λ v. rw (stacked.0, knows v) (lt_more v n)) stacked.3,
     )
-
-range_above : (k a v : ℕ) → v < a → has ◌==◌ (range_with_len a k) v ≡ false
-range_above zero a v lt = refl
-range_above (suc k) a v lt = let f : (a == v) ≡ false = grind (arith, nat_tests) in rw (f, range_above k (a + 1) v (omega arith)) refl
-
-no_repeat-range : (k a : ℕ) → no_repeat ◌==◌ (range_with_len a k) ≡ true
-no_repeat-range zero a = refl
-no_repeat-range (suc k) a = rw (range_above k (a + 1) a (omega arith), no_repeat-range k (a + 1)) refl
 
 all_from_has : (p : ℕ → Bool) (xs : List ℕ) → ((v : ℕ) → has ◌==◌ xs v ≡ true → p v ≡ true) → list_all p xs ≡ true
 all_from_has p [] each = refl

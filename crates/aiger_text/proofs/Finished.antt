@@ -10,23 +10,7 @@ use Rattle.netlist.specs.Circuit.{Aig, IsCircuit, AreOrdered, gate_vars, variabl
 use Rattle.netlist.proofs.Facts.{variables}
 use Rattle.circuit_draft.specs.Draft.{undefined_in, uses_in, finished}
 use Rattle.circuit_draft.specs.Levels.{is_in_order}
-use Rattle.circuit_draft.proofs.Facts.{no_cycle-order, finished-order}
-
--- known lists that hold the same variables
-abbrev Same : List ℕ → List ℕ → Type 0
-Same known others = (v : ℕ) → has ◌==◌ known v ≡ has ◌==◌ others v
-
-or_turned : (a b : Bool) → (a || b) ≡ (b || (a || false))
-or_turned true true = refl
-or_turned true false = refl
-or_turned false true = refl
-or_turned false false = refl
-
-Same-push : (known others : List ℕ) (v : ℕ) → Same known others
-    → Same (v ∷ known) (others ++ v ∷ [])
-Same-push known others v same w =
-    rw (list_any-append (λ y. y == w) others (v ∷ []), same w)
-    (or_turned (v == w) (has ◌==◌ others w))
+use Rattle.circuit_draft.proofs.Facts.{no_cycle-order, finished-order, Same, Same-push}
 
 in_order : (known others : List ℕ) (gates : List And) → Same known others → AreOrdered known gates
     → is_in_order others gates ≡ true

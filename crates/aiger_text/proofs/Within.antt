@@ -1,7 +1,7 @@
 -- The variables of a circuit are few, and its literals are small, where no variable is above m.
 use Rattle.std.proofs.Common.{◌≡◌, ℕ, ◌+◌, ◌*◌, ◌<◌, ◌≤◌, Bool, true, false, List, [], ◌∷◌, ◌++◌, length, refl, sym, ◌∙◌, arith, length-append}
 use Rattle.std.specs.Prelude.{◌==◌, ◌&&◌, ◌||◌, not, nat_le}
-use Rattle.std.specs.List.{list_any, list_all, AllByRecursion, IsDistinct}
+use Rattle.std.specs.List.{list_any, list_all, AllByRecursion}
 use Rattle.std.proofs.lemmas.Bool.{and_parts, or_parts, not-true}
 use Rattle.std.proofs.lemmas.Bool.Decides.{nat_tests}
 use Rattle.std.proofs.lemmas.List.{length-map}
@@ -10,7 +10,7 @@ use Rattle.std.proofs.lemmas.Map.Steps.{length-le_from_distinct_below}
 use Rattle.lits.specs.Clause.{has, no_repeat}
 use Rattle.netlist.specs.declared.gate.And.{And}
 use Rattle.netlist.specs.Circuit.{Aig, IsCircuit, gate_vars, variables_in, is_over, var_of}
-use Rattle.netlist.proofs.Facts.{variables}
+use Rattle.netlist.proofs.Facts.{variables, eq_swap, IsDistinct_from}
 use Rattle.aiger_text.proofs.Lines.{IsWithin}
 use Rattle.aiger_text.proofs.Sections.{IsInput}
 use Rattle.aiger_text.proofs.Finished.{fanins_in, fanins_known}
@@ -38,28 +38,13 @@ over-small m vars lit all e =
 
 -- ---- there are few variables
 
-eq_swap : (a b : ℕ) → (a == b) ≡ (b == a)
-eq_swap a b = grind (arith, nat_tests)
-
 has-swap : (xs : List ℕ) (q : ℕ) → list_any (λ y. q == y) xs ≡ has ◌==◌ xs q
 has-swap [] q = refl
 has-swap (x ∷ xs) q = rw (eq_swap q x, has-swap xs q) refl
 
-distinct : (xs : List ℕ) → no_repeat ◌==◌ xs ≡ true → IsDistinct ◌==◌ xs
-unfolding IsDistinct
-distinct [] e = tt
-distinct (x ∷ xs) e =
-    let parts = and_parts (not (has ◌==◌ xs x)) (no_repeat ◌==◌ xs) e in
-    (apart xs (not-true (has ◌==◌ xs x) parts.0), distinct xs parts.1)
-  where
-    apart : (ys : List ℕ) → has ◌==◌ ys x ≡ false → AllByRecursion (λ y. (x == y) ≡ false) ys
-    apart [] f = tt
-    apart (y ∷ ys) f =
-        let both = or_parts (y == x) (has ◌==◌ ys x) f in (eq_swap x y ∙ both.0, apart ys both.1)
-
 few : (m : ℕ) (xs : List ℕ) → no_repeat ◌==◌ xs ≡ true → AreUpTo m xs → length xs ≤ m + 1
 few m xs once all =
-    length-le_from_distinct_below xs (m + 1) (distinct xs once)
+    length-le_from_distinct_below xs (m + 1) (IsDistinct_from xs once)
     (λ q e. let small = has-small m xs q all (sym (has-swap xs q) ∙ e) in omega (arith, small))
 
 pub few_variables : (m : ℕ) (c : Aig) → IsCircuit c → AreUpTo m (variables_in c)

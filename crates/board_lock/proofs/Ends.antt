@@ -1,5 +1,6 @@
 -- The table at its start, where two passes join, and at its end.
-use Rattle.std.proofs.Common.{◌≡◌, ◌≢◌, ℕ, ◌+◌, ◌^◌, ◌≤◌, Bool, true, false, true≢false, cond, List, [], ◌∷◌, length, length-append, map, set, sym, refl, ap, ◌∙◌, arith}
+use Rattle.std.proofs.Common.{◌≡◌, ◌≢◌, ℕ, ◌+◌, ◌^◌, ◌≤◌, Bool, true, false, true≢false, cond, List, [], ◌∷◌, length-append, map, set, sym, refl, ap, ◌∙◌, arith}
+use Rattle.std.proofs.lemmas.List.{nil_from_length}
 use mathlib.Core.Option.{some, some-injective}
 use lib.ListN.{get_elem?}
 use native.Mathlib.Decide.{ℕ_discrete}
@@ -86,10 +87,6 @@ begins root legal = let v : View = opener root in record {
   answers = record { once = λ x. refl; missed = refl; under = λ p. refl; own = each-one (λ (x : View). (p : ℕ) → times p x.numbers ≡ 0 → noted p x ≡ []) v (λ p z. refl) };
 }
 
-empty_of : {A : Type 0} (xs : List A) → length xs ≡ 0 → xs ≡ []
-empty_of [] h = refl
-empty_of (x ∷ xs) h = absurd (omega arith)
-
 abbrev share : View → ℕ
 share v = left v + made v
 
@@ -107,8 +104,8 @@ ends root id v s idle whole seen = record {
     replays = kept.tale.replays;
     known = mine.known (times-length v.number v.numbers idle.own);
     so = mine.so;
-    turns = λ p. kept.answers.under p ∙ gather-one (noted p) s.views id v at (λ j u n a. ap (λ (ns : List Note). under p (map turn_of ns)) (empty_of u.notes (let z = others j u n a in omega arith)));
-    draws = λ x. sym (total-alone (draws_of x) s.views id v at (λ j u n a. ap (times x) (empty_of u.draws (let z = others j u n a in omega arith)))) ∙ kept.answers.once x;
+    turns = λ p. kept.answers.under p ∙ gather-one (noted p) s.views id v at (λ j u n a. ap (λ (ns : List Note). under p (map turn_of ns)) (nil_from_length u.notes (let z = others j u n a in omega arith)));
+    draws = λ x. sym (total-alone (draws_of x) s.views id v at (λ j u n a. ap (times x) (nil_from_length u.draws (let z = others j u n a in omega arith)))) ∙ kept.answers.once x;
     numbers = λ p. let o = kept.numbers.once p in let m = once-most p (kept.split + 1) in let t = total-le (numbered p) s.views id v at in omega arith;
     missed = sym kept.answers.missed ∙ total-alone missed s.views id v at (λ j u n a. let z = others j u n a in omega arith);
   };

@@ -1,7 +1,6 @@
 -- The story after one more turn: what it says of the book stays so.
 use Rattle.std.proofs.Common.{◌≡◌, ℕ, zero, suc, ◌+◌, Option, None, Some, List, [], ◌∷◌, ◌++◌, length, slice_get, sym, refl, ap, ◌∙◌, subst, append_assoc, length-append, arith}
 use Rattle.std.specs.Option.{option_map, option_map_or}
-use Rattle.std.proofs.lemmas.List.{append-nil}
 use Rattle.std.proofs.lemmas.Option.{none-some, slice_get_within}
 use Rattle.netlist.specs.Net.{AigPair}
 use Rattle.netlist.specs.Place.{place_of}
@@ -13,7 +12,7 @@ use Rattle.lemma_book.specs.Entry.{Entries, subject_of, is_on, place_on, settled
 use Rattle.lemma_book.specs.Book.{IsLegal, StartsWith}
 use Rattle.lemma_book.specs.Machine.{MayFollow, length_after, IsReplay}
 use Rattle.lemma_book.proofs.Facts.{legal-last}
-use Rattle.sweep_core.proofs.Facts.{settled-below}
+use Rattle.sweep_core.proofs.Facts.{settled-below, starts-self}
 use Rattle.board_lock.specs.declared.view.Said.{Said}
 use Rattle.board_lock.specs.declared.view.Said.TheVariants.{At, Already, Known}
 use Rattle.board_lock.specs.declared.view.Note.{Note}
@@ -51,9 +50,6 @@ pub are_so-append : (book : Entries) (xs ys : List Note) → AreSo book xs → A
 are_so-append book [] ys h k = k
 are_so-append book (x ∷ xs) ys h k = (h.0, are_so-append book xs ys h.1 k)
 
-pub starts-same : (book : Entries) → StartsWith book book
-starts-same book = record { rest = []; entries = sym (append-nil book.entries); sweep = refl; out = refl }
-
 starts-longer : (book first : Entries) (x : Entry) → StartsWith book first → StartsWith (with_last book x) first
 starts-longer book first x h = record {
   rest = h.rest ++ x ∷ [];
@@ -87,7 +83,7 @@ is_so-after net book (Known n) h = omega arith
 pub learned-after : (v : View) (s : Said) → StartsWith v.taken.book v.known → StartsWith (book_after v.taken.book s) (learned v s)
 learned-after v (At i e) h = starts-longer v.taken.book v.known e h
 learned-after v (Already i e) h = h
-learned-after v (Known n) h = starts-same v.taken.book
+learned-after v (Known n) h = starts-self v.taken.book
 
 legal-after : (net : AigPair) (book : Entries) (s : Said) → IsAnswer net book s → IsLegal net book → IsLegal net (book_after book s)
 legal-after net book (At i e) h l = legal-last net book e l h.1

@@ -1,5 +1,5 @@
-ghost use Rattle.std.specs.Prelude.{◌≡◌, ◌+◌, ◌^◌, ◌<◌, ◌≤◌, [], ◌∷◌, ◌++◌, length, IfOk, IfErr, OnOk, OnErr};
-ghost use Rattle.lemma_book.specs.Entry.{Entries, first_entries};
+ghost use Rattle.std.specs.Prelude.{◌≡◌, ◌+◌, ◌^◌, ◌<◌, ◌≤◌, [], length, IfOk, IfErr, OnOk, OnErr};
+ghost use Rattle.lemma_book.specs.Entry.{first_entries};
 ghost use Rattle.lemma_book.specs.Book.{IsLegal, StartsWith, IsFrom, answer_to};
 ghost use Rattle.lemma_book.specs.Good.{IsGood};
 ghost use Rattle.sweep_core.specs.Run.{what_of as what_of_answer};

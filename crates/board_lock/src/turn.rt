@@ -1,5 +1,5 @@
 //! The steps of a pass at the table: each function is one atomic step, or the few of one turn at the lock.
-ghost use Rattle.std.specs.Prelude.{◌≡◌, ◌^◌, ◌<◌, ◌≤◌, false, [], ◌∷◌, ◌++◌, MatchBool};
+ghost use Rattle.std.specs.Prelude.{◌≡◌, ◌^◌, ◌<◌, ◌≤◌, [], ◌∷◌, ◌++◌, MatchBool};
 ghost use Rattle.lemma_book.specs.Book.{StartsWith};
 ghost use Rattle.board_lock.specs.Totals.{AllBelow};
 ghost use Rattle.board_lock.specs.Story.{AreSo, book_after, story_missed, no_story};

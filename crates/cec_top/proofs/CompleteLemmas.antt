@@ -32,6 +32,10 @@ use Rattle.cec_top.proofs.WordsLemmas.{check_or, same_request}
 abbrev pub IsExcused : DeskState → DeskState → Stop → Type 0
 IsExcused old new stop = (stop ≡ OutOfMemory) ⊎ Rose old.read_faults new.read_faults ⊎ Rose old.write_faults new.write_faults
 
+pub excused-read : (old new : DeskState) (stop : Stop) → (stop ≡ OutOfMemory) ⊎ Rose old.read_faults new.read_faults → IsExcused old new stop
+excused-read old new stop (inl e) = inl e
+excused-read old new stop (inr r) = inr (inl r)
+
 -- what stops while files are left and the verdict is said
 pub leaves-stops : (os : List Output) (text : List ℕ) (s t : DeskState) (stop : Stop) → Leaves os text s t (Err stop)
     → (stop ≡ OutOfMemory) ⊎ Rose s.write_faults t.write_faults
@@ -52,6 +56,11 @@ leaves-stops (o ∷ os) text s t (TooLong file) (inl p) = absurd p
 leaves-stops (o ∷ os) text s t (BadFile file why) (inl p) = absurd p
 leaves-stops (o ∷ os) text s t (NotAlike why) (inl p) = absurd p
 
+-- no bytes are both longer than the limit and within it
+pub too-long : (o : Option (List ℕ)) → IsSomeAnd o (λ b. limit < length b) → IfSome o (λ b. length b ≤ limit) → ⊥
+too-long None p q = p
+too-long (Some b) p q = absurd (omega (arith, p, q))
+
 -- the file of a circuit
 module _ (s : DeskState) (files : Files) (told : s.files ≡ Some files) (name : List ℕ) (c : Aig) (spells : FileSpells files name c) (within : IsWithinLimit files name) where
   spelt-at : (o : Option (List ℕ)) → IsSomeAnd o (λ b. SpellsAiger b c) → (bytes : List ℕ) → o ≡ Some bytes → SpellsAiger bytes c
@@ -61,10 +70,6 @@ module _ (s : DeskState) (files : Files) (told : s.files ≡ Some files) (name :
   -- its bytes spell the circuit
   spelt : (bytes : List ℕ) → FileIs s name bytes → SpellsAiger bytes c
   spelt bytes is = spelt-at (files name) spells bytes (subst (λ (o : Option Files). IfSome o (λ f. f name ≡ Some bytes)) told is.0)
-
-  too-long : (o : Option (List ℕ)) → IsSomeAnd o (λ b. limit < length b) → IfSome o (λ b. length b ≤ limit) → ⊥
-  too-long None p q = p
-  too-long (Some b) p q = absurd (omega (arith, p, q))
 
   stops-file : (k : ℕ) (earlier : List (List ℕ)) (t : DeskState) (stop : Stop) → StopsAt k (circuit_file name) earlier s t stop
       → (stop ≡ OutOfMemory) ⊎ Rose s.read_faults t.read_faults
@@ -93,19 +98,11 @@ alike-from a b i o = rw (eq-eqb (length a.inputs) (length b.inputs) i, eq-eqb (l
 
 module _ (c : CheckCommand) (old : DeskState) (can : CanCheck c old) (kept : List Kept) where
   reads-stop : (new : DeskState) (stop : Stop) → ReadsUpTo 0 [] (inputs_of c) old new stop → IsExcused old new stop
-  reads-stop new stop (inl p) = first (stops-file old can.files can.told c.a can.net.a can.pair.a can.a 0 [] new stop p)
-    where
-      first : (stop ≡ OutOfMemory) ⊎ Rose old.read_faults new.read_faults → IsExcused old new stop
-      first (inl e) = inl e
-      first (inr r) = inr (inl r)
+  reads-stop new stop (inl p) = excused-read old new stop (stops-file old can.files can.told c.a can.net.a can.pair.a can.a 0 [] new stop p)
   reads-stop new stop (inr p) = second p.3
     where
-      excused : (stop ≡ OutOfMemory) ⊎ Rose old.read_faults new.read_faults → IsExcused old new stop
-      excused (inl e) = inl e
-      excused (inr r) = inr (inl r)
-
       second : ReadsUpTo 1 (p.0 ∷ []) (circuit_file c.b ∷ []) (after_read old c.a) new stop → IsExcused old new stop
-      second (inl q) = excused (stops-file (after_read old c.a) can.files can.told c.b can.net.b can.pair.b can.b 1 (p.0 ∷ []) new stop q)
+      second (inl q) = excused-read old new stop (stops-file (after_read old c.a) can.files can.told c.b can.net.b can.pair.b can.b 1 (p.0 ∷ []) new stop q)
       second (inr q) = absurd q.3
 
   -- circuits that fit aren't refused

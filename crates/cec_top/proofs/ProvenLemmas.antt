@@ -1,5 +1,5 @@
 -- A proof that can be checked comes to a verdict, where the desk has no fault and memory suffices.
-use Rattle.std.proofs.Common.{◌≡◌, ℕ, ◌<◌, ◌≤◌, inl, inr, List, [], ◌∷◌, length, Option, Some, None, refl, sym, ap, ◌∙◌, subst, arith}
+use Rattle.std.proofs.Common.{◌≡◌, ℕ, inl, inr, List, [], ◌∷◌, length, Option, Some, None, refl, sym, ap, ◌∙◌, subst, arith}
 use Rattle.std.specs.Prelude.{◌⊎◌, IfSome, IsSomeAnd}
 use Rattle.std.proofs.lemmas.Option.{none-some, same_Some}
 use Rattle.desk_port.specs.Desk.{DeskState, Files, Rose, HasMore, after_read}
@@ -18,17 +18,13 @@ use Rattle.command_line.specs.Words.{LratCommand, Request, CheckIt, LratIt, Self
 use Rattle.cec_top.specs.declared.kept.Kept.{Kept}
 use Rattle.cec_top.specs.Answers.{Answers}
 use Rattle.cec_top.specs.Complete.{NoFault, IsWithinLimit, CanVerify, HasVerdict}
-use Rattle.cec_top.proofs.CompleteLemmas.{IsExcused, leaves-stops, excused-verdict, at-once}
+use Rattle.cec_top.proofs.CompleteLemmas.{IsExcused, excused-read, too-long, leaves-stops, excused-verdict, at-once}
 use Rattle.cec_top.proofs.WordsLemmas.{lrat_or, same_request}
 
 -- bytes of a file that is there
 there : (P : List ℕ → Type 0) (o : Option (List ℕ)) → IsSomeAnd o P → (bytes : List ℕ) → o ≡ Some bytes → P bytes
 there P None p bytes e = absurd p
 there P (Some b) p bytes e = subst P (same_Some b bytes e) p
-
-too-long : (o : Option (List ℕ)) → IsSomeAnd o (λ b. limit < length b) → IfSome o (λ b. length b ≤ limit) → ⊥
-too-long None p q = p
-too-long (Some b) p q = absurd (omega (arith, p, q))
 
 -- a file whose bytes have no fault stops a command for a fault of the desk alone
 module _ (s : DeskState) (files : Files) (told : s.files ≡ Some files) (i : Input) (earlier : List (List ℕ)) (within : IsWithinLimit files i.name)
@@ -43,10 +39,6 @@ module _ (s : DeskState) (files : Files) (told : s.files ≡ Some files) (i : In
   stops-input k t CannotWrite p = absurd p
 
 module _ (c : LratCommand) (old : DeskState) (can : CanVerify c old) where
-  excused : (new : DeskState) (stop : Stop) → (stop ≡ OutOfMemory) ⊎ Rose old.read_faults new.read_faults → IsExcused old new stop
-  excused new stop (inl e) = inl e
-  excused new stop (inr r) = inr (inl r)
-
   bytes-of : (s : DeskState) → s.files ≡ Some can.files → (name bytes : List ℕ) → FileIs s name bytes → can.files name ≡ Some bytes
   bytes-of s told name bytes is = subst (λ (o : Option Files). IfSome o (λ f. f name ≡ Some bytes)) told is.0
 
@@ -64,12 +56,12 @@ module _ (c : LratCommand) (old : DeskState) (can : CanVerify c old) where
 
   stops-lrat : (new : DeskState) (stop : Stop) → Stops c.cnf c.proof old new stop → IsExcused old new stop
   stops-lrat new stop (inl (inl p)) =
-      excused new stop (stops-input old can.files can.told (cnf_input c.cnf) [] can.cnf no-cnf-fault 0 new stop p)
+      excused-read old new stop (stops-input old can.files can.told (cnf_input c.cnf) [] can.cnf no-cnf-fault 0 new stop p)
   stops-lrat new stop (inl (inr p)) = second p.3
     where
       second : ReadsUpTo 1 (p.0 ∷ []) (proof_input c.proof ∷ []) (after_read old c.cnf) new stop → IsExcused old new stop
       second (inl q) =
-          excused new stop (stops-input (after_read old c.cnf) can.files can.told (proof_input c.proof) (p.0 ∷ []) can.proof (no-proof-fault p.0 p.1) 1 new stop q)
+          excused-read old new stop (stops-input (after_read old c.cnf) can.files can.told (proof_input c.proof) (p.0 ∷ []) can.proof (no-proof-fault p.0 p.1) 1 new stop q)
       second (inr q) = absurd q.3
   stops-lrat new stop (inr p) = told (leaves-stops [] (verdict_line p.verdict) (after_reads old (inputs_of c.cnf c.proof)) new stop p.leaves)
     where

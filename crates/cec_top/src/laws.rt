@@ -1,5 +1,5 @@
 //! What a run promises, each law the contract of a function that does nothing when it runs.
-ghost use Rattle.std.specs.Prelude.{◌≡◌, ◌≢◌, ◌⊎◌, ◌≤◌, ℕ, List, None};
+ghost use Rattle.std.specs.Prelude.{◌≡◌, ◌≢◌, ℕ, List, None};
 ghost use Rattle.desk_port.specs.Desk.{DeskState};
 ghost use Rattle.endings.specs.Status.{code_of};
 ghost use Rattle.endings.specs.declared.status.Status.{Status};

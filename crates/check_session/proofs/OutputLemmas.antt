@@ -1,10 +1,11 @@
 -- What one more entry changes of what a book says of its outputs.
-use Rattle.std.proofs.Common.{◌≡◌, ◌≢◌, ℕ, zero, suc, ◌+◌, ◌<◌, ◌≤◌, Bool, true, false, ◌||◌, ◌&&◌, List, [], ◌∷◌, ◌++◌, length, take, drop, filter, append_assoc, add-one, inl, inr, Option, Some, None, refl, sym, ap, ◌∙◌, subst, arith, rules, Result, Ok, Err, OnOk}
+use Rattle.std.proofs.Common.{◌≡◌, ◌≢◌, ℕ, zero, suc, ◌+◌, ◌<◌, ◌≤◌, Bool, true, false, ◌||◌, ◌&&◌, List, [], ◌∷◌, ◌++◌, length, drop, filter, append_assoc, add-one, inl, inr, Option, Some, None, refl, sym, ap, ◌∙◌, subst, arith, rules, Result, Ok, Err, OnOk}
 use Rattle.std.specs.List.{find, list_any, list_all, range_with_len, AllByRecursion}
 use Rattle.std.specs.Option.{option_or}
 use Rattle.std.proofs.Math.Nat.{eq-or-lt_of_le}
 use Rattle.std.proofs.lemmas.List.Folds.{find-append}
 use Rattle.std.proofs.lemmas.List.Elements.{filter-append}
+use Rattle.std.proofs.Math.Seq.{take-length}
 use Rattle.netlist.specs.Net.{AigPair}
 use Rattle.lemma_book.specs.declared.entry.Entry.{Entry}
 use Rattle.lemma_book.specs.declared.entry.Entry.TheVariants.{Merge, Apart, Spent, Out, OutApart, OutSpent}
@@ -19,17 +20,14 @@ use Rattle.proof_stitch.specs.Derivation.{has_spent}
 use Rattle.check_session.specs.Finding.{Finds, has_apart, is_merge, SeesMerges}
 use Rattle.check_session.specs.Growth.{Grows}
 use Rattle.check_session.specs.Outputs.{AreSettled, AreSettledBelow, SeeMerges, finding_of, verdict_of}
+use Rattle.lits.proofs.Facts.{range-more}
 
 -- ---- the whole book as its own first part
-
-take-all : (es : List Entry) → take (length es) es ≡ es
-take-all [] = refl
-take-all (e ∷ es) = ap (λ (rest : List Entry). e ∷ rest) (take-all es)
 
 pub good-all : (net : AigPair) (book : Entries) (e : Entry) → IsGood net book e → IsGood net (first_entries (length book.entries) book) e
 good-all net book e good =
     subst (λ (es : List Entry). IsGood net (record { sweep_budget = book.sweep_budget; out_budget = book.out_budget; entries = es }) e)
-    (sym (take-all book.entries)) good
+    (sym (take-length book.entries)) good
 
 pub after-good : (net : AigPair) (book : Entries) (e : Entry) → IsGood net book e → book_after book e ≡ with_last book e
 after-good net book e good = let free : settled_at book.entries e ≡ None = good Already in rw free refl
@@ -198,20 +196,13 @@ out-else es j some apart spent = go (about es j) refl
     go (Some (OutApart k input)) is = let t : true ≡ false = rw is at apart in cc
     go (Some (OutSpent k seen log)) is = let t : true ≡ false = rw is at spent in cc
 
-range-last : (a n : ℕ) → range_with_len a (suc n) ≡ range_with_len a n ++ (a + n) ∷ []
-range-last a zero = ap (λ (k : ℕ). k ∷ []) (omega arith)
-range-last a (suc n) =
-    let rest = range-last (a + 1) n in
-    let e : (a + 1) + n ≡ a + suc n = omega arith in
-    ap (λ (ks : List ℕ). a ∷ ks) (rest ∙ ap (λ (k : ℕ). range_with_len (a + 1) n ++ k ∷ []) e)
-
 -- the outputs that a test keeps, with one more looked at
 pub kept-next : (p : ℕ → Bool) (old new : List ℕ) (n : ℕ) → old ≡ filter p (range_with_len 0 n) → new ≡ old ++ filter p (n ∷ [])
     → new ≡ filter p (range_with_len 0 (n + 1))
 kept-next p old new n old_is new_is =
     let zero_first : 0 + n ≡ n = omega arith in
     let range : range_with_len 0 (n + 1) ≡ range_with_len 0 n ++ n ∷ [] =
-    rw add-one (range-last 0 n ∙ ap (λ (k : ℕ). range_with_len 0 n ++ k ∷ []) zero_first) in
+    rw add-one (range-more 0 n ∙ ap (λ (k : ℕ). range_with_len 0 n ++ k ∷ []) zero_first) in
     new_is ∙ (ap (λ (ks : List ℕ). ks ++ filter p (n ∷ [])) old_is
     ∙ (sym (filter-append p (range_with_len 0 n) (n ∷ [])) ∙ ap (filter p) (sym range)))
 

@@ -8,19 +8,19 @@ use Rattle.sig_classes.specs.Kept.{AreClasses, AreKept, Kept}
 use Rattle.lits.specs.declared.node.Node.{Node}
 use Rattle.netlist.specs.Place.{place_of}
 use Rattle.netlist.specs.Net.{AigPair, position_of}
-use Rattle.netlist.proofs.Facts.{at-place}
 use Rattle.lemma_book.specs.declared.entry.Entry.{Entry}
 use Rattle.lemma_book.specs.declared.entry.Entry.TheVariants.{Merge, Apart, Spent, Out, OutApart, OutSpent}
 use Rattle.lemma_book.specs.declared.entry.Subject.{Subject}
 use Rattle.lemma_book.specs.declared.entry.Subject.TheVariants.{Merged}
 use Rattle.lemma_book.specs.declared.entry.Task.{Task}
-use Rattle.lemma_book.specs.Entry.{Entries, subject_of, is_on, place_on, with_last}
-use Rattle.lemma_book.specs.Root.{IsRoot, merge_of, merge_in}
+use Rattle.lemma_book.specs.Entry.{Entries, subject_of, is_on, with_last}
+use Rattle.lemma_book.specs.Root.{IsRoot, merge_in}
 use Rattle.std.specs.declared.alloc.AllocError.{AllocError}
 use Rattle.word_sim.specs.Patterns.{Patterns}
 use Rattle.lemma_book.specs.Good.{IsBefore, IsEarlier, IsGood, NotApart}
 use Rattle.sig_classes.specs.Leader.{IsOpenGate}
 use Rattle.lemma_book.specs.Book.{IsLegal}
+use Rattle.lemma_book.proofs.Facts.{root-unsettled}
 use Rattle.check_session.specs.Growth.{is_of_pair}
 use Rattle.check_session.specs.Rounds.{Extends, Fits, HasWholeInput, Joins, MayAsk, AreAsked, Settles}
 use Rattle.std.proofs.lemmas.Option.{same_Some}
@@ -28,26 +28,6 @@ use Rattle.cone_query.specs.Query.{task_of, IsGate}
 use Rattle.check_session.proofs.OutputLemmas.{on-subject}
 
 -- ---- roots
-
--- a root has no entry that merges it
-pub root-place : (es : List Entry) (n : Node) → IsRoot es n → place_on es (Merged n) ≡ None
-root-place es n root = go (place_on es (Merged n)) refl
-  where
-    merges : (k : ℕ) (x : Entry) → subject_of x ≡ Some (Merged n) → merge_in k x ≢ None
-    merges k (Merge node lit steps) s = λ e. cc
-    merges k (Apart node lit input) s = cc
-    merges k (Spent node lit seen log) s = cc
-    merges k (Out j steps) s = cc
-    merges k (OutApart j input) s = cc
-    merges k (OutSpent j seen log) s = cc
-
-    go : (o : Option ℕ) → place_on es (Merged n) ≡ o → place_on es (Merged n) ≡ None
-    go None is = is
-    go (Some k) is =
-        let found = at-place (is_on (Merged n)) es k is in
-        let merge : merge_of es n ≡ merge_in k found.0 =
-        ap (option_and_then (λ i. option_and_then (merge_in i) (slice_get es i))) is ∙ ap (option_and_then (merge_in k)) found.1 in
-        absurd (merges k found.0 (on-subject (Merged n) found.0 found.2) (sym merge ∙ root))
 
 place-last : (test : Entry → Bool) (es : List Entry) (e : Entry) → place_of test es ≡ None → test e ≡ false → place_of test (es ++ e ∷ []) ≡ None
 place-last test [] e none other = rw other refl
@@ -69,7 +49,7 @@ off-subject s e other = go (is_on s e) refl
 -- an entry that doesn't merge a root leaves it one
 pub root-stays : (es : List Entry) (e : Entry) (n : Node) → subject_of e ≢ Some (Merged n) → IsRoot es n → IsRoot (es ++ e ∷ []) n
 root-stays es e n other root =
-    let none = place-last (is_on (Merged n)) es e (root-place es n root) (off-subject (Merged n) e other) in
+    let none = place-last (is_on (Merged n)) es e (root-unsettled es n root) (off-subject (Merged n) e other) in
     ap (option_and_then (λ k. option_and_then (merge_in k) (slice_get (es ++ e ∷ []) k))) none
 
 -- ---- the pairs of a round

@@ -18,6 +18,7 @@ use Rattle.lemma_book.specs.declared.entry.Task.{Task}
 use Rattle.lemma_book.specs.Entry.{Entries, is_on, is_spent_on}
 use Rattle.lemma_book.specs.Root.{IsRoot, merge_in}
 use Rattle.lemma_book.specs.Book.{IsLegal}
+use Rattle.lemma_book.proofs.Facts.{root-unsettled}
 use Rattle.sig_classes.specs.Leader.{IsDue, AreTasks, IsSwept}
 use Rattle.strash_pass.specs.Strash.{IsMerge, AddsMerges}
 use Rattle.check_session.specs.declared.options.Options.{Options}
@@ -27,7 +28,7 @@ use Rattle.check_session.specs.Growth.{Grows, is_of_pair}
 use Rattle.check_session.specs.Outputs.{SeeMerges, ListsOpen, is_of_output, finding_of}
 use Rattle.check_session.specs.Rounds.{Fits, MayAsk, AreAsked, Settles}
 use Rattle.check_session.specs.Check.{IsSweptFor, IsWithinFor, IsFound, empty_book}
-use Rattle.check_session.proofs.RoundLemmas.{root-place, asked-next}
+use Rattle.check_session.proofs.RoundLemmas.{asked-next}
 use Rattle.check_session.proofs.OutputLemmas.{grows-twice}
 
 -- ---- patterns that are drawn
@@ -111,7 +112,7 @@ place-front test (x ∷ xs) fs none = go (test x) refl none (place_of test (xs +
 -- a root of a longer book was one
 root-front : (es fs : List Entry) (n : Node) → IsRoot (es ++ fs) n → IsRoot es n
 root-front es fs n root =
-    let none = place-front (is_on (Merged n)) es fs (root-place (es ++ fs) n root) in
+    let none = place-front (is_on (Merged n)) es fs (root-unsettled (es ++ fs) n root) in
     ap (option_and_then (λ k. option_and_then (merge_in k) (slice_get es k))) none
 
 any-front : (test : Entry → Bool) (es fs : List Entry) → list_any test es ≡ true → list_any test (es ++ fs) ≡ true

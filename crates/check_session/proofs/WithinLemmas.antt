@@ -1,8 +1,7 @@
 -- In a legal book the budget that an output's query spent is at most 3^V, V being the number of the CNF's variables.
-use Rattle.std.proofs.Common.{◌≡◌, ◌≢◌, ℕ, zero, suc, ◌+◌, ◌-◌, ◌*◌, ◌≤◌, ◌^◌, Bool, true, false, Option, Some, None, List, [], ◌∷◌, ◌++◌, length, take, refl, sym, subst, arith, append_assoc, add-zero, pow-suc}
+use Rattle.std.proofs.Common.{◌≡◌, ◌≢◌, ℕ, zero, suc, ◌+◌, ◌-◌, ◌*◌, ◌≤◌, ◌^◌, Bool, true, false, Option, Some, None, List, [], ◌∷◌, ◌++◌, length, take, refl, subst, arith, add-zero, pow-suc}
 use Rattle.std.specs.Prelude.{slice_get, filter}
 use Rattle.std.specs.List.{AllByRecursion}
-use Rattle.std.proofs.lemmas.List.{append-nil}
 use Rattle.lits.specs.Clause.{has}
 use Rattle.lits.specs.Same.{same_node, same_lit, opposite}
 use Rattle.lits.specs.declared.node.Node.{Node}
@@ -20,7 +19,7 @@ use Rattle.lemma_book.specs.declared.entry.Entry.TheVariants.{Merge, Apart, Spen
 use Rattle.lemma_book.specs.Entry.{Entries, about}
 use Rattle.lemma_book.specs.Good.{Count, NoStep, NotNew, IsGood}
 use Rattle.lemma_book.specs.Book.{IsLegal}
-use Rattle.lemma_book.proofs.Facts.{about-all, cone-one, cone-over}
+use Rattle.lemma_book.proofs.Facts.{about-all, cone-one, cone-over, in_turn-each}
 use Rattle.proof_stitch.specs.Derivation.{is_spent, has_spent, outputs_of}
 use Rattle.check_session.specs.Finding.{Finding, Equivalent, Different, Undecided, Finds}
 use Rattle.check_session.specs.Check.{IsWithinFor}
@@ -51,14 +50,6 @@ good-each net sweep out before (e ∷ es) legal rest = (
       (in_turn-append (IsGoodAfter net sweep out) [] before (e ∷ []) legal (rest.0, tt)) rest.1,
 )
 
--- what holds at each place holds in turn
-in_turn-each : {X : Type 0} (P : List X → X → Type 0) (before xs : List X)
-    → ((k : ℕ) (x : X) → slice_get xs k ≡ Some x → P (before ++ take k xs) x) → InTurn P before xs
-in_turn-each P before [] each = tt
-in_turn-each {X} P before (x ∷ xs) each = (
-  subst (λ (l : List X). P l x) (append-nil before) (each 0 x refl),
-  in_turn-each P (before ++ x ∷ []) xs
-      (λ k y e. subst (λ (l : List X). P l y) (sym (append_assoc before (x ∷ []) (take k xs))) (each (suc k) y e)),
 )
 
 grows : (a n : ℕ) → 3 ^ a ≤ 3 ^ (a + n)

@@ -1,4 +1,3 @@
-ghost use Rattle.std.specs.Prelude.{◌≡◌};
 ghost use Rattle.lemma_book.specs.Book.{IsLegal};
 ghost use Rattle.check_session.specs.Check.{IsWithinFor};
 ghost use Rattle.check_session.specs.Finding.{Finding, Finds, Means};

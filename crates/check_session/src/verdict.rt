@@ -1,4 +1,4 @@
-ghost use Rattle.std.specs.Prelude.{◌≡◌, ◌≢◌, ◌<◌, ℕ, None, length, IfOk};
+ghost use Rattle.std.specs.Prelude.{◌≡◌, ◌<◌, None, IfOk};
 ghost use Rattle.lemma_book.specs.Book.{IsLegal};
 ghost use Rattle.check_session.specs.Finding.{Finds};
 ghost use Rattle.check_session.specs.Outputs.{AreSettled, ListsOpen, Looks, SeeMerges, finding_of, verdict_of};

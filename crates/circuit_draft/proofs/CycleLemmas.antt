@@ -1,5 +1,5 @@
 -- The first gate without a level, and what follows where each gate has one.
-use Rattle.std.proofs.Common.{◌≡◌, ◌≢◌, ℕ, zero, suc, ◌+◌, ◌*◌, ◌<◌, ◌≤◌, Bool, true, false, None, Some, List, [], ◌∷◌, length, replicate, refl, ap, ◌∙◌, subst, arith, get_or}
+use Rattle.std.proofs.Common.{◌≡◌, ◌≢◌, ℕ, zero, suc, ◌+◌, ◌*◌, ◌<◌, ◌≤◌, Bool, true, false, None, Some, List, [], ◌∷◌, length, replicate, refl, ap, ◌∙◌, subst, arith}
 use Rattle.std.specs.Prelude.{◌==◌, slice_index, slice_index_or, is_none}
 use Rattle.std.specs.List.{find}
 use Rattle.std.specs.Option.{option_map}
@@ -14,6 +14,7 @@ use Rattle.circuit_draft.specs.Steps.{gate_at, AreLevels, AreAllLevels}
 use Rattle.circuit_draft.specs.Buckets.{AreWithin}
 use Rattle.circuit_draft.proofs.LevelLemmas.{level-some, level-bound}
 use Rattle.circuit_draft.proofs.VariableLemmas.{few_gates}
+use Rattle.circuit_draft.proofs.BucketLemmas.{zeros}
 
 find_first : (test : And → Bool) (gates : List And) (i : ℕ) → i < length gates
     → ((p : ℕ) → p < i → test (slice_index_or gates p (record { var = 0; left = 0; right = 0 })) ≡ false)
@@ -41,11 +42,6 @@ cycle_at c levels i v are lt found none is =
   where
     earlier : (p : ℕ) → p < i → is_none (level_of c (gate_at c p).var) ≡ false
     earlier p l = rw (are.known p (omega arith) (found p l)) refl
-
-zeros : (k v : ℕ) → get_or {A = ℕ} (replicate k 0) v 0 ≡ 0
-zeros zero v = refl
-zeros (suc k) zero = refl
-zeros (suc k) (suc v) = zeros k v
 
 -- no level is known yet
 pub AreLevels-none : (c : Aig) (levels : List ℕ) (n : ℕ) → n ≡ length c.gates → levels ≡ replicate n 0 → AreLevels c levels

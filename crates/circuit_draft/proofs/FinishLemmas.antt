@@ -1,15 +1,16 @@
 -- A draft whose uses are defined is a circuit once its gates are in order.
-use Rattle.std.proofs.Common.{◌≡◌, ℕ, Ok, zero, suc, ◌<◌, Bool, true, false, not, None, Some, List, [], ◌∷◌, ◌++◌, length, refl, sym, ◌∙◌, arith}
+use Rattle.std.proofs.Common.{◌≡◌, ℕ, Ok, zero, suc, ◌<◌, Bool, true, false, not, None, Some, List, [], ◌∷◌, ◌++◌, length, refl, sym, ◌∙◌, arith, ap}
 use Rattle.std.specs.Prelude.{◌==◌, ◌&&◌, ◌||◌, cond, slice_index_or}
 use Rattle.std.specs.List.{find, flat_map, list_all}
-use Rattle.std.proofs.lemmas.Bool.Decides.{nat_tests}
 use Rattle.std.proofs.lemmas.List.{append_assoc}
 use Rattle.std.proofs.lemmas.List.Folds.{list_any-append, list_all-append}
 use Rattle.lits.specs.Clause.{has, no_repeat}
 use Rattle.netlist.specs.declared.gate.And.{And}
 use Rattle.netlist.specs.Circuit.{Aig, IsCircuit, AreOrdered, gate_vars, variables_in, is_over, var_of}
+use Rattle.netlist.proofs.Facts.{no_repeat-split}
 use Rattle.circuit_draft.specs.Levels.{is_in_order, on_cycle}
 use Rattle.std.proofs.lemmas.Bool.{and_parts, or_parts, not-true}
+use Rattle.std.proofs.Math.Bool.{or_comm, or-false}
 use Rattle.circuit_draft.specs.Draft.{IsDraft, undefined_in, uses_in, finished}
 use Rattle.circuit_draft.specs.Steps.{AreDefined, IsFinished}
 use Rattle.circuit_draft.proofs.InOrderLemmas.{no_cycle-order}
@@ -57,29 +58,15 @@ or_turned false false true = refl
 or_turned false false false = refl
 
 -- known lists that hold the same variables
-abbrev Same : List ℕ → List ℕ → Type 0
+abbrev pub Same : List ℕ → List ℕ → Type 0
 Same known others = (v : ℕ) → has ◌==◌ known v ≡ has ◌==◌ others v
 
-Same-push : (known others : List ℕ) (v : ℕ) → Same known others → Same (v ∷ known) (others ++ v ∷ [])
+pub Same-push : (known others : List ℕ) (v : ℕ) → Same known others → Same (v ∷ known) (others ++ v ∷ [])
 Same-push known others v same w =
     rw (list_any-append (λ y. y == w) others (v ∷ []), same w) (turned (v == w) (has ◌==◌ others w))
   where
     turned : (a b : Bool) → (a || b) ≡ (b || (a || false))
-    turned true true = refl
-    turned true false = refl
-    turned false true = refl
-    turned false false = refl
-
-middle_new : (xs ys : List ℕ) (y : ℕ) → no_repeat ◌==◌ (xs ++ y ∷ ys) ≡ true → has ◌==◌ xs y ≡ false
-middle_new [] ys y e = refl
-middle_new (x ∷ xs) ys y e =
-    let parts = and_parts (not (has ◌==◌ (xs ++ y ∷ ys) x)) (no_repeat ◌==◌ (xs ++ y ∷ ys)) e in
-    let first : has ◌==◌ (xs ++ y ∷ ys) x ≡ false = not-true (has ◌==◌ (xs ++ y ∷ ys) x) parts.0 in
-    let split : (has ◌==◌ xs x || has ◌==◌ (y ∷ ys) x) ≡ false = sym (list_any-append (λ z. z == x) xs (y ∷ ys)) ∙ first in
-    let behind = or_parts (has ◌==◌ xs x) (has ◌==◌ (y ∷ ys) x) split in
-    let apart = or_parts (y == x) (has ◌==◌ ys x) behind.1 in
-    let swapped : (x == y) ≡ (y == x) = grind (arith, nat_tests) in
-    rw (swapped, apart.0, middle_new xs ys y parts.1) refl
+    turned a b = or_comm a b ∙ ap (λ (c : Bool). b || c) (sym (or-false a))
 
 AreOrdered-order : (known others : List ℕ) (gates : List And) → Same known others → no_repeat ◌==◌ (others ++ gate_vars gates) ≡ true
     → is_in_order others gates ≡ true → AreOrdered known gates
@@ -88,7 +75,7 @@ AreOrdered-order known others (g ∷ gs) same once order =
     let first = and_parts (is_over others g.left && is_over others g.right) (is_in_order (others ++ g.var ∷ []) gs) order in
     let fanins = and_parts (is_over others g.left) (is_over others g.right) first.0 in (
       record {
-        new = same g.var ∙ middle_new others (gate_vars gs) g.var once;
+        new = same g.var ∙ no_repeat-split others (gate_vars gs) g.var once;
         left = same (var_of g.left) ∙ fanins.0;
         right = same (var_of g.right) ∙ fanins.1;
       },

@@ -5,30 +5,19 @@ use Rattle.std.specs.List.{list_all, find}
 use Rattle.std.proofs.lemmas.Bool.Decides.{nat_tests}
 use Rattle.std.proofs.lemmas.Option.{none-some, same_Some}
 use Rattle.std.proofs.lemmas.List.{length-append, length-map, map-append}
-use Rattle.std.proofs.lemmas.List.Folds.{list_any-append, list_all-append}
-use Rattle.std.proofs.lemmas.Bool.{and_parts, or_parts, not-true}
+use Rattle.std.proofs.lemmas.List.Folds.{list_all-append}
+use Rattle.std.proofs.lemmas.Bool.{and_parts, not-true}
 use Rattle.std.proofs.Math.Bool.{or-true}
 use Rattle.lits.specs.Clause.{has, no_repeat}
 use Rattle.netlist.specs.declared.gate.And.{And}
 use Rattle.netlist.specs.Circuit.{Aig, gate_vars, variables_in, most}
 use Rattle.netlist.specs.Place.{place_of}
 use Rattle.netlist.specs.VariableTable.{Places, place_in, IsTable, AreVariables}
-use Rattle.netlist.proofs.Facts.{at_place, slice_get-left, slice_get-right, few, no_repeat-apart}
+use Rattle.netlist.proofs.Facts.{at_place, slice_get-left, slice_get-right, few, no_repeat-apart, no_repeat_push}
 use Rattle.circuit_draft.specs.Steps.{gate_at}
 use Rattle.circuit_draft.specs.Levels.{gate_for}
 
 -- ---- one more variable
-
-eq_swap : (a b : ℕ) → (a == b) ≡ (b == a)
-eq_swap a b = grind (arith, nat_tests)
-
-pub no_repeat-push : (xs : List ℕ) (y : ℕ) → no_repeat ◌==◌ xs ≡ true → has ◌==◌ xs y ≡ false → no_repeat ◌==◌ (xs ++ y ∷ []) ≡ true
-no_repeat-push [] y once new = refl
-no_repeat-push (x ∷ xs) y once new =
-    let parts = and_parts (not (has ◌==◌ xs x)) (no_repeat ◌==◌ xs) once in
-    let apart = or_parts (x == y) (has ◌==◌ xs y) new in
-    let first : has ◌==◌ xs x ≡ false = not-true (has ◌==◌ xs x) parts.0 in
-    rw (list_any-append (λ z. z == x) xs (y ∷ []), first, eq_swap y x, apart.0, no_repeat-push xs y parts.1 apart.1) refl
 
 range-push : (xs : List ℕ) (y : ℕ) → list_all (λ v. nat_le v most) xs ≡ true → y ≤ most → list_all (λ v. nat_le v most) (xs ++ y ∷ []) ≡ true
 range-push xs y range le =
@@ -48,7 +37,7 @@ vars-input inputs v = rw (append-nil (inputs ++ v ∷ []), append-nil inputs) re
 
 AreVariables-grown : (old new : List ℕ) (v : ℕ) → new ≡ old ++ v ∷ [] → no_repeat ◌==◌ old ≡ true → list_all (λ w. nat_le w most) old ≡ true
     → has ◌==◌ old v ≡ false → v ≤ most → (no_repeat ◌==◌ new ≡ true) × (list_all (λ w. nat_le w most) new ≡ true)
-AreVariables-grown old new v e once range fresh le = rw e (no_repeat-push old v once fresh, range-push old v range le)
+AreVariables-grown old new v e once range fresh le = rw e (no_repeat_push old v once fresh, range-push old v range le)
 
 pub AreVariables-gate : (inputs : List ℕ) (gates : List And) (g : And) → AreVariables inputs gates
     → has ◌==◌ (0 ∷ (inputs ++ gate_vars gates)) g.var ≡ false → g.var ≤ most → AreVariables inputs (gates ++ g ∷ [])

@@ -1,4 +1,4 @@
-ghost use Rattle.std.specs.Prelude.{◌≡◌, ◌<◌, ◌≤◌, ◌==◌, true, length, slice_index, None, IfOk, OnOk, MatchBool, ◌≢◌};
+ghost use Rattle.std.specs.Prelude.{◌≡◌, ◌<◌, ◌==◌, true, length, slice_index, None, IfOk, OnOk, MatchBool, ◌≢◌};
 ghost use Rattle.netlist.specs.Circuit.{is_over, variables_in};
 ghost use Rattle.circuit_draft.specs.Levels.{level_of};
 ghost use Rattle.circuit_draft.specs.Steps.{AreDefined, AreLevels, IsFanin, IsStep, IsOpen, Keeps, gate_at};

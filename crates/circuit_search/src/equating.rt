@@ -1,4 +1,4 @@
-ghost use Rattle.std.specs.Prelude.{◌≡◌, IfOk, IfSome};
+ghost use Rattle.std.specs.Prelude.{IfOk, IfSome};
 ghost use Rattle.circuit_search.specs.Answer.{SettlesOutput};
 
 use crate::caps::Caps;

@@ -1,4 +1,4 @@
-ghost use Rattle.std.specs.Prelude.{◌≡◌, ◌⊎◌, ℕ, List, [], ◌∷◌, Some, codes};
+ghost use Rattle.std.specs.Prelude.{◌⊎◌, ℕ, List, [], ◌∷◌, Some, codes};
 ghost use Rattle.command_line.specs.Commands.{most_seed};
 ghost use Rattle.command_line.specs.Plain.{AskCheck, IsPlain, Writes, kind_name, plain_check};
 ghost use Rattle.command_line.specs.declared.asked.TheConstants.{BUDGET_LIMIT, WORDS_LIMIT};

@@ -1,11 +1,10 @@
 -- An output whose literals have one root: unit propagation over the clauses of the XOR and of the merges on the two paths
 -- shows that the XOR is false, in two steps at most.
-use Rattle.std.proofs.Common.{◌≡◌, ◌≢◌, ℕ, ◌≤◌, Bool, true, false, not, ◌||◌, Option, Some, None, List, [], ◌∷◌, ◌++◌, length, take, refl, sym, ap, ◌∙◌, subst, inr, arith}
+use Rattle.std.proofs.Common.{◌≡◌, ◌≢◌, ℕ, ◌≤◌, Bool, true, false, not, Option, Some, None, List, [], ◌∷◌, ◌++◌, length, take, refl, sym, ap, ◌∙◌, subst, inr, arith}
 use Rattle.std.specs.Prelude.{slice_index}
 use Rattle.std.specs.Option.{IsSome}
 use Rattle.std.specs.List.{AllByRecursion}
 use Rattle.std.proofs.lemmas.List.{map-append}
-use Rattle.std.proofs.lemmas.List.Folds.{list_any-append}
 use Rattle.std.proofs.lemmas.Bool.{or_left, or_right}
 use Rattle.std.proofs.lemmas.Option.{none-some, same_Some}
 use Rattle.std.proofs.Math.Seq.{take-length}
@@ -33,34 +32,16 @@ use Rattle.unit_prop.specs.Step.{IsStep}
 use Rattle.unit_prop.proofs.Facts.{contrary, lit_laws, step-more, AreNamed, base_clause-is, named-all, Takes, take-second}
 use Rattle.lemma_book.specs.declared.entry.Entry.{Entry}
 use Rattle.lemma_book.specs.declared.entry.Entry.TheVariants.{Out}
-use Rattle.lemma_book.specs.Cone.{AreThere, clauses_on, nodes_in}
+use Rattle.lemma_book.specs.Cone.{AreThere, Covers, clauses_on, nodes_in}
 use Rattle.lemma_book.specs.Entry.{Entries, equal_clause}
 use Rattle.lemma_book.specs.Good.{AreOver, EndsIn, out_clause}
 use Rattle.lemma_book.specs.Root.{merge_of, passed_by, root_of, IsRoot}
-use Rattle.lemma_book.proofs.Facts.{good-out, root-opposite, is_some-variable, apart-lits, on-named, HasItsName, Covers, takes-axioms, covers-opposite, passed-there, together}
+use Rattle.lemma_book.proofs.Facts.{good-out, root-opposite, is_some-variable, apart-lits, on-named, HasItsName, takes-axioms, covers-opposite, passed-there, together, covers-left, covers-right, covers-self}
 use Rattle.cone_query.specs.Answered.{IsOutput, SettlesOutput}
 use Rattle.cone_query.specs.EqualRoots.{with_first, AreShown, HaveOtherRoots, IsWayTo, Shows}
 use Rattle.cone_query.proofs.GateOrder.{node_of-no_xor}
 use Rattle.cone_query.proofs.OutputLemmas.{output-unsettled, xor-there, xor-variable, not-merged, axioms-are}
 use Rattle.cone_query.proofs.XorPropagation.{xor-other, xor-same}
-
--- ---- the nodes on a way
-has-more : (xs ys : List Lit) (n : Node) → has same_node (nodes_in (xs ++ ys)) n ≡ (has same_node (nodes_in xs) n || has same_node (nodes_in ys) n)
-has-more xs ys n =
-    ap (λ (l : List Node). has same_node l n) (map-append (λ l. l.node) xs ys)
-    ∙ list_any-append (λ y. same_node y n) (nodes_in xs) (nodes_in ys)
-
-covers-left : (xs ys ls : List Lit) → Covers (nodes_in xs) ls → Covers (nodes_in (xs ++ ys)) ls
-covers-left xs ys [] all = tt
-covers-left xs ys (l ∷ ls) all = (has-more xs ys l.node ∙ or_left _ _ all.0, covers-left xs ys ls all.1)
-
-covers-right : (xs ys ls : List Lit) → Covers (nodes_in ys) ls → Covers (nodes_in (xs ++ ys)) ls
-covers-right xs ys [] all = tt
-covers-right xs ys (l ∷ ls) all = (has-more xs ys l.node ∙ or_right (has same_node (nodes_in xs) l.node) _ all.0, covers-right xs ys ls all.1)
-
-covers-self : (xs : List Lit) → Covers (nodes_in xs) xs
-covers-self [] = tt
-covers-self (x ∷ xs) = (or_left _ _ (same-node_self x.node), covers-right (x ∷ []) xs xs (covers-self xs))
 
 module _ (net : AigPair) (book : Entries) (j : ℕ) (asks : IsOutput net book j) where
   abbrev x : Node

@@ -1,7 +1,8 @@
 -- What values of nodes that meet the clauses which define a node say of it: it is true, the AND of its fanins, or true
 -- exactly where its outputs differ.
-use Rattle.std.proofs.Common.{◌≡◌, ℕ, ◌<◌, length, Bool, true, false, ◌&&◌, ◌||◌, Option, Some, [], refl, subst}
+use Rattle.std.proofs.Common.{◌≡◌, ℕ, ◌<◌, length, Bool, true, ◌&&◌, Option, Some, [], subst, sym, ◌∙◌}
 use Rattle.std.specs.Option.{option_map_or}
+use Rattle.std.proofs.Math.Bool.{or-false}
 use Rattle.lits.specs.Assignment.{Meets}
 use Rattle.lits.specs.declared.node.Side.{Side}
 use Rattle.lits.specs.declared.node.Side.TheVariants.{A, B}
@@ -16,11 +17,7 @@ use Rattle.netlist.proofs.Facts.{output_lit, output_of-below, meets_from_kept, g
 module _ (net : AigPair) (a : Node → Bool) where
   -- the clause of the constant says that it is true
   pub constant_from_axioms : Meets (lit_holds a) (axioms_of net Const) → a Const ≡ true
-  constant_from_axioms m = go (a Const) m.0
-    where
-      go : (b : Bool) → (b || false) ≡ true → b ≡ true
-      go true e = refl
-      go false e = e
+  constant_from_axioms m = sym (or-false (a Const)) ∙ m.0
 
   -- those of a gate say that it is the AND of its fanins
   pub gate_from_axioms : (s : Side) (v : ℕ) (g : And) → gate_at net s v ≡ Some g → g.var ≡ v → Meets (lit_holds a) (axioms_of net (Gate s v))

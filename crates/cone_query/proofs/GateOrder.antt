@@ -1,5 +1,5 @@
 -- A gate stands at a position behind those of its fanins.
-use Rattle.std.proofs.Common.{◌≡◌, ℕ, zero, suc, ◌+◌, ◌<◌, Bool, true, false, Option, Some, None, List, [], ◌∷◌, map, length, refl, sym, ap, ◌∙◌, cond, if◌then◌else◌, arith}
+use Rattle.std.proofs.Common.{◌≡◌, ℕ, zero, suc, ◌+◌, ◌<◌, Bool, true, false, Option, Some, None, List, [], ◌∷◌, map, length, refl, sym, ap, ◌∙◌, if◌then◌else◌, arith}
 use Rattle.std.specs.Prelude.{◌==◌, slice_get}
 use Rattle.std.specs.List.{range_with_len, find}
 use Rattle.std.specs.Option.{option_map, option_map_or, option_and_then, unwrap_or, is_some}
@@ -16,18 +16,10 @@ use Rattle.netlist.specs.Place.{place_of}
 use Rattle.netlist.specs.Circuit.{Aig, var_of}
 use Rattle.netlist.specs.Net.{AigPair, IsNet, circuit_of, node_of, definition_of, definitions, gate_at, nodes_of, position_of, fanins_of}
 use Rattle.netlist.specs.Miter.{variables_of}
-use Rattle.netlist.proofs.Facts.{find-place, place_of-append, or_place, slice_get-left, slice_get-right, is_some-place, length-range, equal-number, has-position, has-variable, variables-fanins, gate-at, IsGateAt}
+use Rattle.netlist.proofs.Facts.{find-place, place_of-append, or_place, slice_get-left, slice_get-right, is_some-place, length-range, equal-number, has-position, has-variable, variables-fanins, gate-at, IsGateAt, place_of-map}
 use Rattle.lemma_book.specs.Good.{IsBefore}
 
 -- ---- places in mapped lists
-place-map : {X Y : Type 0} (test : Y → Bool) (f : X → Y) (xs : List X) → place_of test (map f xs) ≡ place_of (λ x. test (f x)) xs
-place-map test f [] = refl
-place-map test f (x ∷ xs) = ap (λ (o : Option ℕ). cond (test (f x)) (Some 0) (option_map (λ k. k + 1) o)) (place-map test f xs)
-
-place-nowhere : {X : Type 0} (test : X → Bool) (xs : List X) → ((x : X) → test x ≡ false) → place_of test xs ≡ None
-place-nowhere test [] none = refl
-place-nowhere test (x ∷ xs) none = rw (none x, place-nowhere test xs none) refl
-
 map-length : {X Y : Type 0} (f : X → Y) (xs : List X) → length (map f xs) ≡ length xs
 map-length f [] = refl
 map-length f (x ∷ xs) = ap suc (map-length f xs)
@@ -60,16 +52,16 @@ module _ (net : AigPair) where
   place-gate : (s : Side) (v k : ℕ) → place_of (λ g. g.var == v) (circuit_of net s).gates ≡ Some k
       → place_of (λ m. same_node m (Gate s v)) (map (λ d. d.node) (definitions net)) ≡ Some (number s k)
   place-gate s v k e =
-      place-map (λ m. same_node m (Gate s v)) (λ d. d.node) (definitions net)
+      place_of-map (λ m. same_node m (Gate s v)) (λ d. d.node) (definitions net)
       ∙ (place_of-append (λ d. same_node d.node (Gate s v)) first second ∙ here s v k e)
     where
       here : (t : Side) (w j : ℕ) → place_of (λ g. g.var == w) (circuit_of net t).gates ≡ Some j
           → or_place (place_of (λ d. same_node d.node (Gate t w)) first) (option_map (λ i. length first + i) (place_of (λ d. same_node d.node (Gate t w)) second)) ≡ Some (number t j)
-      here A w j f = rw (place-map (λ d. same_node d.node (Gate A w)) (definition_of A net.a) net.a.gates ∙ f) refl
+      here A w j f = rw (place_of-map (λ d. same_node d.node (Gate A w)) (definition_of A net.a) net.a.gates ∙ f) refl
       here B w j f =
           rw (
             none w net.a.gates,
-            place-map (λ d. same_node d.node (Gate B w)) (definition_of B net.b) net.b.gates ∙ f,
+            place_of-map (λ d. same_node d.node (Gate B w)) (definition_of B net.b) net.b.gates ∙ f,
           ) refl
         where
           none : (w : ℕ) (gs : List And) → place_of (λ d. same_node d.node (Gate B w)) (map (definition_of A net.a) gs) ≡ None
@@ -108,7 +100,7 @@ module _ (net : AigPair) where
 
       gates : place_of (λ m. same_node m (Xor j)) (map (λ d. d.node) (definitions net)) ≡ None
       gates =
-          place-map (λ m. same_node m (Xor j)) (λ d. d.node) (definitions net)
+          place_of-map (λ m. same_node m (Xor j)) (λ d. d.node) (definitions net)
           ∙ (place_of-append (λ d. same_node d.node (Xor j)) first second ∙ rw (side A net.a.gates, side B net.b.gates) refl)
 
 -- no variable of a side is named by an XOR

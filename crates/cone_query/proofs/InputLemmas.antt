@@ -6,6 +6,7 @@ use Rattle.std.proofs.lemmas.Bool.Decides.{nat_tests}
 use Rattle.std.proofs.lemmas.List.{same_lists, take_more, take_at, get_or-replicate, length-replicate}
 use Rattle.std.proofs.lemmas.List.Folds.{list_any-append}
 use Rattle.std.proofs.lemmas.List.FromFn.{length-map-range_with_len, get_or-map-range_with_len}
+use Rattle.std.proofs.Math.Bool.{and-false, or-false, or-true}
 use Rattle.lits.specs.Clause.{has}
 use Rattle.lits.specs.declared.node.Node.{Node}
 use Rattle.lits.specs.declared.node.Node.TheVariants.{Const, Input, Gate, Xor}
@@ -49,11 +50,7 @@ module _ (net : AigPair) where
       (λ k d below.
       let inside : k < length net.a.inputs = omega (arith, length-input_from model) in
       input_from-at model k d inside ∙ sym (input_from-at (model ++ l ∷ []) k d inside
-      ∙ list_any-append (λ y. same_lit y (positive (Input k))) model (l ∷ []) ∙ rw (apart k) (or_false (has same_lit model (positive (Input k))))))
-    where
-      or_false : (b : Bool) → (b || false) ≡ b
-      or_false true = refl
-      or_false false = refl
+      ∙ list_any-append (λ y. same_lit y (positive (Input k))) model (l ∷ []) ∙ rw (apart k) (or-false (has same_lit model (positive (Input k))))))
 
   input_from-input : (model : List Lit) (i : ℕ) → i < length net.a.inputs
       → set (input_from net model) i true ≡ input_from net (model ++ positive (Input i) ∷ [])
@@ -65,25 +62,17 @@ module _ (net : AigPair) where
       go k d inside (i == k) refl
       ∙ sym (input_from-at (model ++ positive (Input i) ∷ []) k d inside ∙ list_any-append (λ y. same_lit y (positive (Input k))) model (positive (Input i) ∷ [])))
     where
-      or_true : (b : Bool) → (b || true) ≡ true
-      or_true true = refl
-      or_true false = refl
-
-      or_false : (b : Bool) → (b || false) ≡ b
-      or_false true = refl
-      or_false false = refl
-
       go : (k : ℕ) (d : Bool) → k < length net.a.inputs → (b : Bool) → (i == k) ≡ b
           → get_or (set (input_from net model) i true) k d ≡ (has same_lit model (positive (Input k)) || (same_lit (positive (Input i)) (positive (Input k)) || false))
       go k d inside true e =
           let same : i ≡ k = grind (arith, nat_tests) in
           let within : i < length (input_from net model) = omega (arith, length-input_from model) in
           subst (λ (n : ℕ). get_or (set (input_from net model) i true) n d ≡ true) same (get_or-set_same (input_from net model) i true d within)
-          ∙ sym (ap (λ (b : Bool). has same_lit model (positive (Input k)) || ((b && true) || false)) e ∙ or_true (has same_lit model (positive (Input k))))
+          ∙ sym (ap (λ (b : Bool). has same_lit model (positive (Input k)) || ((b && true) || false)) e ∙ or-true (has same_lit model (positive (Input k))))
       go k d inside false e =
           let other : k ≢ i = grind (arith, nat_tests) in
           get_or-set_other (input_from net model) i k true d other ∙ input_from-at model k d inside
-          ∙ sym (ap (λ (b : Bool). has same_lit model (positive (Input k)) || ((b && true) || false)) e ∙ or_false (has same_lit model (positive (Input k))))
+          ∙ sym (ap (λ (b : Bool). has same_lit model (positive (Input k)) || ((b && true) || false)) e ∙ or-false (has same_lit model (positive (Input k))))
 
   -- one more literal
   pub input_from-more : (model : List Lit) (l : Lit) → IsBelow (length net.a.inputs) l.node
@@ -92,11 +81,7 @@ module _ (net : AigPair) where
     where
       go : (neg : Bool) (n : Node) → IsBelow (length net.a.inputs) n
           → (if neg then input_from net model else marked_at n (input_from net model)) ≡ input_from net (model ++ record { node = n; neg = neg } ∷ [])
-      go true n at = input_from-other model (record { node = n; neg = true }) (λ k. negated (same_node n (Input k)))
-        where
-          negated : (b : Bool) → (b && false) ≡ false
-          negated true = refl
-          negated false = refl
+      go true n at = input_from-other model (record { node = n; neg = true }) (λ k. and-false (same_node n (Input k)))
       go false Const at = input_from-other model (positive Const) (λ k. refl)
       go false (Gate s v) at = input_from-other model (positive (Gate s v)) (λ k. refl)
       go false (Xor j) at = input_from-other model (positive (Xor j)) (λ k. refl)

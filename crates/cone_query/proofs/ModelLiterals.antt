@@ -1,6 +1,7 @@
 -- What a model's literals make true.
 use Rattle.std.proofs.Common.{◌≡◌, Bool, true, false, not, ◌||◌, List, [], ◌∷◌, refl, sym, ap, ◌∙◌, subst, if◌then◌else◌}
 use Rattle.std.specs.List.{list_any}
+use Rattle.std.proofs.lemmas.Bool.{not-true, or_parts, or_right}
 use Rattle.lits.specs.Assignment.{Meets}
 use Rattle.lits.specs.Clause.{has, has_pair}
 use Rattle.lits.specs.declared.node.Node.{Node}
@@ -13,17 +14,13 @@ use Rattle.netlist.specs.Miter.{positive, negative}
 use Rattle.netlist.proofs.Facts.{lit_holds-opposite}
 use Rattle.unit_prop.proofs.Facts.{contrary}
 
-or_none : (a b : Bool) → (a || b) ≡ false → (a ≡ false) × (b ≡ false)
-or_none true b e = cc
-or_none false b e = (refl, e)
-
 -- a list without a complementary pair has no literal beside its negation
 apart-literal : (ls : List Lit) (q : Lit) → has_pair same_lit opposite ls ≡ false → has same_lit ls q ≡ true → has same_lit ls (opposite q) ≡ false
 apart-literal [] q apart h = refl
 apart-literal (l ∷ ls) q apart h = go (same_lit l q) refl (apart-literal ls q parts.1)
   where
     parts : (has same_lit ls (opposite l) ≡ false) × (has_pair same_lit opposite ls ≡ false)
-    parts = or_none (has same_lit ls (opposite l)) (has_pair same_lit opposite ls) apart
+    parts = or_parts (has same_lit ls (opposite l)) (has_pair same_lit opposite ls) apart
 
     other : same_lit l (opposite q) ≡ true → has same_lit ls (opposite l) ≡ has same_lit ls q
     other e = ap (has same_lit ls) (ap opposite (exact-lit l (opposite q) e) ∙ laws.twice-law q)
@@ -63,17 +60,9 @@ true-clauses model apart (c ∷ cs) meets = (clause c meets.0, true-clauses mode
         go : (b : Bool) → has same_lit model l ≡ b → (list_any (has same_lit model) ls ≡ true → list_any (lit_holds (true_in model)) ls ≡ true)
             → list_any (lit_holds (true_in model)) (l ∷ ls) ≡ true
         go true e rest = rw (true-literal model l apart e) refl
-        go false e rest = or_right (lit_holds (true_in model) l) (rest (sym (ap (λ (b : Bool). b || list_any (has same_lit model) ls) e) ∙ h))
-          where
-            or_right : (b : Bool) → list_any (lit_holds (true_in model)) ls ≡ true → (b || list_any (lit_holds (true_in model)) ls) ≡ true
-            or_right true f = refl
-            or_right false f = f
+        go false e rest = or_right (lit_holds (true_in model) l) _ (rest (sym (ap (λ (b : Bool). b || list_any (has same_lit model) ls) e) ∙ h))
 
 -- a literal whose negation a model has is false there
 pub false-literal : (model : List Lit) (l : Lit) → has_pair same_lit opposite model ≡ false → has same_lit model (opposite l) ≡ true
     → lit_holds (true_in model) l ≡ false
-false-literal model l apart h = go (lit_holds (true_in model) l) (sym (lit_holds-opposite (true_in model) l) ∙ true-literal model (opposite l) apart h)
-  where
-    go : (b : Bool) → not b ≡ true → b ≡ false
-    go true e = cc
-    go false e = refl
+false-literal model l apart h = not-true (lit_holds (true_in model) l) (sym (lit_holds-opposite (true_in model) l) ∙ true-literal model (opposite l) apart h)

@@ -1,9 +1,10 @@
 -- Which variables occur in a cone: those of its nodes that are gates, merged or the constant.
-use Rattle.std.proofs.Common.{◌≡◌, ℕ, Bool, true, false, not, ◌||◌, Option, Some, None, List, [], ◌∷◌, length, take, refl, sym, ap, ◌∙◌, subst, arith}
+use Rattle.std.proofs.Common.{◌≡◌, ℕ, Bool, true, false, not, ◌||◌, Some, None, List, [], ◌∷◌, length, take, refl, sym, ap, ◌∙◌, subst}
 use Rattle.std.specs.Bool.{OnTrue, OnFalse}
 use Rattle.std.specs.List.{list_any, AllByRecursion}
-use Rattle.std.proofs.lemmas.Bool.{or_left}
+use Rattle.std.proofs.lemmas.Bool.{or_left, or_parts}
 use Rattle.std.proofs.Math.Seq.{take-length}
+use Rattle.lemma_book.proofs.Facts.{irreflexive}
 use Rattle.lits.specs.Clause.{has, has_pair, firsts}
 use Rattle.lits.specs.declared.node.Side.{Side}
 use Rattle.lits.specs.declared.node.Node.{Node}
@@ -12,12 +13,12 @@ use Rattle.lits.specs.declared.literal.Lit.{Lit}
 use Rattle.lits.specs.declared.step.Named.{Named}
 use Rattle.lits.specs.declared.step.Ref.TheVariants.{Axiom, Entry as Shown}
 use Rattle.lits.specs.Same.{same_node, same_lit, opposite}
-use Rattle.lits.proofs.Facts.{exact-lit}
+use Rattle.lits.proofs.Facts.{exact-lit, same-lit_self}
 use Rattle.netlist.specs.declared.gate.And.{And}
 use Rattle.netlist.specs.Net.{AigPair, IsNet, circuit_of, lit_named, gate_at, position_of}
 use Rattle.netlist.specs.Miter.{positive, negative, kept, axioms_of, variables_of}
 use Rattle.unit_prop.specs.Refuter.{is_over}
-use Rattle.unit_prop.proofs.Facts.{contrary, lit_laws}
+use Rattle.unit_prop.proofs.Facts.{contrary}
 use Rattle.lemma_book.specs.declared.entry.Entry.{Entry}
 use Rattle.lemma_book.specs.Cone.{named_from, named_clauses, IsCone}
 use Rattle.lemma_book.specs.declared.entry.Task.{Task}
@@ -38,12 +39,8 @@ pub silent : (base : List Named) (l : Lit) → is_over base l ≡ false → AllB
 silent [] l e = tt
 silent (m ∷ ms) l e = (parts.0, silent ms l parts.1)
   where
-    neither : (a b : Bool) → (a || b) ≡ false → (a ≡ false) × (b ≡ false)
-    neither true b f = cc
-    neither false b f = (refl, f)
-
     parts : (speaks_of l m.clause ≡ false) × (is_over ms l ≡ false)
-    parts = neither (speaks_of l m.clause) (is_over ms l) e
+    parts = or_parts (speaks_of l m.clause) (is_over ms l) e
 
 pub silent-back : (base : List Named) (l : Lit) → AllByRecursion (λ m. speaks_of l m.clause ≡ false) base → is_over base l ≡ false
 silent-back [] l all = refl
@@ -72,15 +69,12 @@ module _ (net : AigPair) (es : List Entry) (seeds : List Node) (cone : List Name
           (silent-back cone l (cone-from net es seeds cone is_cone (λ m. speaks_of l m.clause ≡ false)
           (λ n h. cone-at net es more larger is_larger (λ m. speaks_of l m.clause ≡ false) n (within n h).0 (within n h).1 (silent larger l f))))
 
-self : (l : Lit) → same_lit l l ≡ true
-self = lit_laws.equivalence.refl
-
 -- the clauses of a node that speak of it
 module _ (net : AigPair) (es : List Entry) where
   pub spoken-merge : (n : Node) (m : MergeAt) → merge_of es n ≡ Some m → ¬ AllByRecursion (λ x. speaks_of (negative n) x.clause ≡ false) (named_clauses net es n)
   spoken-merge n m e all =
       let first : AllByRecursion (λ x. speaks_of (negative n) x.clause ≡ false) (named_from (Shown m.entry) 0 (merge_clauses n m.lit)) = rw e at all in
-      contrary (speaks_of (negative n) (negative n ∷ m.lit ∷ [])) (or_left _ _ (or_left _ _ (self (negative n)))) first.0
+      contrary (speaks_of (negative n) (negative n ∷ m.lit ∷ [])) (or_left _ _ (or_left _ _ (same-lit_self (negative n)))) first.0
 
   pub spoken-const : merge_of es Const ≡ None → ¬ AllByRecursion (λ x. speaks_of (negative Const) x.clause ≡ false) (named_clauses net es Const)
   spoken-const e all =
@@ -90,7 +84,7 @@ module _ (net : AigPair) (es : List Entry) where
   pub spoken-gate : IsNet net → (s : Side) (v : ℕ) (g : And) → gate_at net s v ≡ Some g → merge_of es (Gate s v) ≡ None
       → ¬ AllByRecursion (λ x. speaks_of (negative (Gate s v)) x.clause ≡ false) (named_clauses net es (Gate s v))
   spoken-gate is s v g found none all =
-      contrary (speaks_of (negative (Gate s v)) first_clause) (or_left _ _ (or_left _ _ (ap (same_lit (negative (Gate s g.var))) (ap (λ (x : ℕ). negative (Gate s x)) (sym var)) ∙ self (negative (Gate s g.var)))))
+      contrary (speaks_of (negative (Gate s v)) first_clause) (or_left _ _ (or_left _ _ (ap (same_lit (negative (Gate s g.var))) (ap (λ (x : ℕ). negative (Gate s x)) (sym var)) ∙ same-lit_self (negative (Gate s g.var)))))
       first.0
     where
       left : Lit
@@ -101,10 +95,6 @@ module _ (net : AigPair) (es : List Entry) where
 
       first_clause : List Lit
       first_clause = firsts same_lit (negative (Gate s g.var) ∷ left ∷ [])
-
-      irreflexive : (o : Option ℕ) → IsBefore o o → ⊥
-      irreflexive None h = h
-      irreflexive (Some p) h = absurd (omega arith)
 
       other : same_lit left (positive (Gate s g.var)) ≡ false
       other = go (same_lit left (positive (Gate s g.var))) refl

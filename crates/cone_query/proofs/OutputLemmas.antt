@@ -1,9 +1,9 @@
 -- What each answer over the cone of an output's XOR shows of the output.
-use Rattle.std.proofs.Common.{◌≡◌, ℕ, ◌+◌, ◌≤◌, ◌^◌, Bool, true, false, not, ◌||◌, Option, Some, None, List, [], ◌∷◌, ◌++◌, length, take, refl, sym, ap, ap₂, ◌∙◌, subst, length-append, arith}
+use Rattle.std.proofs.Common.{◌≡◌, ℕ, ◌+◌, ◌≤◌, ◌^◌, Bool, true, false, ◌||◌, Option, Some, None, List, [], ◌∷◌, ◌++◌, length, take, refl, sym, ap, ap₂, ◌∙◌, subst, length-append, arith}
 use Rattle.std.specs.Prelude.{slice_get, slice_index}
 use Rattle.std.specs.Option.{IsSome, is_some, option_and_then, option_to_list}
 use Rattle.std.specs.List.{list_any, find, AllByRecursion}
-use Rattle.std.proofs.lemmas.Bool.{and_parts}
+use Rattle.std.proofs.lemmas.Bool.{and_parts, not-false, or_right}
 use Rattle.std.proofs.lemmas.Option.{none-some}
 use Rattle.std.proofs.Math.Seq.{take-length}
 use Rattle.lits.specs.Assignment.{Holds, Meets}
@@ -19,7 +19,7 @@ use Rattle.lits.specs.declared.step.Ref.{Ref}
 use Rattle.lits.specs.declared.step.Ref.TheVariants.{Axiom}
 use Rattle.lits.specs.Same.{same_node, same_lit, opposite}
 use Rattle.lits.specs.contracts.literal.LitLiteral.TheImpl.Laws as lit
-use Rattle.lits.proofs.Facts.{exact-lit, exact-node, same-node_self, all-append}
+use Rattle.lits.proofs.Facts.{exact-lit, exact-node, same-node_self, all-append, same-lit_self}
 use Rattle.netlist.specs.Circuit.{var_of, output_value}
 use Rattle.netlist.specs.Net.{AigPair, circuit_of, output_of, nodes_of, position_of, differs, value_of, lit_holds}
 use Rattle.netlist.specs.Miter.{positive, negative, kept, xor_clauses, xor_axioms, axioms_of, variables_of, variable_of}
@@ -31,7 +31,7 @@ use Rattle.unit_prop.specs.Log.{base_clause, base_clauses, with_own, IsStepAfter
 use Rattle.unit_prop.specs.Refuter.{IsOver, IsModel, Answers, StaysUndecided}
 use Rattle.unit_prop.specs.Step.{IsStep}
 use Rattle.unit_prop.specs.Variables.{variables}
-use Rattle.unit_prop.proofs.Facts.{contrary, in_turn-append, log-grows, lit_laws}
+use Rattle.unit_prop.proofs.Facts.{contrary, in_turn-append, log-grows}
 use Rattle.lemma_book.specs.declared.entry.Entry.{Entry}
 use Rattle.lemma_book.specs.declared.entry.Entry.TheVariants.{Out, OutApart, OutSpent}
 use Rattle.lemma_book.specs.declared.entry.Subject.TheVariants.{Output}
@@ -62,13 +62,6 @@ output-unsettled entries j none = go (place_on entries (Output j)) refl
         let found : find (is_on (Output j)) entries ≡ Some at.0 = find-place (is_on (Output j)) entries ∙ (ap (option_and_then (slice_get entries)) e ∙ at.1) in
         absurd (none-some at.0 (sym none ∙ found))
 
-self : (l : Lit) → same_lit l l ≡ true
-self = lit_laws.equivalence.refl
-
-or_right : (a b : Bool) → b ≡ true → (a || b) ≡ true
-or_right true b e = refl
-or_right false b e = e
-
 -- a test passes for the clauses that stay
 module _ (test : List Lit → Bool) where
   kept-here : (c : List Lit) (cs : List (List Lit)) → has_pair same_lit opposite c ≡ false → test (firsts same_lit c) ≡ true → list_any test (kept (c ∷ cs)) ≡ true
@@ -93,7 +86,7 @@ xor-kept x a b p q = go (same_lit b (opposite a)) refl
     go false e =
         kept-here test (negative x ∷ a ∷ b ∷ [])
         ((negative x ∷ opposite a ∷ opposite b ∷ []) ∷ (positive x ∷ opposite a ∷ b ∷ []) ∷ (positive x ∷ a ∷ opposite b ∷ []) ∷ [])
-        (rw (apart-lits a (positive x) p, apart-lits b (positive x) q, e) refl) (rw (self (negative x)) refl)
+        (rw (apart-lits a (positive x) p, apart-lits b (positive x) q, e) refl) (rw (same-lit_self (negative x)) refl)
     go true e =
         let flipped : same_lit b (opposite (opposite a)) ≡ false =
         subst (λ (l : Lit). same_lit l (opposite (opposite a)) ≡ false) (sym (exact-lit b (opposite a) e)) (lit.differs-law (opposite a)) in
@@ -103,7 +96,7 @@ xor-kept x a b p q = go (same_lit b (opposite a)) refl
         (kept-here test (positive x ∷ opposite a ∷ b ∷ []) ((positive x ∷ a ∷ opposite b ∷ []) ∷ [])
         (rw (apart-lits (opposite a) (negative x) p, apart-lits b (negative x) q, flipped) refl)
         (or_right (has same_lit (firsts same_lit (positive x ∷ opposite a ∷ b ∷ [])) (negative x)) (has same_lit (firsts same_lit (positive x ∷ opposite a ∷ b ∷ [])) (positive x))
-        (rw (self (positive x)) refl))))
+        (rw (same-lit_self (positive x)) refl))))
 
 -- clauses that don't speak of a variable that occurs in them
 spoken : (cs : List (List Lit)) (l : Lit) (name : ℕ → Ref) (k : ℕ) → occurs same_lit opposite cs l ≡ true
@@ -257,11 +250,7 @@ module _ (net : AigPair) (book : Entries) (j : ℕ) (asks : IsOutput net book j)
               (rw not-merged at (cone-at net es (Xor j ∷ []) cone is_cone (λ n. Holds (lit_holds (true_in model)) n.clause) (Xor j) reached xor-there meets))
 
           is_true : true_in model (Xor j) ≡ true
-          is_true = back (true_in model (Xor j)) (false-literal model (negative (Xor j)) m.once.apart (and_parts (has same_lit model (positive (Xor j))) true m.refutes).0)
-            where
-              back : (b : Bool) → not b ≡ false → b ≡ true
-              back true e = refl
-              back false e = cc
+          is_true = not-false (true_in model (Xor j)) (false-literal model (negative (Xor j)) m.once.apart (and_parts (has same_lit model (positive (Xor j))) true m.refutes).0)
 
           differ : differs (output_value net.a bits j) (output_value net.b bits j) ≡ true
           differ =

@@ -6,9 +6,9 @@ use Rattle.std.specs.List.{list_all, AllByRecursion}
 use Rattle.std.proofs.lemmas.Bool.{and_parts}
 use Rattle.std.proofs.lemmas.Option.{none-some, slice_get_within}
 use Rattle.std.proofs.Math.Seq.{take-length}
+use Rattle.std.proofs.Math.Bool.{or_comm}
 use Rattle.lits.specs.Assignment.{Holds}
 use Rattle.lits.specs.Clause.{has}
-use Rattle.lits.specs.declared.node.Node.{Node}
 use Rattle.lits.specs.declared.literal.Lit.{Lit}
 use Rattle.lits.specs.declared.step.Named.{Named}
 use Rattle.lits.specs.declared.step.Step.{Step}
@@ -19,7 +19,7 @@ use Rattle.lits.specs.contracts.literal.LitLiteral.TheImpl.Laws as lit
 use Rattle.lits.proofs.Facts.{all-append}
 use Rattle.netlist.specs.Net.{AigPair, position_of, value_of, lit_holds}
 use Rattle.netlist.specs.Miter.{positive, negative, variables_of}
-use Rattle.netlist.proofs.Facts.{at_place, slice_get-left, lit_holds-opposite}
+use Rattle.netlist.proofs.Facts.{slice_get-left, lit_holds-opposite}
 use Rattle.unit_prop.specs.declared.refuter.Refuted.{Refuted}
 use Rattle.unit_prop.specs.declared.refuter.Refuted.TheVariants.{No, Spent as Gone}
 use Rattle.unit_prop.specs.New.{occurs}
@@ -30,13 +30,11 @@ use Rattle.unit_prop.specs.Variables.{variables}
 use Rattle.unit_prop.proofs.Facts.{in_turn-append, log-grows, step-more}
 use Rattle.lemma_book.specs.declared.entry.Task.{Task}
 use Rattle.lemma_book.specs.declared.entry.Entry.{Entry}
-use Rattle.lemma_book.specs.declared.entry.Entry.TheVariants.{Merge, Apart, Spent, Out, OutApart, OutSpent}
-use Rattle.lemma_book.specs.declared.entry.Subject.TheVariants.{Merged}
+use Rattle.lemma_book.specs.declared.entry.Entry.TheVariants.{Merge, Apart, Spent}
 use Rattle.lemma_book.specs.Cone.{AreThere, AreIn, next_of, IsReach, IsCone}
-use Rattle.lemma_book.specs.Entry.{Entries, is_on, place_on, merge_clauses}
+use Rattle.lemma_book.specs.Entry.{Entries, merge_clauses}
 use Rattle.lemma_book.specs.Good.{ArePlaced, IsBefore, AreOver, EndsIn, node_clause}
-use Rattle.lemma_book.specs.Root.{merge_in, IsRoot}
-use Rattle.lemma_book.proofs.Facts.{good-merge, good-apart, good-spent, is_some-variable, placed-there, step_after-more}
+use Rattle.lemma_book.proofs.Facts.{good-merge, good-apart, good-spent, is_some-variable, placed-there, step_after-more, root-unsettled}
 use Rattle.cone_query.specs.Input.{input_from}
 use Rattle.cone_query.specs.declared.pair_query.Asked.{Asked}
 use Rattle.cone_query.specs.declared.pair_query.Asked.TheVariants.{Shown as Asks_shown}
@@ -61,41 +59,16 @@ pub on_ok-all : {T E : Type 0} (P : Type 0) (r : Result T E) → P → OnOk r P
 on_ok-all P (Ok t) p = p
 on_ok-all P (Err e) p = tt
 
--- a node that isn't merged has no entry
-pub root-unsettled : (entries : List Entry) (n : Node) → IsRoot entries n → place_on entries (Merged n) ≡ None
-root-unsettled entries n root = go (place_on entries (Merged n)) refl
-  where
-    of : (k : ℕ) (x : Entry) → is_on (Merged n) x ≡ true → merge_in k x ≡ None → ⊥
-    of k (Merge node l steps) on e = none-some _ (sym e)
-    of k (Apart node l input) on e = cc
-    of k (Spent node l seen log) on e = cc
-    of k (Out j steps) on e = cc
-    of k (OutApart j input) on e = cc
-    of k (OutSpent j seen log) on e = cc
-
-    go : (o : Option ℕ) → place_on entries (Merged n) ≡ o → place_on entries (Merged n) ≡ None
-    go None e = e
-    go (Some k) e =
-        let at = at_place (is_on (Merged n)) entries k e in
-        let none : merge_in k at.0 ≡ None = rw (e, at.1) at root in
-        absurd (of k at.0 at.2 none)
-
 -- a literal's variable occurs where its negation's does
 pub over-opposite : (base : List Named) (l : Lit) → is_over base l ≡ true → is_over base (opposite l) ≡ true
 over-opposite base l e = go (base_clauses base) e
   where
-    swap : (a b : Bool) → (a || b) ≡ (b || a)
-    swap true true = refl
-    swap true false = refl
-    swap false true = refl
-    swap false false = refl
-
     go : (cs : List (List Lit)) → occurs same_lit opposite cs l ≡ true → occurs same_lit opposite cs (opposite l) ≡ true
     go [] f = f
     go (c ∷ cs) f = here (has same_lit c l || has same_lit c (opposite l)) refl (go cs)
       where
         turned : (has same_lit c (opposite l) || has same_lit c (opposite (opposite l))) ≡ (has same_lit c l || has same_lit c (opposite l))
-        turned = ap (λ (m : Lit). has same_lit c (opposite l) || has same_lit c m) (lit.twice-law l) ∙ swap (has same_lit c (opposite l)) (has same_lit c l)
+        turned = ap (λ (m : Lit). has same_lit c (opposite l) || has same_lit c m) (lit.twice-law l) ∙ or_comm (has same_lit c (opposite l)) (has same_lit c l)
 
         here : (b : Bool) → (has same_lit c l || has same_lit c (opposite l)) ≡ b → (occurs same_lit opposite cs l ≡ true → occurs same_lit opposite cs (opposite l) ≡ true)
             → occurs same_lit opposite (c ∷ cs) (opposite l) ≡ true

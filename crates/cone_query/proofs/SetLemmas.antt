@@ -3,7 +3,7 @@ use Rattle.std.proofs.Common.{◌≡◌, ◌≢◌, ℕ, ◌<◌, Bool, true, fa
 use Rattle.std.specs.Prelude.{◌==◌, slice_index_or}
 use Rattle.std.specs.List.{list_any, AllByRecursion}
 use Rattle.std.proofs.lemmas.Bool.Decides.{nat_tests}
-use Rattle.std.proofs.lemmas.Bool.{cases_lt}
+use Rattle.std.proofs.lemmas.Bool.{cases_lt, or_parts}
 use Rattle.std.proofs.lemmas.List.{get_or-replicate, length-replicate, get_or_past}
 use Rattle.std.proofs.Common.{inl, inr}
 use Rattle.std.proofs.Math.Seq.{take-length}
@@ -17,7 +17,7 @@ use Rattle.lits.specs.Same.{same_node, same_lit, opposite}
 use Rattle.lits.proofs.Facts.{exact-node, same-node_self}
 use Rattle.netlist.specs.Net.{AigPair, value_of, lit_holds}
 use Rattle.netlist.proofs.Facts.{equal-number}
-use Rattle.unit_prop.proofs.Facts.{contrary, lit_laws}
+use Rattle.unit_prop.proofs.Facts.{contrary}
 use Rattle.lemma_book.specs.declared.entry.Task.{Task}
 use Rattle.lemma_book.specs.declared.entry.Entry.{Entry}
 use Rattle.lemma_book.specs.declared.entry.Entry.TheVariants.{Apart}
@@ -31,9 +31,6 @@ use Rattle.cone_query.proofs.ConeModel.{agree, values-meet_cone}
 use Rattle.cone_query.proofs.InputLemmas.{there-below}
 use Rattle.cone_query.proofs.OccursLemmas.{speaks_of, silent}
 use Rattle.cone_query.proofs.PairLemmas.{pair-there, pair-placed, pair-starts}
-
-self : (l : Lit) → same_lit l l ≡ true
-self = lit_laws.equivalence.refl
 
 -- a literal over the node is it or its negation
 same-or-opposite : (l m : Lit) → l.node ≡ m.node → (same_lit l m || same_lit l (opposite m)) ≡ true
@@ -55,15 +52,11 @@ module _ (v a : Node → Bool) (lit : Lit) (others : (n : Node) → same_node n 
   clause-same [] e f = refl
   clause-same (l ∷ ls) e f = rw (lit-same l (apart (same_node l.node lit.node) refl), clause-same ls one.1 two.1) refl
     where
-      neither : (a b : Bool) → (a || b) ≡ false → (a ≡ false) × (b ≡ false)
-      neither true b g = cc
-      neither false b g = (refl, g)
-
       one : (same_lit l lit ≡ false) × (has same_lit ls lit ≡ false)
-      one = neither (same_lit l lit) (has same_lit ls lit) e
+      one = or_parts (same_lit l lit) (has same_lit ls lit) e
 
       two : (same_lit l (opposite lit) ≡ false) × (has same_lit ls (opposite lit) ≡ false)
-      two = neither (same_lit l (opposite lit)) (has same_lit ls (opposite lit)) f
+      two = or_parts (same_lit l (opposite lit)) (has same_lit ls (opposite lit)) f
 
       apart : (b : Bool) → same_node l.node lit.node ≡ b → same_node l.node lit.node ≡ false
       apart false g = g
@@ -78,11 +71,7 @@ module _ (v a : Node → Bool) (lit : Lit) (others : (n : Node) → same_node n 
   all-same (m ∷ ms) quiet all = (clause-same m.clause parts.0 parts.1 ∙ all.0, all-same ms quiet.1 all.1)
     where
       parts : (has same_lit m.clause lit ≡ false) × (has same_lit m.clause (opposite lit) ≡ false)
-      parts = neither (has same_lit m.clause lit) (has same_lit m.clause (opposite lit)) quiet.0
-        where
-          neither : (a b : Bool) → (a || b) ≡ false → (a ≡ false) × (b ≡ false)
-          neither true b g = cc
-          neither false b g = (refl, g)
+      parts = or_parts (has same_lit m.clause lit) (has same_lit m.clause (opposite lit)) quiet.0
 
 -- the inputs' truth values with one set among false ones
 zeros-at : (n i : ℕ) → get_or (replicate n false) i false ≡ false

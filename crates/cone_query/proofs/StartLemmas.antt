@@ -21,7 +21,7 @@ use Rattle.lemma_book.specs.Cone.{next_of, IsClosed, IsCone}
 use Rattle.lemma_book.specs.Entry.{Entries}
 use Rattle.lemma_book.specs.Good.{IsBefore}
 use Rattle.lemma_book.specs.Root.{MergeAt, merge_of}
-use Rattle.lemma_book.proofs.Facts.{reach-there, cone-one}
+use Rattle.lemma_book.proofs.Facts.{reach-there, cone-one, irreflexive}
 use Rattle.cone_query.specs.Query.{IsGate, IsUnnamed}
 use Rattle.cone_query.specs.Asked.{IsPair, IsQuery, IsImplication, IsNamedInput, seeds_of, forth, back}
 use Rattle.cone_query.proofs.ConeModel.{find-any}
@@ -109,10 +109,6 @@ module _ (net : AigPair) (book : Entries) (task : Task) (pair : IsPair net book 
 
 -- ---- the two implications are clauses
 module _ (net : AigPair) (book : Entries) (task : Task) (pair : IsPair net book task) where
-  irreflexive : (o : Option ℕ) → IsBefore o o → ⊥
-  irreflexive None h = h
-  irreflexive (Some p) h = absurd (omega arith)
-
   apart : (a b : Bool) → same_lit (record { node = task.node; neg = a }) (record { node = task.lit.node; neg = b }) ≡ false
   apart a b = go (same_node task.node task.lit.node) refl
     where

@@ -11,9 +11,6 @@ use Rattle.netlist.proofs.Facts.{kept-head, kept-rest}
 use Rattle.unit_prop.proofs.Facts.{lit_laws, Takes, takes-firsts, take-third}
 use Rattle.lemma_book.proofs.Facts.{apart-lits}
 
-twice : (l : Lit) → opposite (opposite l) ≡ l
-twice = laws.twice-law
-
 module _ (p : Lit → Bool) (x : Node) (a b : Lit) (far_a : same_node a.node x ≡ false) (far_b : same_node b.node x ≡ false) (apart : same_lit b (opposite a) ≡ false)
     (all : AllByRecursion (Takes p) (kept (xor_clauses x a b))) (on : p (positive x) ≡ true) where
   abbrev others : List (List Lit)
@@ -30,10 +27,10 @@ module _ (p : Lit → Bool) (x : Node) (a b : Lit) (far_a : same_node a.node x �
       take-third p (negative x) (opposite a) (opposite b)
       (takes-firsts p (negative x ∷ opposite a ∷ opposite b ∷ []) (kept-head (Takes p) (negative x ∷ opposite a ∷ opposite b ∷ []) others
       (rw (apart-lits (opposite a) (positive x) far_a, apart-lits (opposite b) (positive x) far_b, flipped) refl)
-      (kept-rest (Takes p) (negative x ∷ a ∷ b ∷ []) ((negative x ∷ opposite a ∷ opposite b ∷ []) ∷ others) all))) on (ap p (twice a) ∙ h)
+      (kept-rest (Takes p) (negative x ∷ a ∷ b ∷ []) ((negative x ∷ opposite a ∷ opposite b ∷ []) ∷ others) all))) on (ap p (laws.twice-law a) ∙ h)
     where
       flipped : same_lit (opposite b) (opposite (opposite a)) ≡ false
-      flipped = ap (same_lit (opposite b)) (twice a) ∙ eq-flip
+      flipped = ap (same_lit (opposite b)) (laws.twice-law a) ∙ eq-flip
         where
           eq-flip : same_lit (opposite b) a ≡ false
           eq-flip =

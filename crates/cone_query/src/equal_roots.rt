@@ -1,4 +1,4 @@
-ghost use Rattle.std.specs.Prelude.{◌≡◌, [], ◌∷◌, ◌++◌, map, IfOk, IfSome, IfNone};
+ghost use Rattle.std.specs.Prelude.{◌≡◌, [], ◌∷◌, ◌++◌, IfOk, IfSome, IfNone};
 ghost use Rattle.lits.specs.Clause.{IsClause};
 ghost use Rattle.lits.specs.Same.{same_lit, opposite};
 ghost use Rattle.unit_prop.specs.HintScan.{IsNamed};

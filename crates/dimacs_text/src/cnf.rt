@@ -1,4 +1,3 @@
-ghost use Rattle.std.specs.Prelude.{◌≡◌};
 ghost use Rattle.dimacs_text.specs.Reading.{formula_in, Gives};
 
 use crate::clauses::Clauses;

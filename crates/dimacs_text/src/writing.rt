@@ -1,5 +1,4 @@
 ghost use Rattle.std.specs.Prelude.{◌≡◌, ◌++◌, IfOk, IsSome, OnOk};
-ghost use Rattle.std.specs.List.{flat_map};
 ghost use Rattle.desk_port.specs.Desk.{Writes, NoCountFalls};
 ghost use Rattle.dimacs_text.specs.CnfText.{clause_text, header_text, cnf_text};
 

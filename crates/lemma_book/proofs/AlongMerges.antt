@@ -1,9 +1,12 @@
 -- Unit propagation over the clauses of a few nodes, along the merges on the path to a root.
-use Rattle.std.proofs.Common.{◌≡◌, ℕ, zero, suc, ◌+◌, Bool, true, false, Option, Some, None, List, [], ◌∷◌, filter, length, refl, sym, ap, ◌∙◌}
+use Rattle.std.proofs.Common.{◌≡◌, ℕ, zero, suc, ◌+◌, Bool, true, false, ◌||◌, Option, Some, None, List, [], ◌∷◌, ◌++◌, filter, length, refl, sym, ap, ◌∙◌}
 use Rattle.std.specs.Option.{IsSome}
 use Rattle.std.specs.List.{AllByRecursion}
 use Rattle.std.proofs.Math.Seq.{take-length}
 use Rattle.std.proofs.lemmas.Map.Views.{any-filter_same}
+use Rattle.std.proofs.lemmas.List.{map-append}
+use Rattle.std.proofs.lemmas.List.Folds.{list_any-append}
+use Rattle.std.proofs.lemmas.Bool.{or_left, or_right}
 use Rattle.lits.specs.Clause.{has}
 use Rattle.lits.specs.Same.{same_node, opposite}
 use Rattle.lits.specs.declared.node.Node.{Node}
@@ -12,7 +15,7 @@ use Rattle.lits.specs.declared.step.Ref.{Ref}
 use Rattle.lits.specs.declared.step.Ref.TheVariants.{Axiom, Entry as Shown}
 use Rattle.lits.specs.declared.step.Named.{Named}
 use Rattle.lits.specs.contracts.literal.LitLiteral.TheImpl.Laws as laws
-use Rattle.lits.proofs.Facts.{exact-node}
+use Rattle.lits.proofs.Facts.{exact-node, same-node_self}
 use Rattle.netlist.specs.Net.{AigPair}
 use Rattle.netlist.specs.Miter.{axioms_of, variables_of, variable_of, positive, negative}
 use Rattle.netlist.proofs.Facts.{flat_map-member}
@@ -21,17 +24,13 @@ use Rattle.unit_prop.proofs.Facts.{Takes, take-first, take-second}
 use Rattle.lemma_book.specs.declared.entry.Entry.{Entry}
 use Rattle.lemma_book.specs.Entry.{Entries, merge_clauses}
 use Rattle.lemma_book.specs.Root.{MergeAt, merge_of, carried, follow, passed, passed_by, root_of, IsRoot}
-use Rattle.lemma_book.specs.Cone.{AreThere, named_from, named_clauses, clauses_on}
+use Rattle.lemma_book.specs.Cone.{AreThere, Covers, nodes_in, named_from, named_clauses, clauses_on}
 use Rattle.lemma_book.specs.Book.{IsLegal}
 use Rattle.lemma_book.proofs.RootLemmas.{carried-opposite}
 use Rattle.lemma_book.proofs.MergedNodes.{merge-placed, placed-there}
 use Rattle.lemma_book.proofs.ThereLemmas.{is_some-variable}
 
 -- ---- over the clauses of some nodes
--- the nodes have those of the literals
-abbrev pub Covers : List Node → List Lit → Type 0
-Covers nodes lits = AllByRecursion (λ l. has same_node nodes l.node ≡ true) lits
-
 module _ (net : AigPair) (es : List Entry) (nodes : List Node) (p : Lit → Bool)
     (units : AllByRecursion (Takes p) (base_clauses (clauses_on net es nodes))) where
   bare : (ms : List Named) → AllByRecursion (Takes p) (base_clauses ms) → AllByRecursion (λ m. Takes p m.clause) ms
@@ -78,6 +77,26 @@ module _ (net : AigPair) (es : List Entry) (nodes : List Node) (p : Lit → Bool
         go true f =
             ap (λ (x : Bool). p (record { node = l.node; neg = x })) f
             ∙ take-first p (negative l.node) m.lit both.0 (ap (λ (x : Bool). p (carried x m.lit)) (sym f) ∙ h)
+
+-- ---- nodes that are covered
+-- more nodes have what one of both parts has
+pub has-nodes_append : (xs ys : List Lit) (n : Node) → has same_node (nodes_in (xs ++ ys)) n ≡ (has same_node (nodes_in xs) n || has same_node (nodes_in ys) n)
+has-nodes_append xs ys n =
+    ap (λ (l : List Node). has same_node l n) (map-append (λ l. l.node) xs ys)
+    ∙ list_any-append (λ y. same_node y n) (nodes_in xs) (nodes_in ys)
+
+-- and cover what one of both covers
+pub covers-left : (xs ys ls : List Lit) → Covers (nodes_in xs) ls → Covers (nodes_in (xs ++ ys)) ls
+covers-left xs ys [] all = tt
+covers-left xs ys (l ∷ ls) all = (has-nodes_append xs ys l.node ∙ or_left _ _ all.0, covers-left xs ys ls all.1)
+
+pub covers-right : (xs ys ls : List Lit) → Covers (nodes_in ys) ls → Covers (nodes_in (xs ++ ys)) ls
+covers-right xs ys [] all = tt
+covers-right xs ys (l ∷ ls) all = (has-nodes_append xs ys l.node ∙ or_right (has same_node (nodes_in xs) l.node) _ all.0, covers-right xs ys ls all.1)
+
+pub covers-self : (xs : List Lit) → Covers (nodes_in xs) xs
+covers-self [] = tt
+covers-self (x ∷ xs) = (or_left _ _ (same-node_self x.node), covers-right (x ∷ []) xs xs (covers-self xs))
 
 -- ---- along the path to a root
 pub covers-opposite : (nodes : List Node) (k : ℕ) (es : List Entry) (l : Lit) → Covers nodes (passed k es l) → Covers nodes (passed k es (opposite l))

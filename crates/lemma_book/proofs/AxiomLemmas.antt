@@ -1,21 +1,13 @@
 -- The clauses that define a node, one after another.
-use Rattle.std.proofs.Common.{◌≡◌, ℕ, ◌+◌, Some, List, [], ◌∷◌, ◌++◌, take, length, sym, ap, ◌∙◌, arith, zero, suc, add-one, length-take}
+use Rattle.std.proofs.Common.{◌≡◌, ℕ, ◌+◌, Some, List, [], ◌∷◌, ◌++◌, take, length, sym, ap, ◌∙◌, arith, suc, length-take}
 use Rattle.std.specs.Prelude.{slice_get}
 use Rattle.std.proofs.lemmas.List.{append_assoc}
-use Rattle.std.proofs.lemmas.Option.{none-some, same_Some, slice_get_within}
+use Rattle.std.proofs.lemmas.Option.{slice_get_within}
 use Rattle.lits.specs.declared.literal.Lit.{Lit}
 use Rattle.lits.specs.declared.step.Ref.{Ref}
 use Rattle.lits.specs.declared.step.Named.{Named}
+use Rattle.lits.proofs.Facts.{take_next}
 use Rattle.lemma_book.specs.Cone.{named_from}
-
--- the first elements with the next one, where there is one, and where there is none
-take_suc-got : {X : Type 0} (xs : List X) (k : ℕ) (x : X) → slice_get xs k ≡ Some x → take (suc k) xs ≡ take k xs ++ x ∷ []
-take_suc-got [] k x e = absurd (none-some x e)
-take_suc-got (y ∷ ys) zero x e = ap (λ (z : _). z ∷ []) (same_Some y x e)
-take_suc-got (y ∷ ys) (suc k) x e = ap (λ (l : List _). y ∷ l) (take_suc-got ys k x e)
-
-pub take_got : {X : Type 0} (xs : List X) (k : ℕ) (x : X) → slice_get xs k ≡ Some x → take (k + 1) xs ≡ take k xs ++ x ∷ []
-take_got xs k x e = ap (λ (n : ℕ). take n xs) (add-one k) ∙ take_suc-got xs k x e
 
 named_from-push : (name : ℕ → Ref) (cs : List (List Lit)) (c : List Lit) (j : ℕ)
     → named_from name j (cs ++ c ∷ []) ≡ named_from name j cs ++ record { clause = c; by = name (j + length cs) } ∷ []
@@ -36,4 +28,4 @@ named-next name cs k c before old new at so_far pushed =
     ∙ append_assoc before (named_from name 0 (take k cs)) (record { clause = c; by = name k } ∷ [])
     ∙ ap (λ (l : List Named). before ++ l)
     (ap (λ (i : ℕ). named_from name 0 (take k cs) ++ record { clause = c; by = name i } ∷ []) (sym count)
-    ∙ sym (named_from-push name (take k cs) c 0) ∙ ap (named_from name 0) (sym (take_got cs k c at)))
+    ∙ sym (named_from-push name (take k cs) c 0) ∙ ap (named_from name 0) (sym (take_next cs k c at)))

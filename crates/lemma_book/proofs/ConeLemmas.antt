@@ -6,6 +6,7 @@ use Rattle.std.specs.List.{list_any, AllByRecursion, flat_map}
 use Rattle.std.proofs.lemmas.Bool.Decides.{nat_tests}
 use Rattle.std.proofs.lemmas.List.{map-append}
 use Rattle.std.proofs.lemmas.List.Folds.{list_any-append}
+use Rattle.std.proofs.lemmas.Bool.{and_parts, not-true, or_parts}
 use Rattle.lits.specs.Clause.{has, no_repeat}
 use Rattle.lits.specs.declared.node.Node.{Node}
 use Rattle.lits.specs.declared.literal.Lit.{Lit}
@@ -17,13 +18,14 @@ use Rattle.lits.proofs.Facts.{same-node_self, all-append}
 use Rattle.netlist.specs.Net.{AigPair, IsNet}
 use Rattle.netlist.specs.Miter.{axioms_of, variables_of}
 use Rattle.netlist.proofs.Facts.{equal-number, AreOver, over-variables, all-members}
+use Rattle.unit_prop.proofs.Facts.{contrary}
 use Rattle.unit_prop.specs.Log.{same_name, is_own, IsBase}
 use Rattle.lemma_book.specs.declared.entry.Entry.{Entry}
 use Rattle.lemma_book.specs.Entry.{Entries, merge_clauses}
 use Rattle.lemma_book.specs.Root.{MergeAt, merge_of}
 use Rattle.lemma_book.specs.Book.{IsLegal}
 use Rattle.lemma_book.specs.Cone.{named_from, named_clauses, next_of, AreIn, IsClosed, IsReach, IsCone}
-use Rattle.lemma_book.proofs.RepeatLemmas.{contrary, or_none, and_both, not_true, no_repeat-append, no_repeat-filter, filter-agree, all-filtered}
+use Rattle.lemma_book.proofs.RepeatLemmas.{no_repeat-append, no_repeat-filter, filter-agree, all-filtered}
 use Rattle.lemma_book.proofs.ThereLemmas.{variables-distinct, is_some-variable}
 use Rattle.lemma_book.proofs.FaninLemmas.{there-closed}
 use Rattle.lemma_book.proofs.MergedNodes.{merged-one, merge-placed, placed-there}
@@ -103,7 +105,7 @@ module _ (net : AigPair) (es : List Entry) where
   nodes-none : (ns : List Node) (n : Node) (j : ℕ) → has same_node ns n ≡ false → has same_name (names (clauses_of_nodes ns)) (name_by n (merge_of es n) j) ≡ false
   nodes-none [] n j none = refl
   nodes-none (m ∷ ms) n j none =
-      let parts = or_none (same_node m n) (has same_node ms n) none in
+      let parts = or_parts (same_node m n) (has same_node ms n) none in
       let other = name_by n (merge_of es n) j in
       ap (λ (l : List Ref). has same_name l other) (map-append (λ x. x.by) (named_clauses net es m) (clauses_of_nodes ms))
       ∙ list_any-append (λ y. same_name y other) (names (named_clauses net es m)) (names (clauses_of_nodes ms))
@@ -116,8 +118,8 @@ module _ (net : AigPair) (es : List Entry) where
   nodes-names : (ns : List Node) → no_repeat same_node ns ≡ true → no_repeat same_name (names (clauses_of_nodes ns)) ≡ true
   nodes-names [] distinct = refl
   nodes-names (n ∷ ns) distinct =
-      let parts = and_both (not (has same_node ns n)) (no_repeat same_node ns) distinct in
-      let new = not_true (has same_node ns n) parts.0 in
+      let parts = and_parts (not (has same_node ns n)) (no_repeat same_node ns) distinct in
+      let new = not-true (has same_node ns n) parts.0 in
       let name = name_by n (merge_of es n) in
       let cs = clauses_by net n (merge_of es n) in
       ap (no_repeat same_name) (map-append (λ x. x.by) (named_clauses net es n) (clauses_of_nodes ns)

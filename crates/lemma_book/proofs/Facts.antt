@@ -26,6 +26,8 @@ pub use Rattle.lemma_book.proofs.TrueEntries.{legal-true, good-true}
 pub use Rattle.lemma_book.proofs.TrueEntries.{merge-value, root-value}
 -- a merge stands at its place; in a legal book its node and target have positions, and the target is the earlier one
 pub use Rattle.lemma_book.proofs.MergedNodes.{merged-entry, merged-one, root-unsettled, merge-placed, merge-earlier, merge-apart, placed-there}
+-- nothing stands before itself
+pub use Rattle.lemma_book.proofs.MergedNodes.{irreflexive}
 -- a cone's names differ, and none is that of an own step
 pub use Rattle.lemma_book.proofs.ConeLemmas.{cone-base}
 -- what seeds reach is one set of nodes, so there is one cone
@@ -50,10 +52,12 @@ pub use Rattle.lemma_book.proofs.IndexLemmas.{about-all}
 -- ---- unit propagation over the clauses of a few nodes, a set of literals being closed under it
 
 -- the nodes have those of the literals
-pub use Rattle.lemma_book.proofs.AlongMerges.{Covers, covers-opposite}
+pub use Rattle.lemma_book.proofs.AlongMerges.{covers-opposite, has-nodes_append, covers-left, covers-right, covers-self}
 -- the set is closed under the axioms of an unmerged node
 pub use Rattle.lemma_book.proofs.AlongMerges.{takes-axioms}
 -- what is passed on the path to a root has a variable
 pub use Rattle.lemma_book.proofs.AlongMerges.{passed-there}
 -- a literal is in the set exactly where its root is, so two with one root are in it together
 pub use Rattle.lemma_book.proofs.AlongMerges.{along, together}
+-- what holds of the one at each place holds in turn
+pub use Rattle.lemma_book.proofs.InTurn.{in_turn-each}

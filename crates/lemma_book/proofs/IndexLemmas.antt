@@ -3,9 +3,9 @@ use Rattle.std.proofs.Common.{◌≡◌, ℕ, ◌+◌, Bool, true, false, cond, 
 use Rattle.std.specs.Option.{option_map, option_or, is_some}
 use Rattle.std.specs.HashMap.{HashMap, get}
 use Rattle.netlist.specs.Place.{place_of}
-use Rattle.netlist.proofs.Facts.{place_of-append, or_place, find-place, is_some-place}
-use Rattle.std.specs.Prelude.{slice_get, option_and_then, ◌||◌}
-use Rattle.std.specs.List.{list_any, AllByRecursion}
+use Rattle.netlist.proofs.Facts.{place_of-append, or_place, find-place, is_some-place, none_from_is_some, list_any-same}
+use Rattle.std.specs.Prelude.{slice_get, option_and_then}
+use Rattle.std.specs.List.{AllByRecursion}
 use Rattle.std.proofs.lemmas.Option.{none-some, same_Some}
 use Rattle.std.proofs.lemmas.Bool.{and_parts}
 use Rattle.lits.specs.Same.{same_node, same_lit}
@@ -53,15 +53,11 @@ is_spent-key n l (Out j steps) = refl
 is_spent-key n l (OutApart j input) = refl
 is_spent-key n l (OutSpent j seen log) = refl
 
-any-same : {X : Type 0} (p q : X → Bool) → ((x : X) → p x ≡ q x) → (xs : List X) → list_any p xs ≡ list_any q xs
-any-same p q same [] = refl
-any-same p q same (x ∷ xs) = ap (λ (b : Bool). b || list_any p xs) (same x) ∙ ap (λ (b : Bool). q x || b) (any-same p q same xs)
-
 -- an entry is found by node and literal exactly where there is one
 pub spent-found : (es : List Entry) (n : Node) (l : Lit) → is_some (number_of es (SpentOn (record { node = n; lit = l }))) ≡ has_spent es n l
 spent-found es n l =
     is_some-place (has_key (SpentOn (record { node = n; lit = l }))) es
-    ∙ any-same (has_key (SpentOn (record { node = n; lit = l }))) (is_spent_on n l) (is_spent-key n l) es
+    ∙ list_any-same (has_key (SpentOn (record { node = n; lit = l }))) (is_spent_on n l) (is_spent-key n l) es
 
 -- the entry on an output stands at its place
 pub about-at : (es : List Entry) (j : ℕ) (o : Option ℕ) → o ≡ place_on es (Output j) → option_and_then (slice_get es) o ≡ about es j
@@ -87,10 +83,6 @@ some_or : (o p : Option ℕ) → is_some o ≡ true → o ≡ option_or o p
 some_or None p e = cc
 some_or (Some k) p e = refl
 
-none-is : (o : Option ℕ) → is_some o ≡ false → o ≡ None
-none-is None e = refl
-none-is (Some k) e = cc
-
 module _ {S : Type 0} (old new : HashMap Key ℕ S) (key : Key) (number : ℕ) where
   -- a key that was there stays at its first entry
   pub notes-known : is_some (get same_key old key) ≡ true → Notes old (Some key) number old
@@ -106,7 +98,7 @@ module _ {S : Type 0} (old new : HashMap Key ℕ S) (key : Key) (number : ℕ) w
   notes-new unknown puts = record { finds = λ k. puts k ∙ go k (same_key key k) refl }
     where
       none_at : (k : Key) → same_key key k ≡ true → get same_key old k ≡ None
-      none_at k e = ap (get same_key old) (sym (exact-key key k e)) ∙ none-is (get same_key old key) unknown
+      none_at k e = ap (get same_key old) (sym (exact-key key k e)) ∙ none_from_is_some (get same_key old key) unknown
 
       go : (k : Key) (b : Bool) → same_key key k ≡ b → cond b (Some number) (get same_key old k) ≡ option_or (get same_key old k) (cond b (Some number) None)
       go k true e = sym (ap (λ (o : Option ℕ). option_or o (Some number)) (none_at k e))

@@ -196,6 +196,11 @@ placed-there net n h =
     is_some-variable net n ∙ has-variable net n (sym (is_some-place (λ m. same_node m n) (nodes_of net)) ∙ h)
 
 -- what a legal book says of a merge
+-- nothing stands before itself
+pub irreflexive : (o : Option ℕ) → IsBefore o o → ⊥
+irreflexive None h = h
+irreflexive (Some p) h = absurd (omega arith)
+
 module _ (net : AigPair) (book : Entries) (legal : IsLegal net book) (seen : ℕ) (n : Node) (m : MergeAt)
     (e : merge_of (take seen book.entries) n ≡ Some m) where
   good : (steps : List Step) × (IsGood net (record { sweep_budget = book.sweep_budget; out_budget = book.out_budget; entries = take m.entry book.entries }) (Merge n m.lit steps))
@@ -215,10 +220,6 @@ module _ (net : AigPair) (book : Entries) (legal : IsLegal net book) (seen : ℕ
   pub merge-apart : same_node n m.lit.node ≡ false
   merge-apart = go (same_node n m.lit.node) refl
     where
-      irreflexive : (o : Option ℕ) → IsBefore o o → ⊥
-      irreflexive None h = h
-      irreflexive (Some p) h = absurd (omega arith)
-
       go : (b : Bool) → same_node n m.lit.node ≡ b → b ≡ false
       go false f = refl
       go true f =

@@ -1,6 +1,6 @@
 -- The clauses that an entry's steps stand on: each clause of a cone is the one that its name has, an axiom of the miter or
 -- a clause of a merge. So each step of a good entry is one over those.
-use Rattle.std.proofs.Common.{◌≡◌, ℕ, ◌+◌, Bool, true, false, Option, Some, None, List, [], ◌∷◌, ◌++◌, length, take, refl, sym, ap, ◌∙◌, subst, arith, rules, append_assoc, length-append}
+use Rattle.std.proofs.Common.{◌≡◌, ℕ, ◌+◌, Bool, true, false, Option, Some, None, List, [], ◌∷◌, ◌++◌, length, take, refl, sym, ap, ◌∙◌, subst, arith, append_assoc, length-append}
 use Rattle.std.specs.Prelude.{slice_get, filter}
 use Rattle.std.specs.Option.{option_and_then}
 use Rattle.std.specs.List.{flat_map, AllByRecursion}
@@ -17,6 +17,7 @@ use Rattle.netlist.specs.Net.{AigPair}
 use Rattle.netlist.specs.Miter.{axioms_of, variables_of}
 use Rattle.netlist.proofs.Facts.{slice_get-left, slice_get-right, at_place}
 use Rattle.unit_prop.specs.Log.{same_name, base_clause, IsChain}
+use Rattle.unit_prop.proofs.Facts.{exact-name}
 use Rattle.lemma_book.specs.declared.entry.Entry.{Entry}
 use Rattle.lemma_book.specs.declared.entry.Entry.TheVariants.{Merge, Apart, Spent, Out, OutApart, OutSpent}
 use Rattle.lemma_book.specs.declared.entry.Subject.TheVariants.{Merged}
@@ -26,9 +27,6 @@ use Rattle.lemma_book.specs.Cone.{named_from, named_clauses, IsCone}
 use Rattle.lemma_book.proofs.GoodEntries.{merge-chain, steps-chain}
 use Rattle.lemma_book.proofs.MoreClauses.{step_after-more, chain-more}
 use Rattle.lemma_book.specs.Good.{NoStep, out_clause, node_clause, merge_clause, IsGood}
-
-exact-name : (x y : Ref) → same_name x y ≡ true → x ≡ y
-exact-name = search rules
 
 -- the clause is the one that its name has
 abbrev pub HasItsName : AigPair → List Entry → Named → Type 0

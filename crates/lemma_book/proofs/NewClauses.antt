@@ -1,7 +1,7 @@
 -- When clauses are new, as it is found out: by closures, clause by clause.
 use Rattle.std.proofs.Common.{◌≡◌, ℕ, ◌+◌, ◌<◌, ◌≤◌, Bool, true, false, not, ◌||◌, List, [], ◌∷◌, ◌++◌, map, length, take, zero, suc, Some, refl, inl, inr, sym, ap, ◌∙◌, subst, append_assoc, arith}
 use Rattle.std.specs.Prelude.{slice_get, ◌&&◌}
-use Rattle.std.proofs.lemmas.Bool.{cases_lt}
+use Rattle.std.proofs.lemmas.Bool.{cases_lt, or_right}
 use Rattle.std.proofs.lemmas.Option.{none-some, same_Some, slice_get_within}
 use Rattle.std.specs.List.{list_all, AllByRecursion}
 use Rattle.lits.specs.Clause.{has}
@@ -22,10 +22,6 @@ use Rattle.lemma_book.specs.Entry.{equal_clause}
 use Rattle.lemma_book.specs.Good.{IsNewAt, IsUndecidedAt}
 use Rattle.lemma_book.specs.Judging.{Tells}
 use Rattle.lemma_book.proofs.Telling.{tells-yes, tells-no}
-
-or_right : (a b : Bool) → b ≡ true → (a || b) ≡ true
-or_right true b e = refl
-or_right false b e = e
 
 module _ (clauses : List (List Lit)) where
   -- the closure clashes, so it lacks nothing

@@ -8,6 +8,8 @@ use Rattle.std.proofs.lemmas.List.Folds.{list_any-append}
 use Rattle.std.proofs.lemmas.Map.Views.{length-le_from_below}
 use Rattle.std.proofs.lemmas.Map.Entries.{length-keys_of}
 use Rattle.std.proofs.lemmas.Option.{none-some, same_Some}
+use Rattle.std.proofs.Math.Bool.{and-true}
+use Rattle.std.proofs.lemmas.Bool.{or_parts, or_left, or_right}
 use Rattle.lits.specs.Clause.{has}
 use Rattle.lits.specs.declared.node.Node.{Node}
 use Rattle.netlist.specs.Place.{place_of}
@@ -16,10 +18,10 @@ use Rattle.lits.specs.Same.{same_node}
 use Rattle.lits.proofs.Facts.{exact-node, same-node_self}
 use Rattle.netlist.specs.Miter.{variables_of, variable_of}
 use Rattle.netlist.proofs.Facts.{at-place, all-members}
+use Rattle.unit_prop.proofs.Facts.{contrary}
 use Rattle.lemma_book.specs.declared.walk.Walk.{Walk}
 use Rattle.lemma_book.specs.Cone.{AreIn, IsClosed, IsReach}
 use Rattle.lemma_book.specs.Walk.{AreNumbered, is_found, is_pending, BeginsAt, IsWalk, Finds}
-use Rattle.lemma_book.proofs.RepeatLemmas.{contrary, or_none, or_left, or_right}
 
 -- what a walk underway keeps
 pub record IsUnderway (net : AigPair) (next : Node → List Node) (seeds : List Node) (w : Walk) : Type 0 where
@@ -61,11 +63,7 @@ begins-at net seeds none w no_found no_pending finds = record { walk = finds.wal
     pending n =
         finds.pending n
         ∙ ap (λ (l : List Node). has same_node l n || (has same_node seeds n && not (is_found none n))) no_pending
-        ∙ ap (λ (b : Bool). has same_node seeds n && not b) (nothing n) ∙ and_true (has same_node seeds n)
-      where
-        and_true : (b : Bool) → (b && true) ≡ b
-        and_true true = refl
-        and_true false = refl
+        ∙ ap (λ (b : Bool). has same_node seeds n && not b) (nothing n) ∙ and-true (has same_node seeds n)
 
 module _ (net : AigPair) (next : Node → List Node) (seeds : List Node) where
   -- at the start the seeds are found
@@ -131,7 +129,7 @@ module _ (net : AigPair) (next : Node → List Node) (seeds : List Node) where
       visited n h done = go (is_found w n) (same_node node n) refl refl
         where
           parts : (is_pending mid n ≡ false) × ((has same_node (next node) n && not (is_found mid n)) ≡ false)
-          parts = or_none (is_pending mid n) (has same_node (next node) n && not (is_found mid n)) (sym (finds.pending n) ∙ done)
+          parts = or_parts (is_pending mid n) (has same_node (next node) n && not (is_found mid n)) (sym (finds.pending n) ∙ done)
 
           go : (a b : Bool) → is_found w n ≡ a → same_node node n ≡ b → AreIn (is_found new) (next n)
           go a true e f =

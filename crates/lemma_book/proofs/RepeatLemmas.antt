@@ -1,32 +1,10 @@
 -- Lists without repeats, and what a filter keeps of them.
-use Rattle.std.proofs.Common.{◌≡◌, ℕ, ◌+◌, ◌<◌, Bool, true, false, not, ◌&&◌, ◌||◌, List, [], ◌∷◌, ◌++◌, map, filter, refl, sym, ap, ◌∙◌, arith, zero, suc}
-use Rattle.std.specs.Prelude.{◌==◌}
-use Rattle.std.specs.List.{range_with_len, AllByRecursion}
+use Rattle.std.proofs.Common.{◌≡◌, ◌+◌, Bool, true, false, not, List, [], ◌∷◌, ◌++◌, map, filter, refl, ap, ◌∙◌}
+use Rattle.std.specs.List.{AllByRecursion}
 use Rattle.std.proofs.lemmas.List.Folds.{list_any-append}
-use Rattle.std.proofs.lemmas.Bool.Decides.{nat_tests}
+use Rattle.std.proofs.lemmas.Bool.{and_parts, not-true, or_parts}
+use Rattle.unit_prop.proofs.Facts.{contrary}
 use Rattle.lits.specs.Clause.{has, no_repeat, firsts}
-
-pub and_both : (a b : Bool) → (a && b) ≡ true → (a ≡ true) × (b ≡ true)
-and_both true b e = (refl, e)
-and_both false b e = cc
-
-pub not_true : (b : Bool) → not b ≡ true → b ≡ false
-not_true true e = cc
-not_true false e = refl
-
-pub or_none : (a b : Bool) → (a || b) ≡ false → (a ≡ false) × (b ≡ false)
-or_none true b e = cc
-or_none false b e = (refl, e)
-
-pub or_left : (a b : Bool) → a ≡ true → (a || b) ≡ true
-or_left a b e = rw e refl
-
-pub or_right : (a b : Bool) → b ≡ true → (a || b) ≡ true
-or_right true b e = refl
-or_right false b e = e
-
-pub contrary : {A : Type 0} (b : Bool) → b ≡ true → b ≡ false → A
-contrary b e f = let g : true ≡ false = sym e ∙ f in cc
 
 module _ {X : Type 0} (eq : X → X → Bool) where
   -- a list without repeats before another one, no element of which is among the first
@@ -34,14 +12,14 @@ module _ {X : Type 0} (eq : X → X → Bool) where
       → AllByRecursion (λ x. has eq ys x ≡ false) xs → no_repeat eq (xs ++ ys) ≡ true
   no_repeat-append [] ys p q apart = q
   no_repeat-append (x ∷ xs) ys p q apart =
-      let parts = and_both (not (has eq xs x)) (no_repeat eq xs) p in
-      let new : has eq xs x ≡ false = not_true (has eq xs x) parts.0 in
+      let parts = and_parts (not (has eq xs x)) (no_repeat eq xs) p in
+      let new : has eq xs x ≡ false = not-true (has eq xs x) parts.0 in
       rw (list_any-append (λ y. eq y x) xs ys, new, apart.0, no_repeat-append xs ys parts.1 q apart.1) refl
 
   -- the last part of a list without repeats has none
   pub no_repeat-rest : (xs ys : List X) → no_repeat eq (xs ++ ys) ≡ true → no_repeat eq ys ≡ true
   no_repeat-rest [] ys p = p
-  no_repeat-rest (x ∷ xs) ys p = no_repeat-rest xs ys (and_both (not (has eq (xs ++ ys) x)) (no_repeat eq (xs ++ ys)) p).1
+  no_repeat-rest (x ∷ xs) ys p = no_repeat-rest xs ys (and_parts (not (has eq (xs ++ ys) x)) (no_repeat eq (xs ++ ys)) p).1
 
   -- a filter keeps only what is there
   pub has_from_filter : (test : X → Bool) (xs : List X) (q : X) → has eq xs q ≡ false → has eq (filter test xs) q ≡ false
@@ -49,7 +27,7 @@ module _ {X : Type 0} (eq : X → X → Bool) where
   has_from_filter test (x ∷ xs) q none = go (test x) refl (has_from_filter test xs q parts.1)
     where
       parts : (eq x q ≡ false) × (has eq xs q ≡ false)
-      parts = or_none (eq x q) (has eq xs q) none
+      parts = or_parts (eq x q) (has eq xs q) none
 
       go : (b : Bool) → test x ≡ b → has eq (filter test xs) q ≡ false → has eq (filter test (x ∷ xs)) q ≡ false
       go true e rest = rw (e, parts.0) rest
@@ -60,25 +38,25 @@ module _ {X : Type 0} (eq : X → X → Bool) where
   no_repeat-filter test (x ∷ xs) p = go (test x) refl (no_repeat-filter test xs parts.1)
     where
       parts : (not (has eq xs x) ≡ true) × (no_repeat eq xs ≡ true)
-      parts = and_both (not (has eq xs x)) (no_repeat eq xs) p
+      parts = and_parts (not (has eq xs x)) (no_repeat eq xs) p
 
       go : (b : Bool) → test x ≡ b → no_repeat eq (filter test xs) ≡ true → no_repeat eq (filter test (x ∷ xs)) ≡ true
-      go true e rest = rw (e, has_from_filter test xs x (not_true (has eq xs x) parts.0), rest) refl
+      go true e rest = rw (e, has_from_filter test xs x (not-true (has eq xs x) parts.0), rest) refl
       go false e rest = rw e rest
 
   -- a clause without repeats is what stays of it
   pub firsts-once : (xs : List X) → no_repeat eq xs ≡ true → ((x y : X) → eq x y ≡ eq y x) → firsts eq xs ≡ xs
   firsts-once [] p flips = refl
   firsts-once (x ∷ xs) p flips =
-      let parts = and_both (not (has eq xs x)) (no_repeat eq xs) p in
-      rw (firsts-once xs parts.1 flips) (ap (λ (l : List X). x ∷ l) (kept xs (not_true (has eq xs x) parts.0)))
+      let parts = and_parts (not (has eq xs x)) (no_repeat eq xs) p in
+      rw (firsts-once xs parts.1 flips) (ap (λ (l : List X). x ∷ l) (kept xs (not-true (has eq xs x) parts.0)))
     where
       kept : (ys : List X) → has eq ys x ≡ false → filter (λ y. not (eq x y)) ys ≡ ys
       kept [] none = refl
       kept (y ∷ ys) none = go (eq x y) refl (kept ys split.1)
         where
           split : (eq y x ≡ false) × (has eq ys x ≡ false)
-          split = or_none (eq y x) (has eq ys x) none
+          split = or_parts (eq y x) (has eq ys x) none
 
           go : (b : Bool) → eq x y ≡ b → filter (λ z. not (eq x z)) ys ≡ ys → filter (λ z. not (eq x z)) (y ∷ ys) ≡ y ∷ ys
           go true e rest = contrary (eq y x) (flips y x ∙ e) split.0
@@ -104,17 +82,6 @@ has-map-none eq f q apart (x ∷ xs) = rw (apart x, has-map-none eq f q apart xs
 pub all-made : {X Y : Type 0} (P : Y → Type 0) (f : X → Y) → ((x : X) → P (f x)) → (xs : List X) → AllByRecursion P (map f xs)
 all-made P f each [] = tt
 all-made P f each (x ∷ xs) = (each x, all-made P f each xs)
-
--- the numbers from a on
-range-above : (n a q : ℕ) → q < a → has ◌==◌ (range_with_len a n) q ≡ false
-range-above zero a q below = refl
-range-above (suc n) a q below =
-    let apart : (a == q) ≡ false = grind (arith, nat_tests) in
-    rw (apart, range-above n (a + 1) q (omega arith)) refl
-
-pub no_repeat-range : (n a : ℕ) → no_repeat ◌==◌ (range_with_len a n) ≡ true
-no_repeat-range zero a = refl
-no_repeat-range (suc n) a = rw (range-above n (a + 1) a (omega arith), no_repeat-range n (a + 1)) refl
 
 -- two tests that agree on a list keep the same of it
 pub filter-agree : {X : Type 0} (p q : X → Bool) (xs : List X) → AllByRecursion (λ x. p x ≡ q x) xs → filter p xs ≡ filter q xs

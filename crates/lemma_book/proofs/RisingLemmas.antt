@@ -10,6 +10,7 @@ use Rattle.std.proofs.lemmas.Option.{none-some, same_Some}
 use Rattle.std.proofs.lemmas.List.{append_assoc}
 use Rattle.std.proofs.lemmas.Map.Keys.{sorted_head, sorted_tail}
 use Rattle.std.proofs.lemmas.Bool.Decides.{nat_tests}
+use Rattle.std.proofs.lemmas.Bool.{and_parts, not-true, or_parts}
 use Rattle.lits.specs.Clause.{has, no_repeat}
 use Rattle.lits.specs.declared.node.Node.{Node}
 use Rattle.netlist.specs.Net.{AigPair, IsNet}
@@ -17,8 +18,9 @@ use Rattle.lits.specs.Same.{same_node}
 use Rattle.lits.proofs.Facts.{same-node_self, exact-node}
 use Rattle.netlist.specs.Miter.{variables_of}
 use Rattle.netlist.proofs.Facts.{slice_get-right, variable_at}
+use Rattle.unit_prop.proofs.Facts.{contrary}
 use Rattle.lemma_book.specs.Walk.{AreNumbered}
-use Rattle.lemma_book.proofs.RepeatLemmas.{and_both, not_true, or_none, contrary, filter-agree, filter-nothing, has_from_filter}
+use Rattle.lemma_book.proofs.RepeatLemmas.{filter-agree, filter-nothing, has_from_filter}
 use Rattle.lemma_book.proofs.ThereLemmas.{variable-positive, variables-distinct}
 
 -- the entries' numbers rise from low on, and each is the variable of its node
@@ -57,10 +59,10 @@ rising-filter before (v ∷ vs) (e ∷ es) distinct rising =
     go (split (length before + 1) e.0 rising.0) (rising-filter (before ++ v ∷ []) vs)
   where
     new : has same_node vs v ≡ false
-    new = not_true (has same_node vs v) (and_both (not (has same_node vs v)) (no_repeat same_node vs) distinct).0
+    new = not-true (has same_node vs v) (and_parts (not (has same_node vs v)) (no_repeat same_node vs) distinct).0
 
     distinct_rest : no_repeat same_node vs ≡ true
-    distinct_rest = (and_both (not (has same_node vs v)) (no_repeat same_node vs) distinct).1
+    distinct_rest = (and_parts (not (has same_node vs v)) (no_repeat same_node vs) distinct).1
 
     whole : (before ++ v ∷ []) ++ vs ≡ before ++ v ∷ vs
     whole = append_assoc before (v ∷ []) vs
@@ -71,7 +73,7 @@ rising-filter before (v ∷ vs) (e ∷ es) distinct rising =
     others : (ws : List Node) → has same_node ws v ≡ false → AllByRecursion (λ w. (same_node v w || has same_node (values_of es) w) ≡ has same_node (values_of es) w) ws
     others [] none = tt
     others (w ∷ ws) none =
-        let parts = or_none (same_node w v) (has same_node ws v) none in
+        let parts = or_parts (same_node w v) (has same_node ws v) none in
         (ap (λ (b : Bool). b || has same_node (values_of es) w) (other-node v w parts.0), others ws parts.1)
 
     go : (e.0 ≡ length before + 1) ⊎ (length before + 1 + 1 ≤ e.0)

@@ -1,14 +1,12 @@
 -- One more merge is followed.
-use Rattle.std.proofs.Common.{◌≡◌, ℕ, zero, suc, ◌+◌, ◌-◌, ◌<◌, Bool, true, false, not, Option, None, Some, List, [], ◌∷◌, ◌++◌, length, refl, sym, ap, ◌∙◌, arith, append_assoc, append-nil}
+use Rattle.std.proofs.Common.{◌≡◌, ℕ, zero, suc, ◌+◌, ◌-◌, ◌<◌, Bool, true, false, not, Option, None, Some, List, [], ◌∷◌, ◌++◌, length, refl, sym, ap, ◌∙◌, append_assoc, append-nil}
 use Rattle.std.specs.Option.{option_map, option_map_or}
 use Rattle.lits.specs.declared.literal.Lit.{Lit}
 use Rattle.lits.specs.Same.{opposite}
 use Rattle.lits.specs.contracts.literal.LitLiteral.TheImpl.Laws as laws
+use Rattle.lits.proofs.Facts.{left-more}
 use Rattle.lemma_book.specs.declared.entry.Entry.{Entry}
 use Rattle.lemma_book.specs.Root.{MergeAt, merge_of, carried, follow, followed, passed, root_of}
-
-less : (n i : ℕ) → i < n → n - i ≡ suc (n - (i + 1))
-less n i l = omega arith
 
 -- a merge as the program has it
 abbrev pub merge_at : ℕ × Lit → MergeAt
@@ -34,7 +32,7 @@ module _ (es : List Entry) (n i : ℕ) (l : Lit) where
   pub follow-next : (o : Option (ℕ × Lit)) → option_map merge_at o ≡ merge_of es l.node → (m : ℕ × Lit) → o ≡ Some m → i < n
       → follow (n - i) es l ≡ follow (n - (i + 1)) es (carried l.neg m.1)
   follow-next o is m some lt =
-      ap (λ (k : ℕ). follow k es l) (less n i lt)
+      ap (λ (k : ℕ). follow k es l) (left-more n i lt)
       ∙ ap (λ (q : Option MergeAt). option_map_or (λ q. follow (n - (i + 1)) es (carried l.neg q.lit)) q l) (sym is ∙ ap (option_map merge_at) some)
 
   pub followed-end : (xs whole : List ℕ) → xs ++ followed (n - i) es l ≡ whole → n - i ≡ 0 → xs ≡ whole
@@ -58,7 +56,7 @@ module _ (es : List Entry) (n i : ℕ) (l : Lit) where
 
       next : followed (n - i) es l ≡ m.0 ∷ rest
       next =
-          ap (λ (k : ℕ). followed k es l) (less n i lt)
+          ap (λ (k : ℕ). followed k es l) (left-more n i lt)
           ∙ ap (λ (q : Option MergeAt). option_map_or (λ q. q.entry ∷ followed (n - (i + 1)) es (carried l.neg q.lit)) q []) (sym is ∙ ap (option_map merge_at) some)
 
   pub passed-end : (xs whole : List Lit) → xs ++ passed (n - i) es l ≡ whole → n - i ≡ 0 → xs ≡ whole
@@ -82,7 +80,7 @@ module _ (es : List Entry) (n i : ℕ) (l : Lit) where
 
       next : passed (n - i) es l ≡ l ∷ rest
       next =
-          ap (λ (k : ℕ). passed k es l) (less n i lt)
+          ap (λ (k : ℕ). passed k es l) (left-more n i lt)
           ∙ ap (λ (q : Option MergeAt). option_map_or (λ q. l ∷ passed (n - (i + 1)) es (carried l.neg q.lit)) q []) (sym is ∙ ap (option_map merge_at) some)
 
 -- the root of a negation is the negation of the root

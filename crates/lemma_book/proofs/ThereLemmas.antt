@@ -16,9 +16,10 @@ use Rattle.netlist.specs.Place.{place_of}
 use Rattle.netlist.specs.Circuit.{gate_vars, Aig}
 use Rattle.netlist.specs.Net.{AigPair, IsNet, circuit_of, definition_of}
 use Rattle.lits.specs.Same.{same_node}
+use Rattle.lits.proofs.Facts.{no_repeat-range}
 use Rattle.netlist.specs.Miter.{xors_of, variables_of, variable_of}
 use Rattle.netlist.proofs.Facts.{is_some-place, variables, is_circuit}
-use Rattle.lemma_book.proofs.RepeatLemmas.{no_repeat-append, no_repeat-rest, no_repeat-map, no_repeat-range, has-map-none, all-made}
+use Rattle.lemma_book.proofs.RepeatLemmas.{no_repeat-append, no_repeat-rest, no_repeat-map, has-map-none, all-made}
 
 -- a node has a variable exactly where it is among the nodes
 pub is_some-variable : (net : AigPair) (n : Node) → is_some (variable_of net n) ≡ has same_node (variables_of net) n

@@ -5,6 +5,7 @@ use Rattle.std.specs.Option.{option_and_then, option_map_or}
 use Rattle.std.specs.List.{AllByRecursion}
 use Rattle.std.proofs.lemmas.List.{append-nil}
 use Rattle.std.proofs.lemmas.Option.{none-some, same_Some}
+use Rattle.std.proofs.Math.Bool.{or-false}
 use Rattle.lits.specs.Assignment.{IsAssignment, Holds}
 use Rattle.lits.specs.Same.{opposite}
 use Rattle.lits.specs.declared.literal.Lit.{Lit}
@@ -14,9 +15,9 @@ use Rattle.lits.specs.declared.step.Ref.TheVariants.{Axiom, Entry as Shown, Own}
 use Rattle.lits.specs.declared.step.Step.{Step}
 use Rattle.lits.proofs.Facts.{all-parts, exact-node, all-slice_get, all-append}
 use Rattle.netlist.specs.Circuit.{output_value}
-use Rattle.netlist.specs.Net.{AigPair, IsNet, value_of, lit_holds, differs}
+use Rattle.netlist.specs.Net.{AigPair, IsNet, value_of, lit_holds}
 use Rattle.netlist.specs.Miter.{axioms_of}
-use Rattle.netlist.proofs.Facts.{values-meet, at_place}
+use Rattle.netlist.proofs.Facts.{values-meet, at_place, lit_holds-assigns, same-values}
 use Rattle.unit_prop.specs.Step.{AllHold}
 use Rattle.unit_prop.specs.Log.{IsChain, InTurn}
 use Rattle.lemma_book.specs.declared.entry.Entry.{Entry}
@@ -30,30 +31,11 @@ use Rattle.lemma_book.specs.Agreement.{HasValueOf, HaveOneValue, IsTrue}
 use Rattle.lemma_book.proofs.GoodEntries.{out-chain}
 use Rattle.lemma_book.proofs.NamedClauses.{merge-chain_out}
 
-same-values : (x y : Bool) → not (differs x y) ≡ true → x ≡ y
-same-values true true e = refl
-same-values true false e = cc
-same-values false true e = cc
-same-values false false e = refl
-
-or_false : (b : Bool) → (b || false) ≡ true → b ≡ true
-or_false true e = refl
-or_false false e = e
-
-opposite-holds : (v : Node → Bool) → IsAssignment opposite (lit_holds v)
-opposite-holds v = record { negates = λ l. go (v l.node) l.neg }
-  where
-    go : (b neg : Bool) → (if not neg then not b else b) ≡ not (if neg then not b else b)
-    go true true = refl
-    go true false = refl
-    go false true = refl
-    go false false = refl
-
 -- what a merge's two clauses say: node and literal have one value
 module _ (v : Node → Bool) (node : Node) (lit : Lit) where
   clauses-equal : AllByRecursion (Holds (lit_holds v)) (merge_clauses node lit) → v node ≡ lit_holds v lit
   clauses-equal all =
-      go (v node) (lit_holds v lit) (lit_holds v (opposite lit)) ((opposite-holds v).negates lit) all.0 all.1.0
+      go (v node) (lit_holds v lit) (lit_holds v (opposite lit)) ((lit_holds-assigns v).negates lit) all.0 all.1.0
     where
       go : (n l o : Bool) → o ≡ not l → (not n || (l || false)) ≡ true → (n || (o || false)) ≡ true → n ≡ l
       go true true o e f g = refl
@@ -64,7 +46,7 @@ module _ (v : Node → Bool) (node : Node) (lit : Lit) where
 
   equal-clauses : v node ≡ lit_holds v lit → AllByRecursion (Holds (lit_holds v)) (merge_clauses node lit)
   equal-clauses e =
-      (first (v node) (lit_holds v lit) e, (second (v node) (lit_holds v lit) (lit_holds v (opposite lit)) e ((opposite-holds v).negates lit), tt))
+      (first (v node) (lit_holds v lit) e, (second (v node) (lit_holds v lit) (lit_holds v (opposite lit)) e ((lit_holds-assigns v).negates lit), tt))
     where
       first : (n l : Bool) → n ≡ l → (not n || (l || false)) ≡ true
       first true true f = refl
@@ -119,15 +101,15 @@ module _ (net : AigPair) (is : IsNet net)
   good-true book true_all (Merge node lit steps) good =
       λ bits whole. clauses-equal (value_of net bits) node lit
       (ends-hold (lit_holds (value_of net bits)) (merge_clauses node lit) steps (good Shape)
-      (steps_hold (out_clause net book.entries) steps (lit_holds (value_of net bits)) (opposite-holds (value_of net bits))
+      (steps_hold (out_clause net book.entries) steps (lit_holds (value_of net bits)) (lit_holds-assigns (value_of net bits))
       (clauses-hold book.entries true_all bits whole) (merge-chain_out net book node lit steps good)))
   good-true book true_all (Apart node lit input) good = tt
   good-true book true_all (Spent node lit seen log) good = tt
   good-true book true_all (Out j steps) good =
       λ bits whole. same-values (output_value net.a bits j) (output_value net.b bits j)
-      (or_false _
+      (sym (or-false _) ∙
       (ends-hold (lit_holds (value_of net bits)) (equal_clause j ∷ []) steps (good Shape)
-      (steps_hold (out_clause net book.entries) steps (lit_holds (value_of net bits)) (opposite-holds (value_of net bits))
+      (steps_hold (out_clause net book.entries) steps (lit_holds (value_of net bits)) (lit_holds-assigns (value_of net bits))
       (clauses-hold book.entries true_all bits whole) (out-chain net book j steps good))).0)
   good-true book true_all (OutApart j input) good = tt
   good-true book true_all (OutSpent j seen log) good = tt
@@ -172,7 +154,7 @@ module _ (net : AigPair) (entries : List Entry) (all : AllByRecursion (IsTrue ne
       go l.neg (value_of net bits l.node) (same bits whole)
     where
       go : (neg a : Bool) → a ≡ lit_holds (value_of net bits) t → (if neg then not a else a) ≡ lit_holds (value_of net bits) (carried neg t)
-      go true a e = ap not e ∙ sym ((opposite-holds (value_of net bits)).negates t)
+      go true a e = ap not e ∙ sym ((lit_holds-assigns (value_of net bits)).negates t)
       go false a e = e
 
   pub follow-value : (n : ℕ) (l : Lit) → HaveOneValue net l (follow n entries l)

@@ -6,6 +6,7 @@ use Rattle.std.specs.List.{list_any, AllByRecursion, IsDistinct}
 use Rattle.std.proofs.lemmas.Map.Keys.{IsDistinct-cons}
 use Rattle.std.proofs.lemmas.Map.Steps.{length-le_from_distinct_below}
 use Rattle.std.proofs.lemmas.Option.{same_Some, slice_get_within}
+use Rattle.std.proofs.Math.Seq.{take-length}
 use Rattle.lits.specs.declared.node.Node.{Node}
 use Rattle.lits.specs.declared.literal.Lit.{Lit}
 use Rattle.lits.specs.declared.step.Step.{Step}
@@ -19,10 +20,6 @@ use Rattle.lemma_book.specs.Good.{IsBefore}
 use Rattle.lemma_book.specs.Book.{IsLegal}
 use Rattle.lemma_book.proofs.MergedNodes.{merged-entry, merge-placed, merge-earlier}
 
-whole : {X : Type 0} (xs : List X) → take (length xs) xs ≡ xs
-whole [] = refl
-whole (x ∷ xs) = ap (λ (l : List _). x ∷ l) (whole xs)
-
 pub carried-node : (neg : Bool) (l : Lit) → (carried neg l).node ≡ l.node
 carried-node true l = refl
 carried-node false l = refl
@@ -33,7 +30,7 @@ module _ (net : AigPair) (book : Entries) (legal : IsLegal net book) where
   held = book.entries
 
   in-book : (n : Node) (m : MergeAt) → merge_of held n ≡ Some m → merge_of (take (length held) held) n ≡ Some m
-  in-book n m e = ap (λ (l : List Entry). merge_of l n) (whole held) ∙ e
+  in-book n m e = ap (λ (l : List Entry). merge_of l n) (take-length held) ∙ e
 
   -- the target of a merged node has a position, which is lower
   pub target-lower : (n : Node) (m : MergeAt) (p : ℕ) → merge_of held n ≡ Some m → position_of net n ≡ Some p

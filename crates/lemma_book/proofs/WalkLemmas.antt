@@ -10,6 +10,7 @@ use Rattle.std.proofs.lemmas.Bool.Decides.{nat_tests}
 use Rattle.std.proofs.lemmas.List.{map_more}
 use Rattle.std.proofs.lemmas.List.Folds.{list_any-append}
 use Rattle.std.proofs.lemmas.Option.{none-some, same_Some}
+use Rattle.std.proofs.Math.Bool.{or-false, or_assoc, or_comm}
 use Rattle.lits.specs.Clause.{has}
 use Rattle.lits.specs.Dimacs.{DimacsLiteral}
 use Rattle.lits.specs.declared.node.Node.{Node}
@@ -19,10 +20,10 @@ use Rattle.lits.specs.Same.{same_node}
 use Rattle.lits.proofs.Facts.{exact-node, same-node_self}
 use Rattle.netlist.specs.Miter.{variable_of, cnf_number_of}
 use Rattle.netlist.proofs.Facts.{variable-one}
+use Rattle.unit_prop.proofs.Facts.{contrary}
 use Rattle.lemma_book.specs.declared.walk.Walk.{Walk}
 use Rattle.lemma_book.specs.Cone.{nodes_in}
 use Rattle.lemma_book.specs.Walk.{AreNumbered, is_found, is_pending, IsWalk, Finds}
-use Rattle.lemma_book.proofs.RepeatLemmas.{contrary}
 
 pub number-variable : (net : AigPair) (l : Lit) (d : DimacsLiteral) → cnf_number_of net l ≡ Some d → variable_of net l.node ≡ Some d.var
 number-variable net l d e = go (variable_of net l.node) refl
@@ -57,37 +58,23 @@ module _ (net : AigPair) (node : Node) (k : ℕ) (at : variable_of net node ≡ 
   -- one more node is among the values
   pub inserted-has : (es : List (ℕ × Node)) → AreNumbered net es → (n : Node)
       → has same_node (values_of (insert_entry nat_cmp es k node)) n ≡ (has same_node (values_of es) n || same_node node n)
-  inserted-has [] all n = go (same_node node n)
-    where
-      go : (b : Bool) → (b || false) ≡ b
-      go true = refl
-      go false = refl
+  inserted-has [] all n = or-false (same_node node n)
   inserted-has (e ∷ es) all n = go (nat_cmp k e.0) refl (inserted-has es all.1 n)
     where
-      swap : (a b : Bool) → (a || b) ≡ (b || a)
-      swap true true = refl
-      swap true false = refl
-      swap false true = refl
-      swap false false = refl
-
       twice : (a b : Bool) → (a || b) ≡ ((a || b) || a)
       twice true b = refl
       twice false true = refl
       twice false false = refl
 
-      assoc : (a b c : Bool) → (a || (b || c)) ≡ ((a || b) || c)
-      assoc true b c = refl
-      assoc false b c = refl
-
       go : (o : Ordering) → nat_cmp k e.0 ≡ o
           → has same_node (values_of (insert_entry nat_cmp es k node)) n ≡ (has same_node (values_of es) n || same_node node n)
           → has same_node (values_of (match_ordering o ((k, node) ∷ e ∷ es) ((e.0, node) ∷ es) (e ∷ insert_entry nat_cmp es k node))) n
           ≡ (has same_node (values_of (e ∷ es)) n || same_node node n)
-      go Less f rest = swap (same_node node n) (same_node e.1 n || has same_node (values_of es) n)
+      go Less f rest = or_comm (same_node node n) (same_node e.1 n || has same_node (values_of es) n)
       go Equal f rest =
           subst (λ (m : Node). (same_node m n || has same_node (values_of es) n) ≡ ((same_node e.1 n || has same_node (values_of es) n) || same_node m n))
           (entry-node e all.0 f) (twice (same_node e.1 n) (has same_node (values_of es) n))
-      go Greater f rest = ap (λ (b : Bool). same_node e.1 n || b) rest ∙ assoc (same_node e.1 n) (has same_node (values_of es) n) (same_node node n)
+      go Greater f rest = ap (λ (b : Bool). same_node e.1 n || b) rest ∙ sym (or_assoc (same_node e.1 n) (has same_node (values_of es) n) (same_node node n))
 
   -- a look-up finds the node exactly where it is among the values
   pub lookup-has : (es : List (ℕ × Node)) → AreNumbered net es → is_some (lookup (is_at (nat_cmp k)) es) ≡ has same_node (values_of es) node
@@ -118,11 +105,7 @@ module _ (net : AigPair) (node : Node) (k : ℕ) (at : variable_of net node ≡ 
     found-more : (n : Node) → is_found new n ≡ (is_found old n || has same_node (node ∷ []) n)
     found-more n =
         ap (λ (l : List (ℕ × Node)). has same_node (values_of l) n) entries ∙ inserted-has old.found.entries walk.numbered n
-        ∙ ap (λ (b : Bool). is_found old n || b) (sym (or_false (same_node node n)))
-      where
-        or_false : (b : Bool) → (b || false) ≡ b
-        or_false true = refl
-        or_false false = refl
+        ∙ ap (λ (b : Bool). is_found old n || b) (sym (or-false (same_node node n)))
 
     walk-more : IsWalk net new
     walk-more = record {
@@ -166,35 +149,27 @@ module _ (net : AigPair) (node : Node) (k : ℕ) (at : variable_of net node ≡ 
         added : (n : Node) → is_pending old n ≡ (is_pending old n || (has same_node (node ∷ []) n && not (is_found old n)))
         added n = go (same_node node n) refl
           where
-            or_false : (b : Bool) → b ≡ (b || false)
-            or_false true = refl
-            or_false false = refl
-
             go : (b : Bool) → same_node node n ≡ b → is_pending old n ≡ (is_pending old n || ((b || false) && not (is_found old n)))
-            go false e = or_false (is_pending old n)
+            go false e = sym (or-false (is_pending old n))
             go true e =
-                or_false (is_pending old n)
+                sym (or-false (is_pending old n))
                 ∙ ap (λ (b : Bool). is_pending old n || not b) (sym (subst (λ (m : Node). is_found old m ≡ true) (exact-node node n e) there))
 
 module _ (net : AigPair) where
   pub finds-none : (w : Walk) → IsWalk net w → Finds net w [] w
   finds-none w walk = record {
     walk = walk;
-    found = λ n. or_false (is_found w n);
-    pending = λ n. or_false (is_pending w n);
+    found = λ n. sym (or-false (is_found w n));
+    pending = λ n. sym (or-false (is_pending w n));
     count = refl;
   }
-    where
-      or_false : (b : Bool) → b ≡ (b || false)
-      or_false true = refl
-      or_false false = refl
 
   -- one step after another
   pub finds-append : (old mid new : Walk) (xs ys : List Node) → Finds net old xs mid → Finds net mid ys new → Finds net old (xs ++ ys) new
   finds-append old mid new xs ys f g = record {
     walk = g.walk;
     found = λ n. g.found n ∙ ap (λ (b : Bool). b || has same_node ys n) (f.found n)
-        ∙ assoc (is_found old n) (has same_node xs n) (has same_node ys n)
+        ∙ or_assoc (is_found old n) (has same_node xs n) (has same_node ys n)
         ∙ ap (λ (b : Bool). is_found old n || b) (sym (joined n));
     pending = λ n. g.pending n
         ∙ ap (λ (b : Bool). b || (has same_node ys n && not (is_found mid n))) (f.pending n)
@@ -206,10 +181,6 @@ module _ (net : AigPair) where
     where
       joined : (n : Node) → has same_node (xs ++ ys) n ≡ (has same_node xs n || has same_node ys n)
       joined n = list_any-append (λ y. same_node y n) xs ys
-
-      assoc : (a b c : Bool) → ((a || b) || c) ≡ (a || (b || c))
-      assoc true b c = refl
-      assoc false b c = refl
 
       bits : (p x y f : Bool) → ((p || (x && not f)) || (y && not (f || x))) ≡ (p || ((x || y) && not f))
       bits true x y f = refl

@@ -26,6 +26,10 @@ AreThere net lits = AllByRecursion (λ l. IsSome (variable_of net l.node)) lits
 abbrev pub nodes_in : List Lit → List Node
 nodes_in lits = map (λ l. l.node) lits
 
+-- the nodes have those of the literals
+abbrev pub Covers : List Node → List Lit → Type 0
+Covers nodes lits = AllByRecursion (λ l. has same_node nodes l.node ≡ true) lits
+
 -- the nodes by which a node is defined: a gate's two fanins, an XOR's two outputs
 abbrev pub fanins_of : AigPair → Node → List Node
 fanins_of net Const = []

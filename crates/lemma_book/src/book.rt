@@ -1,6 +1,5 @@
 ghost use Rattle.std.specs.Prelude.{◌≡◌, ◌≤◌, None, [], ◌++◌, length, slice_get, take, is_some, IfOk, IfErr, OnOk, OnErr};
 ghost use Rattle.std.specs.Option.{option_copied, option_map};
-ghost use Rattle.netlist.specs.Net.{AigPair};
 ghost use Rattle.lemma_book.specs.Entry.{place_on, has_spent, about, with_last};
 ghost use Rattle.lemma_book.specs.Root.{merge_of, carried, passed_by, path_of, root_of};
 ghost use Rattle.lemma_book.specs.Cone.{AreThere, clauses_on, nodes_in, IsCone};

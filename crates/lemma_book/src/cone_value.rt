@@ -1,4 +1,4 @@
-ghost use Rattle.std.specs.Prelude.{◌≡◌, ◌<◌, ◌≤◌, length, All, IfOk, IfSome, IfNone, OnOk};
+ghost use Rattle.std.specs.Prelude.{◌≡◌, ◌<◌, ◌≤◌, length, All, IfOk, IfSome, IfNone};
 ghost use Rattle.netlist.specs.Net.{IsNet, nodes_of};
 ghost use Rattle.lemma_book.specs.ConeValue.{value_at, placed_value, IsAndAt, AreValues, IsUnknown, IsValueOrNeeds, IsNext};
 

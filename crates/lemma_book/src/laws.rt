@@ -1,6 +1,5 @@
 //! What a legal book means, each law the contract of a function that does nothing when it runs.
 
-ghost use Rattle.std.specs.Prelude.{◌≡◌};
 ghost use Rattle.std.specs.List.{AllByRecursion};
 ghost use Rattle.lits.specs.declared.literal.Lit.{Lit};
 ghost use Rattle.lemma_book.specs.Root.{root_of};

@@ -1,4 +1,4 @@
-ghost use Rattle.std.specs.Prelude.{◌≡◌, ◌∷◌, [], IfOk, OnOk, take};
+ghost use Rattle.std.specs.Prelude.{◌∷◌, [], IfOk, OnOk, take};
 ghost use Rattle.std.specs.Option.{IsSome};
 ghost use Rattle.netlist.specs.Net.{IsNet};
 ghost use Rattle.netlist.specs.Miter.{variable_of};

@@ -1,5 +1,11 @@
 -- What crates above may cite.
 
+-- ---- counts and ranges
+
+-- what is left of a count: one less after each, and in the end nothing
+pub use Rattle.lits.proofs.ListLemmas.{left-more, left-none}
+-- one number more; none stands twice
+pub use Rattle.lits.proofs.ListLemmas.{range-more, no_repeat-range}
 -- ---- lists: what all elements have, and what some element passes
 
 -- the element at a place has what all elements have

@@ -1,10 +1,35 @@
--- Lists whose elements all have a property, and tests that some element passes.
-use Rattle.std.proofs.Common.{◌≡◌, ℕ, zero, suc, ◌+◌, Bool, true, false, ◌||◌, inl, inr, Some, List, [], ◌∷◌, ◌++◌, take, map, refl, ap, ◌∙◌, subst}
-use Rattle.std.specs.Prelude.{filter, slice_get}
-use Rattle.std.specs.List.{list_any, AllByRecursion}
+-- Counts and ranges, lists whose elements all have a property, and tests that some element passes.
+use Rattle.std.proofs.Common.{◌≡◌, ℕ, zero, suc, ◌+◌, ◌-◌, ◌<◌, ◌≤◌, arith, Bool, true, false, ◌||◌, inl, inr, Some, List, [], ◌∷◌, ◌++◌, take, map, refl, ap, ◌∙◌, subst}
+use Rattle.std.specs.Prelude.{filter, slice_get, ◌==◌}
+use Rattle.std.specs.List.{list_any, range_with_len, AllByRecursion}
 use Rattle.std.proofs.lemmas.Bool.{or_cases, or_left, or_right}
 use Rattle.std.proofs.lemmas.List.{take_more}
 use Rattle.std.proofs.lemmas.Option.{none-some, same_Some, slice_get_within, get_or_from_slice_get}
+use Rattle.std.proofs.lemmas.Bool.Decides.{nat_tests}
+use Rattle.lits.specs.Clause.{has, no_repeat}
+
+-- what is left of a count: one less after each, and in the end nothing
+pub left-more : (n k : ℕ) → k < n → n - k ≡ suc (n - (k + 1))
+left-more n k lt = omega arith
+
+pub left-none : (n k : ℕ) → n ≤ k → n - k ≡ 0
+left-none n k le = omega arith
+
+-- one number more
+pub range-more : (a n : ℕ) → range_with_len a (suc n) ≡ range_with_len a n ++ (a + n) ∷ []
+range-more a zero = let e : a ≡ a + 0 = omega arith in ap (λ (x : ℕ). x ∷ []) e
+range-more a (suc n) = let e : (a + 1) + n ≡ a + suc n = omega arith in ap (λ (xs : List ℕ). a ∷ xs) (range-more (a + 1) n ∙ rw e refl)
+
+-- a range has no number before its first one, and none twice
+range-above : (n a q : ℕ) → q < a → has ◌==◌ (range_with_len a n) q ≡ false
+range-above zero a q below = refl
+range-above (suc n) a q below =
+    let apart : (a == q) ≡ false = grind (arith, nat_tests) in
+    rw (apart, range-above n (a + 1) q (omega arith)) refl
+
+pub no_repeat-range : (n a : ℕ) → no_repeat ◌==◌ (range_with_len a n) ≡ true
+no_repeat-range zero a = refl
+no_repeat-range (suc n) a = rw (range-above n (a + 1) a (omega arith), no_repeat-range n (a + 1)) refl
 
 -- the element at a place has what all elements have
 pub all-slice_get : {X : Type 0} (P : X → Type 0) (xs : List X) (k : ℕ) (x : X) → AllByRecursion P xs

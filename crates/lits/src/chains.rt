@@ -1,4 +1,4 @@
-ghost use Rattle.std.specs.Prelude.{◌≡◌, ◌+◌, ◌<◌, ◌≤◌, ℕ, [], ◌∷◌, ◌++◌, false, replicate, length, nat_lt, not, slice_set, slice_index, slice_get, Some, OnOk, OnErr, IfOk, IfSome, IfNone};
+ghost use Rattle.std.specs.Prelude.{◌≡◌, ◌+◌, ◌<◌, [], ◌∷◌, ◌++◌, false, replicate, length, slice_set, slice_get, Some, OnOk, OnErr, IfOk, IfSome, IfNone};
 ghost use Rattle.lits.specs.Clause.{has};
 ghost use Rattle.lits.specs.Chains.{IsIndex, IsReady, first_of, slot_of};
 

@@ -9,7 +9,8 @@ use Rattle.tokens.proofs.Facts.{IsToken, IsToken-decimal, IsToken-literal, Parts
 use Rattle.lrat_text.specs.declared.step.LratStep.{LratStep}
 use Rattle.lrat_text.specs.declared.step.LratStep.TheVariants.{Add, Del}
 use Rattle.lrat_text.specs.Reading.{words_in}
-use Rattle.lrat_text.specs.Writing.{words_of, first_of, step_text, IsId, IsWritable}
+use Rattle.lrat_text.specs.Writing.{words_of, step_text, IsId, IsWritable}
+use Rattle.lrat_text.specs.Steps.{id_after}
 
 ids-words : (ids : List ℕ) → AllByRecursion IsId ids → AllByRecursion IsToken (map decimal ids)
 ids-words [] all = tt
@@ -41,26 +42,26 @@ words_of-words last (Del ids) can = (
       (zero-word, tt),
 )
 
-pub first_of-fits : (last d : ℕ) (step : LratStep) → IsWritable last step → d < 2 ^ 64
-    → first_of d step < 2 ^ 64
-first_of-fits last d (Add id clause hints) can lt = omega (arith, can.1)
-first_of-fits last d (Del ids) can lt = lt
+pub id_after-fits : (last d : ℕ) (step : LratStep) → IsWritable last step → d < 2 ^ 64
+    → id_after d step < 2 ^ 64
+id_after-fits last d (Add id clause hints) can lt = omega (arith, can.1)
+id_after-fits last d (Del ids) can lt = lt
 
 -- the words of a written step
 pub words_in-step : (last d : ℕ) (step : LratStep) → IsWritable last step → d < 2 ^ 64
-    → words_in (step_text d step) ≡ decimal (first_of d step) ∷ words_of step
+    → words_in (step_text d step) ≡ decimal (id_after d step) ∷ words_of step
 words_in-step last d step can lt =
-    words_by-joined is_space (decimal (first_of d step) ∷ words_of step) PartsTokens-space (
-      IsToken-decimal (first_of d step)
-          (first_of-fits last d step can lt),
+    words_by-joined is_space (decimal (id_after d step) ∷ words_of step) PartsTokens-space (
+      IsToken-decimal (id_after d step)
+          (id_after-fits last d step can lt),
       words_of-words last step can,
     )
 
 pub step_text-one_line : (last d : ℕ) (step : LratStep) → IsWritable last step → d < 2 ^ 64
     → list_any (λ b. eqb b 10) (step_text d step) ≡ false
 step_text-one_line last d step can lt =
-    joined-one_line (decimal (first_of d step) ∷ words_of step) (
-      IsToken-decimal (first_of d step)
-          (first_of-fits last d step can lt),
+    joined-one_line (decimal (id_after d step) ∷ words_of step) (
+      IsToken-decimal (id_after d step)
+          (id_after-fits last d step can lt),
       words_of-words last step can,
     )

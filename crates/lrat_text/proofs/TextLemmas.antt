@@ -16,9 +16,9 @@ use Rattle.lrat_text.specs.declared.step.LratStep.{LratStep}
 use Rattle.lrat_text.specs.declared.step.LratStep.TheVariants.{Add, Del}
 use Rattle.lrat_text.specs.Steps.{id_after, last_id}
 use Rattle.lrat_text.specs.Reading.{words_in, begins_d, step_of, id_behind, with_step, steps_from, SpellsLrat}
-use Rattle.lrat_text.specs.Writing.{words_of, first_of, step_text, line_text, text_from, numbered, IsWritable, AreWritable, IsWritten}
+use Rattle.lrat_text.specs.Writing.{words_of, step_text, line_text, text_from, numbered, IsWritable, AreWritable, IsWritten}
 use Rattle.lrat_text.proofs.PartLemmas.{numbers_in-both, numbers_in-zero, are_literals, are_ids, addition-written, deletion-written}
-use Rattle.lrat_text.proofs.SplitLemmas.{words_in-step, step_text-one_line}
+use Rattle.lrat_text.proofs.SplitLemmas.{words_in-step, step_text-one_line, id_after-fits}
 
 -- numbers aren't the word that marks a deletion
 begins_d-numbers : (words : List (List ℕ)) (ns : List Number) → numbers_in words ≡ Some ns
@@ -37,7 +37,7 @@ begins_d-numbers ((b ∷ []) ∷ words) ns e = go (eqb b 100) refl
 
 -- the words of a written step spell it
 step_of-written : (at last d : ℕ) (step : LratStep) → IsWritable last step → d < 2 ^ 64
-    → step_of at last (decimal (first_of d step) ∷ words_of step) ≡ Ok (Some step)
+    → step_of at last (decimal (id_after d step) ∷ words_of step) ≡ Ok (Some step)
 step_of-written at last d (Add id clause hints) can lt =
     let ls = are_literals clause can.2 in
     let end = numbers_in-zero [] [] refl in
@@ -170,11 +170,6 @@ pub last_id-push : (m : ℕ) (lines : List Line) (line : Line)
 last_id-push m [] line = refl
 last_id-push m (l ∷ lines) line = last_id-push (id_after m l.step) lines line
 
-id_after-fits : (last : ℕ) (step : LratStep) → IsWritable last step → last < 2 ^ 64
-    → id_after last step < 2 ^ 64
-id_after-fits last (Add id clause hints) can lt = omega (arith, can.1)
-id_after-fits last (Del ids) can lt = lt
-
 -- and many lines more
 written_more : (m last : ℕ) (text : List ℕ) (lines : List Line) (steps : List LratStep)
     → IsWritten m text lines → last ≡ last_id m lines → last < 2 ^ 64 → AreWritable last steps
@@ -190,7 +185,7 @@ written_more m last text lines (step ∷ steps) w e lt can =
     omega (arith, length-append lines (line ∷ [])) in
     let all =
     written_more m (id_after last step) (text ++ line_text last step)
-    (lines ++ line ∷ []) steps next after (id_after-fits last step can.0 lt) can.1 in
+    (lines ++ line ∷ []) steps next after (id_after-fits last last step can.0 lt) can.1 in
     subst (λ (t : List ℕ). IsWritten m t (lines ++ line ∷ numbered (length lines + 1 + 1) steps))
     (append_assoc text (line_text last step) (text_from (id_after last step) steps))
     (subst (λ (l : List Line). IsWritten m

@@ -6,6 +6,7 @@ use Rattle.lrat_text.specs.declared.step.LratStep.{LratStep}
 use Rattle.lrat_text.specs.declared.step.LratStep.TheVariants.{Add, Del}
 use Rattle.lrat_text.specs.Steps.{id_after}
 use Rattle.lrat_text.specs.Reading.{steps_from}
+use Rattle.lrat_text.specs.Steps.{id_after}
 use Rattle.tokens.specs.Text.{literal_text, spaced, joined, ended}
 use Rattle.byte_scan.specs.declared.scan.TheConstants.{NUMBER_LIMIT}
 pub use Rattle.tokens.specs.Text.{IsInRange}
@@ -16,14 +17,10 @@ words_of (Add id clause hints) =
     map literal_text clause ++ ((48 ∷ []) ∷ (map decimal hints ++ (48 ∷ []) ∷ []))
 words_of (Del ids) = (100 ∷ []) ∷ (map decimal ids ++ (48 ∷ []) ∷ [])
 
--- An addition begins with its id, and a deletion with the number `last`, by convention the last addition's id.
-abbrev pub first_of : ℕ → LratStep → ℕ
-first_of last (Add id clause hints) = id
-first_of last (Del ids) = last
-
--- the step in a line, without its end: an addition is `id literals 0 hints 0`, and a deletion `last d ids 0`
+-- the step in a line, without its end: an addition is `id literals 0 hints 0`, and a deletion `last d ids 0`, where
+-- `last` is by convention the last addition's id
 abbrev pub step_text : ℕ → LratStep → List ℕ
-step_text last step = joined (decimal (first_of last step) ∷ words_of step)
+step_text last step = joined (decimal (id_after last step) ∷ words_of step)
 
 abbrev pub line_text : ℕ → LratStep → List ℕ
 line_text last step = ended (step_text last step)

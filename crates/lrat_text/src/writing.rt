@@ -1,6 +1,5 @@
-ghost use Rattle.std.specs.Prelude.{◌≡◌, ◌++◌, [], ◌∷◌, OnOk, OnErr, decimal, map};
+ghost use Rattle.std.specs.Prelude.{◌≡◌, ◌++◌, ◌∷◌, OnOk, OnErr, decimal, map};
 ghost use Rattle.std.specs.List.{AllByRecursion};
-ghost use Rattle.lits.specs.Dimacs.{DimacsLiteral};
 ghost use Rattle.tokens.specs.Text.{literal_text, spaced, Begins, IsInRange};
 ghost use Rattle.lrat_text.specs.Writing.{ended_ids, line_text, LiteralsFit};
 

@@ -3,6 +3,7 @@
 use Rattle.std.proofs.Common.{◌≡◌, Bool, true, false, not, ◌&&◌, ◌||◌, List, [], ◌∷◌, refl, sym, ap, ◌∙◌, if◌then◌else◌}
 use Rattle.std.specs.List.{list_any}
 use Rattle.std.proofs.lemmas.Map.Views.{any-filter_same}
+use Rattle.std.proofs.lemmas.Bool.{or_right}
 use Rattle.lits.specs.Clause.{has, firsts, has_pair}
 use Rattle.lits.specs.Assignment.{IsAssignment, Meets}
 use Rattle.lits.specs.declared.node.Node.{Node}
@@ -22,6 +23,13 @@ lit_holds-opposite v l = go l.neg (v l.node)
     go true false = refl
     go false value = refl
 
+-- values that don't differ are one
+pub same-values : (x y : Bool) → not (differs x y) ≡ true → x ≡ y
+same-values true true e = refl
+same-values true false e = cc
+same-values false true e = cc
+same-values false false e = refl
+
 pub lit_holds-assigns : (v : Node → Bool) → IsAssignment opposite (lit_holds v)
 lit_holds-assigns v = record { negates = lit_holds-opposite v }
 
@@ -33,11 +41,7 @@ module _ {L : Type 0} {eq : L → L → Bool} (exact : (x y : L) → eq x y ≡ 
     where
       go : (b : Bool) → eq x q ≡ b → (has eq xs q ≡ true → u q ≡ true → list_any u xs ≡ true) → list_any u (x ∷ xs) ≡ true
       go true e rest = let f = ap u (exact x q e) ∙ t in rw f refl
-      go false e rest = or_right (u x) (rest (rw e at h) t)
-        where
-          or_right : (b : Bool) → list_any u xs ≡ true → (b || list_any u xs) ≡ true
-          or_right true f = refl
-          or_right false f = f
+      go false e rest = or_right (u x) _ (rest (rw e at h) t)
 
   -- a clause with its repeated literals once holds as before
   pub holds-firsts : (xs : List L) → list_any u (firsts eq xs) ≡ list_any u xs

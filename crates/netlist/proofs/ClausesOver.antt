@@ -7,6 +7,7 @@ use Rattle.std.specs.List.{AllByRecursion}
 use Rattle.std.proofs.lemmas.Bool.{or_left, or_right}
 use Rattle.std.proofs.lemmas.List.Folds.{list_any-append}
 use Rattle.std.proofs.lemmas.Option.{none-some, same_Some, slice_get_within}
+use Rattle.std.proofs.Math.Bool.{or_assoc}
 use Rattle.lits.specs.Clause.{has, firsts, has_pair}
 use Rattle.lits.specs.declared.node.Side.{Side}
 use Rattle.lits.specs.declared.node.Side.TheVariants.{A, B}
@@ -113,14 +114,10 @@ module _ (net : AigPair) (is : IsNet net) where
           (found-one (λ h. h.var == v) (λ h. IsAmong (0 ∷ c.inputs) c.gates (var_of h.left) × IsAmong (0 ∷ c.inputs) c.gates (var_of h.right))
           c.gates g (all-over (0 ∷ c.inputs) c.gates (is_circuit net is s).gates) found).0
 
-      assoc : (b d e : Bool) → (b || (d || e)) ≡ ((b || d) || e)
-      assoc true d e = refl
-      assoc false d e = refl
-
       in_circuit : (x : ℕ) → IsAmong (0 ∷ c.inputs) c.gates x → has ◌==◌ (variables_in c) x ≡ true
       in_circuit x h =
           ap (λ (b : Bool). 0 == x || b) (list_any-append (λ y. y == x) c.inputs (gate_vars c.gates))
-          ∙ assoc (0 == x) (has ◌==◌ c.inputs x) (has ◌==◌ (gate_vars c.gates) x) ∙ h
+          ∙ sym (or_assoc (0 == x) (has ◌==◌ c.inputs x) (has ◌==◌ (gate_vars c.gates) x)) ∙ h
 
   -- the nodes with positions are closed under fanins
   pub nodes-fanins : HasFanins net (has same_node (nodes_of net))

@@ -1,8 +1,9 @@
 -- Values that meet the clauses that define the nodes of a cone are the nodes' values there, so a model of a cone's
 -- clauses is a real counterexample.
-use Rattle.std.proofs.Common.{◌≡◌, ℕ, ◌<◌, Bool, true, false, ◌&&◌, ◌||◌, Option, Some, List, [], length, refl, ap, ap₂, ◌∙◌, subst, not, if◌then◌else◌}
+use Rattle.std.proofs.Common.{◌≡◌, ℕ, ◌<◌, Bool, true, false, ◌&&◌, Option, Some, List, [], length, refl, ap, ap₂, ◌∙◌, subst, not, if◌then◌else◌, sym}
 use Rattle.std.specs.Prelude.{◌==◌, slice_index, slice_index_or, ⊤}
 use Rattle.std.specs.Option.{option_map, option_map_or}
+use Rattle.std.proofs.Math.Bool.{or-false}
 use Rattle.lits.specs.Clause.{has}
 use Rattle.lits.specs.Assignment.{Meets}
 use Rattle.lits.specs.declared.node.Side.{Side}
@@ -32,11 +33,7 @@ pub record IsModelOver (net : AigPair) (p a : Node → Bool) (bits : List Bool) 
 
 -- the clause of the constant says that it is true
 pub constant_from_axioms : (net : AigPair) (a : Node → Bool) → Meets (lit_holds a) (axioms_of net Const) → a Const ≡ true
-constant_from_axioms net a m = go (a Const) m.0
-  where
-    go : (b : Bool) → (b || false) ≡ true → b ≡ true
-    go true e = refl
-    go false e = e
+constant_from_axioms net a m = sym (or-false (a Const)) ∙ m.0
 
 -- those of a gate say that it is the AND of its fanins
 pub gate_from_axioms : (net : AigPair) (a : Node → Bool) (s : Side) (v : ℕ) (g : And) → gate_at net s v ≡ Some g

@@ -8,6 +8,7 @@ use Rattle.std.proofs.lemmas.Bool.{or_parts, or_right}
 use Rattle.std.proofs.lemmas.List.FromFn.{length-map-range_with_len, get_or-map-range_with_len}
 use Rattle.std.proofs.lemmas.List.Folds.{list_any-append}
 use Rattle.std.proofs.lemmas.Option.{none-some, same_Some}
+use Rattle.std.proofs.Math.Bool.{or_assoc}
 use Rattle.lits.specs.Clause.{has}
 use Rattle.lits.specs.declared.node.Side.{Side}
 use Rattle.lits.specs.declared.node.Node.{Node}
@@ -110,14 +111,10 @@ module _ (net : AigPair) (is : IsNet net) (p a : Node → Bool) (bits : List Boo
       c : Aig
       c = circuit_of net s
 
-      assoc : (b d e : Bool) → (b || (d || e)) ≡ ((b || d) || e)
-      assoc true d e = refl
-      assoc false d e = refl
-
       among : IsAmong (0 ∷ c.inputs) c.gates (var_of lit)
       among =
           sym (ap (λ (b : Bool). 0 == var_of lit || b) (list_any-append (λ y. y == var_of lit) c.inputs (gate_vars c.gates))
-          ∙ assoc (0 == var_of lit) (has ◌==◌ c.inputs (var_of lit)) (has ◌==◌ (gate_vars c.gates) (var_of lit))) ∙ over
+          ∙ sym (or_assoc (0 == var_of lit) (has ◌==◌ c.inputs (var_of lit)) (has ◌==◌ (gate_vars c.gates) (var_of lit)))) ∙ over
 
   -- a gate with a position has its value
   pub evaluation-gate : (s : Side) (v : ℕ) (g : And) → gate_at net s v ≡ Some g → p (Gate s v) ≡ true

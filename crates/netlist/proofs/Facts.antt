@@ -3,6 +3,8 @@
 pub use Rattle.netlist.proofs.SameNodes.{equal-number, same-number, any_from_find}
 -- what holds of the place
 pub use Rattle.netlist.proofs.SameNodes.{at-place}
+-- what follows from each fact follows from all; tests that agree pass the same lists
+pub use Rattle.netlist.proofs.SameNodes.{all-weaker, list_any-same}
 -- the other way round
 pub use Rattle.netlist.proofs.SameNodes.{range-has}
 -- ---- a circuit's variables and the nodes that they name have one value, a gate's value is the AND of its fanins', and the nodes' values meet all clauses that define the nodes
@@ -69,16 +71,22 @@ pub use Rattle.netlist.proofs.PlaceLemmas.{length-range, slice_get-left, slice_g
 pub use Rattle.netlist.proofs.PlaceLemmas.{is_some-place}
 -- the element at the place passes
 pub use Rattle.netlist.proofs.PlaceLemmas.{at_place}
+-- where none passes there is no place; a mapped list has the same one
+pub use Rattle.netlist.proofs.PlaceLemmas.{place_none-all, none_from_is_some, place_of-map}
 -- ---- a circuit's variables differ, so each is found at its own place, and there are few of them
 pub use Rattle.netlist.proofs.VariableLemmas.{few, few_gates_of}
--- in a list without repeats an element stands in no part before it
-pub use Rattle.netlist.proofs.VariableLemmas.{no_repeat-split}
+-- in a list without repeats an element stands in no part before it, and a new one may join it
+pub use Rattle.netlist.proofs.VariableLemmas.{no_repeat-split, no_repeat_push}
+-- its elements are distinct; which of two numbers comes first doesn't matter
+pub use Rattle.netlist.proofs.VariableLemmas.{IsDistinct_from, eq_swap}
 -- distinct variables in range are few
 pub use Rattle.netlist.proofs.VariableLemmas.{length-distinct}
 -- the variables of a circuit
 pub use Rattle.netlist.proofs.VariableLemmas.{variables}
 -- what stands in one part of a list without repeats isn't in the other
 pub use Rattle.netlist.proofs.VariableLemmas.{no_repeat-apart}
+-- the middle one of three comes first
+pub use Rattle.netlist.proofs.RunLemmas.{or_move}
 -- ---- how the table of a circuit's variables grows
 pub use Rattle.netlist.proofs.TableLemmas.{push_table}
 -- ---- what stands at the position of a gate: the AND of its fanins' values; its fanins stand earlier
@@ -93,8 +101,11 @@ pub use Rattle.netlist.proofs.GateLemmas.{node-input}
 pub use Rattle.netlist.proofs.NetLemmas.{length-definitions, length-nodes}
 -- the place in two lists that are joined
 pub use Rattle.netlist.proofs.PlaceLemmas.{or_place, place_of-append}
+pub use Rattle.netlist.proofs.TableLemmas.{or_place-none}
 -- the first element that passes stands at the place
 pub use Rattle.netlist.proofs.PlaceLemmas.{find-place}
+-- gate k stands behind the inputs
+pub use Rattle.netlist.proofs.GateLemmas.{position-definition}
 -- what defines a gate, and that its fanins' nodes have lower positions
 pub use Rattle.netlist.proofs.GateLemmas.{gate-definition}
 -- the nodes behind the inputs are those of the gates
@@ -104,8 +115,12 @@ pub use Rattle.netlist.proofs.NodesThere.{no-xor}
 -- ---- what assignments of nodes make of the clauses that define a node
 
 -- the negation of a literal holds where the literal doesn't
-pub use Rattle.netlist.proofs.ClauseMeaning.{lit_holds-opposite}
+pub use Rattle.netlist.proofs.ClauseMeaning.{lit_holds-opposite, lit_holds-assigns}
+-- values that don't differ are one
+pub use Rattle.netlist.proofs.ClauseMeaning.{same-values}
 -- the clauses that stay ask as much as all of them
 pub use Rattle.netlist.proofs.ClauseMeaning.{meets_from_kept}
 -- a gate's clauses say that it is the AND of its fanins, an XOR's that it is true exactly where its outputs differ
 pub use Rattle.netlist.proofs.ClauseMeaning.{gate_from_meets, xor_from_meets}
+-- a node at a place is there
+pub use Rattle.netlist.proofs.MiterLemmas.{has-get}

@@ -31,7 +31,7 @@ use Rattle.netlist.proofs.RunLemmas.{fanins_known}
 use Rattle.netlist.proofs.SameNodes.{same-number, other-number, at-place, place_from_any}
 use Rattle.netlist.proofs.RunValues.{all-found}
 use Rattle.netlist.proofs.NodeValues.{is_circuit, value-gate}
-use Rattle.netlist.proofs.NodesThere.{length-inputs}
+use Rattle.netlist.proofs.NodesThere.{length-inputs, or_last}
 use Rattle.netlist.proofs.NetLemmas.{length-nodes, length-definitions, behind_inputs, position_of-input, position-gate}
 
 -- an element that passes among the first j has a place before j
@@ -73,11 +73,6 @@ module _ (net : AigPair) (is : IsNet net) (s : Side) (j : ℕ) where
       positive : (t : Side) → 1 + length net.a.inputs ≤ first_gate net t
       positive A = omega arith
       positive B = omega arith
-
-      or_last : (a b d : Bool) → (a || (b || d)) ≡ true → a ≡ false → b ≡ false → d ≡ true
-      or_last true b d e f g = cc
-      or_last false true d e f g = cc
-      or_last false false d e f g = e
 
       behind : (o : Option ℕ) → place_of (λ y. y == x) c.inputs ≡ o → (0 == x) ≡ false
           → (p : ℕ) × (position_of net (rest o) ≡ Some p) × (p < first_gate net s + j)
@@ -259,7 +254,8 @@ module _ (net : AigPair) (is : IsNet net) where
       → position_of net (Gate s g.var) ≡ Some (first_gate net s + j)
   position-side s j g e = sym (position-gate net s g.var) ∙ rw (gate-place (circuit_of net s) (is_circuit net is s) j g e) refl
 
-  position-definition : (k : ℕ) (d : Definition) → slice_get (definitions net) k ≡ Some d
+  -- gate k stands behind the inputs
+  pub position-definition : (k : ℕ) (d : Definition) → slice_get (definitions net) k ≡ Some d
       → position_of net d.node ≡ Some (1 + length net.a.inputs + k)
   position-definition k d e = side (nat_lt k (length net.a.gates)) refl
     where

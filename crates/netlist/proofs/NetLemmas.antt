@@ -1,6 +1,6 @@
 -- Positions and CNF variables of the nodes of a net, kind by kind.
 use Rattle.std.proofs.Common.{◌≡◌, ℕ, zero, suc, ◌+◌, ◌<◌, ◌≤◌, Bool, true, false, cond, Option, None, Some, List, [], ◌∷◌, ◌++◌, length, map, get_or, zero-add, add-one, refl, sym, ap, ◌∙◌, subst, arith, length-append}
-use Rattle.std.specs.Prelude.{◌==◌, ◌&&◌, nat_lt, slice_get}
+use Rattle.std.specs.Prelude.{◌==◌, nat_lt, slice_get}
 use Rattle.std.specs.Option.{option_map, option_map_or}
 use Rattle.std.specs.List.{range_with_len, list_all}
 use Rattle.std.proofs.lemmas.List.{length-map}
@@ -8,6 +8,7 @@ use Rattle.std.proofs.lemmas.Option.{slice_get-map, slice_get_within, slice_get-
 use Rattle.netlist.specs.declared.pair.Sizes.{Sizes}
 use Rattle.netlist.specs.Pair.{AreSizes, gate_node, first_gate}
 use Rattle.std.proofs.lemmas.Bool.Decides.{nat_tests}
+use Rattle.std.proofs.lemmas.Bool.{and_parts}
 use Rattle.lits.specs.declared.node.Side.{Side}
 use Rattle.lits.specs.declared.node.Side.TheVariants.{A, B}
 use Rattle.lits.specs.declared.node.Node.{Node}
@@ -301,16 +302,8 @@ circuit_at net B is = is.b
 
 list_all-get : {X : Type 0} (p : X → Bool) (xs : List X) (k : ℕ) (x : X) → list_all p xs ≡ true → slice_get xs k ≡ Some x → p x ≡ true
 list_all-get p [] k x all e = absurd (none-some x e)
-list_all-get p (y ∷ ys) zero x all e = subst (λ (z : _). p z ≡ true) (same_Some y x e) (go (p y) (list_all p ys) all)
-  where
-    go : (a b : Bool) → (a && b) ≡ true → a ≡ true
-    go true b h = refl
-    go false b h = cc
-list_all-get p (y ∷ ys) (suc k) x all e = list_all-get p ys k x (go (p y) (list_all p ys) all) e
-  where
-    go : (a b : Bool) → (a && b) ≡ true → b ≡ true
-    go true b h = h
-    go false b h = cc
+list_all-get p (y ∷ ys) zero x all e = subst (λ (z : _). p z ≡ true) (same_Some y x e) (and_parts (p y) (list_all p ys) all).0
+list_all-get p (y ∷ ys) (suc k) x all e = list_all-get p ys k x (and_parts (p y) (list_all p ys) all).1 e
 
 -- an output's literal is defined
 pub output_of-lit : (net : AigPair) (side : Side) (j l : ℕ) → IsNet net → slice_get (circuit_of net side).outputs j ≡ Some l

@@ -32,6 +32,12 @@ has-map : {X : Type 0} (f : X → Node) (test : X → Bool) (n : Node) → ((x :
     → has same_node (map f xs) n ≡ list_any test xs
 has-map f test n same xs = list_any-map (λ y. same_node y n) f xs ∙ list_any-same (λ x. same_node (f x) n) test same xs
 
+-- the last of three tests passes where neither other one does
+pub or_last : (a b d : Bool) → (a || (b || d)) ≡ true → a ≡ false → b ≡ false → d ≡ true
+or_last true b d e f g = cc
+or_last false true d e f g = cc
+or_last false false d e f g = e
+
 has-append : (xs ys : List Node) (n : Node) → has same_node (xs ++ ys) n ≡ (has same_node xs n || has same_node ys n)
 has-append xs ys n = list_any-append (λ y. same_node y n) xs ys
 
@@ -139,12 +145,6 @@ module _ (net : AigPair) (is : IsNet net) where
       c : Aig
       c = circuit_of net s
 
-      -- neither the constant nor an input
-      gate : (a b d : Bool) → (a || (b || d)) ≡ true → a ≡ false → b ≡ false → d ≡ true
-      gate true b d e f g = cc
-      gate false true d e f g = cc
-      gate false false d e f g = e
-
       rest : Node
       rest = option_map_or Input (place_of (λ y. y == x) c.inputs) (Gate s x)
 
@@ -159,7 +159,7 @@ module _ (net : AigPair) (is : IsNet net) where
           gate_at_x : (b : Bool) → list_any (λ y. y == x) c.inputs ≡ b → list_any (λ g. g.var == x) c.gates ≡ true
           gate_at_x true f = let p = place_from_any (λ y. y == x) c.inputs f in absurd (none-some p.0 (sym e ∙ p.1))
           gate_at_x false f =
-              gate (0 == x) (list_any (λ y. y == x) c.inputs) (list_any (λ g. g.var == x) c.gates)
+              or_last (0 == x) (list_any (λ y. y == x) c.inputs) (list_any (λ g. g.var == x) c.gates)
               (ap (λ (b : Bool). 0 == x || b) (sym (list_any-append (λ y. y == x) c.inputs (gate_vars c.gates)
               ∙ ap (λ (b : Bool). list_any (λ y. y == x) c.inputs || b) (list_any-map (λ y. y == x) (λ g. g.var) c.gates))) ∙ h) far f
 

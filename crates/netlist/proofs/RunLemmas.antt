@@ -9,7 +9,7 @@ use Rattle.std.proofs.lemmas.Option.{none-some, get_or_from_slice_get}
 use Rattle.std.proofs.lemmas.List.{append_assoc, append-nil, map-append, take_more, take-append-drop}
 use Rattle.std.proofs.lemmas.List.Folds.{list_any-append}
 use Rattle.std.proofs.lemmas.Bool.Decides.{nat_tests}
-use Rattle.std.proofs.lemmas.Bool.{or_parts, not-true}
+use Rattle.std.proofs.lemmas.Bool.{or_parts, not-true, and_parts}
 use Rattle.std.proofs.Math.Bool.{or-false, or_assoc}
 use Rattle.lits.specs.Clause.{has, no_repeat}
 use Rattle.netlist.specs.declared.gate.And.{And}
@@ -20,6 +20,7 @@ use Rattle.netlist.specs.Circuit.{Aig, IsCircuit, IsNext, AreOrdered, variables_
 use Rattle.netlist.specs.Source.{input_or, source_of, value_at, read_in, IsComputed}
 use Rattle.netlist.proofs.PlaceLemmas.{place_of-append, place_none, is_some-place, at_place}
 use Rattle.netlist.proofs.VariableLemmas.{variables, new_gate, vars_more, list_any-vars}
+use Rattle.netlist.proofs.RunValues.{lit_value-same}
 
 pub run-append : (xs ys : List And) (v : ℕ → Bool) → run (xs ++ ys) v ≡ run ys (run xs v)
 run-append [] ys v = refl
@@ -33,7 +34,8 @@ pub run-more : (gates : List And) (i : ℕ) (d : And) (v : ℕ → Bool) → i <
 run-more gates i d v l =
     ap (λ (gs : List And). run gs v) (take_more gates i d l) ∙ run-append (take i gates) (get_or gates i d ∷ []) v
 
-or_move : (a b c : Bool) → ((a || b) || c) ≡ (b || (a || c))
+-- the middle one of three comes first
+pub or_move : (a b c : Bool) → ((a || b) || c) ≡ (b || (a || c))
 or_move true true c = refl
 or_move true false c = refl
 or_move false true c = refl
@@ -130,19 +132,12 @@ read-other inputs gates i x (Some Constant) apart = refl
 read-other inputs gates i x (Some (Input k)) apart = refl
 read-other inputs gates i x (Some (Gate g)) apart = get_or-set_other gates i g x false (λ e. apart (ap (λ (n : ℕ). Some (Gate n)) e))
 
-lit_value-same : (v w : ℕ → Bool) (lit : ℕ) → v (var_of lit) ≡ w (var_of lit) → lit_value v lit ≡ lit_value w lit
-lit_value-same v w lit e = rw e refl
-
-and_left : (a b : Bool) → (a && b) ≡ true → a ≡ true
-and_left true b e = refl
-and_left false b e = cc
-
 -- before any gate only inputs have values
 pub computed_none : (c : Aig) (inputs gates : List Bool) → IsCircuit c → IsComputed c inputs gates []
 computed_none c inputs gates circuit = record { known = λ v e. go v (v == 0) refl (place_of (λ x. x == v) c.inputs) refl e }
   where
     constant : place_of (λ x. x == 0) c.inputs ≡ None
-    constant = place_none (λ x. x == 0) c.inputs (not-true (has ◌==◌ c.inputs 0) (and_left _ (no_repeat ◌==◌ c.inputs) circuit.inputs))
+    constant = place_none (λ x. x == 0) c.inputs (not-true (has ◌==◌ c.inputs 0) (and_parts _ (no_repeat ◌==◌ c.inputs) circuit.inputs).0)
 
     go : (v : ℕ) (b : Bool) → (v == 0) ≡ b → (o : Option ℕ) → place_of (λ x. x == v) c.inputs ≡ o
         → has ◌==◌ (0 ∷ (c.inputs ++ [])) v ≡ true

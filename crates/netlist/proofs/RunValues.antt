@@ -3,6 +3,7 @@
 use Rattle.std.proofs.Common.{◌≡◌, ℕ, Bool, true, false, ◌&&◌, ◌||◌, Some, List, [], ◌∷◌, find, refl, sym, ap, ap₂, ◌∙◌, subst, not, if◌then◌else◌}
 use Rattle.std.specs.Prelude.{◌==◌}
 use Rattle.std.specs.List.{AllByRecursion}
+use Rattle.std.proofs.Math.Bool.{or-false}
 use Rattle.lits.specs.Clause.{has}
 use Rattle.netlist.specs.declared.gate.And.{And}
 use Rattle.netlist.specs.Circuit.{var_of, gate_vars, AreOrdered, lit_value, put, run, is_negated}
@@ -116,11 +117,7 @@ Follows p w g = p g.var ≡ true → (p (var_of g.left) ≡ true) × (p (var_of 
 pub run-unique : (known : List ℕ) (gs : List And) (p w v : ℕ → Bool) → AreOrdered known gs
     → ((x : ℕ) → has ◌==◌ known x ≡ true → p x ≡ true → w x ≡ v x) → AllByRecursion (Follows p w) gs
     → (x : ℕ) → IsAmong known gs x → p x ≡ true → w x ≡ run gs v x
-run-unique known [] p w v ordered begins meets x h inside = begins x (bits (has ◌==◌ known x) h) inside
-  where
-    bits : (b : Bool) → (b || false) ≡ true → b ≡ true
-    bits true e = refl
-    bits false e = e
+run-unique known [] p w v ordered begins meets x h inside = begins x (sym (or-false (has ◌==◌ known x)) ∙ h) inside
 run-unique known (g ∷ gs) p w v ordered begins meets x h inside =
     run-unique (g.var ∷ known) gs p w next ordered.1 begun meets.1 x (bits (has ◌==◌ known x) (g.var == x) (has ◌==◌ (gate_vars gs) x) h) inside
   where

@@ -1,6 +1,6 @@
 -- A circuit's variables differ, so each is found at its own place, and there are few of them.
 use Rattle.std.proofs.Common.{◌≡◌, ℕ, suc, ◌+◌, ◌<◌, ◌≤◌, Bool, true, false, not, List, [], ◌∷◌, ◌++◌, length, take, drop, get_or, refl, sym, ap, ◌∙◌, subst, arith, length-append, length-take}
-use Rattle.std.specs.Prelude.{◌==◌, ◌&&◌, ◌||◌, nat_le}
+use Rattle.std.specs.Prelude.{◌==◌, ◌||◌, nat_le}
 use Rattle.std.specs.List.{list_any, list_all, AllByRecursion, IsDistinct}
 use Rattle.std.proofs.lemmas.List.{append_assoc, append-nil, map-append, length-map, take_more}
 use Rattle.std.proofs.lemmas.List.Folds.{list_any-append}
@@ -8,20 +8,13 @@ use Rattle.std.proofs.lemmas.Map.Steps.{length-le_from_distinct_below}
 use Rattle.std.proofs.lemmas.Bool.Decides.{nat_tests}
 use Rattle.lits.specs.Clause.{has, no_repeat}
 use Rattle.std.proofs.Math.Seq.{split_at}
-use Rattle.std.proofs.lemmas.Bool.{not-true, or_parts}
+use Rattle.std.proofs.lemmas.Bool.{not-true, or_parts, and_parts}
 use Rattle.netlist.specs.declared.gate.And.{And}
 use Rattle.netlist.specs.Circuit.{Aig, IsCircuit, AreOrdered, most, gate_vars}
 use Rattle.netlist.specs.VariableTable.{AreVariables}
 
-and_left : (a b : Bool) → (a && b) ≡ true → a ≡ true
-and_left true b e = refl
-and_left false b e = cc
-
-and_right : (a b : Bool) → (a && b) ≡ true → b ≡ true
-and_right true b e = e
-and_right false b e = cc
-
-eq_swap : (a b : ℕ) → (a == b) ≡ (b == a)
+-- which of two numbers comes first doesn't matter
+pub eq_swap : (a b : ℕ) → (a == b) ≡ (b == a)
 eq_swap a b = grind (arith, nat_tests)
 
 -- what is in a list is in a longer one
@@ -33,15 +26,16 @@ has_not-middle (x ∷ xs) ys y q e = has_not-middle xs ys y q (or_parts (x == q)
 pub no_repeat-split : (xs ys : List ℕ) (y : ℕ) → no_repeat ◌==◌ (xs ++ y ∷ ys) ≡ true → has ◌==◌ xs y ≡ false
 no_repeat-split [] ys y e = refl
 no_repeat-split (x ∷ xs) ys y e =
-    let first = not-true (has ◌==◌ (xs ++ y ∷ ys) x) (and_left _ (no_repeat ◌==◌ (xs ++ y ∷ ys)) e) in
-    let rest = no_repeat-split xs ys y (and_right (not (has ◌==◌ (xs ++ y ∷ ys) x)) _ e) in
+    let first = not-true (has ◌==◌ (xs ++ y ∷ ys) x) (and_parts _ (no_repeat ◌==◌ (xs ++ y ∷ ys)) e).0 in
+    let rest = no_repeat-split xs ys y (and_parts (not (has ◌==◌ (xs ++ y ∷ ys) x)) _ e).1 in
     rw (eq_swap x y, has_not-middle xs ys y x first, rest) refl
 
-IsDistinct_from : (xs : List ℕ) → no_repeat ◌==◌ xs ≡ true → IsDistinct ◌==◌ xs
+-- a list without repeats has distinct elements
+pub IsDistinct_from : (xs : List ℕ) → no_repeat ◌==◌ xs ≡ true → IsDistinct ◌==◌ xs
 unfolding IsDistinct
 IsDistinct_from [] e = tt
 IsDistinct_from (x ∷ xs) e =
-    (apart xs (not-true (has ◌==◌ xs x) (and_left _ (no_repeat ◌==◌ xs) e)), IsDistinct_from xs (and_right (not (has ◌==◌ xs x)) _ e))
+    (apart xs (not-true (has ◌==◌ xs x) (and_parts _ (no_repeat ◌==◌ xs) e).0), IsDistinct_from xs (and_parts (not (has ◌==◌ xs x)) _ e).1)
   where
     apart : (ys : List ℕ) → has ◌==◌ ys x ≡ false → AllByRecursion (λ y. (x == y) ≡ false) ys
     apart [] e = tt
@@ -50,10 +44,10 @@ IsDistinct_from (x ∷ xs) e =
 below_from : (xs : List ℕ) (q : ℕ) → list_all (λ v. nat_le v most) xs ≡ true → list_any (λ y. q == y) xs ≡ true → q < most + 1
 below_from [] q all e = cc
 below_from (x ∷ xs) q all e =
-    go (q == x) refl e (below_from xs q (and_right (nat_le x most) (list_all (λ v. nat_le v most) xs) all))
+    go (q == x) refl e (below_from xs q (and_parts (nat_le x most) (list_all (λ v. nat_le v most) xs) all).1)
   where
     here : nat_le x most ≡ true
-    here = and_left (nat_le x most) (list_all (λ v. nat_le v most) xs) all
+    here = (and_parts (nat_le x most) (list_all (λ v. nat_le v most) xs) all).0
 
     go : (b : Bool) → (q == x) ≡ b → (b || list_any (λ y. q == y) xs) ≡ true
         → (list_any (λ y. q == y) xs ≡ true → q < most + 1) → q < most + 1
@@ -119,12 +113,12 @@ vars_more inputs gates i d l =
     ∙ ap (λ (xs : List ℕ). inputs ++ xs)
     (sym (map-append (λ g. g.var) (take i gates) (get_or gates i d ∷ [])) ∙ ap gate_vars (sym (take_more gates i d l)))
 
-no_repeat_push : (xs : List ℕ) (y : ℕ) → no_repeat ◌==◌ xs ≡ true → has ◌==◌ xs y ≡ false → no_repeat ◌==◌ (xs ++ y ∷ []) ≡ true
+pub no_repeat_push : (xs : List ℕ) (y : ℕ) → no_repeat ◌==◌ xs ≡ true → has ◌==◌ xs y ≡ false → no_repeat ◌==◌ (xs ++ y ∷ []) ≡ true
 no_repeat_push [] y e f = refl
 no_repeat_push (x ∷ xs) y e f =
     let apart = or_parts (x == y) (has ◌==◌ xs y) f in
-    let first = not-true (has ◌==◌ xs x) (and_left _ (no_repeat ◌==◌ xs) e) in
-    let rest = no_repeat_push xs y (and_right (not (has ◌==◌ xs x)) _ e) apart.1 in
+    let first = not-true (has ◌==◌ xs x) (and_parts _ (no_repeat ◌==◌ xs) e).0 in
+    let rest = no_repeat_push xs y (and_parts (not (has ◌==◌ xs x)) _ e).1 apart.1 in
     rw (list_any-append (λ z. z == x) xs (y ∷ []), first, eq_swap y x, apart.0, rest) refl
 
 -- one more variable is known, at either end
@@ -164,10 +158,10 @@ few_gates_of c circuit =
 pub no_repeat-apart : (xs ys : List ℕ) (v : ℕ) → no_repeat ◌==◌ (xs ++ ys) ≡ true → has ◌==◌ xs v ≡ true → has ◌==◌ ys v ≡ false
 no_repeat-apart [] ys v e in_xs = cc
 no_repeat-apart (x ∷ xs) ys v e in_xs =
-    go (x == v) refl in_xs (no_repeat-apart xs ys v (and_right (not (has ◌==◌ (xs ++ ys) x)) _ e))
+    go (x == v) refl in_xs (no_repeat-apart xs ys v (and_parts (not (has ◌==◌ (xs ++ ys) x)) _ e).1)
   where
     first : has ◌==◌ (xs ++ ys) x ≡ false
-    first = not-true (has ◌==◌ (xs ++ ys) x) (and_left _ (no_repeat ◌==◌ (xs ++ ys)) e)
+    first = not-true (has ◌==◌ (xs ++ ys) x) (and_parts _ (no_repeat ◌==◌ (xs ++ ys)) e).0
 
     out : has ◌==◌ ys x ≡ false
     out = (or_parts (has ◌==◌ xs x) (has ◌==◌ ys x) (sym (list_any-append (λ z. z == x) xs ys) ∙ first)).1

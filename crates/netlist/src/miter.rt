@@ -1,8 +1,8 @@
-ghost use Rattle.std.specs.Prelude.{◌≡◌, ◌++◌, ◌<◌, ◌≤◌, true, IfOk, OnOk, length, map};
+ghost use Rattle.std.specs.Prelude.{◌≡◌, ◌++◌, ◌<◌, ◌≤◌, IfOk, OnOk, length, map};
 ghost use Rattle.lits.specs.Clause.{IsClause};
 ghost use Rattle.netlist.specs.Miter.{axioms_of, miter_of, numbered, positive};
 ghost use Rattle.lits.specs.Same.{same_lit, opposite};
-ghost use Rattle.netlist.specs.Miter.{xors_of, variables_of};
+ghost use Rattle.netlist.specs.Miter.{xors_of};
 ghost use Rattle.netlist.specs.Net.{IsNet};
 ghost use Rattle.netlist.specs.Numbered.{AreThere};
 

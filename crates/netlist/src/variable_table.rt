@@ -1,7 +1,7 @@
 ghost use Rattle.std.specs.Prelude.{◌≡◌, ℕ, ◌+◌, ◌<◌, ◌≤◌, ◌^◌, false, List, [], ◌∷◌, ◌++◌, length, IfOk, OnOk, OnErr, All};
 ghost use Rattle.std.specs.Prelude.{◌==◌};
 ghost use Rattle.lits.specs.Clause.{has};
-ghost use Rattle.netlist.specs.Circuit.{gate_vars, most};
+ghost use Rattle.netlist.specs.Circuit.{gate_vars};
 ghost use Rattle.netlist.specs.VariableTable.{place_in, IsTable, AreVariables};
 
 use crate::gate::And;

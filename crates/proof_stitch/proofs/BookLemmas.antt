@@ -7,6 +7,7 @@ use Rattle.std.proofs.lemmas.Option.{none-some, same_Some, slice_get_within}
 use Rattle.std.proofs.lemmas.List.{take-append-drop}
 use Rattle.std.proofs.lemmas.List.Folds.{list_any-append}
 use Rattle.std.proofs.lemmas.Map.Steps.{length-le_from_distinct_below}
+use Rattle.std.proofs.lemmas.Bool.{or_left}
 use Rattle.lits.specs.declared.node.Node.{Node}
 use Rattle.lits.specs.declared.step.Step.{Step}
 use Rattle.lits.specs.Same.{same_node}
@@ -227,11 +228,8 @@ later-apart net sweep out s is before [] there legal = refl
 later-apart net sweep out s is before (x ∷ xs) there legal =
     go (subject_of x) refl (later-apart net sweep out s is (before ++ x ∷ []) xs more legal.1)
   where
-    or_true : (a b : Bool) → a ≡ true → (a || b) ≡ true
-    or_true a b e = rw e refl
-
     more : list_any (is_on s) (before ++ x ∷ []) ≡ true
-    more = list_any-append (is_on s) before (x ∷ []) ∙ or_true (list_any (is_on s) before) (list_any (is_on s) (x ∷ [])) there
+    more = list_any-append (is_on s) before (x ∷ []) ∙ or_left (list_any (is_on s) before) (list_any (is_on s) (x ∷ [])) there
 
     go : (o : Option Subject) → subject_of x ≡ o → list_any (eqb (key net s)) (keys net xs) ≡ false
         → list_any (eqb (key net s)) (keys net (x ∷ xs)) ≡ false

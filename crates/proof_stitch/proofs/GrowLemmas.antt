@@ -2,7 +2,7 @@
 use Rattle.std.proofs.Common.{◌≡◌, ℕ, ◌+◌, ◌-◌, ◌<◌, ◌≤◌, ◌^◌, Bool, true, false, eqb, Option, None, Some, Result, Ok, Err, List, [], ◌∷◌, ◌++◌, length, refl, sym, ap, ◌∙◌, subst, arith, length-append, ◌⊎◌, inl, inr}
 use Rattle.std.specs.Prelude.{slice_get}
 use Rattle.std.specs.List.{AllByRecursion}
-use Rattle.std.proofs.lemmas.Bool.{cases_lt}
+use Rattle.std.proofs.lemmas.Bool.{cases_lt, eq-eqb}
 use Rattle.std.proofs.lemmas.Bool.Decides.{nat_tests}
 use Rattle.std.proofs.lemmas.Option.{none-some, slice_get_within, slice_get_past}
 use mathlib.Core.Path.{fun_ext}
@@ -31,12 +31,6 @@ abbrev pub Grows : Formula → List LratStep → Type 0
 Grows formula [] = Unit {0}
 Grows formula (Add id clause hints ∷ steps) = IsNext formula id clause hints × Grows (formula ++ clause ∷ []) steps
 Grows formula (Del ids ∷ steps) = ⊥
-
-equal : (a b : ℕ) → eqb a b ≡ true → a ≡ b
-equal a b e = grind (arith, nat_tests)
-
-test_same : (a b : ℕ) → a ≡ b → eqb a b ≡ true
-test_same a b h = grind (arith, nat_tests)
 
 pub test_other : (a b : ℕ) → (a < b) ⊎ (b < a) → eqb a b ≡ false
 test_other a b (inl h) = grind (arith, nat_tests)
@@ -69,7 +63,7 @@ live-at formula clause hints id =
               ∙ sym (live-is (formula ++ clause ∷ []) id least))
           | inr next ↦
               let at : id - 1 ≡ length formula + 0 = omega arith in
-              rw (test_same id (length formula + 1) (omega arith))
+              rw (eq-eqb id (length formula + 1) (omega arith))
               (sym (live-is (formula ++ clause ∷ []) id least ∙ ap (slice_get (formula ++ clause ∷ [])) at
               ∙ slice_get-right formula (clause ∷ []) 0))
         ]

@@ -1,9 +1,10 @@
 -- What is written of a legal book that has an Out entry for each output refutes the miter.
-use Rattle.std.proofs.Common.{◌≡◌, ℕ, suc, ◌+◌, ◌*◌, ◌<◌, ◌≤◌, ◌^◌, Bool, true, false, ◌||◌, Option, Some, None, List, [], ◌∷◌, ◌++◌, length, map, refl, sym, ap, ◌∙◌, subst, arith, length-append, add-zero}
+use Rattle.std.proofs.Common.{◌≡◌, ℕ, suc, ◌+◌, ◌*◌, ◌<◌, ◌≤◌, ◌^◌, true, Option, Some, None, List, [], ◌∷◌, ◌++◌, length, map, refl, sym, ap, ◌∙◌, subst, arith, length-append, add-zero}
 use Rattle.std.specs.Prelude.{slice_get, unwrap_or}
 use Rattle.std.specs.List.{list_any, range_with_len, slice_index_or, AllByRecursion}
 use Rattle.std.proofs.lemmas.List.{length-map, append-nil}
 use Rattle.std.proofs.lemmas.Option.{none-some, same_Some}
+use Rattle.std.proofs.Math.Bool.{or-true}
 use Rattle.lits.specs.declared.node.Node.TheVariants.{Input, Xor}
 use Rattle.lits.specs.declared.node.Side.TheVariants.{A, B}
 use Rattle.lits.specs.declared.literal.Lit.{Lit}
@@ -114,11 +115,7 @@ length-clauses_in net (steps ∷ lists) =
 ends_empty : (at id : ℕ) (hints : List ℕ) (steps : List LratStep)
     → list_any (λ line. adds_empty line.step) (lines_from at (steps ++ Add id [] hints ∷ [])) ≡ true
 ends_empty at id hints [] = refl
-ends_empty at id hints (s ∷ ss) = rw (ends_empty (at + 1) id hints ss) (or_true (adds_empty s))
-  where
-    or_true : (b : Bool) → (b || true) ≡ true
-    or_true true = refl
-    or_true false = refl
+ends_empty at id hints (s ∷ ss) = rw (ends_empty (at + 1) id hints ss) (or-true (adds_empty s))
 
 -- what is written spells its lines
 abbrev pub Spelling : Type 0

@@ -1,17 +1,18 @@
 -- The literals of the XORs by number: they differ, and the miter's last clause has them all.
-use Rattle.std.proofs.Common.{◌≡◌, ℕ, zero, suc, ◌+◌, ◌-◌, ◌<◌, ◌≤◌, Bool, true, false, ◌||◌, eqb, Some, List, [], ◌∷◌, ◌++◌, length, map, refl, sym, ap, ◌∙◌, subst, arith, length-append}
+use Rattle.std.proofs.Common.{◌≡◌, ℕ, zero, suc, ◌+◌, ◌-◌, ◌<◌, ◌≤◌, Bool, true, false, eqb, Some, List, [], ◌∷◌, ◌++◌, length, map, refl, sym, ap, ◌∙◌, subst, arith, length-append}
 use Rattle.std.specs.Prelude.{slice_get, option_map}
 use Rattle.std.specs.List.{list_any, flat_map, range_with_len, AllByRecursion}
 use Rattle.std.proofs.lemmas.List.{length-map}
 use Rattle.std.proofs.lemmas.List.FromFn.{map-range_with_len_more}
 use Rattle.std.proofs.lemmas.Option.{slice_get-map}
+use Rattle.std.proofs.lemmas.Bool.{false_from_ne_true}
 use Rattle.lits.specs.Clause.{has}
 use Rattle.lits.specs.Dimacs.{DimacsLiteral}
 use Rattle.lits.specs.contracts.dimacs.DimEq.TheImpl.Laws as dim_eq
 use Rattle.lits.specs.contracts.dimacs.DimLiteral.TheImpl.Laws as dim
 use Rattle.lits.specs.declared.node.Node.TheVariants.{Xor}
 use Rattle.lits.specs.declared.literal.Lit.{Lit}
-use Rattle.lits.proofs.Facts.{IsLiteral, is_literal, exact-lit, list_any-map}
+use Rattle.lits.proofs.Facts.{IsLiteral, is_literal, exact-lit, list_any-map, all-map, list_any-more}
 use Rattle.netlist.specs.Net.{AigPair}
 use Rattle.netlist.specs.Miter.{positive, negative, axioms_of, variables_of, xors_of, clauses_of, numbered, miter_of}
 use Rattle.lits.specs.Same.{same_lit, same_dim, opposite_dim}
@@ -25,10 +26,6 @@ use Rattle.proof_stitch.proofs.EmptyLemmas.{AreFresh}
 literal_laws : IsLiteral same_dim opposite_dim
 literal_laws = is_literal dim_eq.laws-law dim.exact-law dim.twice-law
 
-false_from : (b : Bool) → (b ≡ true → ⊥) → b ≡ false
-false_from true h = absurd (h refl)
-false_from false h = refl
-
 -- no number of a range passes
 none-in : (test : ℕ → Bool) (a n m : ℕ) → ((i : ℕ) → i < m → test i ≡ false) → a + n ≤ m → list_any test (range_with_len a n) ≡ false
 none-in test a zero m none le = refl
@@ -38,22 +35,6 @@ none-in test a (suc n) m none le = rw (none a (omega arith), none-in test (a + 1
 pub all-in : (P : ℕ → Type 0) (a n m : ℕ) → ((i : ℕ) → i < m → P i) → a + n ≤ m → AllByRecursion P (range_with_len a n)
 all-in P a zero m all le = tt
 all-in P a (suc n) m all le = (all a (omega arith), all-in P (a + 1) n m all (omega arith))
-
-all-mapped : {X Y : Type 0} (P : Y → Type 0) (f : X → Y) (xs : List X) → AllByRecursion (λ x. P (f x)) xs → AllByRecursion P (map f xs)
-all-mapped P f [] all = tt
-all-mapped P f (x ∷ xs) all = (all.0, all-mapped P f xs all.1)
-
-any-more : {X : Type 0} (p q : X → Bool) (xs : List X) → ((x : X) → p x ≡ true → q x ≡ true) → list_any p xs ≡ true → list_any q xs ≡ true
-any-more p q [] more e = cc
-any-more p q (x ∷ xs) more e = go (p x) refl (any-more p q xs more)
-  where
-    or_true : (b : Bool) → (b || true) ≡ true
-    or_true true = refl
-    or_true false = refl
-
-    go : (b : Bool) → p x ≡ b → (list_any p xs ≡ true → list_any q xs ≡ true) → list_any q (x ∷ xs) ≡ true
-    go true f rest = rw (more x f) refl
-    go false f rest = rw (rest (rw f at e)) (or_true (q x))
 
 module _ (net : AigPair) where
   -- the number of the literal that says that the outputs are equal
@@ -70,7 +51,7 @@ module _ (net : AigPair) where
   differ : (i j : ℕ) → i < count → j < count → (i ≡ j → ⊥) → same_dim (equal_number i) (equal_number j) ≡ false
   differ i j li lj apart =
       numbered-same net (negative (Xor i)) (negative (Xor j)) (xor-there i li) (xor-there j lj)
-      ∙ false_from (same_lit (negative (Xor i)) (negative (Xor j)))
+      ∙ false_from_ne_true (same_lit (negative (Xor i)) (negative (Xor j)))
       (λ e. let same : negative (Xor i) ≡ negative (Xor j) = exact-lit (negative (Xor i)) (negative (Xor j)) e in
       let node : Xor i ≡ Xor j = ap (λ (l : Lit). l.node) same in
       apart cc)
@@ -78,7 +59,7 @@ module _ (net : AigPair) where
   -- and none is the negation of another
   opposed : (i j : ℕ) → same_dim (equal_number i) (opposite_dim (equal_number j)) ≡ false
   opposed i j =
-      false_from (same_dim (equal_number i) (opposite_dim (equal_number j)))
+      false_from_ne_true (same_dim (equal_number i) (opposite_dim (equal_number j)))
       (λ e. let same = literal_laws.exact (equal_number i) (opposite_dim (equal_number j)) e in
       let sign : true ≡ false = ap (λ (d : DimacsLiteral). d.neg) same in cc)
 
@@ -103,7 +84,7 @@ module _ (net : AigPair) where
 
   pub numbers-apart : AllByRecursion (λ y. has same_dim all_numbers (opposite_dim y) ≡ false) all_numbers
   numbers-apart =
-      all-mapped (λ y. has same_dim all_numbers (opposite_dim y) ≡ false) equal_number (range_with_len 0 count)
+      all-map (λ y. has same_dim all_numbers (opposite_dim y) ≡ false) equal_number (range_with_len 0 count)
       (all-in (λ j. has same_dim all_numbers (opposite_dim (equal_number j)) ≡ false) 0 count count
       (λ j below. list_any-map (λ y. same_dim y (opposite_dim (equal_number j))) equal_number (range_with_len 0 count)
       ∙ none-in (λ i. same_dim (equal_number i) (opposite_dim (equal_number j))) 0 count count (λ i l. opposed i j) (omega arith))
@@ -111,7 +92,7 @@ module _ (net : AigPair) where
 
   pub numbers-inside : AllByRecursion (λ y. has same_dim all_numbers (opposite_dim (opposite_dim y)) ≡ true) all_numbers
   numbers-inside =
-      all-mapped (λ y. has same_dim all_numbers (opposite_dim (opposite_dim y)) ≡ true) equal_number (range_with_len 0 count)
+      all-map (λ y. has same_dim all_numbers (opposite_dim (opposite_dim y)) ≡ true) equal_number (range_with_len 0 count)
       (all-in (λ j. has same_dim all_numbers (opposite_dim (opposite_dim (equal_number j))) ≡ true) 0 count count
       (λ j below. subst (λ (y : DimacsLiteral). has same_dim all_numbers y ≡ true) (sym (literal_laws.twice (equal_number j))) (here j below))
       (omega arith))
@@ -119,7 +100,7 @@ module _ (net : AigPair) where
       here : (j : ℕ) → j < count → has same_dim all_numbers (equal_number j) ≡ true
       here j below =
           list_any-map (λ y. same_dim y (equal_number j)) equal_number (range_with_len 0 count)
-          ∙ any-more (λ i. eqb i j) (λ i. same_dim (equal_number i) (equal_number j)) (range_with_len 0 count)
+          ∙ list_any-more (λ i. eqb i j) (λ i. same_dim (equal_number i) (equal_number j)) (range_with_len 0 count)
           (λ i e. subst (λ (k : ℕ). same_dim (equal_number k) (equal_number j) ≡ true) (sym (equal-number i j e)) (literal_laws.equivalence.refl (equal_number j)))
           (range-has 0 count j (omega arith) (omega arith))
 

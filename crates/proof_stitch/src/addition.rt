@@ -1,4 +1,4 @@
-ghost use Rattle.std.specs.Prelude.{◌≡◌, ◌+◌, ◌<◌, ◌^◌, IfOk, IsSome, map};
+ghost use Rattle.std.specs.Prelude.{◌≡◌, ◌+◌, ◌<◌, IfOk, IsSome, map};
 ghost use Rattle.std.specs.List.{All, slice_index_or};
 ghost use Rattle.netlist.specs.Miter.{numbered, cnf_number_of};
 ghost use Rattle.proof_stitch.specs.Steps.{id_of, addition};

@@ -13,6 +13,7 @@ use Rattle.word_sim.specs.Patterns.{is_set, words_of}
 use Rattle.word_sim.specs.Rows.{HasBits, mask_of, turned}
 use Rattle.word_sim.proofs.Facts.{less, and-bit, turned-bit}
 use Rattle.sig_classes.specs.Alike.{first_bit, filled_mask, normal_word, alike, mixed, hash_of_first, hash_of}
+use Rattle.netlist.proofs.Facts.{equal-number}
 
 -- tests of all numbers below n
 all-below : (test : ℕ → Bool) (a n : ℕ) → list_all test (range_with_len a n) ≡ true → (k : ℕ) → a ≤ k → k < a + n → test k ≡ true
@@ -46,16 +47,13 @@ each-element test [] d each = refl
 each-element test (x ∷ xs) d each =
     rw (each 0 (omega arith)) (each-element test xs d (λ k below. each (suc k) (omega arith)))
 
-pub equal-numbers : (a b : ℕ) → (a == b) ≡ true → a ≡ b
-equal-numbers a b e = grind (arith, nat_tests)
-
 pub same-numbers : (a b : ℕ) → a ≡ b → (a == b) ≡ true
 same-numbers a b e = grind (arith, nat_tests)
 
 -- alike rows have the same normal words
 pub alike-words : (count : ℕ) (a b : List ℕ) → alike count a b ≡ true → (w : ℕ) → w < words_of count
     → normal_word count a w ≡ normal_word count b w
-alike-words count a b all w below = equal-numbers _ _ (all-numbers (λ w. normal_word count a w == normal_word count b w) (words_of count) w all below)
+alike-words count a b all w below = equal-number _ _ (all-numbers (λ w. normal_word count a w == normal_word count b w) (words_of count) w all below)
 
 pub words-alike : (count : ℕ) (a b : List ℕ) → ((w : ℕ) → w < words_of count → normal_word count a w ≡ normal_word count b w)
     → alike count a b ≡ true

@@ -1,8 +1,9 @@
 -- First members of classes: what is in one class with a position is in one with the first member, and that is the least.
 use Rattle.std.proofs.Common.{◌≡◌, ◌≢◌, ◌∙◌, ℕ, zero, suc, ◌+◌, ◌<◌, ◌≤◌, ◌&&◌, ◌⊎◌, nat_lt, Bool, true, false, not, refl, sym, ap, subst, arith, List, inl, inr}
 use Rattle.std.specs.List.{list_all, range_with_len}
-use Rattle.std.proofs.lemmas.Bool.{cases_lt, and_parts}
+use Rattle.std.proofs.lemmas.Bool.{cases_lt, and_parts, not-false, not-true}
 use Rattle.std.proofs.lemmas.Bool.Decides.{nat_tests, eqb_tells}
+use Rattle.std.proofs.Math.Bool.{and-false}
 use Rattle.word_sim.specs.Rows.{Signatures}
 use Rattle.sig_classes.specs.Alike.{row_of}
 use Rattle.sig_classes.specs.Chains.{are_one, is_first, with_member}
@@ -33,27 +34,19 @@ both-true false b e = cc
 -- the least number up to n that passes a test
 pub least : (test : ℕ → Bool) (n : ℕ) → test n ≡ true → (k : ℕ) × (k ≤ n) × (test k ≡ true) × ((r : ℕ) → r < k → test r ≡ false)
 least test n here = elim (some-below (λ k. not (test k)) n) [
-  | inl none ↦ (n, omega arith, here, λ r below. turned (test r) (none r below))
+  | inl none ↦ (n, omega arith, here, λ r below. not-true (test r) (none r below))
   | inr p ↦
       let less : p.0 < n = p.1 in
-      let rest = least-below test n p.0 less (turn (test p.0) p.2) in rest
+      let rest = least-below test n p.0 less (not-false (test p.0) p.2) in rest
 ]
   where
-    turned : (b : Bool) → not b ≡ true → b ≡ false
-    turned true e = cc
-    turned false e = refl
-
-    turn : (b : Bool) → not b ≡ false → b ≡ true
-    turn true e = refl
-    turn false e = cc
-
     least-below : (test : ℕ → Bool) (n k : ℕ) → k < n → test k ≡ true
         → (j : ℕ) × (j ≤ n) × (test j ≡ true) × ((r : ℕ) → r < j → test r ≡ false)
     least-below test zero k less e = absurd (omega arith)
     least-below test (suc m) k less e = elim (some-below (λ r. not (test r)) k) [
-      | inl none ↦ (k, omega arith, e, λ r below. turned (test r) (none r below))
+      | inl none ↦ (k, omega arith, e, λ r below. not-true (test r) (none r below))
       | inr p ↦
-          let rest = least-below test m p.0 (omega (arith, p.1)) (turn (test p.0) p.2) in
+          let rest = least-below test m p.0 (omega (arith, p.1)) (not-false (test p.0) p.2) in
           (rest.0, omega (arith, rest.1), rest.2, rest.3)
     ]
 
@@ -171,7 +164,3 @@ module _ (classes : List ℕ) (sigs : Signatures) (root : ℕ → Bool) where
           let parts = first-parts n q first in
           let f : true ≡ false = sym here ∙ lone-is n e q parts.0 parts.1 in cc
       go false e = and-false (root n)
-        where
-          and-false : (a : Bool) → (a && false) ≡ false
-          and-false true = refl
-          and-false false = refl

@@ -1,7 +1,7 @@
 -- Classes that are kept: what rows of new patterns part them into, and the tasks that they give.
 use Rattle.std.proofs.Common.{◌≡◌, ◌∙◌, ℕ, ◌+◌, ◌*◌, ◌-◌, ◌/◌, ◌<◌, ◌≤◌, ◌&&◌, nat_lt, Bool, true, false, not, Option, None, Some, List, [], length, take, drop, refl, sym, ap, ap₂, subst, arith, inl, inr, length-append, length-drop, length-take, Result, Ok, Err, IfOk, if◌then◌else◌}
 use Rattle.std.specs.List.{AllByRecursion, slice_index_or}
-use Rattle.std.proofs.lemmas.Bool.{cases_lt}
+use Rattle.std.proofs.lemmas.Bool.{cases_lt, false_from_ne_true}
 use Rattle.std.proofs.lemmas.Bool.Decides.{nat_tests}
 use Rattle.std.proofs.lemmas.List.{get_or_append_left, get_or-append_right, get_or-append-add, get_or-drop, get_or-take}
 use Rattle.std.proofs.Math.Seq.{take-length}
@@ -25,11 +25,6 @@ use Rattle.sig_classes.proofs.FirstLemmas.{first-parts, first-from}
 use Rattle.sig_classes.proofs.LeaderLemmas.{first-bit, alike-same, same-alike}
 use Rattle.sig_classes.proofs.RootLemmas.{root-alike}
 use Rattle.sig_classes.proofs.TaskLemmas.{next-merged, next-lone, next-found}
-
--- a test that isn't true is false
-fails : (t : Bool) → (t ≡ true → ⊥) → t ≡ false
-fails true none = absurd (none refl)
-fails false none = refl
 
 -- ---- positions that no pattern tells apart
 
@@ -264,13 +259,13 @@ module _ (net : AigPair) (is : IsNet net) (book : Entries) (legal : IsLegal net 
 
     -- no earlier position is in its class
     lone-least : (r : ℕ) → r < q → are_one [] all r p ≡ false
-    lone-least r less = fails (are_one [] all r p) (λ one. least-p.least r less (one-is_same r p (omega (arith, less, there)) below one))
+    lone-least r less = false_from_ne_true (are_one [] all r p) (λ one. least-p.least r less (one-is_same r p (omega (arith, less, there)) below one))
 
     lone-q : (r : ℕ) → r < q → are_one [] all r q ≡ false
     lone-q r less =
         let other : are_one [] all r q ≡ true → ⊥ = λ one.
         least-p.least r less (same-join net patterns r q p (one-is_same r q (omega (arith, less, there)) there one) least-p.same) in
-        fails (are_one [] all r q) other
+        false_from_ne_true (are_one [] all r q) other
 
     -- the least of a class isn't merged, since it would be with an earlier one
     least-root : root q ≡ true

@@ -3,10 +3,11 @@ use Rattle.std.proofs.Common.{◌≡◌, ◌∙◌, ℕ, ◌<◌, ◌≤◌, ◌
 use Rattle.std.specs.Option.{is_some}
 use Rattle.std.specs.List.{list_all, AllByRecursion}
 use Rattle.std.proofs.lemmas.Bool.{cases_lt, and_parts}
+use Rattle.std.proofs.Math.Bool.{or-true}
 use Rattle.lits.specs.declared.node.Node.{Node}
 use Rattle.lits.specs.declared.literal.Lit.{Lit}
 use Rattle.netlist.specs.Net.{AigPair, IsNet, nodes_of, node_at, position_of, value_of, lit_holds, differs}
-use Rattle.netlist.proofs.Facts.{node-at, position-node}
+use Rattle.netlist.proofs.Facts.{node-at, position-node, same-values}
 use Rattle.lemma_book.specs.declared.entry.Entry.{Entry}
 use Rattle.lemma_book.specs.Root.{IsRoot}
 use Rattle.lemma_book.specs.Good.{IsEarlier}
@@ -20,12 +21,6 @@ use Rattle.sig_classes.proofs.LeaderLemmas.{is-root, root-is, place-of, place-in
 abbrev same_on : AigPair → List (List Bool) → Node → Lit → Bool
 same_on net patterns n l = list_all (λ bits. not (differs (value_of net bits n) (lit_holds (value_of net bits) l))) patterns
 
-equal : (x y : Bool) → not (differs x y) ≡ true → x ≡ y
-equal true true e = refl
-equal true false e = cc
-equal false true e = cc
-equal false false e = refl
-
 itself : (x y : Bool) → x ≡ y → not (differs x y) ≡ true
 itself true true e = refl
 itself true false e = cc
@@ -36,7 +31,7 @@ same-alike : (net : AigPair) (patterns : List (List Bool)) (n : Node) (l : Lit) 
 same-alike net [] n l all = tt
 same-alike net (bits ∷ rest) n l all =
     let parts = and_parts (not (differs (value_of net bits n) (lit_holds (value_of net bits) l))) (same_on net rest n l) all in
-    (equal (value_of net bits n) (lit_holds (value_of net bits) l) parts.0, same-alike net rest n l parts.1)
+    (same-values (value_of net bits n) (lit_holds (value_of net bits) l) parts.0, same-alike net rest n l parts.1)
 
 alike-same : (net : AigPair) (patterns : List (List Bool)) (n : Node) (l : Lit) → IsAlike net patterns n l → same_on net patterns n l ≡ true
 alike-same net [] n l all = refl
@@ -49,11 +44,6 @@ pub value-alike : (net : AigPair) (patterns : List (List Bool)) (n : Node) (l : 
 value-alike net [] n l whole same = tt
 value-alike net (bits ∷ rest) n l whole same = (same bits whole.0, value-alike net rest n l whole.1 same)
 
-and-true : (a b : Bool) → a ≡ true → b ≡ true → (a && b) ≡ true
-and-true true true e f = refl
-and-true true false e f = cc
-and-true false b e f = cc
-
 module _ (net : AigPair) (is : IsNet net) (entries : List Entry) (patterns : List (List Bool)) (n : Node) where
   abbrev literal : ℕ → Bool → Lit
   literal r neg = record { node = node_at net r; neg = neg }
@@ -65,10 +55,6 @@ module _ (net : AigPair) (is : IsNet net) (entries : List Entry) (patterns : Lis
   test-true : (r : ℕ) (neg : Bool) → root_at net entries r ≡ true → same_on net patterns n (literal r neg) ≡ true → test r ≡ true
   test-true r false root e = rw (root, e) refl
   test-true r true root e = rw (root, e) (or-true (same_on net patterns n (literal r false)))
-    where
-      or-true : (b : Bool) → (b || true) ≡ true
-      or-true true = refl
-      or-true false = refl
 
   -- each candidate passes at its position
   candidate-passes : (m : Lit) (r : ℕ) → position_of net m.node ≡ Some r → IsRoot entries m.node → IsAlike net patterns n m → test r ≡ true

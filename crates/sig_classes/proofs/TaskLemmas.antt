@@ -8,7 +8,7 @@ use Rattle.lits.specs.declared.node.Node.{Node}
 use Rattle.lits.specs.declared.node.Node.TheVariants.{Const, Input, Gate, Xor}
 use Rattle.lits.specs.declared.literal.Lit.{Lit}
 use Rattle.netlist.specs.Net.{AigPair, IsNet, nodes_of, node_at, position_of}
-use Rattle.netlist.proofs.Facts.{node-at, position-node}
+use Rattle.netlist.proofs.Facts.{node-at, position-node, all-weaker}
 use Rattle.word_sim.specs.Rows.{Signatures, AreSignatures}
 use Rattle.lemma_book.specs.declared.entry.Entry.{Entry}
 use Rattle.lemma_book.specs.declared.entry.Task.{Task}
@@ -116,10 +116,6 @@ pub record AreTasksBefore (net : AigPair) (entries : List Entry) (patterns : Lis
 all-last : {X : Type 0} (P : X → Type 0) (xs : List X) (x : X) → AllByRecursion P xs → P x → AllByRecursion P (xs ++ x ∷ [])
 all-last P [] x all here = (here, tt)
 all-last P (y ∷ ys) x all here = (all.0, all-last P ys x all.1 here)
-
-all-weaker : {X : Type 0} (P Q : X → Type 0) → ((x : X) → P x → Q x) → (xs : List X) → AllByRecursion P xs → AllByRecursion Q xs
-all-weaker P Q f [] all = tt
-all-weaker P Q f (x ∷ xs) all = (f x all.0, all-weaker P Q f xs all.1)
 
 in-left : (t : Task) (xs ys : List Task) → IsIn t xs → IsIn t (xs ++ ys)
 in-left t [] ys h = absurd h

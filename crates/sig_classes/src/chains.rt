@@ -1,4 +1,4 @@
-ghost use Rattle.std.specs.Prelude.{◌≡◌, ◌<◌, ◌≤◌, ◌+◌, ℕ, Bool, true, length, IfOk, IfSome};
+ghost use Rattle.std.specs.Prelude.{◌≡◌, ◌<◌, ◌+◌, ℕ, Bool, true, length, IfOk, IfSome};
 ghost use Rattle.sig_classes.specs.Chains.{AreBefore, HasMembers, IsFound, are_one, class_of, with_member};
 
 use crate::alike::{bucket, is_alike};

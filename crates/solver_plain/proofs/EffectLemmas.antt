@@ -2,7 +2,7 @@
 use Rattle.std.proofs.Common.{◌≡◌, Bool, true, false, not, ◌||◌, List, [], ◌∷◌, ◌++◌, Some, None, Ok, refl, sym, ap, ◌∙◌, subst, ◌⊎◌, inl, inr}
 use Rattle.std.specs.Prelude.{filter}
 use Rattle.std.specs.List.{find}
-use Rattle.std.proofs.lemmas.Bool.{or_cases, and_parts, and_from}
+use Rattle.std.proofs.lemmas.Bool.{or_cases, and_parts, and_from, not-false}
 use Rattle.lits.specs.Clause.{has, firsts}
 use Rattle.lits.proofs.Facts.{IsLiteral}
 use Rattle.unit_prop.specs.Closure.{forces, is_negated}
@@ -17,11 +17,7 @@ module _ {L : Type 0} {eq : L → L → Bool} {opposite : L → L} (laws : IsLit
       → is_negated opposite (has eq set) clause ≡ true
   negated-of_none set clause e =
       all-true laws (λ m. has eq set (opposite m)) clause
-      (λ l h. double _ (find-none laws (λ m. not (has eq set (opposite m))) clause l e h))
-    where
-      double : (b : Bool) → not b ≡ false → b ≡ true
-      double true f = refl
-      double false f = cc
+      (λ l h. not-false _ (find-none laws (λ m. not (has eq set (opposite m))) clause l e h))
 
   pub unit-of_first : (set clause : List L) (l : L) → find (λ m. not (has eq set (opposite m))) clause ≡ Some l
       → has eq set l ≡ false → forces eq opposite (has eq set) clause l ≡ true → IsUnit eq opposite set clause l

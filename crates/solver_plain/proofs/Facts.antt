@@ -1,6 +1,6 @@
 -- What crates above may cite.
 -- ---- what tests of literals find in lists, and what holds of each element of a list
-pub use Rattle.solver_plain.proofs.ListLemmas.{not_true, all-each, all-left, list_all-not, each-at, each-of}
+pub use Rattle.solver_plain.proofs.ListLemmas.{all-each, all-left, list_all-not, each-at, each-of}
 -- no element passes a test exactly where each fails it
 pub use Rattle.solver_plain.proofs.ListLemmas.{all-fail}
 -- ---- what a clause does under a set, and what that makes of the state of a step
@@ -35,6 +35,8 @@ pub use Rattle.solver_plain.proofs.SearchLemmas.{consistent-clause}
 
 -- where no literal of the list stands beside its negation there is no pair
 pub use Rattle.solver_plain.proofs.ModelLemmas.{pair-none}
+-- what follows from two facts of each clause
+pub use Rattle.solver_plain.proofs.ModelLemmas.{all-both}
 -- ---- the steps of a query: each learned step joins the log for one unit
 pub use Rattle.solver_plain.proofs.SettleLemmas.{way-start, way-next}
 -- what a query over the formula `first` with `left` units has made of formula and units so far

@@ -57,6 +57,12 @@ pub copies-next : (base copies new : List Named) (i : ℕ) (n : Named) (clause :
     → new ≡ copies ++ record { clause = clause; by = n.by } ∷ [] → new ≡ take (i + 1) base
 copies-next base copies new i n clause below at so_far same e = e ∙ rw (so_far, same) (sym (next base i n below at))
 
+interleave : (a b c d : Bool) → ((a || b) || (c || d)) ≡ ((a || c) || (b || d))
+interleave true b c d = refl
+interleave false true true d = refl
+interleave false true false d = refl
+interleave false false c d = refl
+
 module _ {L : Type 0} {eq : L → L → Bool} {opposite : L → L} (laws : IsLiteral eq opposite) where
   -- each literal of each clause occurs in the clauses
   pub all-occur : (clauses : List (List L)) → AllByRecursion (λ c. AllByRecursion (λ l. occurs eq opposite clauses l ≡ true) c) clauses
@@ -132,12 +138,6 @@ module _ {L : Type 0} {eq : L → L → Bool} {opposite : L → L} (laws : IsLit
       go false true e f = back (or_cases _ _ f) ∙ sym f
       go false false e f = e ∙ sym f
 
-  interleave : (a b c d : Bool) → ((a || b) || (c || d)) ≡ ((a || c) || (b || d))
-  interleave true b c d = refl
-  interleave false true true d = refl
-  interleave false true false d = refl
-  interleave false false c d = refl
-
   has-variables : (xs : List L) (l : L) → has eq (map variable xs) (variable l) ≡ (has eq xs l || has eq xs (opposite l))
   has-variables [] l = refl
   has-variables (x ∷ xs) l =
@@ -149,13 +149,7 @@ module _ (eq : Lit → Lit → Bool) (opposite : Lit → Lit) (laws : IsLiteral 
   occurs-literals [] l = refl
   occurs-literals (n ∷ ns) l =
       rw (has-append laws n.clause (literals_of ns) l, has-append laws n.clause (literals_of ns) (opposite l), occurs-literals ns l)
-      (bits (has eq n.clause l) (has eq n.clause (opposite l)) (has eq (literals_of ns) l) (has eq (literals_of ns) (opposite l)))
-    where
-      bits : (a b c d : Bool) → ((a || b) || (c || d)) ≡ ((a || c) || (b || d))
-      bits true b c d = refl
-      bits false true true d = refl
-      bits false true false d = refl
-      bits false false c d = refl
+      (interleave (has eq n.clause l) (has eq n.clause (opposite l)) (has eq (literals_of ns) l) (has eq (literals_of ns) (opposite l)))
 
 -- a literal is over a base exactly where its variable is among the base's
 pub over-variables : (base : List Named) (l : Lit) → is_over base l ≡ has same_lit (variables_of base) (variable_of l)

@@ -1,6 +1,5 @@
 -- What the tests' guards show.
-use Rattle.std.proofs.Common.{◌≡◌, Bool, true, false, ◌||◌, List, [], ◌∷◌, refl, sym, ap, ◌∙◌, subst}
-use Rattle.std.specs.Prelude.{map}
+use Rattle.std.proofs.Common.{◌≡◌, Bool, true, false, ◌||◌, List, ◌∷◌, sym, ◌∙◌, subst}
 use Rattle.std.specs.Bool.{OnTrue}
 use Rattle.std.specs.List.{list_any}
 use Rattle.lits.specs.Clause.{has}
@@ -8,18 +7,15 @@ use Rattle.lits.specs.declared.literal.Lit.{Lit}
 use Rattle.lits.specs.declared.step.Named.{Named}
 use Rattle.unit_prop.specs.Log.{same_name, is_own, IsBase}
 use Rattle.lits.specs.Same.{same_lit, opposite}
+use Rattle.lits.proofs.Facts.{list_any-map}
 use Rattle.unit_prop.specs.Refuter.{IsOver}
-
-any-map : {X Y : Type 0} (p : Y → Bool) (f : X → Y) (xs : List X) → list_any p (map f xs) ≡ list_any (λ x. p (f x)) xs
-any-map p f [] = refl
-any-map p f (x ∷ xs) = ap (λ (b : Bool). p (f x) || b) (any-map p f xs)
 
 -- one more name that isn't there and isn't that of an own step
 pub base-cons : (b : Bool) (base : List Named) (n : Named) (ns : List Named) → base ≡ n ∷ ns → is_own n.by ≡ false
     → list_any (λ m. same_name m.by n.by) ns ≡ false → OnTrue b (IsBase ns) → OnTrue b (IsBase base)
 base-cons false base n ns e own named rest = tt
 base-cons true base n ns e own named rest = subst (λ (ms : List Named). IsBase ms) (sym e) (record {
-  differ = rw (any-map (λ y. same_name y n.by) (λ m. m.by) ns ∙ named) rest.differ;
+  differ = rw (list_any-map (λ y. same_name y n.by) (λ m. m.by) ns ∙ named) rest.differ;
   foreign = rw own rest.foreign;
 })
 
@@ -29,4 +25,4 @@ pub over-cons : (b : Bool) (base : List Named) (lits : List Lit) (l : Lit) (ls :
 over-cons false base lits l ls e here rest = tt
 over-cons true base lits l ls e here rest =
     subst (λ (ms : List Lit). IsOver base ms) (sym e)
-    (any-map (λ c. has same_lit c l || has same_lit c (opposite l)) (λ n. n.clause) base ∙ here, rest)
+    (list_any-map (λ c. has same_lit c l || has same_lit c (opposite l)) (λ n. n.clause) base ∙ here, rest)

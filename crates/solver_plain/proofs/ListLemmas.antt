@@ -1,15 +1,12 @@
 -- What tests of literals find in lists, and what holds of each element of a list.
-use Rattle.std.proofs.Common.{◌≡◌, ◌<◌, ◌≤◌, length, arith, Bool, true, false, not, ◌&&◌, List, [], ◌∷◌, ◌++◌, Some, None, refl, sym, ap, ◌∙◌, subst, ◌⊎◌, inl, inr}
+use Rattle.std.proofs.Common.{◌≡◌, ◌<◌, ◌≤◌, length, arith, Bool, true, false, not, List, [], ◌∷◌, ◌++◌, Some, None, refl, sym, ap, ◌∙◌, subst, ◌⊎◌, inl, inr}
 use Rattle.std.specs.Prelude.{filter}
 use Rattle.std.specs.List.{list_any, list_all, find, AllByRecursion}
-use Rattle.std.proofs.lemmas.Bool.{or_cases, or_left, or_right, and_parts}
+use Rattle.std.proofs.lemmas.Bool.{or_cases, or_left, or_right, and_parts, not-true}
+use Rattle.std.proofs.Math.Bool.{and-false}
 use Rattle.lits.specs.Clause.{has, firsts, no_repeat}
 use Rattle.lits.proofs.Facts.{IsLiteral, has-firsts}
 use Rattle.unit_prop.proofs.Facts.{has-head, has-filter, all-at}
-
-pub not_true : (b : Bool) → not b ≡ true → b ≡ false
-not_true true e = cc
-not_true false e = refl
 
 pub all-each : {X : Type 0} (P Q : X → Type 0) (xs : List X) → ((x : X) → P x → Q x) → AllByRecursion P xs → AllByRecursion Q xs
 all-each P Q [] f all = tt
@@ -18,10 +15,6 @@ all-each P Q (x ∷ xs) f all = (f x all.0, all-each P Q xs f all.1)
 pub all-left : {X : Type 0} (P : X → Type 0) (xs ys : List X) → AllByRecursion P (xs ++ ys) → AllByRecursion P xs
 all-left P [] ys all = tt
 all-left P (x ∷ xs) ys all = (all.0, all-left P xs ys all.1)
-
-pub all-right : {X : Type 0} (P : X → Type 0) (xs ys : List X) → AllByRecursion P (xs ++ ys) → AllByRecursion P ys
-all-right P [] ys all = all
-all-right P (x ∷ xs) ys all = all-right P xs ys all.1
 
 -- no element passes a test exactly where each fails it
 pub all-fail : {X : Type 0} (p : X → Bool) (xs : List X) → list_any p xs ≡ false → AllByRecursion (λ x. p x ≡ false) xs
@@ -135,7 +128,7 @@ module _ {L : Type 0} {eq : L → L → Bool} {opposite : L → L} (laws : IsLit
   firsts-once [] once = refl
   firsts-once (x ∷ xs) once =
       let both = and_parts _ _ once in
-      rw (firsts-once xs both.1) (ap (λ (ys : List L). x ∷ ys) (keep xs (not_true _ both.0)))
+      rw (firsts-once xs both.1) (ap (λ (ys : List L). x ∷ ys) (keep xs (not-true _ both.0)))
     where
       keep : (ys : List L) → has eq ys x ≡ false → filter (λ y. not (eq x y)) ys ≡ ys
       keep [] e = refl
@@ -152,7 +145,7 @@ module _ {L : Type 0} {eq : L → L → Bool} {opposite : L → L} (laws : IsLit
   no_repeat-filter p [] once = refl
   no_repeat-filter p (x ∷ xs) once =
       let both = and_parts _ _ once in
-      go (p x) refl (not_true _ both.0) (no_repeat-filter p xs both.1)
+      go (p x) refl (not-true _ both.0) (no_repeat-filter p xs both.1)
     where
       go : (b : Bool) → p x ≡ b → has eq xs x ≡ false → no_repeat eq (filter p xs) ≡ true → no_repeat eq (filter p (x ∷ xs)) ≡ true
       go true e f rest =
@@ -163,9 +156,5 @@ module _ {L : Type 0} {eq : L → L → Bool} {opposite : L → L} (laws : IsLit
   once-firsts [] = refl
   once-firsts (x ∷ xs) =
       let none : has eq (filter (λ y. not (eq x y)) (firsts eq xs)) x ≡ false =
-      has-filter laws (λ y. not (eq x y)) (firsts eq xs) x ∙ rw (laws.equivalence.refl x) (never (has eq (firsts eq xs) x)) in
+      has-filter laws (λ y. not (eq x y)) (firsts eq xs) x ∙ rw (laws.equivalence.refl x) (and-false (has eq (firsts eq xs) x)) in
       rw (none, no_repeat-filter (λ y. not (eq x y)) (firsts eq xs) (once-firsts xs)) refl
-    where
-      never : (b : Bool) → (b && false) ≡ false
-      never true = refl
-      never false = refl

@@ -2,7 +2,7 @@
 use Rattle.std.proofs.Common.{◌≡◌, Bool, true, false, ◌||◌, List, [], ◌∷◌, None, refl, sym, ap, ◌∙◌, ◌⊎◌, inl, inr}
 use Rattle.std.specs.Prelude.{map}
 use Rattle.std.specs.List.{list_any, find, AllByRecursion}
-use Rattle.std.proofs.lemmas.Bool.{or_cases, or_left, or_right, and_parts}
+use Rattle.std.proofs.lemmas.Bool.{or_cases, or_left, or_right, and_parts, or_parts, not-true}
 use Rattle.lits.specs.Clause.{has, no_repeat, has_pair, IsClause}
 use Rattle.lits.specs.declared.literal.Lit.{Lit}
 use Rattle.lits.proofs.Facts.{IsLiteral}
@@ -14,7 +14,7 @@ use Rattle.unit_prop.proofs.Facts.{lit_laws, all-true, has-head, has-map-opposit
 use Rattle.solver_plain.specs.Literals.{variable_of, is_free, value_in}
 use Rattle.solver_plain.specs.Formula.{Clauses, clauses_in, literals_of, variables_of}
 use Rattle.solver_plain.specs.Scan.{IsSound, IsOpenClosure}
-use Rattle.solver_plain.proofs.ListLemmas.{not_true, each-at, each-of, all-left, all-fail, find-none, once-firsts}
+use Rattle.solver_plain.proofs.ListLemmas.{each-at, each-of, all-left, all-fail, find-none, once-firsts}
 use Rattle.solver_plain.proofs.FormulaLemmas.{over-variables, over-opposite, variable-cases, variables-plain, variables-over, is_free-variable, all-occur}
 use Rattle.solver_plain.proofs.SearchLemmas.{IsDeciding}
 
@@ -26,7 +26,7 @@ module _ {L : Type 0} {eq : L → L → Bool} {opposite : L → L} (laws : IsLit
   once-map f g (x ∷ xs) undone once =
       let both = and_parts _ _ once in
       rw (
-        apart xs (λ y h. undone y (or_right (eq x y) _ h)) (not_true _ both.0),
+        apart xs (λ y h. undone y (or_right (eq x y) _ h)) (not-true _ both.0),
         once-map f g xs (λ y h. undone y (or_right (eq x y) _ h)) both.1,
       ) refl
     where
@@ -61,13 +61,9 @@ module _ {L : Type 0} {eq : L → L → Bool} {opposite : L → L} (laws : IsLit
   pair-none [] apart = refl
   pair-none (x ∷ xs) apart =
       rw (
-        tail (eq x (opposite x)) (has eq xs (opposite x)) (apart x (has-head laws x xs)),
-        pair-none xs (λ l h. tail (eq x (opposite l)) (has eq xs (opposite l)) (apart l (or_right (eq x l) _ h))),
+        (or_parts (eq x (opposite x)) (has eq xs (opposite x)) (apart x (has-head laws x xs))).1,
+        pair-none xs (λ l h. (or_parts (eq x (opposite l)) (has eq xs (opposite l)) (apart l (or_right (eq x l) _ h))).1),
       ) refl
-    where
-      tail : (a b : Bool) → (a || b) ≡ false → b ≡ false
-      tail true b e = cc
-      tail false b e = e
 
 module _ (f : Clauses) (set : List Lit) (sound : IsSound f set) (full : find (is_free set) (variables_of f.base) ≡ None) where
   -- each literal over the base has a value
@@ -163,7 +159,7 @@ module _ (f : Clauses) (set : List Lit) (sound : IsSound f set) (full : find (is
               value (inl k) = let there = model-has m over_m k in cc
               value (inr k) = k
 
-all-both : (P Q R : List Lit → Type 0) (xs : List (List Lit)) → ((x : List Lit) → P x → Q x → R x) → AllByRecursion P xs
+pub all-both : (P Q R : List Lit → Type 0) (xs : List (List Lit)) → ((x : List Lit) → P x → Q x → R x) → AllByRecursion P xs
     → AllByRecursion Q xs → AllByRecursion R xs
 all-both P Q R [] join ps qs = tt
 all-both P Q R (x ∷ xs) join ps qs = (join x ps.0 qs.0, all-both P Q R xs join ps.1 qs.1)

@@ -4,7 +4,7 @@ use Rattle.std.specs.Prelude.{map, IfSome, IfNone}
 use Rattle.std.specs.List.{list_any, slice_get, AllByRecursion}
 use Rattle.std.proofs.lemmas.List.{take_more, take_all, map-append}
 use Rattle.std.proofs.lemmas.Option.{slice_get_read}
-use Rattle.std.proofs.lemmas.Bool.{and_parts, or_left, or_right}
+use Rattle.std.proofs.lemmas.Bool.{and_parts, or_left, or_right, not-true}
 use Rattle.lits.specs.Clause.{has, no_repeat}
 use Rattle.lits.specs.declared.literal.Lit.{Lit}
 use Rattle.lits.specs.declared.step.Named.{Named}
@@ -16,7 +16,8 @@ use Rattle.lits.proofs.Facts.{all-slice_get, all-append}
 use Rattle.solver_plain.specs.Effect.{IsHint}
 use Rattle.solver_plain.specs.declared.formula.Hint.{Hint}
 use Rattle.unit_prop.specs.Log.{same_name, is_own, IsBase, base_clause, base_clauses, with_own, clauses_of}
-use Rattle.solver_plain.proofs.ListLemmas.{not_true, all-left, all-right, all-fail}
+use Rattle.unit_prop.proofs.Facts.{all-back}
+use Rattle.solver_plain.proofs.ListLemmas.{all-left, all-fail}
 
 -- what holds of each clause of a base holds of the one of a name
 pub all-base : (P : List Lit → Type 0) (base : List Named) (name : Ref) (c : List Lit) → AllByRecursion P (base_clauses base)
@@ -46,7 +47,7 @@ all-named P base log (Own k) c all e = go (slice_get log k) refl
         let g : Some s.clause ≡ Some c = rw f at e in
         let h : s.clause ≡ c = cc in
         subst P h (all-slice_get (λ (t : Step). P t.clause) log k s
-        (all-steps P log (all-right P (base_clauses base) (map (λ s. s.clause) log) all)) f)
+        (all-steps P log (all-back P (base_clauses base) (map (λ s. s.clause) log) all)) f)
 
 -- a clause with a name that passes a test is one among all
 pub any-named : (p : List Lit → Bool) (base : List Named) (log : List Step) (name : Ref) (c : List Lit)
@@ -101,7 +102,7 @@ base_clause-at (x ∷ xs) differ (suc i) n below at = go (same_name x.by n.by) r
     go false e rest = rw e rest
     go true e rest =
         let again = name-at xs i n x.by within at (ref_eq.laws-law.symm n.by x.by ∙ e) in
-        let once = not_true _ both.0 in cc
+        let once = not-true _ both.0 in cc
 
 -- no clause of a base has the name of an own step
 foreign-none : (base : List Named) (k : ℕ) → list_any (λ n. is_own n.by) base ≡ false → base_clause base (Own k) ≡ None

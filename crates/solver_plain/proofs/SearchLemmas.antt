@@ -6,7 +6,7 @@ use Rattle.std.specs.Option.{is_some}
 use Rattle.std.specs.List.{find}
 use Rattle.std.proofs.lemmas.List.{map-append}
 use Rattle.std.proofs.lemmas.List.Folds.{list_any-append}
-use Rattle.std.proofs.lemmas.Bool.{or_cases, or_left, or_right, and_parts}
+use Rattle.std.proofs.lemmas.Bool.{or_cases, or_left, or_right, and_parts, or_parts, not-true}
 use Rattle.lits.specs.Clause.{has, firsts, no_repeat, has_pair, IsClause}
 use Rattle.lits.specs.declared.literal.Lit.{Lit}
 use Rattle.lits.specs.declared.step.Ref.{Ref}
@@ -25,7 +25,7 @@ use Rattle.solver_plain.specs.Literals.{is_free}
 use Rattle.solver_plain.specs.Formula.{Clauses, clause_named, clauses_in, variables_of}
 use Rattle.solver_plain.specs.Scan.{IsSound, IsFreeVariable, IsOpenClosure, IsClash, IsScan, ClashesFrom}
 use Rattle.solver_plain.specs.Search.{IsLearnedFor}
-use Rattle.solver_plain.proofs.ListLemmas.{not_true, all-each, find-some, firsts-once}
+use Rattle.solver_plain.proofs.ListLemmas.{all-each, find-some, firsts-once}
 use Rattle.solver_plain.proofs.FormulaLemmas.{variables-over, over-opposite}
 use Rattle.solver_plain.proofs.ScanLemmas.{sound-push, free-less}
 
@@ -49,12 +49,8 @@ consistent-cons x xs e is = record { apart = λ l h. go l (or_cases (same_lit x 
 pub consistent-clause : (xs : List Lit) → has_pair same_lit opposite xs ≡ false → IsConsistent same_lit opposite xs
 consistent-clause [] pair = record { apart = λ l h. contrary _ h refl }
 consistent-clause (x ∷ xs) pair =
-    let parts = none_of (has same_lit xs (opposite x)) (has_pair same_lit opposite xs) pair in
+    let parts = or_parts (has same_lit xs (opposite x)) (has_pair same_lit opposite xs) pair in
     consistent-cons x xs parts.0 (consistent-clause xs parts.1)
-  where
-    none_of : (a b : Bool) → (a || b) ≡ false → (a ≡ false) × (b ≡ false)
-    none_of true b e = cc
-    none_of false b e = (refl, e)
 
 -- the negations of a clause are a sound set to begin with
 pub sound-negations : (f : Clauses) (lits : List Lit) → IsClause same_lit opposite lits → IsOver f.base lits
@@ -103,7 +99,7 @@ pub free-first : (f : Clauses) (set : List Lit) (v : Lit) → find (is_free set)
 free-first f set v e =
     let found = find-some lit_laws (is_free set) (variables_of f.base) v e in
     let free = and_parts _ _ found.1 in
-    record { over = variables-over f.base v found.0; free = record { fresh = not_true _ free.0; apart = not_true _ free.1 } }
+    record { over = variables-over f.base v found.0; free = record { fresh = not-true _ free.0; apart = not-true _ free.1 } }
 
 negation-free : (set : List Lit) (v : Lit) → IsFree same_lit opposite set v → IsFree same_lit opposite set (opposite v)
 negation-free set v free = record { fresh = free.apart; apart = ap (has same_lit set) (lit_laws.twice v) ∙ free.fresh }
@@ -225,7 +221,7 @@ module _ (f : Clauses) (target lits set : List Lit) (v : Lit) (d : IsDeciding f 
           let kept : has same_lit (filter (λ m. not (same_lit m v)) (lits ++ v ∷ [])) (opposite l) ≡ true =
           sym (has-map-opposite lit_laws (filter (λ m. not (same_lit m v)) (lits ++ v ∷ [])) l) ∙ h in
           let both = and_parts _ _ (sym (has-filter lit_laws (λ m. not (same_lit m v)) (lits ++ v ∷ []) (opposite l)) ∙ kept) in
-          which (not_true _ both.1) (or_cases (has same_lit lits (opposite l)) (has same_lit (v ∷ []) (opposite l)) (sym (has-append lit_laws lits (v ∷ []) (opposite l)) ∙ both.0))
+          which (not-true _ both.1) (or_cases (has same_lit lits (opposite l)) (has same_lit (v ∷ []) (opposite l)) (sym (has-append lit_laws lits (v ∷ []) (opposite l)) ∙ both.0))
         where
           which : same_lit (opposite l) v ≡ false → (has same_lit lits (opposite l) ≡ true) ⊎ (has same_lit (v ∷ []) (opposite l) ≡ true) → has same_lit set l ≡ true
           which apart (inl k) = d.closure.closure.closed.starts l (has-map-opposite lit_laws lits l ∙ k)

@@ -1,9 +1,8 @@
-ghost use Rattle.std.specs.Prelude.{◌≡◌, List, [], ◌∷◌, ◌++◌, map, None, IfOk, IfNone, IfSome, OnOk, OnErr, if◌then◌else◌};
+ghost use Rattle.std.specs.Prelude.{◌≡◌, [], ◌∷◌, ◌++◌, map, None, IfOk, IfNone, IfSome, OnOk, OnErr};
 ghost use Rattle.std.specs.List.{AllByRecursion, find};
-ghost use Rattle.lits.specs.Clause.{has, firsts};
+ghost use Rattle.lits.specs.Clause.{has};
 ghost use Rattle.lits.specs.declared.literal.Lit.{Lit};
 ghost use Rattle.unit_prop.specs.Log.{IsBase, base_clause, base_clauses, clauses_of, with_own};
-ghost use Rattle.lits.specs.Same.{same_lit, opposite};
 ghost use Rattle.unit_prop.specs.Refuter.{IsOver};
 ghost use Rattle.solver_plain.specs.Formula.{clause_named, clauses_in, variables_of};
 ghost use Rattle.solver_plain.specs.Literals.{is_free, value_in};

@@ -11,9 +11,9 @@ use Rattle.unit_prop.proofs.Facts.{lit_laws, contrary, alone}
 use Rattle.solver_plain.proofs.Facts.{consistent-clause}
 use Rattle.watch_lists.specs.Codes.{flip, lit_at, IsCode}
 use Rattle.watch_lists.specs.Trail.{TrailState, IsTrail, put_at, lits_of}
+use Rattle.watch_lists.proofs.Facts.{lit_at-flip, flip-code}
 use Rattle.solver_watch.specs.Assuming.{IsChosen}
 use Rattle.solver_watch.specs.Choice.{IsOpenCode}
-use Rattle.solver_watch.proofs.CodeLemmas.{lit_at-flip, flip-code}
 use Rattle.solver_watch.proofs.AssumeLemmas.{all-at_place}
 
 pub lit-in : (xs : List Lit) (i : ℕ) (d : Lit) → i < length xs → has same_lit xs (get_or xs i d) ≡ true

@@ -1,26 +1,22 @@
 -- How many marked places a level has.
-use Rattle.std.proofs.Common.{◌≡◌, ◌≢◌, ◌<◌, ◌≤◌, ◌+◌, ℕ, zero, suc, arith, Bool, true, false, ◌&&◌, inl, inr, List, [], ◌∷◌, nat_eq, get_or, set, length, refl, sym, ap, subst, ◌∙◌, get_or-set_other, get_or-set_same}
+use Rattle.std.proofs.Common.{◌≡◌, ◌≢◌, ◌<◌, ◌≤◌, ◌+◌, ℕ, zero, suc, arith, Bool, true, false, ◌&&◌, inl, inr, List, nat_eq, set, length, refl, sym, ap, subst, ◌∙◌, get_or-set_other, get_or-set_same}
 use Rattle.std.specs.Prelude.{if◌then◌else◌}
 use Rattle.std.proofs.lemmas.Bool.Decides.{nat_tests}
 use Rattle.std.proofs.Math.Nat.{eq-or-lt_of_le}
-use Rattle.std.proofs.lemmas.Bool.{or_left, or_right}
 use Rattle.unit_prop.proofs.Facts.{contrary}
-use Rattle.lits.specs.Clause.{has}
 use Rattle.watch_lists.specs.Trail.{put_at}
 use Rattle.watch_lists.specs.declared.put.Put.{Put}
+use Rattle.watch_lists.proofs.Facts.{same_exact}
 use Rattle.solver_watch.specs.Marked.{is_marked, open_below}
 
 one_if : Bool → ℕ
 one_if b = if b then 1 else 0
 
-pub same-true : (a b : ℕ) → nat_eq a b ≡ true → a ≡ b
-same-true a b e = grind (arith, nat_tests)
-
 pub apart-false : (a b : ℕ) → a ≢ b → nat_eq a b ≡ false
 apart-false a b ne = go (nat_eq a b) refl
   where
     go : (t : Bool) → nat_eq a b ≡ t → nat_eq a b ≡ false
-    go true e = absurd (ne (same-true a b e))
+    go true e = absurd (ne (same_exact a b e))
     go false e = e
 
 pub true-same : (a b : ℕ) → a ≡ b → nat_eq a b ≡ true
@@ -52,7 +48,7 @@ module _ (puts : List Put) (level : ℕ) where
           → open_below puts level (set marks p true) (suc n)
           ≡ open_below puts level marks (suc n) + (if nat_eq (put_at puts p).level level then 1 else 0)
       go true f rec =
-          let at : p ≡ n = same-true p n f in
+          let at : p ≡ n = same_exact p n f in
           let here : is_marked marks n ≡ false = ap (is_marked marks) (sym at) ∙ e in
           let there : is_marked (set marks p true) n ≡ true = ap (is_marked (set marks p true)) (sym at) ∙ marked-same marks p within in
           let rest = open-before marks (set marks p true) n (λ k g. marked-other marks p k (omega arith)) in
@@ -106,7 +102,7 @@ module _ (puts : List Put) (level : ℕ) where
       go : (a b : Bool) → is_marked marks n ≡ a → nat_eq (put_at puts n).level level ≡ b
           → (1 ≤ open_below puts level marks n → (k : ℕ) × (k < n) × (is_marked marks k ≡ true) × ((put_at puts k).level ≡ level))
           → (k : ℕ) × (k < suc n) × (is_marked marks k ≡ true) × ((put_at puts k).level ≡ level)
-      go true true e f rest = (n, omega arith, e, same-true _ _ f)
+      go true true e f rest = (n, omega arith, e, same_exact _ _ f)
       go true false e f rest =
           let z : 1 ≤ open_below puts level marks n + 0 = rw (e, f) at h in
           let w = rest (omega arith) in (w.0, omega (arith, w.1), w.2, w.3)
@@ -137,8 +133,3 @@ module _ (puts : List Put) (level : ℕ) where
       let z : suc m + p ≡ suc (m + p) = omega arith in
       let here = same (m + p) (omega arith) (omega arith) in
       rw (z, here) (let rest = open-grow old new p m (λ k from h. same k from (omega arith)) in omega arith)
-
-pub has-get : (xs : List ℕ) (i : ℕ) → i < length xs → has nat_eq xs (get_or xs i 0) ≡ true
-has-get [] i h = absurd (omega arith)
-has-get (x ∷ xs) zero h = or_left _ _ (true-same x x refl)
-has-get (x ∷ xs) (suc i) h = or_right (nat_eq x (get_or xs i 0)) _ (has-get xs i (omega arith))

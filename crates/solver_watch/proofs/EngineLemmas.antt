@@ -1,10 +1,11 @@
 -- The steps of a search.
-use Rattle.std.proofs.Common.{◌≡◌, ◌<◌, ◌≤◌, ◌+◌, ◌*◌, ℕ, suc, arith, Bool, true, false, not, ◌||◌, ◌⊎◌, inl, inr, List, [], ◌∷◌, ◌++◌, get_or, take, length, append_assoc, length-append, Some, None, refl, sym, ap, subst, ◌∙◌, rules}
+use Rattle.std.proofs.Common.{◌≡◌, ◌<◌, ◌≤◌, ◌+◌, ◌*◌, ℕ, suc, arith, Bool, true, false, not, ◌||◌, ◌⊎◌, inl, inr, List, [], ◌∷◌, ◌++◌, get_or, take, length, append_assoc, length-append, Some, None, refl, sym, ap, subst, ◌∙◌}
 use Rattle.std.specs.Prelude.{map}
 use Rattle.std.specs.List.{list_any, AllByRecursion}
 use Rattle.std.proofs.lemmas.List.{map-append}
 use Rattle.std.proofs.Math.ListN.{get_or-append}
 use Rattle.std.proofs.lemmas.Bool.{or_cases, or_left, or_right}
+use Rattle.std.proofs.lemmas.List.Folds.{list_any-append}
 use Rattle.lits.specs.Clause.{has}
 use Rattle.lits.specs.Same.{same_lit, same_node, opposite}
 use Rattle.lits.specs.declared.node.Node.{Node}
@@ -15,7 +16,7 @@ use Rattle.unit_prop.specs.Closure.{is_negated, IsOpen}
 use Rattle.unit_prop.specs.Log.{IsBase, base_clauses, clauses_of}
 use Rattle.unit_prop.specs.Refuter.{is_over, IsOver, IsModel, IsAnswer, Answers}
 use Rattle.unit_prop.specs.declared.refuter.Refuted.{Refuted}
-use Rattle.solver_plain.proofs.Facts.{IsUnderWay, each-of, each-at, all-fail, all-left, pair-none, over-opposite, all-occur}
+use Rattle.solver_plain.proofs.Facts.{IsUnderWay, each-of, each-at, all-fail, all-left, pair-none, over-opposite, all-occur, all-both}
 use Rattle.solver_watch.specs.declared.engine.Engine.{Engine}
 use Rattle.solver_watch.proofs.AssumeLemmas.{assuming-propagates}
 use Rattle.unit_prop.proofs.Facts.{lit_laws, contrary, has-map-opposite, all-true, all-at, witness}
@@ -35,7 +36,7 @@ use Rattle.solver_watch.proofs.CodeLemmas.{lit_at-variable}
 use Rattle.solver_watch.proofs.WalkLemmas.{ground-of}
 use Rattle.unit_prop.specs.Propagation.{IsFree}
 use Rattle.lits.specs.declared.node.Node.TheVariants.{Const}
-use Rattle.lits.proofs.Facts.{all-append}
+use Rattle.lits.proofs.Facts.{all-append, exact-node}
 use Rattle.watch_lists.specs.Codes.{lit_at}
 
 -- the trail of a formula may change where clauses and variables stay
@@ -66,9 +67,6 @@ learned-for f lesson assumed known is below target assuming = record {
   learned = is.learned;
 }
 
-pub same_node-exact : (x y : Node) → same_node x y ≡ true → x ≡ y
-same_node-exact x y e = search rules
-
 pub same-variable : (m l : Lit) → m.node ≡ l.node → (m ≡ l) ⊎ (m ≡ opposite l)
 same-variable m l e = go m.neg l.neg refl refl
   where
@@ -89,18 +87,8 @@ same-variable m l e = go m.neg l.neg refl refl
     go true false f g = inr (other_neg (f ∙ sym (ap (λ (b : Bool). not b) g)))
     go false true f g = inr (other_neg (f ∙ sym (ap (λ (b : Bool). not b) g)))
 
-all-both : (P Q R : List Lit → Type 0) (xs : List (List Lit)) → ((x : List Lit) → P x → Q x → R x) → AllByRecursion P xs
-    → AllByRecursion Q xs → AllByRecursion R xs
-all-both P Q R [] join ps qs = tt
-all-both P Q R (x ∷ xs) join ps qs = (join x ps.0 qs.0, all-both P Q R xs join ps.1 qs.1)
-
 pub node-append : (xs ys : List Node) (n : Node) → has same_node (xs ++ ys) n ≡ (has same_node xs n || has same_node ys n)
-node-append [] ys n = refl
-node-append (x ∷ xs) ys n = rw (node-append xs ys n) (go (same_node x n) (has same_node xs n) (has same_node ys n))
-  where
-    go : (a b c : Bool) → (a || (b || c)) ≡ ((a || b) || c)
-    go true b c = refl
-    go false b c = refl
+node-append xs ys n = list_any-append (λ y. same_node y n) xs ys
 
 -- the clause's step joins the log
 pub known-learn : (f : Formula) (g : Formula) (step : Step) → IsKnown f → IsOver f.base.items step.clause
@@ -127,7 +115,7 @@ known-learn f g step known over base log adds = record {
     nodes_at l (inr h) =
         let w = witness lit_laws (λ m. same_node m.node l.node) step.clause (adds.numbers.from l.node h) in
         let there : is_over f.base.items w.0 ≡ true = each-at lit_laws (λ (m : Lit). is_over f.base.items m ≡ true) step.clause w.0 over w.1 in
-        subst (λ (b : List Named). is_over b l ≡ true) (sym base) (elim (same-variable l w.0 (sym (same_node-exact w.0.node l.node w.2))) [
+        subst (λ (b : List Named). is_over b l ≡ true) (sym base) (elim (same-variable l w.0 (sym (exact-node w.0.node l.node w.2))) [
           | inl e ↦ ap (λ (m : Lit). is_over f.base.items m) e ∙ there
           | inr e ↦ ap (λ (m : Lit). is_over f.base.items m) e ∙ (over-opposite f.base.items w.0 ∙ there)
         ])
@@ -277,7 +265,7 @@ taken-lits t taken l h =
     index-of : (nodes : List Node) (n : Node) → has same_node nodes n ≡ true → (i : ℕ) × (i < length nodes) × (get_or nodes i Const ≡ n)
     index-of [] n e = cc
     index-of (m ∷ ms) n e = elim (or_cases (same_node m n) (has same_node ms n) e) [
-      | inl f ↦ (0, omega arith, same_node-exact m n f)
+      | inl f ↦ (0, omega arith, exact-node m n f)
       | inr f ↦ let w = index-of ms n f in (suc w.0, omega (arith, w.1), w.2)
     ]
 

@@ -3,7 +3,7 @@ use Rattle.std.proofs.Common.{◌≡◌, ◌≢◌, ◌<◌, ◌≤◌, ◌+◌,
 use Rattle.std.specs.Prelude.{map, filter}
 use Rattle.std.specs.List.{AllByRecursion}
 use Rattle.std.proofs.lemmas.List.Folds.{list_any-append}
-use Rattle.std.proofs.lemmas.Bool.{or_cases, or_left, or_right, and_parts}
+use Rattle.std.proofs.lemmas.Bool.{or_cases, or_left, or_right, and_parts, not-true}
 use Rattle.lits.specs.Clause.{has, firsts, has_pair}
 use Rattle.lits.specs.Same.{same_lit, same_node, opposite}
 use Rattle.lits.specs.declared.literal.Lit.{Lit}
@@ -18,15 +18,15 @@ use Rattle.lits.specs.declared.step.Ref.{Ref}
 use Rattle.solver_plain.specs.Formula.{clause_named}
 use Rattle.solver_watch.specs.Search.{IsLesson}
 use Rattle.unit_prop.proofs.Facts.{lit_laws, contrary, has-filter, has-map-opposite, all-at}
-use Rattle.solver_plain.proofs.Facts.{not_true, all-each, each-of, list_all-not, pair-none}
+use Rattle.solver_plain.proofs.Facts.{all-each, each-of, list_all-not, pair-none}
 use Rattle.watch_lists.specs.Trail.{TrailState, IsTrail, IsQuiet, IsConflict, put_at, clause_at, lits_of, up_to}
 use Rattle.watch_lists.specs.declared.put.Put.{Put}
+use Rattle.watch_lists.proofs.Facts.{same_refl, same_exact}
 use Rattle.solver_watch.specs.declared.cut.Cut.{Cut}
 use Rattle.solver_watch.specs.declared.formula.Formula.{Formula}
 use Rattle.solver_watch.specs.Known.{IsKnown, clauses_known}
 use Rattle.solver_watch.specs.Marked.{is_marked, AreMet, IsCut, IsSupported, IsSecond, AreWithin, negations_at}
 use Rattle.solver_watch.proofs.TrailLemmas.{has-at, place-one, up_to-at, place-up_to}
-use Rattle.solver_watch.proofs.CountLemmas.{same-true, true-same}
 
 -- a negation among those at some places
 pub negation-of : (puts : List Put) (places : List ℕ) (l : Lit) → has same_lit (negations_at puts places) l ≡ true
@@ -34,12 +34,9 @@ pub negation-of : (puts : List Put) (places : List ℕ) (l : Lit) → has same_l
 negation-of puts [] l h = cc
 negation-of puts (p ∷ ps) l h =
     elim (or_cases (same_lit (opposite (put_at puts p).lit) l) (has same_lit (negations_at puts ps) l) h) [
-      | inl e ↦ (p, or_left _ _ (self p), lit_laws.exact _ _ e)
+      | inl e ↦ (p, or_left _ _ (same_refl p), lit_laws.exact _ _ e)
       | inr e ↦ let w = negation-of puts ps l e in (w.0, or_right (nat_eq p w.0) _ w.1, w.2)
     ]
-  where
-    self : (n : ℕ) → nat_eq n n ≡ true
-    self n = true-same n n refl
 
 pub negation-at : (puts : List Put) (places : List ℕ) (k : ℕ) → has nat_eq places k ≡ true
     → has same_lit (negations_at puts places) (opposite (put_at puts k).lit) ≡ true
@@ -47,7 +44,7 @@ negation-at puts [] k h = cc
 negation-at puts (p ∷ ps) k h =
     elim (or_cases (nat_eq p k) (has nat_eq ps k) h) [
       | inl e ↦ or_left _ _
-          (ap (λ (n : ℕ). same_lit (opposite (put_at puts n).lit) (opposite (put_at puts k).lit)) (same-true p k e)
+          (ap (λ (n : ℕ). same_lit (opposite (put_at puts n).lit) (opposite (put_at puts k).lit)) (same_exact p k e)
           ∙ lit_laws.equivalence.refl (opposite (put_at puts k).lit))
       | inr e ↦ or_right (same_lit (opposite (put_at puts p).lit) (opposite (put_at puts k).lit)) _ (negation-at puts ps k e)
     ]
@@ -71,7 +68,7 @@ negations-apart t places trail within = pair-none lit_laws (negations_at t.puts 
 module _ (t : TrailState) (trail : IsTrail t) (point : ℕ) (cut : Cut) (is_cut : IsCut t point cut) where
   pub places-within : AreWithin t.puts (point ∷ cut.below.items)
   places-within k h = elim (or_cases (nat_eq point k) (has nat_eq cut.below.items k) h) [
-    | inl e ↦ subst (λ (j : ℕ). j < length t.puts) (same-true point k e) is_cut.within
+    | inl e ↦ subst (λ (j : ℕ). j < length t.puts) (same_exact point k e) is_cut.within
     | inr e ↦ (is_cut.only k e).0
   ]
 
@@ -96,7 +93,7 @@ module _ (t : TrailState) (trail : IsTrail t) (point : ℕ) (cut : Cut) (is_cut 
       sym (lit_laws.twice (put_at t.puts w.0).lit) ∙ ap opposite w.2 ∙ lit_laws.twice (put_at t.puts k).lit in
       let same : w.0 ≡ k = place-one t.puts w.0 k trail.single (places-within w.0 w.1) h at in
       elim (or_cases (nat_eq point w.0) (has nat_eq cut.below.items w.0) w.1) [
-        | inl f ↦ inl (sym (same-true point w.0 f ∙ same))
+        | inl f ↦ inl (sym (same_exact point w.0 f ∙ same))
         | inr f ↦ inr (subst (λ (j : ℕ). (put_at t.puts j).level < t.last) same (is_cut.only w.0 f).1)
       ]
 
@@ -141,13 +138,10 @@ module _ (t : TrailState) (trail : IsTrail t) (point : ℕ) (cut : Cut) (is_cut 
           apart_from : (j : ℕ) → j < point + 1 → nat_eq point j ≡ false → j < point
           apart_from j l f = less (nat_eq point j) refl
             where
-              self : (n : ℕ) → nat_eq n n ≡ true
-              self n = true-same n n refl
-
               less : (b : Bool) → nat_eq point j ≡ b → j < point
               less true g = contrary _ g f
               less false g =
-                  let ne : j ≢ point = (λ s. contrary _ (ap (nat_eq point) s ∙ self point) f) in omega arith
+                  let ne : j ≢ point = (λ s. contrary _ (ap (nat_eq point) s ∙ same_refl point) f) in omega arith
 
   -- the reasons behind the point show the goal
   pub cut-supported : (conflict : ℕ) → conflict < length t.clauses → IsConflict t.puts (clause_at t.clauses conflict)
@@ -203,7 +197,7 @@ module _ (t : TrailState) (trail : IsTrail t) (point : ℕ) (cut : Cut) (is_cut 
           let at : (put_at t.puts w.0).lit ≡ l = sym (lit_laws.twice (put_at t.puts w.0).lit) ∙ ap opposite w.2 ∙ lit_laws.twice l in
           elim (or_cases (nat_eq point w.0) (has nat_eq cut.below.items w.0) w.1) [
             | inl f ↦ contrary _ (ap (λ (m : Lit). same_lit m (opposite (put_at t.puts point).lit))
-                (sym w.2 ∙ ap (λ (j : ℕ). opposite (put_at t.puts j).lit) (sym (same-true point w.0 f)))
+                (sym w.2 ∙ ap (λ (j : ℕ). opposite (put_at t.puts j).lit) (sym (same_exact point w.0 f)))
                 ∙ lit_laws.equivalence.refl (opposite (put_at t.puts point).lit)) other
             | inr f ↦
                 let low = is_cut.only w.0 f in
@@ -219,7 +213,7 @@ module _ (t : TrailState) (trail : IsTrail t) (point : ℕ) (cut : Cut) (is_cut 
           let g = sym (has-filter lit_laws (λ m. not (same_lit m (opposite (put_at t.puts point).lit)))
           (firsts same_lit (negations_at t.puts (point ∷ cut.below.items))) (opposite l)) ∙ f in
           let parts = and_parts _ _ g in
-          start_of_place l parts.0 (not_true _ parts.1)
+          start_of_place l parts.0 (not-true _ parts.1)
 
   -- below the second highest level two of the goal's literals aren't negated
   pub cut-quiet : (second : ℕ) → IsSecond t.puts cut.below.items second → second < t.last → (level : ℕ) → level < second

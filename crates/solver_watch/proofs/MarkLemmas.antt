@@ -4,6 +4,7 @@ use Rattle.std.specs.List.{All}
 use Rattle.std.proofs.lemmas.List.{map-set}
 use Rattle.std.proofs.lemmas.List.Elements.{All-get_or}
 use Rattle.std.proofs.lemmas.Bool.Decides.{nat_tests}
+use Rattle.watch_lists.proofs.Facts.{same_refl}
 
 stale_each : (xs : List ℕ) (n : ℕ) → ((i : ℕ) → i < length xs → get_or xs i 0 ≤ n) → (k : ℕ)
     → get_or (map (λ s. nat_eq s (n + 1)) xs) k false ≡ false
@@ -18,10 +19,7 @@ stale_each (x ∷ xs) n low (suc k) = stale_each xs n (λ i h. low (suc i) (omeg
 pub stale : (xs : List ℕ) (n : ℕ) → All (λ s. s ≤ n) xs → (k : ℕ) → get_or (map (λ s. nat_eq s (n + 1)) xs) k false ≡ false
 stale xs n all = stale_each xs n (λ i h. All-get_or (λ s. s ≤ n) xs i 0 h all)
 
-same : (n : ℕ) → nat_eq n n ≡ true
-same n = grind (arith, nat_tests)
-
 -- the latest stamp is a mark
 pub stamped : (xs : List ℕ) (n k : ℕ) (marks : List Bool) → map (λ s. nat_eq s n) xs ≡ marks
     → map (λ s. nat_eq s n) (set xs k n) ≡ set marks k true
-stamped xs n k marks e = map-set (λ s. nat_eq s n) xs k n ∙ (ap (λ (b : Bool). set (map (λ s. nat_eq s n) xs) k b) (same n) ∙ ap (λ (ms : List Bool). set ms k true) e)
+stamped xs n k marks e = map-set (λ s. nat_eq s n) xs k n ∙ (ap (λ (b : Bool). set (map (λ s. nat_eq s n) xs) k b) (same_refl n) ∙ ap (λ (ms : List Bool). set ms k true) e)

@@ -5,16 +5,18 @@ use Rattle.unit_prop.proofs.Facts.{contrary, lit_laws}
 use Rattle.std.proofs.Math.Nat.{eq-or-lt_of_le}
 use Rattle.std.proofs.lemmas.List.Elements.{All-get_or}
 use Rattle.std.proofs.lemmas.Bool.{or_cases, or_left, or_right}
+use Rattle.std.proofs.Math.Bool.{or-false, or_assoc}
 use Rattle.lits.specs.Same.{same_lit, opposite}
 use Rattle.lits.specs.declared.literal.Lit.{Lit}
 use Rattle.watch_lists.specs.Codes.{flip, lit_at, IsCode, AreCodesOf}
 use Rattle.watch_lists.specs.Trail.{TrailState, IsTrail, put_at, lits_of}
 use Rattle.watch_lists.specs.declared.put.Put.{Put}
+use Rattle.watch_lists.proofs.Facts.{lit_at-flip, flip-code, same_exact}
 use Rattle.solver_watch.specs.declared.cut.Cut.{Cut}
 use Rattle.solver_watch.specs.Marked.{is_marked, open_below, Keeps, IsMet, IsCounted, MarksOne, IsMarking}
 use Rattle.solver_watch.proofs.TrailLemmas.{has-at, place-one}
-use Rattle.solver_watch.proofs.CodeLemmas.{lit_at-flip, flip-code, code-of, has-code}
-use Rattle.solver_watch.proofs.CountLemmas.{same-true, true-same, marked-other, marked-same, open-set, open-most}
+use Rattle.solver_watch.proofs.CodeLemmas.{code-of, has-code}
+use Rattle.solver_watch.proofs.CountLemmas.{true-same, marked-other, marked-same, open-set, open-most}
 
 -- a place of a set of marks with one more
 pub marks-one : (marks new : List Bool) (place : ℕ) → place < length marks → new ≡ set marks place true → MarksOne marks place new
@@ -25,28 +27,20 @@ marks-one marks new place h e = subst (λ (ms : List Bool). MarksOne marks place
 })
   where
     keeps_at : (k : ℕ) → is_marked marks k ≡ true → (b : Bool) → nat_eq k place ≡ b → is_marked (set marks place true) k ≡ true
-    keeps_at k m true f = ap (is_marked (set marks place true)) (same-true k place f) ∙ marked-same marks place h
+    keeps_at k m true f = ap (is_marked (set marks place true)) (same_exact k place f) ∙ marked-same marks place h
     keeps_at k m false f = marked-other marks place k (λ g. contrary _ (true-same k place g) f) ∙ m
 
     fresh_at : (k : ℕ) → is_marked (set marks place true) k ≡ true → (b : Bool) → nat_eq k place ≡ b
         → (is_marked marks k ≡ true) ⊎ (k ≡ place)
-    fresh_at k m true f = inr (same-true k place f)
+    fresh_at k m true f = inr (same_exact k place f)
     fresh_at k m false f = inl (sym (marked-other marks place k (λ g. contrary _ (true-same k place g) f)) ∙ m)
 
 pub same-one : (marks : List Bool) (place : ℕ) → is_marked marks place ≡ true → MarksOne marks place marks
 same-one marks place h = record { here = h; keeps = λ k m. m; fresh = λ k m. inl m }
 
 append-test : (xs : List ℕ) (p k : ℕ) → has nat_eq (xs ++ p ∷ []) k ≡ (has nat_eq xs k || nat_eq p k)
-append-test [] p k = go (nat_eq p k)
-  where
-    go : (b : Bool) → (b || false) ≡ b
-    go true = refl
-    go false = refl
-append-test (x ∷ xs) p k = rw (append-test xs p k) (go (nat_eq x k) (has nat_eq xs k) (nat_eq p k))
-  where
-    go : (a b c : Bool) → (a || (b || c)) ≡ ((a || b) || c)
-    go true b c = refl
-    go false b c = refl
+append-test [] p k = or-false (nat_eq p k)
+append-test (x ∷ xs) p k = rw (append-test xs p k) (sym (or_assoc (nat_eq x k) (has nat_eq xs k) (nat_eq p k)))
 
 module _ (puts : List Put) (level : ℕ) (old new : Cut) (place : ℕ) (counted : IsCounted puts level old) (within : place < length puts)
     (free : is_marked old.marks place ≡ false) (marks : new.marks ≡ set old.marks place true) where
@@ -73,7 +67,7 @@ module _ (puts : List Put) (level : ℕ) (old new : Cut) (place : ℕ) (counted 
     where
       all_at : (k : ℕ) → k < length puts → is_marked new.marks k ≡ true → nat_eq (put_at puts k).level level ≡ false
           → (b : Bool) → nat_eq k place ≡ b → has nat_eq new.below.items k ≡ true
-      all_at k h m other true f = contrary _ (ap (λ (j : ℕ). nat_eq (put_at puts j).level level) (same-true k place f) ∙ at) other
+      all_at k h m other true f = contrary _ (ap (λ (j : ℕ). nat_eq (put_at puts j).level level) (same_exact k place f) ∙ at) other
       all_at k h m other false f =
           ap (λ (xs : List ℕ). has nat_eq xs k) below ∙ counted.all k h (sym (other-marked k f) ∙ m) other
 
@@ -95,14 +89,14 @@ module _ (puts : List Put) (level : ℕ) (old new : Cut) (place : ℕ) (counted 
 
       all_at : (k : ℕ) → k < length puts → is_marked new.marks k ≡ true → nat_eq (put_at puts k).level level ≡ false
           → (b : Bool) → nat_eq k place ≡ b → (has nat_eq old.below.items k || nat_eq place k) ≡ true
-      all_at k h m other true f = or_right (has nat_eq old.below.items k) _ (true-same place k (sym (same-true k place f)))
+      all_at k h m other true f = or_right (has nat_eq old.below.items k) _ (true-same place k (sym (same_exact k place f)))
       all_at k h m other false f = or_left _ _ (counted.all k h (sym (other-marked k f) ∙ m) other)
 
       only_at : (k : ℕ) → (has nat_eq old.below.items k ≡ true) ⊎ (nat_eq place k ≡ true)
           → (k < length puts) × (is_marked new.marks k ≡ true) × (nat_eq (put_at puts k).level level ≡ false)
       only_at k (inl h) = let w = counted.only k h in (w.0, one.keeps k w.1, w.2)
       only_at k (inr h) = subst (λ (j : ℕ). (j < length puts) × (is_marked new.marks j ≡ true) × (nat_eq (put_at puts j).level level ≡ false))
-          (same-true place k h) (within, one.here, at)
+          (same_exact place k h) (within, one.here, at)
 
 -- the count of the level's places is no more than there are
 pub count-most : (puts : List Put) (level : ℕ) (old : Cut) (place : ℕ) → IsCounted puts level old → place < length puts

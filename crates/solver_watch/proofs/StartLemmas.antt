@@ -9,6 +9,7 @@ use Rattle.lits.specs.Same.{same_lit, same_node, opposite}
 use Rattle.lits.specs.declared.node.Node.{Node}
 use Rattle.lits.specs.declared.literal.Lit.{Lit}
 use Rattle.lits.specs.declared.step.Named.{Named}
+use Rattle.lits.proofs.Facts.{exact-node}
 use Rattle.unit_prop.specs.Log.{IsBase, base_clauses}
 use Rattle.unit_prop.specs.Refuter.{is_over}
 use Rattle.unit_prop.proofs.Facts.{lit_laws, witness}
@@ -16,7 +17,7 @@ use Rattle.solver_plain.proofs.Facts.{next, over-opposite}
 use Rattle.watch_lists.specs.Trail.{Adds, empty_trail}
 use Rattle.solver_watch.specs.declared.formula.Formula.{Formula}
 use Rattle.solver_watch.specs.Known.{IsStarted}
-use Rattle.solver_watch.proofs.EngineLemmas.{same_node-exact, same-variable, node-append, clauses-both}
+use Rattle.solver_watch.proofs.EngineLemmas.{same-variable, node-append, clauses-both}
 
 -- the first clauses of a base are taken
 pub record IsStarting (base : List Named) (f : Formula) : Type 0 where
@@ -65,7 +66,7 @@ starting-next base i n f g below at so_far adds base_new log_new =
     nodes_at l (inl h) = or_left _ _ (so_far.nodes l h)
     nodes_at l (inr h) =
         let w = witness lit_laws (λ m. same_node m.node l.node) n.clause (adds.numbers.from l.node h) in
-        or_right (is_over (take i base) l) _ (in-clause l w.0 w.1 (same-variable l w.0 (sym (same_node-exact w.0.node l.node w.2))))
+        or_right (is_over (take i base) l) _ (in-clause l w.0 w.1 (same-variable l w.0 (sym (exact-node w.0.node l.node w.2))))
 
 pub started : (base : List Named) (i : ℕ) (f : Formula) → IsBase base → length base ≤ i → IsStarting (take i base) f → IsStarted base f
 started base i f names past s = go (subst (λ (b : List Named). IsStarting b f) (take_all i base past) s)

@@ -1,14 +1,14 @@
 -- Places of a trail.
 use Rattle.std.proofs.Common.{◌≡◌, ◌<◌, ◌≤◌, ℕ, zero, suc, arith, Bool, true, false, inl, inr, List, [], ◌∷◌, take, nat_le, length, refl, sym, ap, ◌∙◌}
 use Rattle.std.proofs.lemmas.Bool.Decides.{nat_tests}
-use Rattle.std.proofs.lemmas.Bool.{or_cases, or_left, or_right, and_parts}
+use Rattle.std.proofs.lemmas.Bool.{or_cases, or_left, or_right, and_parts, not-true}
 use Rattle.lits.specs.Clause.{has, no_repeat}
 use Rattle.lits.specs.Same.{same_lit}
 use Rattle.lits.specs.declared.literal.Lit.{Lit}
 use Rattle.unit_prop.proofs.Facts.{lit_laws, contrary}
-use Rattle.solver_plain.proofs.Facts.{not_true}
 use Rattle.watch_lists.specs.Trail.{put_at, lits_of, up_to}
 use Rattle.watch_lists.specs.declared.put.Put.{Put}
+use Rattle.watch_lists.proofs.Facts.{le-test}
 
 -- a literal of the trail has a place
 pub place-of : (puts : List Put) (l : Lit) → has same_lit (lits_of puts) l ≡ true
@@ -31,10 +31,10 @@ pub place-one : (puts : List Put) (j k : ℕ) → no_repeat same_lit (lits_of pu
 place-one [] j k once hj hk e = absurd (omega arith)
 place-one (p ∷ ps) zero zero once hj hk e = refl
 place-one (p ∷ ps) zero (suc k) once hj hk e =
-    let none = not_true _ (and_parts _ _ once).0 in
+    let none = not-true _ (and_parts _ _ once).0 in
     contrary _ (has-at ps k (omega arith)) (ap (has same_lit (lits_of ps)) (sym e) ∙ none)
 place-one (p ∷ ps) (suc j) zero once hj hk e =
-    let none = not_true _ (and_parts _ _ once).0 in
+    let none = not-true _ (and_parts _ _ once).0 in
     contrary _ (has-at ps j (omega arith)) (ap (has same_lit (lits_of ps)) e ∙ none)
 place-one (p ∷ ps) (suc j) (suc k) once hj hk e =
     ap (λ (n : ℕ). suc n) (place-one ps j k (and_parts _ _ once).1 (omega arith) (omega arith) e)
@@ -56,10 +56,6 @@ before-at [] n k h within = absurd (omega arith)
 before-at (p ∷ ps) zero k h within = absurd (omega arith)
 before-at (p ∷ ps) (suc n) zero h within = or_left _ _ (lit_laws.equivalence.refl p.lit)
 before-at (p ∷ ps) (suc n) (suc k) h within = or_right (same_lit p.lit (put_at ps k).lit) _ (before-at ps n k (omega arith) (omega arith))
-
--- a place of the levels up to one
-le-test : (a b : ℕ) → a ≤ b → nat_le a b ≡ true
-le-test a b h = grind (arith, nat_tests)
 
 le-of : (a b : ℕ) → nat_le a b ≡ true → a ≤ b
 le-of a b h = grind (arith, nat_tests)

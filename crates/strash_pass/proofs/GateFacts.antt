@@ -1,10 +1,11 @@
--- A gate by its number: its position, what defines it, its clauses, and that its fanins stand earlier.
-use Rattle.std.proofs.Common.{◌≡◌, ℕ, zero, suc, ◌+◌, ◌-◌, ◌<◌, ◌≤◌, Bool, true, false, not, ◌&&◌, ◌||◌, Option, Some, None, List, [], ◌∷◌, ◌++◌, map, length, refl, sym, ap, ◌∙◌, subst, arith}
+-- A gate by its number: its position-definition, what defines it, its clauses, and that its fanins stand earlier.
+use Rattle.std.proofs.Common.{◌≡◌, ℕ, zero, suc, ◌+◌, ◌-◌, ◌<◌, ◌≤◌, Bool, true, false, not, Option, Some, None, List, [], ◌∷◌, ◌++◌, map, length, refl, sym, ap, ◌∙◌, subst, arith}
 use Rattle.std.specs.Prelude.{slice_get, nat_lt}
 use Rattle.std.specs.Option.{option_map, option_map_or}
 use Rattle.std.proofs.lemmas.Bool.Decides.{nat_tests}
 use Rattle.std.proofs.lemmas.List.{length-map}
 use Rattle.std.proofs.lemmas.Option.{none-some, same_Some, slice_get-map, slice_get_within}
+use Rattle.std.proofs.lemmas.Bool.{and_parts, not-true, or_parts}
 use Rattle.lits.specs.Clause.{has, no_repeat}
 use Rattle.lits.specs.Same.{same_node}
 use Rattle.lits.specs.declared.node.Side.{Side}
@@ -15,44 +16,23 @@ use Rattle.netlist.specs.declared.gate.And.{And}
 use Rattle.netlist.specs.declared.gate.Definition.{Definition}
 use Rattle.netlist.specs.Place.{place_of}
 use Rattle.netlist.specs.Pair.{first_gate}
-use Rattle.netlist.specs.Net.{AigPair, IsNet, circuit_of, definition_of, definitions, defined_by, gate_at, nodes_of, position_of}
-use Rattle.netlist.specs.Miter.{axioms_of, xors_of, gate_clauses, kept}
-use Rattle.netlist.proofs.Facts.{gate-definition, behind_inputs, slice_get-left, slice_get-right}
-use Rattle.lemma_book.proofs.Facts.{variables-distinct}
+use Rattle.netlist.specs.Net.{AigPair, IsNet, circuit_of, definition_of, definitions, defined_by, gate_at, position_of}
+use Rattle.netlist.specs.Miter.{axioms_of, gate_clauses, kept}
+use Rattle.netlist.proofs.Facts.{gate-definition, slice_get-left, slice_get-right, position-definition, has-get}
 
 -- ---- places in a list without repeats
-or-none : (a b : Bool) → (a || b) ≡ false → (a ≡ false) × (b ≡ false)
-or-none false b e = (refl, e)
-or-none true b e = cc
-
-and-both : (a b : Bool) → (a && b) ≡ true → (a ≡ true) × (b ≡ true)
-and-both true b e = (refl, e)
-and-both false b e = cc
-
-not-true : (b : Bool) → not b ≡ true → b ≡ false
-not-true false e = refl
-not-true true e = cc
 
 first-part : (xs ys : List Node) → no_repeat same_node (xs ++ ys) ≡ true → no_repeat same_node xs ≡ true
 first-part [] ys once = refl
 first-part (x ∷ xs) ys once =
-    let both = and-both (not (has same_node (xs ++ ys) x)) (no_repeat same_node (xs ++ ys)) once in
+    let both = and_parts (not (has same_node (xs ++ ys) x)) (no_repeat same_node (xs ++ ys)) once in
     rw (absent xs (not-true (has same_node (xs ++ ys) x) both.0), first-part xs ys both.1) refl
   where
     absent : (zs : List Node) → has same_node (zs ++ ys) x ≡ false → has same_node zs x ≡ false
     absent [] h = refl
     absent (z ∷ zs) h =
-        let parts = or-none (same_node z x) (has same_node (zs ++ ys) x) h in
+        let parts = or_parts (same_node z x) (has same_node (zs ++ ys) x) h in
         rw (parts.0, absent zs parts.1) refl
-
-stands : (xs : List Node) (i : ℕ) (x : Node) → slice_get xs i ≡ Some x → has same_node xs x ≡ true
-stands [] i x e = absurd (none-some x e)
-stands (y ∷ ys) zero x e = rw (ap (λ (n : Node). same_node n x) (same_Some y x e) ∙ same-node_self x) refl
-stands (y ∷ ys) (suc i) x e = go (same_node y x) (stands ys i x e)
-  where
-    go : (b : Bool) → has same_node ys x ≡ true → (b || has same_node ys x) ≡ true
-    go true h = refl
-    go false h = h
 
 place-exact : (xs : List Node) (i : ℕ) (x : Node) → no_repeat same_node xs ≡ true → slice_get xs i ≡ Some x → place_of (λ m. same_node m x) xs ≡ Some i
 place-exact [] i x once e = absurd (none-some x e)
@@ -60,16 +40,16 @@ place-exact (y ∷ ys) zero x once e = rw (ap (λ (n : Node). same_node n x) (sa
 place-exact (y ∷ ys) (suc i) x once e = go (same_node y x) refl (place-exact ys i x both.1 e)
   where
     both : (not (has same_node ys y) ≡ true) × (no_repeat same_node ys ≡ true)
-    both = and-both (not (has same_node ys y)) (no_repeat same_node ys) once
+    both = and_parts (not (has same_node ys y)) (no_repeat same_node ys) once
 
     go : (b : Bool) → same_node y x ≡ b → place_of (λ m. same_node m x) ys ≡ Some i → place_of (λ m. same_node m x) (y ∷ ys) ≡ Some (suc i)
     go false f rest = let n : i + 1 ≡ suc i = omega arith in rw (f, rest) (ap Some n)
     go true f rest =
-        let here : has same_node ys y ≡ true = ap (has same_node ys) (exact-node y x f) ∙ stands ys i x e in
+        let here : has same_node ys y ≡ true = ap (has same_node ys) (exact-node y x f) ∙ has-get ys i x e in
         let none : true ≡ false = sym here ∙ not-true (has same_node ys y) both.0 in
         cc
 
--- two nodes of which one stands earlier differ
+-- two nodes of which one has-get earlier differ
 pub apart-placed : (net : AigPair) (n m : Node) (q p : ℕ) → position_of net n ≡ Some q → position_of net m ≡ Some p → p < q → same_node n m ≡ false
 apart-placed net n m q p e f below = go (same_node n m) refl
   where
@@ -88,11 +68,6 @@ pub record IsGate (net : AigPair) (k : ℕ) (d : Definition) : Type 0 where
   pub axioms : axioms_of net d.node ≡ kept (gate_clauses d)
 
 module _ (net : AigPair) (is : IsNet net) where
-  position : (k : ℕ) (d : Definition) → slice_get (definitions net) k ≡ Some d → position_of net d.node ≡ Some (1 + length net.a.inputs + k)
-  position k d e =
-      place-exact (nodes_of net) (1 + length net.a.inputs + k) d.node (first-part (nodes_of net) (xors_of net) (variables-distinct net is))
-      (behind_inputs net (1 + length net.a.inputs + k) k (omega arith) ∙ ap (option_map (λ h. h.node)) e)
-
   clauses : (s : Side) (o : Option And) (d : Definition) → option_map (definition_of s (circuit_of net s)) o ≡ Some d
       → option_map_or (λ g. kept (gate_clauses (definition_of s (circuit_of net s) g))) o [] ≡ kept (gate_clauses d)
   clauses s None d e = absurd (none-some d e)
@@ -104,7 +79,7 @@ module _ (net : AigPair) (is : IsNet net) where
   at-side s j k g e place there =
       let d = gate-definition net is s j g e in
       record {
-        node = position k (definition_of s (circuit_of net s) g) there;
+        node = position-definition k (definition_of s (circuit_of net s) g) there;
         left = (d.1.0, d.1.1, omega (arith, d.1.2));
         right = (d.2.0, d.2.1, omega (arith, d.2.2));
         defined = d.0;

@@ -6,17 +6,11 @@ use Rattle.lits.specs.Same.{same_node, same_lit, opposite}
 use Rattle.lits.specs.declared.node.Node.{Node}
 use Rattle.lits.specs.declared.literal.Lit.{Lit}
 use Rattle.lits.specs.contracts.literal.LitLiteral.TheImpl.Laws as laws
-use Rattle.lits.proofs.Facts.{exact-node, exact-lit, same-node_self}
+use Rattle.lits.proofs.Facts.{exact-node, exact-lit, same-node_self, same-lit_self}
 use Rattle.netlist.specs.Miter.{positive, negative, gate_clauses, kept}
 use Rattle.netlist.proofs.Facts.{kept-head, kept-rest}
-use Rattle.unit_prop.proofs.Facts.{lit_laws, Takes, take-first, take-second, take-head}
+use Rattle.unit_prop.proofs.Facts.{Takes, take-first, take-second, take-head}
 use Rattle.lemma_book.proofs.Facts.{apart-lits}
-
-self : (l : Lit) → same_lit l l ≡ true
-self = lit_laws.equivalence.refl
-
-pub twice : (l : Lit) → opposite (opposite l) ≡ l
-twice = laws.twice-law
 
 module _ (p : Lit → Bool) (n : Node) (l r : Lit) (far_l : same_node n l.node ≡ false) (far_r : same_node n r.node ≡ false)
     (all : AllByRecursion (Takes p) (kept (gate_clauses (record { node = n; left = l; right = r })))) where
@@ -58,8 +52,8 @@ module _ (p : Lit → Bool) (n : Node) (l r : Lit) (far_l : same_node n l.node �
           here : (b : Bool) → same_lit (opposite y) (opposite (opposite x)) ≡ b → b ≡ false
           here false g = refl
           here true g =
-              let same : opposite y ≡ x = exact-lit (opposite y) (opposite (opposite x)) g ∙ twice x in
-              let k : true ≡ false = sym (self x) ∙ ap (same_lit x) (sym same) ∙ h in cc
+              let same : opposite y ≡ x = exact-lit (opposite y) (opposite (opposite x)) g ∙ laws.twice-law x in
+              let k : true ≡ false = sym (same-lit_self x) ∙ ap (same_lit x) (sym same) ∙ h in cc
 
       stays : has_pair same_lit opposite (positive n ∷ opposite l ∷ opposite r ∷ []) ≡ false
       stays =
@@ -72,7 +66,7 @@ module _ (p : Lit → Bool) (n : Node) (l r : Lit) (far_l : same_node n l.node �
           (kept-rest (Takes p) (negative n ∷ l ∷ []) ((negative n ∷ r ∷ []) ∷ (positive n ∷ opposite l ∷ opposite r ∷ []) ∷ []) all))
 
       back : (x : Lit) → p x ≡ true → p (opposite (opposite x)) ≡ true
-      back x h = ap p (twice x) ∙ h
+      back x h = ap p (laws.twice-law x) ∙ h
 
       go : (b : Bool) → same_lit (opposite l) (opposite r) ≡ b → p (positive n) ≡ true
       go true s =

@@ -3,6 +3,7 @@ use Rattle.std.proofs.Common.{◌≡◌, ℕ, ◌+◌, ◌≤◌, Bool, true, fa
 use Rattle.std.specs.Option.{option_map_or}
 use Rattle.std.specs.List.{AllByRecursion}
 use Rattle.std.proofs.lemmas.Option.{none-some}
+use Rattle.std.proofs.Math.Seq.{take-length}
 use Rattle.lits.specs.declared.node.Node.{Node}
 use Rattle.lits.specs.declared.node.Node.TheVariants.{Const, Input, Gate, Xor}
 use Rattle.lits.specs.declared.literal.Lit.{Lit}
@@ -27,7 +28,7 @@ use Rattle.lemma_book.specs.Root.{IsRoot}
 use Rattle.lemma_book.specs.Cone.{AreThere, clauses_on, nodes_in}
 use Rattle.lemma_book.specs.Good.{ArePlaced, AreOver, IsBefore, IsEarlier, EndsIn, IsGood, node_clause}
 use Rattle.lemma_book.specs.Book.{book_after}
-use Rattle.lemma_book.proofs.Facts.{good-merge, root-unsettled, placed-there, on-node-named, IsNoXor, HasNodeName}
+use Rattle.lemma_book.proofs.Facts.{good-merge, root-unsettled, placed-there, on-node-named, IsNoXor, HasNodeName, irreflexive}
 use Rattle.strash_pass.specs.Pass.{AreNotXors, is_xor, AreSteps, Merges}
 
 no-xors : (lits : List Lit) → AreNotXors lits → AllByRecursion IsNoXor (nodes_in lits)
@@ -60,18 +61,10 @@ module _ (net : AigPair) (es : List Entry) (way : List Lit) (none : AreNotXors w
           let f : None ≡ Some c = base_clause-is (node_clause net es) base each-named (Own k) c e in
           absurd (none-some c f)
 
-pub whole : {X : Type 0} (xs : List X) → take (length xs) xs ≡ xs
-whole [] = refl
-whole (x ∷ xs) = ap (λ (l : List _). x ∷ l) (whole xs)
-
 -- a node is no earlier than itself
 pub earlier-apart : (net : AigPair) (node : Node) (target : Lit) → IsEarlier net node target → same_node target.node node ≡ false
 earlier-apart net node target earlier = go (same_node target.node node) refl
   where
-    irreflexive : (o : Option ℕ) → IsBefore o o → ⊥
-    irreflexive None h = h
-    irreflexive (Some p) h = absurd (omega arith)
-
     go : (b : Bool) → same_node target.node node ≡ b → same_node target.node node ≡ false
     go false e = e
     go true e =
@@ -140,7 +133,7 @@ module _ (net : AigPair) (book : Entries) (node : Node) (target : Lit) (unmerged
   pub all-entries : (e : Entry) → IsGood net book e → (known : ℕ) → known ≡ length book.entries → IsGood net (first_entries known book) e
   all-entries e good known count =
       subst (λ (es : List Entry). IsGood net (record { sweep_budget = book.sweep_budget; out_budget = book.out_budget; entries = es }) e)
-      (sym (ap (λ (n : ℕ). take n book.entries) count ∙ whole book.entries)) good
+      (sym (ap (λ (n : ℕ). take n book.entries) count ∙ take-length book.entries)) good
 
   -- and it is put last
   pub put-last : (steps : List Step) (new : Entries) → new ≡ book_after book (Merge node target steps) → Merges book new node target

@@ -1,6 +1,6 @@
 -- How the pass goes on: a gate that was merged, merges now, or is noted.
 use Rattle.std.proofs.Common.{◌≡◌, ℕ, suc, ◌+◌, ◌<◌, ◌^◌, map, Bool, true, false, cond, Option, Some, None, List, [], ◌∷◌, ◌++◌, length, refl, sym, ap, ◌∙◌, subst, arith, length-append, append-nil, append_assoc, ◌⊎◌, inl, inr}
-use Rattle.std.specs.Prelude.{slice_get, nat_lt, ◌&&◌, Result, Ok, Err, OnOk, OnErr}
+use Rattle.std.specs.Prelude.{slice_get, nat_lt, Result, Ok, Err, OnOk, OnErr}
 use Rattle.std.specs.Option.{option_map, option_and_then, is_some, option_or}
 use Rattle.std.proofs.lemmas.Bool.Decides.{nat_tests}
 use Rattle.std.proofs.lemmas.Option.{none-some, same_Some, slice_get_within}
@@ -12,13 +12,14 @@ use Rattle.lits.specs.declared.node.Node.{Node}
 use Rattle.lits.specs.declared.node.Node.TheVariants.{Gate}
 use Rattle.netlist.specs.declared.gate.And.{And}
 use Rattle.std.proofs.lemmas.List.{length-map}
+use Rattle.std.proofs.lemmas.Bool.{and_parts}
 use Rattle.lits.specs.declared.literal.Lit.{Lit}
 use Rattle.lits.specs.declared.step.Step.{Step}
 use Rattle.lits.proofs.Facts.{same-node_self, exact-lit, all-append}
 use Rattle.netlist.specs.declared.gate.Definition.{Definition}
 use Rattle.netlist.specs.Place.{place_of}
 use Rattle.netlist.specs.Net.{AigPair, IsNet, circuit_of, defined_by, definition_of, definitions, position_of}
-use Rattle.netlist.proofs.Facts.{at-place, place_of-append, or_place, slice_get-left, few_gates_of, gate-definition}
+use Rattle.netlist.proofs.Facts.{at-place, place_of-append, or_place, slice_get-left, few_gates_of, gate-definition, or_place-none}
 use Rattle.unit_prop.proofs.Facts.{lit_laws}
 use Rattle.lemma_book.specs.declared.entry.Entry.{Entry}
 use Rattle.lemma_book.specs.declared.entry.Entry.TheVariants.{Merge}
@@ -38,11 +39,7 @@ last-none : {X : Type 0} (test : X → Bool) (xs : List X) (x : X) → test x �
 last-none test xs x e =
     place_of-append test xs (x ∷ [])
     ∙ ap (λ (b : Bool). or_place (place_of test xs) (option_map (λ k. length xs + k) (cond b (Some 0) (option_map (λ k. k + 1) None)))) e
-    ∙ go (place_of test xs)
-  where
-    go : (o : Option ℕ) → or_place o None ≡ o
-    go None = refl
-    go (Some k) = refl
+    ∙ or_place-none (place_of test xs)
 
 module _ (es : List Entry) (node : Node) (target : Lit) (steps : List Step) where
   -- other nodes stay as they are
@@ -175,13 +172,9 @@ module _ (net : AigPair) (is : IsNet net) (book new : Entries) (legal : IsLegal 
             | inr s ↦ absurd (merged-d (subst (λ (x : Definition). IsRoot new.entries x.node) s root))
           ]
 
-both-parts : (a b : Bool) → (a && b) ≡ true → (a ≡ true) × (b ≡ true)
-both-parts true b e = (refl, e)
-both-parts false b e = cc
-
 exact-pair : (x y : Pair) → same_pair x y ≡ true → x ≡ y
 exact-pair x y e =
-    let both = both-parts (same_lit x.left y.left) (same_lit x.right y.right) e in
+    let both = and_parts (same_lit x.left y.left) (same_lit x.right y.right) e in
     ap (λ (l : Lit). pair_of l x.right) (exact-lit x.left y.left both.0) ∙ ap (pair_of y.left) (exact-lit x.right y.right both.1)
 
 same-pair_self : (x : Pair) → same_pair x x ≡ true

@@ -8,13 +8,14 @@ use Rattle.lits.specs.Same.{same_node, same_lit, opposite}
 use Rattle.lits.specs.declared.node.Node.{Node}
 use Rattle.lits.specs.declared.node.Node.TheVariants.{Const}
 use Rattle.lits.specs.declared.literal.Lit.{Lit}
-use Rattle.lits.proofs.Facts.{exact-lit}
+use Rattle.lits.specs.contracts.literal.LitLiteral.TheImpl.Laws as laws
+use Rattle.lits.proofs.Facts.{exact-lit, same-lit_self}
 use Rattle.netlist.specs.declared.gate.Definition.{Definition}
 use Rattle.netlist.specs.Net.{AigPair}
 use Rattle.netlist.specs.Miter.{positive, negative, gate_clauses, kept}
 use Rattle.unit_prop.specs.Closure.{IsOpen}
 use Rattle.unit_prop.specs.Log.{base_clauses}
-use Rattle.unit_prop.proofs.Facts.{lit_laws, Takes, take-one}
+use Rattle.unit_prop.proofs.Facts.{Takes, take-one}
 use Rattle.lemma_book.specs.declared.entry.Entry.{Entry}
 use Rattle.lemma_book.specs.Entry.{Entries}
 use Rattle.lemma_book.specs.Root.{root_of, IsRoot}
@@ -23,11 +24,8 @@ use Rattle.lemma_book.specs.Book.{IsLegal}
 use Rattle.lemma_book.proofs.Facts.{root-opposite, is_some-variable, placed-there, takes-axioms, along}
 use Rattle.strash_pass.specs.Strash.{folded, AreTwins}
 use Rattle.strash_pass.specs.Pass.{Reaches, Shows, ShowsMerge}
-use Rattle.strash_pass.proofs.GatePropagation.{twice, gate-left, gate-right, gate-both}
+use Rattle.strash_pass.proofs.GatePropagation.{gate-left, gate-right, gate-both}
 use Rattle.strash_pass.proofs.GateFacts.{IsGate, apart-placed}
-
-same-self : (l : Lit) → same_lit l l ≡ true
-same-self = lit_laws.equivalence.refl
 
 -- fanins whose roots aren't complements of each other aren't either
 pub apart-fanins : (es : List Entry) (l r : Lit) → same_lit (root_of es l) (opposite (root_of es r)) ≡ false → same_lit l (opposite r) ≡ false
@@ -37,7 +35,7 @@ apart-fanins es l r apart = go (same_lit l (opposite r)) refl
     go false e = refl
     go true e =
         let roots : root_of es l ≡ opposite (root_of es r) = ap (root_of es) (exact-lit l (opposite r) e) ∙ root-opposite es r in
-        let f : true ≡ false = sym (same-self (root_of es l)) ∙ ap (same_lit (root_of es l)) roots ∙ apart in cc
+        let f : true ≡ false = sym (same-lit_self (root_of es l)) ∙ ap (same_lit (root_of es l)) roots ∙ apart in cc
 
 flip-apart : (a b : Lit) → same_lit a (opposite b) ≡ false → same_lit b (opposite a) ≡ false
 flip-apart a b apart = go (same_lit b (opposite a)) refl
@@ -45,8 +43,8 @@ flip-apart a b apart = go (same_lit b (opposite a)) refl
     go : (c : Bool) → same_lit b (opposite a) ≡ c → c ≡ false
     go false e = refl
     go true e =
-        let roots : opposite b ≡ a = ap opposite (exact-lit b (opposite a) e) ∙ twice a in
-        let f : true ≡ false = sym (same-self a) ∙ ap (same_lit a) (sym roots) ∙ apart in cc
+        let roots : opposite b ≡ a = ap opposite (exact-lit b (opposite a) e) ∙ laws.twice-law a in
+        let f : true ≡ false = sym (same-lit_self a) ∙ ap (same_lit a) (sym roots) ∙ apart in cc
 
 -- what folding found
 pub fold-cases : (P : Type 0) (a b t : Lit) → folded a b ≡ Some t
@@ -126,14 +124,14 @@ module _ (net : AigPair) (book : Entries) (legal : IsLegal net book) (nodes : Li
 
 -- what is given is true
 given-first : (x y : Lit) → has same_lit (x ∷ y ∷ []) x ≡ true
-given-first x y = rw (same-self x) refl
+given-first x y = rw (same-lit_self x) refl
 
 given-second : (x y : Lit) → has same_lit (x ∷ y ∷ []) y ≡ true
 given-second x y = go (same_lit x y)
   where
     go : (b : Bool) → (b || (same_lit y y || false)) ≡ true
     go true = refl
-    go false = rw (same-self y) refl
+    go false = rw (same-lit_self y) refl
 
 module _ (net : AigPair) (book : Entries) (legal : IsLegal net book) (way : List Lit) (k : ℕ) (d : Definition) (gate : IsGate net k d)
     (reaches : Reaches book.entries (nodes_in way) d) where
@@ -164,7 +162,7 @@ module _ (net : AigPair) (book : Entries) (legal : IsLegal net book) (way : List
       above : Shows net book.entries way (positive d.node) (opposite t)
       above is =
           let off : is.set (negative d.node) ≡ true = is.closed.starts (negative d.node) (given-first (negative d.node) (opposite (opposite t))) in
-          let on : is.set t ≡ true = ap is.set (sym (twice t)) ∙ is.closed.starts (opposite (opposite t)) (given-second (negative d.node) (opposite (opposite t))) in
+          let on : is.set t ≡ true = ap is.set (sym (laws.twice-law t)) ∙ is.closed.starts (opposite (opposite t)) (given-second (negative d.node) (opposite (opposite t))) in
           let no : t ≡ negative Const → ⊥ = λ g.
           clash net book legal (nodes_in way) _ is (positive Const)
           (const-true net book legal (nodes_in way) _ is (const_t (ap (λ (x : Lit). x.node) g)) root) (ap is.set (sym g) ∙ on) in

@@ -1,15 +1,15 @@
 -- The nodes whose clauses a merge stands on: they have positions, none is an XOR, and they have what the proof needs.
-use Rattle.std.proofs.Common.{◌≡◌, ℕ, zero, suc, ◌+◌, ◌<◌, Bool, true, false, ◌||◌, Option, Some, None, List, [], ◌∷◌, ◌++◌, length, take, refl, sym, ap, ◌∙◌, arith}
+use Rattle.std.proofs.Common.{◌≡◌, ℕ, zero, suc, ◌+◌, ◌<◌, Bool, true, false, ◌||◌, Option, Some, None, List, [], ◌∷◌, ◌++◌, length, refl, sym, ap, ◌∙◌, arith}
 use Rattle.std.specs.Option.{IsSome, is_some}
 use Rattle.std.specs.List.{AllByRecursion}
-use Rattle.std.proofs.lemmas.List.{map-append}
-use Rattle.std.proofs.lemmas.List.Folds.{list_any-append}
+use Rattle.std.proofs.lemmas.Bool.{or_right}
+use Rattle.std.proofs.Math.Seq.{take-length}
 use Rattle.lits.specs.Clause.{has}
 use Rattle.lits.specs.Same.{same_node}
 use Rattle.lits.specs.declared.node.Node.{Node}
 use Rattle.lits.specs.declared.node.Node.TheVariants.{Const, Input, Gate, Xor}
 use Rattle.lits.specs.declared.literal.Lit.{Lit}
-use Rattle.lits.proofs.Facts.{all-append, same-node_self}
+use Rattle.lits.proofs.Facts.{all-append}
 use Rattle.netlist.specs.declared.gate.Definition.{Definition}
 use Rattle.netlist.specs.Net.{AigPair, IsNet, nodes_of, position_of}
 use Rattle.netlist.specs.Miter.{positive, negative}
@@ -20,9 +20,9 @@ use Rattle.lemma_book.specs.Root.{MergeAt, merge_of, carried, passed, passed_by,
 use Rattle.lemma_book.specs.Cone.{AreThere, nodes_in}
 use Rattle.lemma_book.specs.Good.{ArePlaced, IsEarlier}
 use Rattle.lemma_book.specs.Book.{IsLegal}
-use Rattle.lemma_book.proofs.Facts.{placed-there, merge-placed, target-lower, root-lower}
+use Rattle.lemma_book.proofs.Facts.{placed-there, merge-placed, target-lower, root-lower, has-nodes_append, covers-left, covers-right, covers-self}
 use Rattle.strash_pass.specs.Strash.{folded}
-use Rattle.strash_pass.specs.Pass.{AreNotXors, Covers, IsTwin, IsWay, Reaches, ShowsMerge, constant_among, is_const, is_xor}
+use Rattle.strash_pass.specs.Pass.{AreNotXors, IsTwin, IsWay, Reaches, ShowsMerge, constant_among, is_const, is_xor}
 use Rattle.strash_pass.proofs.GateFacts.{IsGate, is-gate}
 use Rattle.strash_pass.proofs.ShowsLemmas.{fold-cases, fold-shows, twin-shows}
 
@@ -46,41 +46,15 @@ placed-no_xors net (l ∷ ls) all = (go l.node all.0, placed-no_xors net ls all.
         cc
 
 -- ---- more nodes
-has-more : (xs ys : List Lit) (n : Node) → has same_node (nodes_in (xs ++ ys)) n ≡ (has same_node (nodes_in xs) n || has same_node (nodes_in ys) n)
-has-more xs ys n =
-    ap (λ (l : List Node). has same_node l n) (map-append (λ l. l.node) xs ys)
-    ∙ list_any-append (λ y. same_node y n) (nodes_in xs) (nodes_in ys)
-
-or-second : (a b : Bool) → b ≡ true → (a || b) ≡ true
-or-second true b e = refl
-or-second false b e = e
-
-covers-left : (xs ys ls : List Lit) → Covers (nodes_in xs) ls → Covers (nodes_in (xs ++ ys)) ls
-covers-left xs ys [] all = tt
-covers-left xs ys (l ∷ ls) all = (has-more xs ys l.node ∙ rw all.0 refl, covers-left xs ys ls all.1)
-
-covers-right : (xs ys ls : List Lit) → Covers (nodes_in ys) ls → Covers (nodes_in (xs ++ ys)) ls
-covers-right xs ys [] all = tt
-covers-right xs ys (l ∷ ls) all =
-    (has-more xs ys l.node ∙ or-second (has same_node (nodes_in xs) l.node) (has same_node (nodes_in ys) l.node) all.0, covers-right xs ys ls all.1)
-
-covers-self : (xs : List Lit) → Covers (nodes_in xs) xs
-covers-self [] = tt
-covers-self (x ∷ xs) = (ap (λ (b : Bool). b || has same_node (nodes_in xs) x.node) (same-node_self x.node), covers-right (x ∷ []) xs xs (covers-self xs))
-
 pub reaches-more : (es : List Entry) (xs ys : List Lit) (d : Definition) → Reaches es (nodes_in xs) d → Reaches es (nodes_in (xs ++ ys)) d
 reaches-more es xs ys d r = record {
-  inside = has-more xs ys d.node ∙ rw r.inside refl;
+  inside = has-nodes_append xs ys d.node ∙ rw r.inside refl;
   unmerged = r.unmerged;
   left = covers-left xs ys (passed_by es d.left) r.left;
   right = covers-left xs ys (passed_by es d.right) r.right;
 }
 
 module _ (net : AigPair) (book : Entries) (legal : IsLegal net book) where
-  whole : {X : Type 0} (xs : List X) → take (length xs) xs ≡ xs
-  whole [] = refl
-  whole (x ∷ xs) = ap (λ (l : List _). x ∷ l) (whole xs)
-
   -- what is passed is merged, and so has a position
   passed-placed : (k : ℕ) (l : Lit) → ArePlacedAll net (passed k book.entries l)
   passed-placed zero l = tt
@@ -90,7 +64,7 @@ module _ (net : AigPair) (book : Entries) (legal : IsLegal net book) where
           → ArePlacedAll net (passed (suc k) book.entries l)
       go None e rest = rw e tt
       go (Some m) e rest =
-          rw e ((merge-placed net book legal (length book.entries) l.node m (ap (λ (x : List Entry). merge_of x l.node) (whole book.entries) ∙ e)).0, rest (carried l.neg m.lit))
+          rw e ((merge-placed net book legal (length book.entries) l.node m (ap (λ (x : List Entry). merge_of x l.node) (take-length book.entries) ∙ e)).0, rest (carried l.neg m.lit))
 
   -- a gate and what its fanins pass
   pub way-of : (way : List Lit) → ArePlacedAll net way → (k : ℕ) (c : Definition) → IsGate net k c → IsRoot book.entries c.node
@@ -159,8 +133,8 @@ module _ (net : AigPair) (book : Entries) (legal : IsLegal net book) where
 
     constant-inside : (is_const a || (is_const b || is_const t)) ≡ true → has same_node (nodes_in (way ++ constant_among a b t)) Const ≡ true
     constant-inside e =
-        has-more way (constant_among a b t) Const
-        ∙ or-second (has same_node (nodes_in way) Const) (has same_node (nodes_in (constant_among a b t)) Const) (rw e refl)
+        has-nodes_append way (constant_among a b t) Const
+        ∙ or_right (has same_node (nodes_in way) Const) (has same_node (nodes_in (constant_among a b t)) Const) (rw e refl)
 
     is-const : (l : Lit) → l.node ≡ Const → is_const l ≡ true
     is-const l e = ap (λ (n : Node). same_node n Const) e
@@ -170,8 +144,8 @@ module _ (net : AigPair) (book : Entries) (legal : IsLegal net book) where
         fold-shows net book legal (way ++ constant_among a b t) k d gate (reaches-more book.entries way (constant_among a b t) d reaches) t
         (ap (λ (x : Lit). folded x (root_of book.entries d.right)) (sym left) ∙ ap (λ (y : Lit). folded a y) (sym right) ∙ folds) const-root
         (λ e. constant-inside (rw (is-const a (ap (λ (x : Lit). x.node) left ∙ e)) refl))
-        (λ e. constant-inside (or-second (is_const a) (is_const b || is_const t) (rw (is-const b (ap (λ (x : Lit). x.node) right ∙ e)) refl)))
-        (λ e. constant-inside (or-second (is_const a) (is_const b || is_const t) (or-second (is_const b) (is_const t) (is-const t e))))
+        (λ e. constant-inside (or_right (is_const a) (is_const b || is_const t) (rw (is-const b (ap (λ (x : Lit). x.node) right ∙ e)) refl)))
+        (λ e. constant-inside (or_right (is_const a) (is_const b || is_const t) (or_right (is_const b) (is_const t) (is-const t e))))
 
   -- ---- a gate with a twin
   module _ (is : IsNet net) (way : List Lit) (c d : Definition) (twin : IsTwin net book.entries c d) (reach : IsWay net book.entries way d) where

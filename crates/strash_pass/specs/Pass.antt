@@ -22,7 +22,7 @@ use Rattle.lemma_book.specs.declared.entry.Entry.{Entry}
 use Rattle.lemma_book.specs.declared.entry.Entry.TheVariants.{Merge}
 use Rattle.lemma_book.specs.Entry.{Entries, with_last}
 use Rattle.lemma_book.specs.Root.{passed_by, root_of, IsRoot}
-use Rattle.lemma_book.specs.Cone.{clauses_on, nodes_in}
+use Rattle.lemma_book.specs.Cone.{Covers, clauses_on, nodes_in}
 use Rattle.strash_pass.specs.declared.pair.Pair.{Pair}
 use Rattle.strash_pass.specs.declared.visit.Pass.{Pass}
 use Rattle.strash_pass.specs.contracts.pair.PairPartialEq.TheImpl as pair_eq
@@ -50,10 +50,6 @@ pub record IsPass (net : AigPair) (entries : List Entry) (p : Pass) (n : ℕ) : 
   pub sound : (a b : Lit) (c : Definition) → get same_pair p.gates (pair_of a b) ≡ Some c → IsSeen net entries n a b c
   pub whole : (k : ℕ) (c : Definition) → k < n → slice_get (definitions net) k ≡ Some c → IsRoot entries c.node
       → is_some (get same_pair p.gates (pair_of (root_of entries c.left) (root_of entries c.right))) ≡ true
-
--- the nodes have all of these
-abbrev pub Covers : List Node → List Lit → Type 0
-Covers nodes lits = AllByRecursion (λ l. has same_node nodes l.node ≡ true) lits
 
 -- the nodes have a gate, which isn't merged, and those that are merged on its fanins' ways to their roots
 pub record Reaches (entries : List Entry) (nodes : List Node) (d : Definition) : Type 0 where

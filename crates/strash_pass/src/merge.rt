@@ -1,4 +1,4 @@
-ghost use Rattle.std.specs.Prelude.{◌≡◌, false, [], ◌∷◌, map, IfOk, OnOk, OnErr};
+ghost use Rattle.std.specs.Prelude.{◌≡◌, false, map, IfOk, OnOk, OnErr};
 ghost use Rattle.lits.specs.Clause.{IsClause};
 ghost use Rattle.lits.specs.Same.{same_lit, same_node, opposite};
 ghost use Rattle.netlist.specs.Net.{IsNet};
@@ -8,7 +8,7 @@ ghost use Rattle.unit_prop.specs.HintScan.{IsNamed};
 ghost use Rattle.unit_prop.specs.Log.{base_clause, base_clauses};
 ghost use Rattle.unit_prop.specs.Step.{IsStep};
 ghost use Rattle.lemma_book.specs.Root.{IsRoot};
-ghost use Rattle.lemma_book.specs.Cone.{AreThere, nodes_in};
+ghost use Rattle.lemma_book.specs.Cone.{AreThere};
 ghost use Rattle.lemma_book.specs.Good.{ArePlaced, IsEarlier, IsGood};
 ghost use Rattle.lemma_book.specs.Book.{IsLegal};
 ghost use Rattle.strash_pass.specs.Pass.{ShowsMerge, ShowsOver, AreSteps, Merges, AreNotXors};

@@ -16,7 +16,8 @@ use Rattle.sweep_core.specs.Event.{Core, AreWithin, IsEvent, KnowsFrom, Keeps}
 
 -- ---- books that begin with a book
 
-starts-self : (book : Entries) → StartsWith book book
+-- a book begins with itself
+pub starts-self : (book : Entries) → StartsWith book book
 starts-self book =
     record { rest = []; entries = sym (append-nil book.entries); sweep = refl; out = refl }
 

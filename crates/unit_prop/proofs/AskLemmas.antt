@@ -1,7 +1,7 @@
 -- What a clause asks for, by what is open in it.
 use Rattle.std.proofs.Common.{◌≡◌, Bool, true, false, not, ◌||◌, List, [], ◌∷◌, refl, sym, ap, ◌∙◌, subst, inl, inr}
 use Rattle.std.specs.Prelude.{filter}
-use Rattle.std.proofs.lemmas.Bool.{and_from, and_parts, or_cases, or_left, or_right}
+use Rattle.std.proofs.lemmas.Bool.{and_from, and_parts, or_cases, or_left, or_right, not-true}
 use Rattle.lits.specs.Clause.{has, firsts}
 use Rattle.lits.proofs.Facts.{IsLiteral}
 use Rattle.unit_prop.specs.Closure.{forces, is_negated}
@@ -13,11 +13,7 @@ use Rattle.unit_prop.proofs.StepLemmas.{has-open_in}
 module _ {L : Type 0} {eq : L → L → Bool} {opposite : L → L} (laws : IsLiteral eq opposite) (set clause : List L) where
   -- a literal whose negation is false is open
   not_negated : (m : L) → has eq (open_in eq opposite set clause) m ≡ true → has eq set (opposite m) ≡ false
-  not_negated m h = go (has eq set (opposite m)) (and_parts _ _ (sym (has-open_in laws set clause m) ∙ h)).1
-    where
-      go : (b : Bool) → not b ≡ true → b ≡ false
-      go true e = cc
-      go false e = refl
+  not_negated m h = not-true (has eq set (opposite m)) (and_parts _ _ (sym (has-open_in laws set clause m) ∙ h)).1
 
   inside : (m : L) → has eq (open_in eq opposite set clause) m ≡ true → has eq clause m ≡ true
   inside m h = (and_parts _ _ (sym (has-open_in laws set clause m) ∙ h)).0
@@ -88,11 +84,7 @@ module _ {L : Type 0} {eq : L → L → Bool} {opposite : L → L} (laws : IsLit
           let h : filter (λ y. not (eq x y)) (firsts eq xs) ≡ m ∷ ls = cc in
           let k : has eq (filter (λ y. not (eq x y)) (firsts eq xs)) m ≡ true = ap (λ (o : List L). has eq o m) h ∙ has-head laws m ls in
           let n : not (eq x m) ≡ true = (and_parts _ _ (sym (has-filter laws (λ y. not (eq x y)) (firsts eq xs) m) ∙ k)).1 in
-          subst (λ (z : L). eq z m ≡ false) g (go (eq x m) n)
-        where
-          go : (b : Bool) → not b ≡ true → b ≡ false
-          go true e = cc
-          go false e = refl
+          subst (λ (z : L). eq z m ≡ false) g (not-true (eq x m) n)
 
       settled : (k : L) → forces eq opposite (has eq set) clause k ≡ true → has eq set k ≡ true
       settled k f =

@@ -1,7 +1,7 @@
 -- What a step assumes at its start: the negations of its clause's literals.
 use Rattle.std.proofs.Common.{◌≡◌, ℕ, ◌+◌, ◌<◌, Bool, true, false, List, [], ◌∷◌, ◌++◌, length, take, drop, get_or, refl, sym, ap, ◌∙◌, subst}
 use Rattle.std.specs.Prelude.{map}
-use Rattle.std.proofs.lemmas.List.{take_more, take-append-drop}
+use Rattle.std.proofs.lemmas.List.{take_more, take-append-drop, map-append}
 use Rattle.lits.specs.Clause.{has, has_pair, firsts}
 use Rattle.lits.proofs.Facts.{IsLiteral, has-firsts, firsts-push, has_pair-push, has_pair-append}
 use Rattle.unit_prop.specs.declared.why.Why.{Why}
@@ -12,10 +12,6 @@ use Rattle.unit_prop.specs.StepCheck.{Assumes}
 use Rattle.unit_prop.specs.Propagation.{IsConsistent}
 use Rattle.unit_prop.proofs.LiteralLemmas.{has-map-opposite}
 use Rattle.unit_prop.proofs.ClosureLemmas.{consistent-push}
-
-map-append : {X Y : Type 0} (f : X → Y) (xs ys : List X) → map f (xs ++ ys) ≡ map f xs ++ map f ys
-map-append f [] ys = refl
-map-append f (x ∷ xs) ys = ap (λ (l : List _). f x ∷ l) (map-append f xs ys)
 
 -- one more element of a list
 pub seen-more : {X : Type 0} (xs : List X) (i : ℕ) (x : X) → i < length xs → x ≡ get_or xs i x

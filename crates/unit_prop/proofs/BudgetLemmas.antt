@@ -1,5 +1,5 @@
 -- How long logs over a base can be, and what that makes of a query's budget.
-use Rattle.std.proofs.Common.{◌≡◌, ◌≢◌, ℕ, ◌+◌, ◌^◌, ◌<◌, ◌≤◌, Bool, true, false, not, ◌||◌, List, [], ◌∷◌, ◌++◌, length, map, refl, sym, ap, ◌∙◌, subst, inl, inr, arith, rules}
+use Rattle.std.proofs.Common.{◌≡◌, ◌≢◌, ℕ, ◌+◌, ◌^◌, ◌<◌, ◌≤◌, Bool, true, false, not, ◌||◌, List, [], ◌∷◌, ◌++◌, length, map, refl, sym, ap, ◌∙◌, subst, inl, inr, arith}
 use Rattle.std.specs.Prelude.{filter}
 use Rattle.std.specs.List.{AllByRecursion, list_any, flat_map, IsDistinct}
 use Rattle.std.proofs.lemmas.List.{map-append, length-append, length-map}
@@ -13,7 +13,7 @@ use Rattle.lits.specs.declared.node.Node.{Node}
 use Rattle.lits.specs.declared.step.Named.{Named}
 use Rattle.lits.specs.declared.step.Step.{Step}
 use Rattle.lits.specs.contracts.literal.LitLiteral.TheImpl.Laws as lit
-use Rattle.lits.proofs.Facts.{all-filter, has-firsts}
+use Rattle.lits.proofs.Facts.{all-filter, has-firsts, exact-node}
 use Rattle.unit_prop.specs.Log.{base_clauses, InTurn, IsLearned, IsLog, IsBudgetLog}
 use Rattle.unit_prop.specs.New.{IsNew}
 use Rattle.unit_prop.specs.Refuter.{Answers, IsAnswer}
@@ -30,9 +30,6 @@ positive n = record { node = n; neg = false }
 
 clause_of : Step → List Lit
 clause_of s = s.clause
-
-exact-node : (m n : Node) → same_node m n ≡ true → m ≡ n
-exact-node = search rules
 
 has-positive : (ns : List Node) (n : Node) → has same_node ns n ≡ true → has same_lit (map positive ns) (positive n) ≡ true
 has-positive [] n e = cc

@@ -18,7 +18,8 @@ use Rattle.unit_prop.proofs.LiteralLemmas.{contrary, has-filter, has-map-opposit
 use Rattle.unit_prop.proofs.ClosureLemmas.{any-all}
 use Rattle.unit_prop.proofs.AssignmentLemmas.{new-differs}
 
-all-back : {X : Type 0} (P : X → Type 0) (xs ys : List X) → AllByRecursion P (xs ++ ys) → AllByRecursion P ys
+-- what all elements of a list have those of its last part have
+pub all-back : {X : Type 0} (P : X → Type 0) (xs ys : List X) → AllByRecursion P (xs ++ ys) → AllByRecursion P ys
 all-back P [] ys all = all
 all-back P (x ∷ xs) ys all = all-back P xs ys all.1
 

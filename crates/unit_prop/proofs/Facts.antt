@@ -37,6 +37,8 @@ pub use Rattle.unit_prop.proofs.AssignmentLemmas.{step-more}
 
 -- each clause of the list is the one of its name: such a base has no other clause under a name, and names each of its own
 pub use Rattle.unit_prop.proofs.NameLemmas.{AreNamed, base_clause-is, named-all}
+-- names that are found equal are one
+pub use Rattle.unit_prop.proofs.NameLemmas.{exact-name}
 -- a clause in front whose name no other has
 pub use Rattle.unit_prop.proofs.NameLemmas.{named-cons}
 -- ---- sets of literals that are closed under unit propagation by a clause
@@ -45,3 +47,5 @@ pub use Rattle.unit_prop.proofs.NameLemmas.{named-cons}
 pub use Rattle.unit_prop.proofs.ClosedSets.{Takes, takes-firsts}
 -- the literal that a clause of one, two or three gives
 pub use Rattle.unit_prop.proofs.ClosedSets.{take-one, take-first, take-second, take-head, take-third}
+-- what all elements of a list have those of its last part have
+pub use Rattle.unit_prop.proofs.CountLemmas.{all-back}

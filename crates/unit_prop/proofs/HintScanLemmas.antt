@@ -3,7 +3,7 @@ use Rattle.std.proofs.Common.{◌≡◌, ℕ, ◌+◌, ◌<◌, Bool, true, fals
 use Rattle.std.specs.Prelude.{map, filter}
 use Rattle.std.specs.List.{find, list_any, AllByRecursion}
 use Rattle.std.proofs.lemmas.List.Folds.{list_any_at}
-use Rattle.std.proofs.lemmas.Bool.{or_cases, or_left, or_right, and_parts}
+use Rattle.std.proofs.lemmas.Bool.{or_cases, or_left, or_right, and_parts, or_parts}
 use Rattle.lits.specs.Clause.{has, has_pair, firsts, no_repeat, IsClause}
 use Rattle.lits.specs.Same.{same_lit, opposite}
 use Rattle.lits.specs.declared.literal.Lit.{Lit}
@@ -206,16 +206,12 @@ negation-fresh clause set i d negation below is at e =
 pair-apart : (c : List Lit) (l : Lit) → has_pair same_lit opposite c ≡ false → has same_lit c (opposite l) ≡ true → has same_lit c l ≡ false
 pair-apart [] l f h = refl
 pair-apart (x ∷ xs) l f h =
-    let parts = neither (has same_lit xs (opposite x)) (has_pair same_lit opposite xs) f in
+    let parts = or_parts (has same_lit xs (opposite x)) (has_pair same_lit opposite xs) f in
     elim (or_cases (same_lit x (opposite l)) (has same_lit xs (opposite l)) h) [
       | inl e ↦ first (lit_laws.exact x (opposite l) e) parts.0
       | inr e ↦ later parts.0 e (pair-apart xs l parts.1 e)
     ]
   where
-    neither : (a b : Bool) → (a || b) ≡ false → (a ≡ false) × (b ≡ false)
-    neither true b e = cc
-    neither false b e = (refl, e)
-
     first : x ≡ opposite l → has same_lit xs (opposite x) ≡ false → has same_lit (x ∷ xs) l ≡ false
     first same none =
         let back : opposite x ≡ l = ap opposite same ∙ lit_laws.twice l in

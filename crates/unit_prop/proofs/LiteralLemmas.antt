@@ -3,6 +3,7 @@ use Rattle.std.proofs.Common.{◌≡◌, Bool, true, false, ◌&&◌, ◌||◌, 
 use Rattle.std.specs.Prelude.{filter, map}
 use Rattle.std.specs.List.{list_any, list_all}
 use Rattle.std.proofs.lemmas.Bool.{or_cases, or_left, or_right, and_parts}
+use Rattle.std.proofs.Math.Bool.{and-false}
 use Rattle.lits.specs.Clause.{has}
 use Rattle.lits.proofs.Facts.{IsLiteral}
 
@@ -44,11 +45,7 @@ module _ {L : Type 0} {eq : L → L → Bool} {opposite : L → L} (laws : IsLit
       go : (a b c : Bool) → p x ≡ a → eq x q ≡ b → p q ≡ c → has eq (filter p xs) q ≡ (has eq xs q && p q)
           → has eq (filter p (x ∷ xs)) q ≡ (has eq (x ∷ xs) q && p q)
       go true true true e f g rest = rw (e, f, g) refl
-      go false true false e f g rest = rw (e, f) (rest ∙ rw g (none (has eq xs q)))
-        where
-          none : (b : Bool) → (b && false) ≡ false
-          none true = refl
-          none false = refl
+      go false true false e f g rest = rw (e, f) (rest ∙ rw g (and-false (has eq xs q)))
       go true true false e f g rest = let same = ap p (laws.exact x q f) in cc
       go false true true e f g rest = let same = ap p (laws.exact x q f) in cc
       go true false c e f g rest = rw (e, f) rest

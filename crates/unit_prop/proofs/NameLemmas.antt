@@ -1,9 +1,9 @@
 -- Bases whose clauses all stand under their names: each name has the clause that it has everywhere.
-use Rattle.std.proofs.Common.{rules, ◌≡◌, Bool, true, false, ◌||◌, List, [], ◌∷◌, Option, Some, None, refl, sym, ap, ◌∙◌, subst}
+use Rattle.std.proofs.Common.{rules, ◌≡◌, Bool, true, false, List, [], ◌∷◌, Option, Some, None, refl, sym, ap, ◌∙◌, subst}
 use Rattle.std.specs.Prelude.{map}
 use Rattle.std.specs.Bool.{OnTrue}
 use Rattle.std.specs.List.{list_any, AllByRecursion}
-use Rattle.std.proofs.lemmas.Bool.{or_left, or_right}
+use Rattle.std.proofs.lemmas.Bool.{or_left, or_right, or_parts}
 use Rattle.lits.specs.Clause.{has}
 use Rattle.lits.specs.declared.literal.Lit.{Lit}
 use Rattle.lits.specs.declared.step.Named.{Named}
@@ -12,7 +12,8 @@ use Rattle.lits.specs.contracts.step.RefEq.TheImpl.Laws as ref_eq
 use Rattle.unit_prop.specs.Log.{same_name, base_clause}
 use Rattle.unit_prop.specs.HintScan.{IsNamed}
 
-exact-name : (x y : Ref) → same_name x y ≡ true → x ≡ y
+-- names that are found equal are one
+pub exact-name : (x y : Ref) → same_name x y ≡ true → x ≡ y
 exact-name = search rules
 
 module _ (clause_of : Ref → Option (List Lit)) where
@@ -68,9 +69,5 @@ named-cons true base first rest e new named =
         → AllByRecursion (λ n. base_clause (first ∷ rest) n.by ≡ Some n.clause) ns
     each [] none all = tt
     each (n ∷ ns) none all =
-        let parts = neither (same_name n.by first.by) (list_any (λ m. same_name m.by first.by) ns) none in
+        let parts = or_parts (same_name n.by first.by) (list_any (λ m. same_name m.by first.by) ns) none in
         (rw (ref_eq.laws-law.symm first.by n.by ∙ parts.0) all.0, each ns parts.1 all.1)
-      where
-        neither : (a b : Bool) → (a || b) ≡ false → (a ≡ false) × (b ≡ false)
-        neither true b e = cc
-        neither false b e = (refl, e)

@@ -3,7 +3,8 @@ use Rattle.std.proofs.Common.{◌≡◌, ℕ, ◌+◌, ◌<◌, length, take, dr
 use Rattle.std.specs.Prelude.{filter, if◌then◌else◌, Result, OnOk, OnErr, IfErr}
 use Rattle.std.specs.List.{list_any}
 use Rattle.std.proofs.lemmas.List.{take-append-drop}
-use Rattle.std.proofs.lemmas.Bool.{and_parts, or_cases}
+use Rattle.std.proofs.lemmas.Bool.{and_parts, or_cases, not-true}
+use Rattle.std.proofs.lemmas.List.Elements.{filter-append}
 use Rattle.lits.specs.Clause.{has, firsts}
 use Rattle.lits.proofs.Facts.{IsLiteral, has-firsts}
 use Rattle.unit_prop.specs.declared.why.Why.{Why}
@@ -15,14 +16,6 @@ use Rattle.unit_prop.specs.Propagation.{IsConsistent}
 use Rattle.unit_prop.proofs.LiteralLemmas.{has-head, has-filter, witness, passes}
 use Rattle.unit_prop.proofs.ClosureLemmas.{consistent-push}
 use Rattle.unit_prop.proofs.StepLemmas.{has-open_in}
-
-filter-append : {X : Type 0} (p : X → Bool) (xs ys : List X) → filter p (xs ++ ys) ≡ filter p xs ++ filter p ys
-filter-append p [] ys = refl
-filter-append p (x ∷ xs) ys = go (p x) refl (filter-append p xs ys)
-  where
-    go : (b : Bool) → p x ≡ b → filter p (xs ++ ys) ≡ filter p xs ++ filter p ys → filter p ((x ∷ xs) ++ ys) ≡ filter p (x ∷ xs) ++ filter p ys
-    go true e rest = rw e (ap (λ (l : List _). x ∷ l) rest)
-    go false e rest = rw e rest
 
 -- the first that passes is the first that is kept
 pub filter-first : {X : Type 0} (p : X → Bool) (xs : List X) (i : ℕ) (x : X) → i < length xs → x ≡ get_or xs i x
@@ -91,11 +84,7 @@ module _ {L : Type 0} {eq : L → L → Bool} {opposite : L → L} (laws : IsLit
 
   -- the only literal that is open in a clause isn't negated
   pub open-apart : (set clause : List L) (l : L) → open_in eq opposite set clause ≡ l ∷ [] → has eq set (opposite l) ≡ false
-  open-apart set clause l e = go (has eq set (opposite l)) (and_parts _ _ (sym (has-open_in laws set clause l) ∙ (ap (λ (o : List L). has eq o l) e ∙ has-head laws l []))).1
-    where
-      go : (b : Bool) → not b ≡ true → b ≡ false
-      go true e = cc
-      go false e = refl
+  open-apart set clause l e = not-true (has eq set (opposite l)) (and_parts _ _ (sym (has-open_in laws set clause l) ∙ (ap (λ (o : List L). has eq o l) e ∙ has-head laws l []))).1
 
   -- a true literal of a clause is open where no negation of a true one is true
   satisfied-open : (set clause : List L) → IsConsistent eq opposite set → is_satisfied eq set clause ≡ true

@@ -1,4 +1,4 @@
-ghost use Rattle.std.specs.Prelude.{◌≡◌, Bool, true, false, ◌++◌, [], ◌∷◌, if◌then◌else◌, OnOk, IfOk};
+ghost use Rattle.std.specs.Prelude.{◌≡◌, ◌++◌, [], ◌∷◌, if◌then◌else◌, OnOk, IfOk};
 ghost use Rattle.lits.specs.Clause.{has};
 ghost use Rattle.unit_prop.specs.Closure.{ClosesTo};
 ghost use Rattle.unit_prop.specs.Propagation.{IsConsistent, AsksFor, IsFound};

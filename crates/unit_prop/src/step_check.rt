@@ -1,4 +1,4 @@
-ghost use Rattle.std.specs.Prelude.{◌≡◌, Bool, true, false, not, ◌++◌, [], ◌∷◌, Ok, Err, OnOk, OnErr, IfErr, if◌then◌else◌, ◌&&◌};
+ghost use Rattle.std.specs.Prelude.{◌≡◌, true, false, not, ◌++◌, [], ◌∷◌, Ok, Err, OnOk, OnErr, IfErr, if◌then◌else◌, ◌&&◌};
 ghost use Rattle.std.specs.List.{list_any};
 ghost use Rattle.lits.specs.Clause.{has, has_pair};
 ghost use Rattle.unit_prop.specs.Step.{IfBad, start_of, open_in, is_satisfied, after_hint};

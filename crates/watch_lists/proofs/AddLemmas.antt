@@ -1,7 +1,8 @@
 -- A clause is added.
-use Rattle.std.proofs.Common.{◌≡◌, ◌≢◌, ℕ, ◌<◌, ◌≤◌, ◌^◌, true, List, [], ◌∷◌, ◌++◌, length, refl, sym, subst, arith, get_or, take, nat_eq, ◌⊎◌, inl, inr, Option, Some, None}
+use Rattle.std.proofs.Common.{◌≡◌, ◌≢◌, ℕ, ◌<◌, ◌^◌, true, List, [], ◌∷◌, ◌++◌, length, refl, sym, subst, arith, get_or, take, nat_eq, ◌⊎◌, inl, inr, Option, Some, None}
 use Rattle.std.specs.List.{All}
 use Rattle.std.proofs.lemmas.List.{get_or_append_left, get_or_push, length_push, get_or_past}
+use Rattle.std.proofs.lemmas.Bool.{cases_lt}
 use Rattle.lits.specs.Clause.{has}
 use Rattle.unit_prop.proofs.Facts.{contrary}
 use Rattle.watch_lists.specs.State.{IsWatch, IsJustified, AsksNothing, IsEngine, pairs_of}
@@ -50,13 +51,10 @@ engine-added old new clause engine like within room settled = record {
 
     below : (i l : ℕ) → has nat_eq (get_or (old.clauses ++ clause ∷ []) i []) l ≡ true → (i ≡ length old.clauses) ⊎ (i ≢ length old.clauses) → l < length old.truth.items
     below i l h (inl last) = within l (subst (λ (c : List ℕ). has nat_eq c l ≡ true) (get_or_push old.clauses clause [] i (sym last)) h)
-    below i l h (inr other) = elim (either i (length old.clauses)) [
+    below i l h (inr other) = elim (cases_lt i (length old.clauses)) [
       | inl lt ↦ engine.trail.within i l (subst (λ (c : List ℕ). has nat_eq c l ≡ true) (kept i lt) h)
       | inr past ↦ contrary _ (subst (λ (c : List ℕ). has nat_eq c l ≡ true) (get_or_past (old.clauses ++ clause ∷ []) i [] (omega (arith, length_push old.clauses clause))) h) refl
     ]
-      where
-        either : (a b : ℕ) → (a < b) ⊎ (b ≤ a)
-        either a b = grind arith
 
     more_watch : (w : Watch) → IsWatch old.clauses (length (pairs_of old.work)) w → IsWatch (old.clauses ++ clause ∷ []) (length (pairs_of old.work)) w
     more_watch w is = let m = engine.watched.most in let g = is.guarded in record { guarded = is.guarded; inside = rw (kept w.clause (omega arith)) is.inside }

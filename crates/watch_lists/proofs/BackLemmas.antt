@@ -1,10 +1,10 @@
 -- Levels begin and are given up.
-use Rattle.std.proofs.Common.{◌≡◌, ℕ, ◌+◌, ◌%◌, ◌<◌, ◌≤◌, Bool, true, false, ◌||◌, List, [], ◌∷◌, ◌++◌, length, refl, sym, ap, ◌∙◌, subst, arith, get_or, take, drop, nat_eq, ◌⊎◌, inl, inr, Option, None}
+use Rattle.std.proofs.Common.{◌≡◌, ℕ, ◌+◌, ◌%◌, ◌<◌, ◌≤◌, Bool, true, false, ◌||◌, List, [], ◌∷◌, ◌++◌, length, refl, sym, ap, ◌∙◌, subst, arith, get_or, take, drop, nat_eq, inl, inr, Option, None}
 use Rattle.std.specs.Prelude.{not, ◌&&◌}
 use Rattle.std.proofs.lemmas.List.{take_all, take-take, get_or-take, length-take-le, length_push, get_or_append_left, get_or_push, take-append-le, take-append-drop, get_or-drop, length-drop, length-set, get_or_default}
 use Rattle.std.proofs.lemmas.List.Elements.{All-push, All-take}
 use Rattle.std.proofs.lemmas.Map.Keys.{IsDistinct-from_apart, apart_from_distinct}
-use Rattle.std.proofs.lemmas.Bool.{or_right}
+use Rattle.std.proofs.lemmas.Bool.{or_right, cases_lt}
 use Rattle.lits.specs.Clause.{has}
 use Rattle.unit_prop.proofs.Facts.{contrary}
 use Rattle.watch_lists.specs.Codes.{flip}
@@ -16,9 +16,6 @@ use Rattle.watch_lists.proofs.FlipLemmas.{is_literal-flip}
 use Rattle.watch_lists.proofs.WatchLemmas.{decide}
 use Rattle.watch_lists.proofs.TrailLemmas.{has-append, starts-most, heads-most, trail-put, watched-put, settled-put}
 use Rattle.watch_lists.proofs.LevelLemmas.{place_of, apart-level}
-
-within_or : (a b : ℕ) → (a < b) ⊎ (b ≤ a)
-within_or a b = grind arith
 
 -- a decision begins a level
 pub levels-decide : (levels : List Level) (reasons : List (Option ℕ)) (s h : ℕ) → AreLevels levels reasons → s ≡ length reasons → h ≤ s
@@ -94,7 +91,7 @@ levels-cut levels reasons count start are within is = record {
   start_of = λ k h e.
       let b : k < start = omega (arith, shorter) in
       let w = are.start_of k (omega (arith, least)) (sym (get_or-take start reasons k None b) ∙ e) in
-      let c : w.0 < count = elim (within_or w.0 count) [
+      let c : w.0 < count = elim (cases_lt w.0 count) [
         | inl lt ↦ lt
         | inr past ↦ elim (decide w.0 count) [
           | inl same ↦ let f : (level_at levels count).start ≡ k = subst (λ (i : ℕ). (level_at levels i).start ≡ k) same w.2 in absurd (omega arith)

@@ -4,6 +4,7 @@ use Rattle.std.specs.Prelude.{slice_index, slice_set}
 use Rattle.std.proofs.lemmas.List.{get_or-map, length-map, map-set, map-append, length-set, get_or-set_same, get_or-set_other, get_or_append_left, get_or_push, length_push}
 use Rattle.std.proofs.lemmas.List.Elements.{All-push, All-set}
 use Rattle.std.proofs.lemmas.Bool.{or_cases}
+use Rattle.std.proofs.Math.Bool.{and-true}
 use Rattle.lits.specs.Clause.{has}
 use Rattle.unit_prop.proofs.Facts.{contrary, has-filter}
 use Rattle.watch_lists.specs.State.{codes_at, pair_at, no_pair, first_two, pairs_of, arranged, moved, AreCopies, IsOther}
@@ -107,11 +108,7 @@ has-arranged pair clause q a b =
     go true d e f = sym (subst (λ (z : ℕ). has nat_eq clause z ≡ true) (same_exact pair.first q e) a)
     go false true e f = sym (subst (λ (z : ℕ). has nat_eq clause z ≡ true) (same_exact pair.second q f) b)
     go false false e f =
-        rw (is_literal-flip.equivalence.symm q pair.first ∙ e, is_literal-flip.equivalence.symm q pair.second ∙ f) (one (has nat_eq clause q))
-      where
-        one : (c : Bool) → (c && true) ≡ c
-        one true = refl
-        one false = refl
+        rw (is_literal-flip.equivalence.symm q pair.first ∙ e, is_literal-flip.equivalence.symm q pair.second ∙ f) (and-true (has nat_eq clause q))
 
 pub copies-push : (clauses work : List (List ℕ)) (pair : Pair) → AreCopies clauses work
     → has nat_eq (codes_at clauses (length work)) pair.first ≡ true → has nat_eq (codes_at clauses (length work)) pair.second ≡ true

@@ -1,10 +1,10 @@
 -- Codes and literals: what a crate above may cite.
-use Rattle.std.proofs.Common.{◌≡◌, ℕ, zero, suc, ◌*◌, ◌/◌, ◌%◌, ◌<◌, Bool, true, false, not, List, [], ◌∷◌, ◌++◌, length, map, refl, sym, ap, ◌∙◌, subst, arith, get_or, nat_eq, ◌⊎◌, inl, inr}
+use Rattle.std.proofs.Common.{◌≡◌, ℕ, zero, suc, ◌*◌, ◌/◌, ◌%◌, ◌<◌, Bool, true, false, not, List, [], ◌∷◌, ◌++◌, length, map, refl, sym, ap, ◌∙◌, subst, arith, get_or, nat_eq, inl, inr, ◌≤◌, nat_le}
 use Rattle.std.specs.Prelude.{◌==◌, slice_index_or}
 use Rattle.std.proofs.lemmas.List.{get_or_append_left, length-append}
 use Rattle.std.proofs.lemmas.List.Folds.{list_any_at}
 use Rattle.std.proofs.lemmas.Bool.Decides.{nat_tests}
-use Rattle.std.proofs.lemmas.Bool.{or_cases, or_left, or_right, and_parts}
+use Rattle.std.proofs.lemmas.Bool.{or_cases, or_left, or_right, and_parts, cases_order}
 use Rattle.lits.proofs.Facts.{same-node_self}
 use Rattle.lits.specs.Clause.{has, no_repeat}
 use Rattle.lits.specs.Same.{same_lit, same_node, opposite}
@@ -13,10 +13,9 @@ use Rattle.lits.specs.declared.node.Node.TheVariants.{Const}
 use Rattle.lits.specs.declared.literal.Lit.{Lit}
 use Rattle.unit_prop.proofs.Facts.{contrary, lit_laws}
 use Rattle.watch_lists.specs.Codes.{flip, lit_at, IsCode}
-use Rattle.watch_lists.proofs.FlipLemmas.{flip-even, flip-odd, flip-below, same_exact, is_literal-flip}
-
-parity : (l : ℕ) → (l % 2 ≡ 0) ⊎ (l % 2 ≡ 1)
-parity l = grind arith
+use Rattle.watch_lists.proofs.FlipLemmas.{parity, flip-even, flip-odd, flip-below, is_literal-flip}
+-- codes are equal exactly where their test says so
+pub use Rattle.watch_lists.proofs.FlipLemmas.{same_refl, same_exact}
 
 pub lit_at-node : (nodes : List Node) (c : ℕ) → (lit_at nodes c).node ≡ slice_index_or nodes (c / 2) Const
 unfolding lit_at
@@ -80,16 +79,13 @@ no_other (n ∷ ns) (suc a) (suc b) once h g e =
 
 -- a node has one number
 pub node-exact : (nodes : List Node) (a b : ℕ) → no_repeat same_node nodes ≡ true → a < length nodes → b < length nodes → get_or nodes a Const ≡ get_or nodes b Const → a ≡ b
-node-exact nodes a b once h g e = elim (cases3 a b) [
-  | inl less ↦ absurd (no_other nodes a b once less g e)
-  | inr rest ↦ elim rest [
-    | inl same ↦ same
+node-exact nodes a b once h g e = elim (cases_order a b) [
+  | inl same ↦ same
+  | inr other ↦ elim other [
+    | inl less ↦ absurd (no_other nodes a b once less g e)
     | inr more ↦ absurd (no_other nodes b a once more h (sym e))
   ]
 ]
-  where
-    cases3 : (a b : ℕ) → (a < b) ⊎ ((a ≡ b) ⊎ (b < a))
-    cases3 a b = grind arith
 
 -- a literal has one code
 pub lit_at-exact : (nodes : List Node) (a b : ℕ) → no_repeat same_node nodes ≡ true → IsCode nodes a → IsCode nodes b → lit_at nodes a ≡ lit_at nodes b → a ≡ b
@@ -106,6 +102,14 @@ lit_at-exact nodes a b once h g e =
         | inr q ↦ omega arith
       ]
     ]
+
+-- a number that isn't above another passes the test
+pub le-test : (a b : ℕ) → a ≤ b → nat_le a b ≡ true
+le-test a b h = grind (arith, nat_tests)
+
+-- a list has what stands at its places
+pub has-at : (xs : List ℕ) (i : ℕ) → i < length xs → has nat_eq xs (get_or xs i 0) ≡ true
+has-at xs i h = list_any_at (λ y. nat_eq y (get_or xs i 0)) xs i 0 h (is_literal-flip.equivalence.refl (get_or xs i 0))
 
 -- what stands among codes stands among their literals
 pub has-lits : (nodes : List Node) (codes : List ℕ) (c : ℕ) → has nat_eq codes c ≡ true → has same_lit (map (lit_at nodes) codes) (lit_at nodes c) ≡ true

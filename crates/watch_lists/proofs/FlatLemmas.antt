@@ -1,6 +1,6 @@
 -- Pieces of a flat list.
 use Rattle.std.proofs.Common.{Bool, true, false, ◌≡◌, ℕ, zero, suc, ◌+◌, ◌-◌, ◌<◌, ◌≤◌, List, [], ◌∷◌, ◌++◌, length, refl, sym, ap, ◌∙◌, subst, arith, get_or, take, drop, set, map, ◌⊎◌, inl, inr}
-use Rattle.std.proofs.lemmas.List.{same_lists, length-append, get_or-map, length-map, length-set, get_or-set_same, get_or-set_other, drop-set-add, drop-set-lt, take-set-le, take-append-le, drop-append-le, drop_at, take_all, length-take, length-drop, map-append, drop-take, take-take, take_more, get_or_append_left, get_or_push, length_push, set-set}
+use Rattle.std.proofs.lemmas.List.{same_lists, length-append, get_or-map, length-map, length-set, get_or-set_same, get_or-set_other, drop-set-add, drop-set-lt, take-set-le, take-append-le, drop-append-le, drop_at, take_all, length-take, length-drop, map-append, drop-take, take-take, take_more, get_or_append_left, get_or_push, length_push, set-set, append-nil}
 use Rattle.std.proofs.lemmas.List.Elements.{filter-append}
 use Rattle.std.specs.Prelude.{filter}
 use Rattle.watch_lists.specs.Flat.{piece, span_at, no_span, AreSpans}
@@ -166,7 +166,3 @@ filter-next p xs i x h read = (
   where
     whole : take (i + 1) xs ≡ take i xs ++ x ∷ []
     whole = take_more xs i x h ∙ ap (λ (y : ℕ). take i xs ++ y ∷ []) (sym read)
-
-    append-nil : (ys : List ℕ) → ys ++ [] ≡ ys
-    append-nil [] = refl
-    append-nil (y ∷ ys) = ap (λ (l : List ℕ). y ∷ l) (append-nil ys)

@@ -12,7 +12,8 @@ pub flip-odd : (l : ℕ) → l % 2 ≡ 1 → l - 1 ≡ flip l
 unfolding flip
 flip-odd l h = grind (arith, nat_tests)
 
-parity : (l : ℕ) → (l % 2 ≡ 0) ⊎ (l % 2 ≡ 1)
+-- a code is even or odd
+pub parity : (l : ℕ) → (l % 2 ≡ 0) ⊎ (l % 2 ≡ 1)
 parity l = grind arith
 
 pub flip-flip : (l : ℕ) → flip (flip l) ≡ l
@@ -24,7 +25,7 @@ flip-flip l = elim (parity l) [
 pub flip_apart : (l : ℕ) → l ≢ flip l
 flip_apart l s = elim (parity l) [ inl h ↦ let e = flip-even l h in omega arith | inr h ↦ let e = flip-odd l h in omega arith ]
 
-same_refl : (x : ℕ) → nat_eq x x ≡ true
+pub same_refl : (x : ℕ) → nat_eq x x ≡ true
 same_refl x = grind (arith, nat_tests)
 
 same_symm : (x y : ℕ) → nat_eq x y ≡ nat_eq y x

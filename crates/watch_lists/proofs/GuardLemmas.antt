@@ -1,17 +1,12 @@
 -- What guards give: a guarded clause forces nothing, and guards stay while literals are put and watches move.
 use Rattle.std.proofs.Common.{◌≡◌, Bool, true, false, ◌||◌, List, refl, sym, ap, ◌∙◌, subst, ◌⊎◌, inl, inr}
 use Rattle.std.specs.List.{list_any}
-use Rattle.std.proofs.lemmas.Bool.{or_cases, or_left, or_right}
+use Rattle.std.proofs.lemmas.Bool.{or_cases, or_left, or_right, cases_Bool}
 use Rattle.lits.specs.Clause.{has}
 use Rattle.lits.proofs.Facts.{IsLiteral, list_any-more}
 use Rattle.unit_prop.specs.Closure.{forces, is_negated}
 use Rattle.unit_prop.proofs.Facts.{contrary, witness, all-at}
 use Rattle.watch_lists.specs.Guard.{IsGuarded}
-
--- a test is true or false
-pub cases : (b : Bool) → (b ≡ true) ⊎ (b ≡ false)
-cases true = inl refl
-cases false = inr refl
 
 module _ {L : Type 0} {eq : L → L → Bool} {opposite : L → L} (laws : IsLiteral eq opposite) where
   -- a clause with a literal of the set isn't negated, and forces that literal alone
@@ -19,7 +14,7 @@ module _ {L : Type 0} {eq : L → L → Bool} {opposite : L → L} (laws : IsLit
       → list_any set clause ≡ true → is_negated opposite set clause ≡ false
   met-quiet set clause apart met =
       let w = witness laws set clause met in
-      elim (cases (is_negated opposite set clause)) [
+      elim (cases_Bool (is_negated opposite set clause)) [
         | inl h ↦ contrary _ (all-at laws _ clause w.0 h w.1) (apart w.0 w.2)
         | inr h ↦ h
       ]
@@ -36,7 +31,7 @@ module _ {L : Type 0} {eq : L → L → Bool} {opposite : L → L} (laws : IsLit
   pub guarded-quiet : (set : L → Bool) (clause : List L) (a b : L) → ((l : L) → set l ≡ true → set (opposite l) ≡ false)
       → IsGuarded eq opposite set set clause a b → is_negated opposite set clause ≡ false
   guarded-quiet set clause a b apart g =
-      elim (cases (is_negated opposite set clause)) [
+      elim (cases_Bool (is_negated opposite set clause)) [
         | inl h ↦ met-quiet set clause apart (g.first_kept (all-at laws _ clause a h g.first_in))
         | inr h ↦ h
       ]

@@ -8,9 +8,9 @@ use Rattle.watch_lists.specs.State.{height, IsMarked, IsBest}
 use Rattle.watch_lists.specs.declared.flat.Pair.{Pair}
 use Rattle.watch_lists.specs.declared.engine.Level.{Level}
 use Rattle.watch_lists.proofs.LevelLemmas.{place_of}
-use Rattle.watch_lists.proofs.VisitLemmas.{has-at}
 use Rattle.watch_lists.proofs.TrailLemmas.{has-take}
 use Rattle.watch_lists.proofs.FlipLemmas.{is_literal-flip, same_exact}
+use Rattle.watch_lists.proofs.Facts.{has-at}
 
 -- a literal whose negation stands at k first
 pub height-at : (xs : List ℕ) (l k : ℕ) → k < length xs → get_or xs k 0 ≡ flip l → ((j : ℕ) → j < k → get_or xs j 0 ≢ flip l) → height xs l ≡ k

@@ -4,7 +4,7 @@ use Rattle.std.specs.List.{list_any, AllByRecursion}
 use Rattle.std.specs.Prelude.{IfNone, IfSome}
 use Rattle.std.proofs.lemmas.List.{get_or-take, length-take-le, take_all, get_or_default}
 use Rattle.std.proofs.lemmas.List.Elements.{recursion_from_All, All-from_recursion}
-use Rattle.std.proofs.lemmas.Bool.{or_cases, or_left, or_right}
+use Rattle.std.proofs.lemmas.Bool.{or_cases, or_left, or_right, cases_Bool}
 use Rattle.lits.specs.Clause.{has}
 use Rattle.unit_prop.specs.Closure.{forces, is_negated, IsClosed, Clashes, IsClosure, ClosureClashes}
 use Rattle.unit_prop.specs.Propagation.{IsSettled}
@@ -15,7 +15,7 @@ use Rattle.watch_lists.specs.declared.engine.Engine.{Engine}
 use Rattle.watch_lists.specs.declared.flat.Pair.{Pair}
 use Rattle.watch_lists.specs.declared.engine.Level.{Level}
 use Rattle.watch_lists.proofs.FlipLemmas.{is_literal-flip, same_exact}
-use Rattle.watch_lists.proofs.GuardLemmas.{guarded-settled, guarded-quiet, cases}
+use Rattle.watch_lists.proofs.GuardLemmas.{guarded-settled, guarded-quiet}
 use Rattle.watch_lists.proofs.TrailLemmas.{has-take}
 use Rattle.watch_lists.proofs.CopyLemmas.{pairs-length}
 
@@ -86,7 +86,7 @@ module _ {clauses : List (List ℕ)} {truth : List Bool} {places trail : List �
       subst (λ (z : ℕ). p z ≡ true) (sym (get_or-take n trail w.place 0 b) ∙ w.is) (least-place p closed n (omega arith) w.place b)
 
   pub apart-level : (l : ℕ) → has nat_eq (take n trail) l ≡ true → has nat_eq (take n trail) (flip l) ≡ false
-  apart-level l inside = elim (cases (has nat_eq (take n trail) (flip l))) [
+  apart-level l inside = elim (cases_Bool (has nat_eq (take n trail) (flip l))) [
     | inl h ↦ contrary _ (has-take n trail (flip l) h) (is.apart l (has-take n trail l inside))
     | inr h ↦ h
   ]

@@ -1,7 +1,7 @@
 -- Lists of lists: what one place holds.
 use Rattle.std.proofs.Common.{Vec, Global, append_assoc, ◌≢◌, ◌+◌, ◌≤◌, take, ◌≡◌, ℕ, zero, suc, ◌<◌, List, [], ◌∷◌, ◌++◌, length, refl, sym, ap, ◌∙◌, subst, arith, get_or, map, set, Ok, Err}
 use Rattle.std.specs.Prelude.{Result, OnErr}
-use Rattle.std.proofs.lemmas.List.{take_more, length-take, get_or-take, get_or-set_other, get_or-set_same, length-set, length-append, map-append, take-append-le}
+use Rattle.std.proofs.lemmas.List.{take_more, length-take, get_or-take, get_or-set_other, get_or-set_same, length-set, length-append, map-append, take-append-le, get_or-map}
 use Rattle.watch_lists.specs.Lists.{AreSpare}
 use Rattle.watch_lists.specs.declared.lists.Watch.{Watch}
 use Rattle.std.proofs.lemmas.List.{map-set, length-map, set-get_or}
@@ -9,11 +9,6 @@ use Rattle.std.proofs.lemmas.List.{map-set, length-map, set-get_or}
 pub on_err : {T E : Type 0} {P : Type 0} (r : Result T E) → P → OnErr r P
 on_err (Ok x) p = tt
 on_err (Err e) p = p
-
-pub get_or-map : {A B : Type 0} (f : A → B) (xs : List A) (i : ℕ) (d : A) (e : B) → i < length xs → get_or (map f xs) i e ≡ f (get_or xs i d)
-get_or-map f [] i d e h = absurd (omega arith)
-get_or-map f (x ∷ xs) zero d e h = refl
-get_or-map f (x ∷ xs) (suc i) d e h = get_or-map f xs i d e (omega arith)
 
 pub map-read : {A B : Type 0} (f : A → B) (ls : List A) (now : List B) (i : ℕ) (x : A) (d : B)
     → map f ls ≡ now → i < length now → x ≡ get_or ls i x → get_or now i d ≡ f x

@@ -1,7 +1,8 @@
 -- Variables among literals without a sign.
 use Rattle.std.specs.Prelude.{IfNone}
-use Rattle.std.proofs.Common.{Option, Some, None, ◌≡◌, ℕ, zero, suc, ◌<◌, Bool, true, false, ◌&&◌, List, [], ◌∷◌, ◌++◌, length, map, refl, sym, ap, ◌∙◌, arith, inl, inr}
+use Rattle.std.proofs.Common.{Option, Some, None, ◌≡◌, ℕ, zero, suc, ◌<◌, Bool, true, false, List, [], ◌∷◌, ◌++◌, length, map, refl, sym, ap, ◌∙◌, arith, inl, inr}
 use Rattle.std.proofs.lemmas.List.{length_push, get_or_append_left, get_or_push}
+use Rattle.std.proofs.Math.Bool.{and-true}
 use Rattle.lits.specs.Clause.{has}
 use Rattle.lits.specs.Same.{same_lit, same_node}
 use Rattle.lits.specs.declared.node.Node.{Node}
@@ -14,11 +15,7 @@ same_plain x node e = go x.neg e
   where
     go : (b : Bool) → b ≡ false → same_lit (record { node = x.node; neg = b }) (record { node = node; neg = false }) ≡ same_node x.node node
     go true f = cc
-    go false f = either (same_node x.node node)
-      where
-        either : (c : Bool) → (c && true) ≡ c
-        either true = refl
-        either false = refl
+    go false f = and-true (same_node x.node node)
 
 pub has-variables : (lits : List Lit) (node : Node) → AreVariables lits → has same_lit lits (record { node = node; neg = false }) ≡ has same_node (map (λ l. l.node) lits) node
 has-variables [] node are = refl

@@ -1,7 +1,7 @@
 -- How numbers are given, one literal after another.
 use Rattle.std.proofs.Common.{◌≡◌, ℕ, ◌+◌, ◌<◌, List, [], ◌∷◌, ◌++◌, length, map, take, drop, refl, sym, ap, ◌∙◌, subst, get_or, inl, inr}
 use Rattle.std.specs.List.{list_any, All}
-use Rattle.std.proofs.lemmas.List.{take_more, take-append-drop, map-append, get_or_default}
+use Rattle.std.proofs.lemmas.List.{take_more, take-append-drop, map-append, get_or_default, append-nil}
 use Rattle.std.proofs.lemmas.List.Elements.{All-push}
 use Rattle.std.proofs.lemmas.List.Folds.{list_any-append}
 use Rattle.std.proofs.lemmas.Bool.{or_cases, or_left, or_right}
@@ -17,16 +17,12 @@ use Rattle.watch_lists.proofs.Facts.{code-more}
 use Rattle.watch_lists.proofs.TransferLemmas.{lits_at}
 use Rattle.watch_lists.proofs.PutsLemmas.{all-are, lits-more}
 
-append_nil : {X : Type 0} (xs : List X) → xs ++ [] ≡ xs
-append_nil [] = refl
-append_nil {X} (x ∷ xs) = ap (λ (l : List X). x ∷ l) (append_nil xs)
-
 append_twice : {X : Type 0} (xs ys zs : List X) → (xs ++ ys) ++ zs ≡ xs ++ (ys ++ zs)
 append_twice [] ys zs = refl
 append_twice {X} (x ∷ xs) ys zs = ap (λ (l : List X). x ∷ l) (append_twice xs ys zs)
 
 pub numbers-refl : (nodes : List Node) (lits : List Lit) → Numbers nodes lits nodes
-numbers-refl nodes lits = record { more = []; behind = sym (append_nil nodes); from = λ n h. contrary _ h refl }
+numbers-refl nodes lits = record { more = []; behind = sym (append-nil nodes); from = λ n h. contrary _ h refl }
 
 pub numbers-more : (old new : List Node) (xs ys : List Lit) → Numbers old xs new → Numbers old (xs ++ ys) new
 numbers-more old new xs ys n = record {

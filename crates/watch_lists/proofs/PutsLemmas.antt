@@ -1,16 +1,17 @@
 -- What each call makes of the puts.
-use Rattle.std.proofs.Common.{◌≡◌, ℕ, zero, suc, ◌+◌, ◌*◌, ◌<◌, ◌≤◌, ◌^◌, Bool, true, false, not, ◌||◌, List, [], ◌∷◌, ◌++◌, length, map, take, drop, refl, sym, ap, ◌∙◌, subst, rules, arith, get_or, nat_eq, ◌⊎◌, inl, inr, Option, Some, None}
+use Rattle.std.proofs.Common.{◌≡◌, ℕ, zero, suc, ◌+◌, ◌*◌, ◌<◌, ◌≤◌, ◌^◌, Bool, true, false, not, List, [], ◌∷◌, ◌++◌, length, map, take, drop, refl, sym, ap, ◌∙◌, subst, arith, get_or, nat_eq, inl, inr, Option, Some, None}
 use Rattle.std.specs.Prelude.{is_none, min, IfNone, IfSome}
 use Rattle.std.specs.List.{list_any, AllByRecursion, All}
 use Rattle.std.proofs.lemmas.List.{get_or-map, length-map, map-append, get_or-take, length-take, length-take-le, length-append, length_push, take_all, take-append-drop, same_lists, get_or_past, get_or_default, get_or_append_left, get_or_push, get_or-drop, length-drop}
 use Rattle.std.proofs.lemmas.List.Elements.{All-from_recursion}
 use Rattle.std.proofs.lemmas.Map.Steps.{length-le_from_distinct_below}
 use Rattle.std.proofs.lemmas.Bool.Decides.{nat_tests}
-use Rattle.std.proofs.lemmas.Bool.{or_cases, or_left, or_right, and_parts}
+use Rattle.std.proofs.lemmas.Bool.{or_cases, or_left, or_right, and_parts, not-true, or_parts, cases_lt}
 use Rattle.lits.specs.Clause.{has, no_repeat}
 use Rattle.lits.specs.Same.{same_lit, same_node, opposite}
 use Rattle.lits.specs.declared.node.Node.{Node}
 use Rattle.lits.specs.declared.literal.Lit.{Lit}
+use Rattle.lits.proofs.Facts.{exact-node, same-node_self}
 use Rattle.unit_prop.specs.Closure.{forces, is_negated, Clashes, IsClosure, ClosureClashes}
 use Rattle.unit_prop.specs.Propagation.{IsSettled}
 use Rattle.unit_prop.proofs.Facts.{contrary}
@@ -23,18 +24,14 @@ use Rattle.watch_lists.specs.declared.put.Put.{Put}
 use Rattle.watch_lists.specs.declared.engine.Engine.{Engine}
 use Rattle.watch_lists.specs.declared.engine.Level.{Level}
 use Rattle.watch_lists.proofs.FlipLemmas.{same_exact, is_literal-flip}
-use Rattle.watch_lists.proofs.Facts.{lit_at-more, code-more}
+use Rattle.watch_lists.proofs.Facts.{lit_at-more, code-more, has-at}
 use Rattle.watch_lists.proofs.TransferLemmas.{lits_at, clauses_at, AreCodes, negated-same, settled-down, closure-up, closure_clashes-up}
 use Rattle.watch_lists.proofs.TrailLemmas.{has-symm}
 use Rattle.watch_lists.proofs.LevelLemmas.{place_of}
-use Rattle.watch_lists.proofs.VisitLemmas.{has-at}
 use Rattle.watch_lists.proofs.WatchLemmas.{decide}
 use Rattle.watch_lists.proofs.GrowLemmas.{engine-empty, engine-grown}
 use Rattle.watch_lists.proofs.TurnLemmas.{engine-same}
 use Rattle.watch_lists.proofs.WholeLemmas.{clause-at, same-length, reasons-length, lit-at, by-at, codes-take, all-codes, lits-take, reasons-take, decisions-take, codes-decided, up_to-take, up_to-all}
-
-within_or : (a b : ℕ) → (a < b) ⊎ (b ≤ a)
-within_or a b = grind arith
 
 pub whole-empty : (nodes : List Node) (e : Engine) (puts : List Put) (capacity : ℕ) → nodes ≡ [] → IsEmpty e → puts ≡ [] → IsWhole nodes e puts capacity
 whole-empty nodes e puts capacity no_nodes is no_puts = rw (no_nodes, no_puts) (record {
@@ -68,34 +65,19 @@ once-push : (nodes : List Node) (node : Node) → no_repeat same_node nodes ≡ 
 once-push [] node once fresh = refl
 once-push (n ∷ ns) node once fresh =
     let parts = and_parts (not (has same_node ns n)) (no_repeat same_node ns) once in
-    let both_apart = split (same_node n node) (has same_node ns node) fresh in
-    rw (once-push ns node parts.1 both_apart.1, lacks ns n node (flip_not (has same_node ns n) parts.0) both_apart.0) refl
+    let both_apart = or_parts (same_node n node) (has same_node ns node) fresh in
+    rw (once-push ns node parts.1 both_apart.1, lacks ns n node (not-true (has same_node ns n) parts.0) both_apart.0) refl
   where
-    split : (a b : Bool) → (a || b) ≡ false → (a ≡ false) × (b ≡ false)
-    split false false h = (refl, refl)
-    split true b h = cc
-    split false true h = cc
-
-    flip_not : (b : Bool) → not b ≡ true → b ≡ false
-    flip_not true h = cc
-    flip_not false h = refl
-
     same_symm : (x y : Node) → same_node x y ≡ false → same_node y x ≡ false
     same_symm x y h = go (same_node y x) refl
       where
-        exact : (x y : Node) → same_node x y ≡ true → x ≡ y
-        exact = search rules
-
-        self : (x : Node) → same_node x x ≡ true
-        self = search rules
-
         go : (b : Bool) → same_node y x ≡ b → same_node y x ≡ false
         go false e = e
-        go true e = contrary _ (subst (λ (z : Node). same_node z y ≡ true) (exact y x e) (self y)) h
+        go true e = contrary _ (subst (λ (z : Node). same_node z y ≡ true) (exact-node y x e) (same-node_self y)) h
 
     lacks : (ms : List Node) (n node : Node) → has same_node ms n ≡ false → same_node n node ≡ false → has same_node (ms ++ node ∷ []) n ≡ false
     lacks [] n node a b = rw (same_symm n node b) refl
-    lacks (m ∷ ms) n node a b = let parts = split (same_node m n) (has same_node ms n) a in rw (parts.0, lacks ms n node parts.1 b) refl
+    lacks (m ∷ ms) n node a b = let parts = or_parts (same_node m n) (has same_node ms n) a in rw (parts.0, lacks ms n node parts.1 b) refl
 
 module _ {nodes : List Node} {e : Engine} {puts : List Put} {capacity : ℕ} (whole : IsWhole nodes e puts capacity) where
   pub whole-numbered : (node : Node) → has same_node nodes node ≡ false → 2 * length nodes + 2 ≤ length e.truth.items → IsWhole (nodes ++ node ∷ []) e puts capacity
@@ -158,7 +140,7 @@ module _ {nodes : List Node} {e : Engine} {puts : List Put} {capacity : ℕ} (wh
     once = whole.once;
     size = rw added.truth whole.size;
     room = rw added.truth whole.room;
-    clauses = λ i c h. elim (within_or i (length e.clauses)) [
+    clauses = λ i c h. elim (cases_lt i (length e.clauses)) [
       | inl before ↦ whole.clauses i c (subst (λ (z : List ℕ). has nat_eq z c ≡ true) (ap (λ (cs : List (List ℕ)). codes_at cs i) added.clauses ∙ get_or_append_left e.clauses (codes ∷ []) [] i before) h)
       | inr past ↦ elim (decide i (length e.clauses)) [
         | inl last ↦ are c (subst (λ (z : List ℕ). has nat_eq z c ≡ true) (ap (λ (cs : List (List ℕ)). codes_at cs i) added.clauses ∙ get_or_push e.clauses codes [] i (sym last)) h)
@@ -320,7 +302,7 @@ module _ {nodes : List Node} {e : Engine} {puts : List Put} {capacity : ℕ} (wh
       inside k a = (omega (arith, length-take (level_at e.levels.items count).start puts), omega (arith, length-take (level_at e.levels.items count).start puts))
 
       lower : (k : ℕ) → k < (level_at e.levels.items count).start → k < length puts → (put_at puts k).level ≤ count
-      lower k a b = elim (within_or count (put_at puts k).level) [
+      lower k a b = elim (cases_lt count (put_at puts k).level) [
         | inl f ↦ let s = whole.starts k count b f in absurd (omega arith)
         | inr f ↦ f
       ]
@@ -352,7 +334,7 @@ module _ {nodes : List Node} {e : Engine} {puts : List Put} {capacity : ℕ} (wh
 
     -- what is put is of a clause
     pub stays-code : (k : ℕ) → k < length new.trail.items → IsCode nodes (get_or new.trail.items k 0)
-    stays-code k h = elim (within_or k (length e.trail.items)) [
+    stays-code k h = elim (cases_lt k (length e.trail.items)) [
       | inl before ↦ subst (λ (z : ℕ). IsCode nodes z) (sym (ap (λ (l : List ℕ). get_or l k 0) stays.grows.trail) ∙ get_or-take (length e.trail.items) new.trail.items k 0 before)
           (whole.codes (get_or e.trail.items k 0) (has-at e.trail.items k before))
       | inr past ↦ go (get_or new.reasons.items k None) (stays.grows.forced k (omega (arith, old_reasons)) (omega (arith, reasons_all))) (engine.trail.justified k h)
@@ -370,13 +352,13 @@ module _ {nodes : List Node} {e : Engine} {puts : List Put} {capacity : ℕ} (wh
       old_put k h = sym (get_or-take (length puts) puts1 k no_put h) ∙ ap (λ (l : List Put). get_or l k no_put) told.kept
 
       lit_new : (k : ℕ) → k < length puts1 → (put_at puts1 k).lit ≡ lit_at nodes (get_or new.trail.items k 0)
-      lit_new k h = elim (within_or k (length puts)) [
+      lit_new k h = elim (cases_lt k (length puts)) [
         | inl before ↦ ap (λ (p : Put). p.lit) (old_put k before) ∙ (lit-at whole k before ∙ ap (lit_at nodes) (sym (ap (λ (l : List ℕ). get_or l k 0) stays.grows.trail) ∙ get_or-take (length e.trail.items) new.trail.items k 0 (omega (arith, same-length whole))))
         | inr past ↦ ap (λ (p : Put). p.lit) (told.told k past (omega (arith, told.size)))
       ]
 
       by_new : (k : ℕ) → k < length puts1 → (put_at puts1 k).by ≡ get_or new.reasons.items k None
-      by_new k h = elim (within_or k (length puts)) [
+      by_new k h = elim (cases_lt k (length puts)) [
         | inl before ↦ ap (λ (p : Put). p.by) (old_put k before) ∙ (by-at whole k before ∙ (sym (ap (λ (l : List (Option ℕ)). get_or l k None) stays.grows.reasons) ∙ get_or-take (length e.reasons.items) new.reasons.items k None (omega (arith, reasons-length whole))))
         | inr past ↦ ap (λ (p : Put). p.by) (told.told k past (omega (arith, told.size)))
       ]
@@ -395,18 +377,18 @@ module _ {nodes : List Node} {e : Engine} {puts : List Put} {capacity : ℕ} (wh
         reasons = same_lists _ _ (omega (arith, length-map puts1 (λ (p : Put). p.by), told.size, reasons_all))
             (λ k d h. let b : k < length puts1 = omega (arith, length-map puts1 (λ (p : Put). p.by)) in
             get_or-map (λ (p : Put). p.by) puts1 k no_put d b ∙ (by_new k b ∙ get_or_default new.reasons.items k None d (omega (arith, told.size, reasons_all))));
-        started = λ k i a b c. elim (within_or k (length puts)) [
+        started = λ k i a b c. elim (cases_lt k (length puts)) [
           | inl before ↦ rw (old_put k before) (whole.started k i before (omega (arith, ap length stays.levels)) (subst (λ (l : List Level). (level_at l i).start ≤ k) stays.levels c))
           | inr past ↦ rw (told.told k past (omega (arith, told.size))) b
         ];
-        starts = λ k i a b. elim (within_or k (length puts)) [
+        starts = λ k i a b. elim (cases_lt k (length puts)) [
           | inl before ↦ let c : i < (put_at puts k).level = rw (old_put k before) at b in rw stays.levels (whole.starts k i before c)
           | inr past ↦
               let c : i < length new.levels.items = rw (told.told k past (omega (arith, told.size))) at b in
               let i_in : i < length e.levels.items = omega (arith, ap length stays.levels) in
               rw stays.levels (let w = whole.engine.trail.levels_are.within i no_level i_in in omega (arith, reasons-length whole))
         ];
-        most = λ k a. elim (within_or k (length puts)) [
+        most = λ k a. elim (cases_lt k (length puts)) [
           | inl before ↦ rw (old_put k before, stays.levels) (whole.most k before)
           | inr past ↦ rw (told.told k past (omega (arith, told.size))) (omega arith)
         ];

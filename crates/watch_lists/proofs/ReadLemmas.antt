@@ -16,10 +16,9 @@ use Rattle.watch_lists.specs.Trail.{put_at, clause_at, lits_of}
 use Rattle.watch_lists.specs.Whole.{IsWhole}
 use Rattle.watch_lists.specs.declared.put.Put.{Put}
 use Rattle.watch_lists.specs.declared.engine.Engine.{Engine}
-use Rattle.watch_lists.proofs.Facts.{lit_at-flip, has-lits, has-same, code-of, flip-code}
+use Rattle.watch_lists.proofs.Facts.{lit_at-flip, has-lits, has-same, code-of, flip-code, has-at}
 use Rattle.watch_lists.proofs.TransferLemmas.{lits_at, clauses_at}
 use Rattle.watch_lists.proofs.LevelLemmas.{place_of}
-use Rattle.watch_lists.proofs.VisitLemmas.{has-at}
 use Rattle.watch_lists.proofs.WholeLemmas.{clause-at, same-length, lit-at}
 
 -- the literal that a number and a sign make

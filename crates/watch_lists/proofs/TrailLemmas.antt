@@ -7,7 +7,7 @@ use Rattle.std.proofs.lemmas.Bool.Decides.{nat_tests}
 use Rattle.std.proofs.lemmas.List.Folds.{list_any_at}
 use Rattle.std.proofs.lemmas.Map.Keys.{IsDistinct-push}
 use Rattle.std.proofs.lemmas.Map.Steps.{length-le_from_distinct_below}
-use Rattle.std.proofs.lemmas.Bool.{or_cases, or_left, or_right}
+use Rattle.std.proofs.lemmas.Bool.{or_cases, or_left, or_right, cases_lt, cases_Bool}
 use Rattle.lits.specs.Clause.{has}
 use Rattle.lits.proofs.Facts.{list_any-more}
 use Rattle.lits.proofs.Facts as clause_lemmas
@@ -19,7 +19,7 @@ use Rattle.watch_lists.specs.declared.lists.Watch.{Watch}
 use Rattle.watch_lists.specs.declared.flat.Pair.{Pair}
 use Rattle.watch_lists.specs.declared.engine.Level.{Level}
 use Rattle.watch_lists.proofs.FlipLemmas.{is_literal-flip, same_exact, flip_differs, flip-below}
-use Rattle.watch_lists.proofs.GuardLemmas.{guarded-more, cases}
+use Rattle.watch_lists.proofs.GuardLemmas.{guarded-more}
 use Rattle.watch_lists.proofs.WatchLemmas.{decide}
 
 pub has-append : (xs ys : List ℕ) (q : ℕ) → has nat_eq (xs ++ ys) q ≡ (has nat_eq xs q || has nat_eq ys q)
@@ -99,7 +99,7 @@ module _ {clauses : List (List ℕ)} {truth : List Bool} {places trail : List �
           either false b e = rw e refl
 
       other : (l : ℕ) → has nat_eq trail l ≡ true → nat_eq x (flip l) ≡ false
-      other l old = elim (cases (nat_eq x (flip l))) [
+      other l old = elim (cases_Bool (nat_eq x (flip l))) [
         | inr f ↦ f
         | inl e ↦
             let same : l ≡ flip x = sym (is_literal-flip.twice l) ∙ ap flip (sym (same_exact x (flip l) e)) in
@@ -148,13 +148,10 @@ turned-put {clauses} {pairs} {trail} x turned = record { each = λ i h e. elim (
 
 pub trail-below : {clauses : List (List ℕ)} {truth : List Bool} {places trail : List ℕ} {reasons : List (Option ℕ)} {levels : List Level} {head : ℕ}
     → IsMarked clauses truth places trail reasons levels head → (q : ℕ) → has nat_eq trail q ≡ true → q < length truth
-trail-below {clauses} {truth} is q h = elim (decide_lt q (length truth)) [
+trail-below {clauses} {truth} is q h = elim (cases_lt q (length truth)) [
   | inl lt ↦ lt
   | inr past ↦ contrary _ h (sym (is.marks q) ∙ get_or_past truth q false past)
 ]
-  where
-    decide_lt : (a b : ℕ) → (a < b) ⊎ (b ≤ a)
-    decide_lt a b = grind arith
 
 -- the trail has no more literals than there are
 pub trail-most : {clauses : List (List ℕ)} {truth : List Bool} {places trail : List ℕ} {reasons : List (Option ℕ)} {levels : List Level} {head : ℕ}

@@ -3,7 +3,7 @@ use Rattle.std.proofs.Common.{◌≡◌, ◌≢◌, ℕ, ◌+◌, ◌<◌, ◌�
 use Rattle.std.specs.List.{swap_remove, All}
 use Rattle.std.specs.Prelude.{slice_index_or, slice_index, slice_set, is_none}
 use Rattle.std.proofs.lemmas.List.{get_or-set_same, get_or_append_left, get_or_read, get_or_push, get_or-take, length-set, length_push, length-take, take-take, take_all, take_more, take-append-le}
-use Rattle.std.proofs.lemmas.Bool.{or_cases}
+use Rattle.std.proofs.lemmas.Bool.{or_cases, cases_lt}
 use Rattle.lits.specs.Clause.{has}
 use Rattle.watch_lists.specs.Codes.{flip}
 use Rattle.watch_lists.specs.State.{codes_at, pair_at, list_at, watch_at, is_met, IsJustified, IsEngine, IsTurn, IsOther, IsLinked, HasWatch, Holds, Stays, Grows, Guards, pushed, pairs_of, moved, arranged}
@@ -15,8 +15,9 @@ use Rattle.watch_lists.proofs.WatchLemmas.{watched-drop, length-swap_remove, wat
 use Rattle.watch_lists.proofs.TrailLemmas.{trail-put, watched-put, turned-put, has-push_cases, trail-below, settled-put, levels-put, starts-most, heads-most, flips}
 use Rattle.watch_lists.proofs.FlipLemmas.{is_literal-flip, same_exact}
 use Rattle.watch_lists.proofs.GuardLemmas.{guarded-turned}
-use Rattle.watch_lists.proofs.VisitLemmas.{turned-drop, turn-false, has-at, moved-watched, moved-list, moved-size, moved-turned, turn-clause}
+use Rattle.watch_lists.proofs.VisitLemmas.{turned-drop, turn-false, moved-watched, moved-list, moved-size, moved-turned, turn-clause}
 use Rattle.watch_lists.proofs.CopyLemmas.{pairs-length, pairs-moved, pairs-push, copies-moved, copies-push}
+use Rattle.watch_lists.proofs.Facts.{has-at}
 
 pub engine-put : (old new : Engine) (x by : ℕ) → IsEngine old → IsPut old x (Some by) new → x < length old.truth.items
     → has nat_eq old.trail.items x ≡ false → has nat_eq old.trail.items (flip x) ≡ false → IsJustified old.clauses old.trail.items x (Some by) → IsEngine new
@@ -126,14 +127,11 @@ pub grows-trans : (a b c : List ℕ) (p q r : List (Option ℕ)) → Grows a b p
 grows-trans a b c p q r g h = record {
   trail = take-trans a b c g.trail h.trail;
   reasons = take-trans p q r g.reasons h.reasons;
-  forced = λ k low high. elim (within k (length q)) [
+  forced = λ k low high. elim (cases_lt k (length q)) [
     | inl inner ↦ subst (λ (o : Option ℕ). is_none o ≡ false) (sym (ap (λ (z : List (Option ℕ)). get_or z k None) h.reasons) ∙ get_or-take (length q) r k None inner) (g.forced k low inner)
     | inr outer ↦ h.forced k outer high
   ];
 }
-  where
-    within : (a b : ℕ) → (a < b) ⊎ (b ≤ a)
-    within a b = grind arith
 
 pub grows-refl : (a : List ℕ) (p : List (Option ℕ)) → Grows a a p p
 grows-refl a p = record { trail = take_all (length a) a (omega arith); reasons = take_all (length p) p (omega arith); forced = λ k low high. absurd (omega arith) }

@@ -3,8 +3,7 @@ use Rattle.std.proofs.Common.{◌≡◌, ◌≢◌, ℕ, ◌+◌, ◌<◌, ◌�
 use Rattle.std.specs.List.{swap_remove}
 use Rattle.std.specs.Prelude.{slice_index_or, slice_index, slice_set}
 use Rattle.std.proofs.lemmas.List.{get_or-set_same, get_or-set_other, get_or_read, get_or_default, length-set}
-use Rattle.std.proofs.lemmas.List.Folds.{list_any_at}
-use Rattle.std.proofs.lemmas.Bool.{or_cases, or_left, or_right}
+use Rattle.std.proofs.lemmas.Bool.{or_cases, or_left, or_right, cases_Bool}
 use Rattle.lits.specs.Clause.{has}
 use Rattle.unit_prop.specs.Closure.{forces, is_negated}
 use Rattle.unit_prop.proofs.Facts.{contrary, all-true, passes}
@@ -16,8 +15,9 @@ use Rattle.watch_lists.specs.declared.engine.Engine.{Engine}
 use Rattle.watch_lists.specs.declared.lists.Watch.{Watch}
 use Rattle.watch_lists.specs.declared.flat.Pair.{Pair}
 use Rattle.watch_lists.specs.declared.engine.Level.{Level}
+use Rattle.watch_lists.proofs.Facts.{has-at}
 use Rattle.watch_lists.proofs.FlipLemmas.{is_literal-flip, same_exact}
-use Rattle.watch_lists.proofs.GuardLemmas.{cases, guarded-moved, guarded-swap}
+use Rattle.watch_lists.proofs.GuardLemmas.{guarded-moved, guarded-swap}
 use Rattle.watch_lists.proofs.WatchLemmas.{decide, has_watch-next, has_watch-drop, has_watch-last, length-swap_remove, watched-push, watched-pair, watched-drop}
 use Rattle.watch_lists.proofs.TrailLemmas.{has-take}
 
@@ -88,7 +88,7 @@ pub all-negated : (trail clause : List ℕ) (other : ℕ) → has nat_eq trail (
     → ((l : ℕ) → has nat_eq clause l ≡ true → nat_eq other l ≡ false → has nat_eq trail (flip l) ≡ true)
     → is_negated flip (has nat_eq trail) clause ≡ true
 all-negated trail clause other here others =
-    all-true is_literal-flip (λ m. has nat_eq trail (flip m)) clause (λ m inside. elim (cases (nat_eq other m)) [
+    all-true is_literal-flip (λ m. has nat_eq trail (flip m)) clause (λ m inside. elim (cases_Bool (nat_eq other m)) [
       | inl same ↦ subst (λ (z : ℕ). has nat_eq trail (flip z) ≡ true) (same_exact other m same) here
       | inr apart ↦ others m inside apart
     ])
@@ -98,7 +98,7 @@ pub all-forces : (trail clause : List ℕ) (other : ℕ)
     → ((l : ℕ) → has nat_eq clause l ≡ true → nat_eq other l ≡ false → has nat_eq trail (flip l) ≡ true)
     → forces nat_eq flip (has nat_eq trail) clause other ≡ true
 all-forces trail clause other others =
-    all-true is_literal-flip (λ m. nat_eq m other || has nat_eq trail (flip m)) clause (λ m inside. elim (cases (nat_eq other m)) [
+    all-true is_literal-flip (λ m. nat_eq m other || has nat_eq trail (flip m)) clause (λ m inside. elim (cases_Bool (nat_eq other m)) [
       | inl same ↦ or_left _ _ (is_literal-flip.equivalence.symm m other ∙ same)
       | inr apart ↦ or_right (nat_eq m other) _ (others m inside apart)
     ])
@@ -156,7 +156,7 @@ module _ {clauses : List (List ℕ)} {pairs : List Pair} {lists : List (List Wat
           guarded-moved (has nat_eq past) (has nat_eq now) (codes_at clauses j) other lit new inside lacks fresh turned
         where
           lacks : has nat_eq past (flip new) ≡ false
-          lacks = elim (cases (has nat_eq past (flip new))) [ inl h ↦ contrary _ (less (flip new) h) free | inr h ↦ h ]
+          lacks = elim (cases_Bool (has nat_eq past (flip new))) [ inl h ↦ contrary _ (less (flip new) h) free | inr h ↦ h ]
 
           turned : IsGuarded nat_eq flip (has nat_eq past) (has nat_eq now) (codes_at clauses j) other lit
           turned = elim is_other.either [
@@ -220,10 +220,6 @@ turn-next turn j here met = record {
   is = turn.is;
   turned = turned-next j here met turn.turned;
 }
-
--- an element is in its list
-pub has-at : (xs : List ℕ) (i : ℕ) → i < length xs → has nat_eq xs (get_or xs i 0) ≡ true
-has-at xs i h = list_any_at (λ y. nat_eq y (get_or xs i 0)) xs i 0 h (is_literal-flip.equivalence.refl (get_or xs i 0))
 
 -- the literal whose turn it is is false
 pub turn-false : {e : Engine} {lit at : ℕ} → IsTurn e lit at → has nat_eq e.trail.items (flip lit) ≡ true

@@ -4,6 +4,7 @@ use Rattle.std.specs.List.{swap_remove, All}
 use Rattle.std.specs.Prelude.{slice_set}
 use Rattle.std.proofs.lemmas.List.{get_or_append_left, get_or_push, length_push, get_or-take, get_or-set_same, get_or-set_other, length-set, length-take-le, set_past, get_or_default, take_at, set-set, set-get_or}
 use Rattle.std.proofs.lemmas.List.Elements.{All-push, All-set, All-take}
+use Rattle.std.proofs.lemmas.Bool.{cases_lt}
 use Rattle.lits.specs.Clause.{has}
 use Rattle.watch_lists.specs.State.{no_watch, no_pair, codes_at, pair_at, list_at, watch_at, pushed, HasWatch, Guards, AreGuards, IsLinked, IsWatch, AreWatches, AreWatched}
 use Rattle.watch_lists.specs.declared.lists.Watch.{Watch}
@@ -17,14 +18,11 @@ decide a b = grind arith
 pub each-set : {X : Type 0} (P : X → Type 0) (xs : List X) (i : ℕ) (y d : X) → ((k : ℕ) → P (get_or xs k d)) → P y → (k : ℕ) → P (get_or (set xs i y) k d)
 each-set {X} P xs i y d each here k = elim (decide k i) [
   | inr apart ↦ subst (λ (z : X). P z) (sym (get_or-set_other xs i k y d apart)) (each k)
-  | inl same ↦ elim (within i (length xs)) [
+  | inl same ↦ elim (cases_lt i (length xs)) [
     | inl lt ↦ subst (λ (j : ℕ). P (get_or (set xs i y) j d)) (sym same) (subst (λ (z : X). P z) (sym (get_or-set_same xs i y d lt)) here)
     | inr past ↦ subst (λ (z : List X). P (get_or z k d)) (sym (set_past xs i y past)) (each k)
   ]
 ]
-  where
-    within : (a b : ℕ) → (a < b) ⊎ (b ≤ a)
-    within a b = grind arith
 
 -- a watch stays where another is pushed
 pub has_watch-push : (list : List Watch) (w : Watch) (from i : ℕ) → HasWatch list from i → HasWatch (list ++ w ∷ []) from i
@@ -98,16 +96,13 @@ has_watch-next list at i h = elim (decide h.place at) [
 pub has_watch-pushed : (lists : List (List Watch)) (l k i : ℕ) (w : Watch) → HasWatch (list_at lists k) 0 i → HasWatch (list_at (pushed lists l w) k) 0 i
 has_watch-pushed lists l k i w h = elim (decide k l) [
   | inr apart ↦ subst (λ (z : List Watch). HasWatch z 0 i) (sym (get_or-set_other lists l k (list_at lists l ++ w ∷ []) [] apart)) h
-  | inl same ↦ elim (within l (length lists)) [
+  | inl same ↦ elim (cases_lt l (length lists)) [
     | inl lt ↦ subst (λ (j : ℕ). HasWatch (list_at (set lists l (list_at lists l ++ w ∷ [])) j) 0 i) (sym same)
         (subst (λ (z : List Watch). HasWatch z 0 i) (sym (get_or-set_same lists l (list_at lists l ++ w ∷ []) [] lt))
         (has_watch-push (list_at lists l) w 0 i (subst (λ (j : ℕ). HasWatch (list_at lists j) 0 i) same h)))
     | inr past ↦ subst (λ (z : List (List Watch)). HasWatch (list_at z k) 0 i) (sym (set_past lists l (list_at lists l ++ w ∷ []) past)) h
   ]
 ]
-  where
-    within : (a b : ℕ) → (a < b) ⊎ (b ≤ a)
-    within a b = grind arith
 
 module _ {clauses : List (List ℕ)} {pairs : List Pair} {lists : List (List Watch)} {trail : List ℕ} {levels : List Level} {head : ℕ}
     (watched : AreWatched clauses pairs lists trail levels head) where
@@ -180,16 +175,13 @@ module _ {clauses : List (List ℕ)} {pairs : List Pair} {lists : List (List Wat
       fewer : (k i : ℕ) → (k ≡ l → (watch_at (list_at lists l) at).clause ≢ i) → HasWatch (list_at lists k) 0 i → HasWatch (list_at (slice_set lists l (swap_remove (list_at lists l) at d)) k) 0 i
       fewer k i apart h = elim (decide k l) [
         | inr other ↦ subst (λ (z : List Watch). HasWatch z 0 i) (sym (get_or-set_other lists l k (swap_remove (list_at lists l) at d) [] other)) h
-        | inl same ↦ elim (inside l (length lists)) [
+        | inl same ↦ elim (cases_lt l (length lists)) [
           | inl lt ↦ subst (λ (j : ℕ). HasWatch (list_at (set lists l (swap_remove (list_at lists l) at d)) j) 0 i) (sym same)
               (subst (λ (z : List Watch). HasWatch z 0 i) (sym (get_or-set_same lists l (swap_remove (list_at lists l) at d) [] lt))
               (has_watch-drop (list_at lists l) at 0 i d within (omega arith) (apart same) (subst (λ (j : ℕ). HasWatch (list_at lists j) 0 i) same h)))
           | inr past ↦ subst (λ (z : List (List Watch)). HasWatch (list_at z k) 0 i) (sym (set_past lists l (swap_remove (list_at lists l) at d) past)) h
         ]
       ]
-        where
-          inside : (a b : ℕ) → (a < b) ⊎ (b ≤ a)
-          inside a b = grind arith
 
 -- a push is undone
 pub pushed-back : (lists : List (List Watch)) (l : ℕ) (w : Watch) → l < length lists

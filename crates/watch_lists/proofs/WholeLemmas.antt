@@ -6,7 +6,6 @@ use Rattle.std.proofs.lemmas.List.{take-map, get_or-map, length-map, take_all, g
 use Rattle.std.proofs.lemmas.List.Elements.{recursion_from_All}
 use Rattle.std.proofs.lemmas.Map.Keys.{apart_from_distinct}
 use Rattle.std.proofs.lemmas.Bool.Decides.{nat_tests}
-use Rattle.std.proofs.lemmas.Bool.{or_cases, or_left, or_right}
 use Rattle.lits.specs.Clause.{has, no_repeat}
 use Rattle.lits.specs.Same.{same_lit, same_node, opposite}
 use Rattle.lits.specs.declared.node.Node.{Node}
@@ -20,11 +19,10 @@ use Rattle.watch_lists.specs.Whole.{IsWhole, state_of}
 use Rattle.watch_lists.specs.declared.put.Put.{Put}
 use Rattle.watch_lists.specs.declared.engine.Engine.{Engine}
 use Rattle.watch_lists.proofs.FlipLemmas.{is_literal-flip}
-use Rattle.watch_lists.proofs.Facts.{lit_at-flip, lit_at-exact, lit_at-over, flip-code, has-lits, code-of, has-same}
+use Rattle.watch_lists.proofs.Facts.{lit_at-flip, lit_at-exact, lit_at-over, flip-code, has-lits, code-of, has-same, has-at, le-test}
 use Rattle.watch_lists.proofs.TransferLemmas.{lits_at, clauses_at, AreCodes, forces-same, closure-up}
 use Rattle.watch_lists.proofs.TrailLemmas.{has-take, starts-most}
-use Rattle.watch_lists.proofs.LevelLemmas.{settled-closure}
-use Rattle.watch_lists.proofs.VisitLemmas.{has-at}
+use Rattle.watch_lists.proofs.LevelLemmas.{settled-closure, decisions-in}
 
 pub clause-at : (nodes : List Node) (clauses : List (List ℕ)) (i : ℕ) → clause_at (clauses_at nodes clauses) i ≡ lits_at nodes (codes_at clauses i)
 clause-at nodes [] i = refl
@@ -72,6 +70,9 @@ no_repeat-apart (x ∷ xs) apart = rw (lacks xs (λ k h. lit_laws.equivalence.sy
     lacks [] each = refl
     lacks (y ∷ ys) each = rw (each zero (omega arith), lacks ys (λ k h. each (suc k) (omega arith))) refl
 
+up_to_or_after : (a b : ℕ) → (a ≤ b) ⊎ (b < a)
+up_to_or_after a b = grind arith
+
 module _ {nodes : List Node} {e : Engine} {puts : List Put} {capacity : ℕ} (whole : IsWhole nodes e puts capacity) where
   pub same-length : length puts ≡ length e.trail.items
   same-length = sym (length-map puts (λ (p : Put). p.lit)) ∙ (ap length whole.lits ∙ length-map e.trail.items (lit_at nodes))
@@ -105,36 +106,23 @@ module _ {nodes : List Node} {e : Engine} {puts : List Put} {capacity : ℕ} (wh
   pub decisions-take : (n : ℕ) → decisions_of (take n puts) ≡ lits_at nodes (decisions (take n e.trail.items) (take n e.reasons.items))
   decisions-take n = decisions-puts nodes (take n puts) (take n e.trail.items) (take n e.reasons.items) (lits-take n) (reasons-take n)
 
-  decided-in : (ls : List ℕ) (rs : List (Option ℕ)) (l : ℕ) → has nat_eq (decisions ls rs) l ≡ true → has nat_eq ls l ≡ true
-  decided-in [] rs l h = h
-  decided-in (x ∷ ls) [] l h = contrary _ h refl
-  decided-in (x ∷ ls) (None ∷ rs) l h = elim (or_cases (nat_eq x l) _ h) [ inl f ↦ or_left _ _ f | inr f ↦ or_right (nat_eq x l) _ (decided-in ls rs l f) ]
-  decided-in (x ∷ ls) (Some by ∷ rs) l h = or_right (nat_eq x l) _ (decided-in ls rs l h)
-
   pub codes-decided : (n : ℕ) → AreCodes nodes (decisions (take n e.trail.items) (take n e.reasons.items))
-  codes-decided n c h = codes-take n c (decided-in (take n e.trail.items) (take n e.reasons.items) c h)
+  codes-decided n c h = codes-take n c (decisions-in (take n e.trail.items) (take n e.reasons.items) c h)
 
   -- the puts up to a level below the last
   pub up_to-take : (level : ℕ) → level < length e.levels.items → up_to level puts ≡ take (level_at e.levels.items level).start puts
   up_to-take level h = filter-first (λ p. nat_le p.level level) puts (level_at e.levels.items level).start
-      (λ k a b. below (put_at puts k).level level (elim (within (put_at puts k).level level) [ inl f ↦ f | inr f ↦ let s = whole.starts k level a f in absurd (omega arith) ]))
+      (λ k a b. le-test (put_at puts k).level level (elim (up_to_or_after (put_at puts k).level level) [ inl f ↦ f | inr f ↦ let s = whole.starts k level a f in absurd (omega arith) ]))
       (λ k a b. above (put_at puts k).level level (whole.started k level a h b))
     where
-      within : (a b : ℕ) → (a ≤ b) ⊎ (b < a)
-      within a b = grind arith
 
-      below : (a b : ℕ) → a ≤ b → nat_le a b ≡ true
-      below a b h = grind (arith, nat_tests)
 
       above : (a b : ℕ) → b < a → nat_le a b ≡ false
       above a b h = grind (arith, nat_tests)
 
   pub up_to-all : (level : ℕ) → length e.levels.items ≤ level → up_to level puts ≡ puts
   up_to-all level h = filter-first (λ p. nat_le p.level level) puts (length puts)
-      (λ k a b. below (put_at puts k).level level (let m = whole.most k a in omega arith)) (λ k a b. absurd (omega arith)) ∙ take_all (length puts) puts (omega arith)
-    where
-      below : (a b : ℕ) → a ≤ b → nat_le a b ≡ true
-      below a b h = grind (arith, nat_tests)
+      (λ k a b. le-test (put_at puts k).level level (let m = whole.most k a in omega arith)) (λ k a b. absurd (omega arith)) ∙ take_all (length puts) puts (omega arith)
 
   start-most : (level : ℕ) → level < length e.levels.items → (level_at e.levels.items level).start ≤ length e.trail.items
   start-most level h = starts-most whole.engine.trail level no_level h
@@ -162,16 +150,13 @@ module _ {nodes : List Node} {e : Engine} {puts : List Put} {capacity : ℕ} (wh
   )
 
   levels_below : (j k : ℕ) → j ≤ k → k < length puts → (put_at puts j).level ≤ (put_at puts k).level
-  levels_below j k a b = elim (within (put_at puts j).level (put_at puts k).level) [
+  levels_below j k a b = elim (up_to_or_after (put_at puts j).level (put_at puts k).level) [
     | inl f ↦ f
     | inr f ↦
         let m = whole.most j (omega arith) in
         let s = whole.starts j (put_at puts k).level (omega arith) f in
         let t = whole.started k (put_at puts k).level b (omega arith) (omega arith) in absurd (omega arith)
   ]
-    where
-      within : (a b : ℕ) → (a ≤ b) ⊎ (b < a)
-      within a b = grind arith
 
   begins : (i : ℕ) → i < length e.levels.items → Begins puts (i + 1)
   begins i h =
@@ -182,7 +167,7 @@ module _ {nodes : List Node} {e : Engine} {puts : List Put} {capacity : ℕ} (wh
       record {
         place = s;
         within = b;
-        at = elim (within (put_at puts s).level (i + 1)) [
+        at = elim (up_to_or_after (put_at puts s).level (i + 1)) [
           | inl f ↦ omega arith
           | inr f ↦
               let g = whole.starts s (i + 1) b f in
@@ -190,9 +175,6 @@ module _ {nodes : List Node} {e : Engine} {puts : List Put} {capacity : ℕ} (wh
         ];
         decided = by-at s b ∙ whole.engine.trail.levels_are.decided i no_level h;
       }
-    where
-      within : (a b : ℕ) → (a ≤ b) ⊎ (b < a)
-      within a b = grind arith
 
   pub whole-trail : IsTrail (state_of nodes e puts)
   whole-trail = record {
@@ -218,7 +200,7 @@ module _ {nodes : List Node} {e : Engine} {puts : List Put} {capacity : ℕ} (wh
         let w = whole.engine.trail.levels_are.start_of k (omega (arith, reasons-length)) (sym (by-at k h) ∙ f) in
         let low = whole.started k w.0 h w.1 (let z = w.2 in omega arith) in (
           omega arith,
-          λ j b. elim (within (put_at puts j).level w.0) [
+          λ j b. elim (up_to_or_after (put_at puts j).level w.0) [
             | inl g ↦ omega arith
             | inr g ↦ let s = whole.starts j w.0 (omega arith) g in let z = w.2 in absurd (omega arith)
           ],
@@ -227,8 +209,6 @@ module _ {nodes : List Node} {e : Engine} {puts : List Put} {capacity : ℕ} (wh
     complete = whole-complete;
   }
     where
-      within : (a b : ℕ) → (a ≤ b) ⊎ (b < a)
-      within a b = grind arith
 
       apart : (i j : ℕ) → i < j → j < length (lits_at nodes e.trail.items) → same_lit (get_or (lits_at nodes e.trail.items) i no_lit) (get_or (lits_at nodes e.trail.items) j no_lit) ≡ false
       apart i j a b =

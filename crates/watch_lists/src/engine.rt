@@ -1,6 +1,5 @@
-ghost use Rattle.std.specs.Prelude.{◌≡◌, ℕ, ◌<◌, ◌≤◌, ◌^◌, ◌+◌, Bool, true, false, ◌++◌, ◌∷◌, [], length, slice_index_or, slice_set, OnOk, OnErr};
+ghost use Rattle.std.specs.Prelude.{◌≡◌, ◌<◌, true, false, length, OnOk, OnErr};
 ghost use Rattle.watch_lists.specs.Step.{IsPut, IsSame, IsGrown, IsEmpty};
-ghost use Rattle.watch_lists.specs.State.{IsEngine};
 
 use crate::flat::Flat;
 use crate::lists::Lists;

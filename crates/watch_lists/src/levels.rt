@@ -1,6 +1,6 @@
-ghost use Rattle.std.specs.Prelude.{◌≡◌, ◌<◌, ◌+◌, ◌++◌, ◌∷◌, [], ℕ, true, false, not, ◌&&◌, ◌⊎◌, List, take, min, nat_eq, length, None, slice_index_or, OnOk, OnErr, IfOk, IfSome, IfNone};
+ghost use Rattle.std.specs.Prelude.{◌≡◌, ◌<◌, ℕ, true, false, not, ◌&&◌, take, nat_eq, length, None, slice_index_or, OnOk, OnErr, IfOk, IfSome, IfNone};
 ghost use Rattle.std.specs.List.{All};
-ghost use Rattle.unit_prop.specs.Closure.{IsClosure, Clashes, ClosureClashes, is_negated};
+ghost use Rattle.unit_prop.specs.Closure.{IsClosure, Clashes, ClosureClashes};
 ghost use Rattle.lits.specs.Clause.{has};
 ghost use Rattle.watch_lists.specs.Codes.{flip};
 ghost use Rattle.watch_lists.specs.State.{IsEngine, IsStuck, AsksNothing, Stays, codes_at, decisions, level_at};

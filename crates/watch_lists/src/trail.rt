@@ -1,4 +1,4 @@
-ghost use Rattle.std.specs.Prelude.{◌≡◌, ◌<◌, ◌≤◌, ◌+◌, ◌*◌, ◌^◌, [], ◌∷◌, ℕ, true, false, length, OnOk, OnErr, IfOk, IfSome, IfNone, IsTrue, ◌↔◌};
+ghost use Rattle.std.specs.Prelude.{◌≡◌, ◌<◌, ◌≤◌, ◌+◌, ◌*◌, ◌^◌, [], ◌∷◌, ℕ, false, length, OnOk, OnErr, IfOk, IfSome, IfNone, IsTrue, ◌↔◌};
 ghost use Rattle.lits.specs.Clause.{has};
 ghost use Rattle.lits.specs.Same.{same_lit, same_node, opposite};
 ghost use Rattle.unit_prop.specs.Closure.{ClosureClashes};

@@ -1,4 +1,4 @@
-ghost use Rattle.std.specs.Prelude.{◌≡◌, ◌≢◌, ◌<◌, ◌≤◌, ℕ, true, false, List, nat_eq, length, slice_index, slice_index_or, OnErr, IfOk, IfSome, IfNone};
+ghost use Rattle.std.specs.Prelude.{◌≡◌, ◌≢◌, ◌<◌, ◌≤◌, ℕ, true, false, nat_eq, length, slice_index, slice_index_or, OnErr, IfOk, IfSome, IfNone};
 ghost use Rattle.lits.specs.Clause.{has};
 ghost use Rattle.watch_lists.specs.Codes.{flip};
 ghost use Rattle.watch_lists.specs.State.{IsEngine, IsTurn, IsVisited, IsOther, IsTurnEnd, IsPropagated, Holds, Stays, codes_at, pair_at, pairs_of, list_at, watch_at};

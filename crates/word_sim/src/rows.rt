@@ -1,4 +1,4 @@
-ghost use Rattle.std.specs.Prelude.{◌≡◌, ◌≤◌, ◌<◌, ◌+◌, ◌*◌, ◌&&◌, ℕ, Bool, true, length};
+ghost use Rattle.std.specs.Prelude.{◌≡◌, ◌≤◌, ◌<◌, ◌+◌, ◌*◌, ◌&&◌, ℕ, Bool, length};
 ghost use Rattle.netlist.specs.Net.{nodes_of};
 ghost use Rattle.word_sim.specs.Patterns.{truth_of, words_of};
 ghost use Rattle.word_sim.specs.Rows.{AreFilled, AreRows, HasBits, IsPut, row_at, turned};

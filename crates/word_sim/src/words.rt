@@ -1,4 +1,4 @@
-ghost use Rattle.std.specs.Prelude.{◌≡◌, ◌≤◌, ◌<◌, ◌+◌, ◌*◌, ◌^◌, ◌&&◌, nat_lt, ℕ, Bool, true, length, bit_and, bit_xor, if◌then◌else◌};
+ghost use Rattle.std.specs.Prelude.{◌≡◌, ◌<◌, ◌+◌, ◌*◌, ◌^◌, ◌&&◌, nat_lt, ℕ, Bool, true, length, bit_and, bit_xor};
 ghost use Rattle.std.specs.List.{slice_index_or};
 ghost use Rattle.word_sim.specs.Patterns.{is_set, words_of};
 ghost use Rattle.word_sim.specs.Rows.{HasBits, mask_of, turned};

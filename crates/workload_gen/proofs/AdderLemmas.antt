@@ -1,27 +1,22 @@
 -- One more bit, one more choice, one more block.
 use Rattle.std.proofs.Common.{◌≡◌, ℕ, suc, ◌+◌, ◌-◌, ◌*◌, ◌<◌, ◌≤◌, min, List, [], ◌∷◌, ◌++◌, length, get_or, drop, refl, sym, ap, ◌∙◌, arith, add-one, drop-cons}
 use Rattle.std.proofs.lemmas.List.{drop_all}
+use Rattle.lits.proofs.Facts.{left-more, left-none}
 use Rattle.workload_gen.specs.Gates.{Draft, start, input_literal, full_adder, mux_gate}
 use Rattle.workload_gen.specs.Adder.{summed, chosen, selected, blocks}
-
-more : (n k : ℕ) → k < n → n - k ≡ suc (n - (k + 1))
-more n k lt = omega arith
-
-none : (n k : ℕ) → n ≤ k → n - k ≡ 0
-none n k le = omega arith
 
 pub summed-more : (n to k : ℕ) (sums : List ℕ) (a b c : ℕ) (d : Draft) (s carry : ℕ) (e : Draft) → k < to
     → a ≡ input_literal k → b ≡ input_literal (n + k) → ((s, carry), e) ≡ full_adder a b c d
     → summed n (to - k) k sums c d ≡ summed n (to - (k + 1)) (k + 1) (sums ++ s ∷ []) carry e
 unfolding summed
 summed-more n to k sums a b c d s carry e lt first second is =
-    ap (λ (m : ℕ). summed n m k sums c d) (more to k lt)
+    ap (λ (m : ℕ). summed n m k sums c d) (left-more to k lt)
     ∙ ap (λ (p : (ℕ × ℕ) × Draft). summed n (to - (k + 1)) (k + 1) (sums ++ p.0.0 ∷ []) p.0.1 p.1)
     (sym (is ∙ ap (λ (x : ℕ). full_adder x b c d) first ∙ ap (λ (y : ℕ). full_adder (input_literal k) y c d) second))
 
 pub summed-end : (n to k : ℕ) (sums : List ℕ) (c : ℕ) (d : Draft) → to ≤ k → summed n (to - k) k sums c d ≡ ((sums, c), d)
 unfolding summed
-summed-end n to k sums c d le = rw (none to k le) refl
+summed-end n to k sums c d le = rw (left-none to k le) refl
 
 -- all bits
 pub summed-whole : (n : ℕ) (sums : List ℕ) (d : Draft) (p : (List ℕ × ℕ) × Draft) → p ≡ summed n (n - 0) 0 sums 0 d → sums ≡ [] → d ≡ start (2 * n)
@@ -53,9 +48,9 @@ blocks-more n number k from to sums c d more_sums carry e lt at end is =
     let next : 4 * (k + 1) ≡ 4 * k + 4 = omega arith in
     let here : selected n (min 4 (n - 4 * k)) (4 * k) sums c d ≡ ((more_sums, carry), e) =
     sym (is ∙ ap (λ (w : ℕ). selected n w from sums c d) width ∙ ap (λ (f : ℕ). selected n (min 4 (n - 4 * k)) f sums c d) at) in
-    rw next (ap (λ (m : ℕ). blocks n m (4 * k) sums c d) (more number k lt)
+    rw next (ap (λ (m : ℕ). blocks n m (4 * k) sums c d) (left-more number k lt)
     ∙ ap (λ (p : (List ℕ × ℕ) × Draft). blocks n (number - (k + 1)) (4 * k + 4) p.0.0 p.0.1 p.1) here)
 
 pub blocks-end : (n number k : ℕ) (sums : List ℕ) (c : ℕ) (d : Draft) → number ≤ k → blocks n (number - k) (4 * k) sums c d ≡ ((sums, c), d)
 unfolding blocks
-blocks-end n number k sums c d le = rw (none number k le) refl
+blocks-end n number k sums c d le = rw (left-none number k le) refl

@@ -3,25 +3,20 @@ use Rattle.std.proofs.Common.{◌≡◌, ℕ, zero, suc, ◌+◌, ◌-◌, ◌*�
 use Rattle.std.specs.List.{range_with_len}
 use Rattle.std.proofs.lemmas.List.{take_all}
 use Rattle.std.proofs.lemmas.List.FromFn.{length-map-range_with_len}
+use Rattle.lits.proofs.Facts.{left-more, left-none}
 use Rattle.workload_gen.specs.Gates.{Draft, start, input_literal, xor_gate}
 use Rattle.workload_gen.specs.Parity.{chained, joined, rounds, parity_tree}
-
-more : (n k : ℕ) → k < n → n - k ≡ suc (n - (k + 1))
-more n k lt = omega arith
-
-none : (n k : ℕ) → n ≤ k → n - k ≡ 0
-none n k le = omega arith
 
 pub chained-more : (n k c x : ℕ) (d : Draft) (z : ℕ) (e : Draft) → k < n → x ≡ input_literal k → (z, e) ≡ xor_gate c x d
     → chained (n - k) k c d ≡ chained (n - (k + 1)) (k + 1) z e
 unfolding chained
 chained-more n k c x d z e lt here is =
-    ap (λ (m : ℕ). chained m k c d) (more n k lt)
+    ap (λ (m : ℕ). chained m k c d) (left-more n k lt)
     ∙ ap (λ (p : ℕ × Draft). chained (n - (k + 1)) (k + 1) p.0 p.1) (sym (is ∙ ap (λ (y : ℕ). xor_gate c y d) here))
 
 pub chained-end : (n k c : ℕ) (d : Draft) → n ≤ k → chained (n - k) k c d ≡ (c, d)
 unfolding chained
-chained-end n k c d le = rw (none n k le) refl
+chained-end n k c d le = rw (left-none n k le) refl
 
 pub joined-more : (done row : List ℕ) (i : ℕ) (d : Draft) (z : ℕ) (e : Draft) → 2 * i + 1 < length row
     → (z, e) ≡ xor_gate (get_or row (2 * i) 0) (get_or row (2 * i + 1) 0) d

@@ -4,9 +4,9 @@ use Rattle.std.specs.Prelude.{nat_lt}
 use Rattle.std.specs.List.{flat_map, range_with_len}
 use Rattle.std.proofs.lemmas.Bool.Decides.{nat_tests}
 use Rattle.std.proofs.lemmas.List.Concat.{flat_map-append}
+use Rattle.lits.proofs.Facts.{range-more}
 use Rattle.netlist.specs.declared.gate.And.{And}
 use Rattle.aiger_binary.specs.Binary.{power_of}
-use Rattle.aiger_binary.proofs.Facts.{range_more}
 use Rattle.aiger_text.specs.Lines.{number_line}
 use Rattle.aiger_text.specs.AsciiText.{input_line}
 use Rattle.aiger_text.specs.BinaryText.{AreInSequence, groups}
@@ -17,7 +17,7 @@ inputs-more old text new k n before line is =
     let first = flat_map input_line (range_with_len 1 k) in
     let same : n ≡ 2 * (1 + k) = omega arith in
     let range : range_with_len 1 (k + 1) ≡ range_with_len 1 k ++ (1 + k) ∷ [] =
-    ap (λ (m : ℕ). range_with_len 1 m) (add-one k) ∙ range_more k 1 in
+    ap (λ (m : ℕ). range_with_len 1 m) (add-one k) ∙ range-more 1 k in
     line ∙ ap (λ (t : List ℕ). t ++ number_line (n ∷ [])) before
     ∙ ap (λ (m : ℕ). (old ++ first) ++ number_line (m ∷ [])) same
     ∙ append_assoc old first (input_line (1 + k))

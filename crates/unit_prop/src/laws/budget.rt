@@ -8,7 +8,7 @@ ghost use Rattle.lits.specs.declared.step.Named.{Named};
 ghost use Rattle.lits.specs.declared.step.Step.{Step};
 ghost use Rattle.unit_prop.specs.Log.{IsLog, IsBudgetLog};
 ghost use Rattle.unit_prop.specs.Refuter.{Answers};
-ghost use Rattle.unit_prop.specs.Variables.{variables_in, variables};
+ghost use Rattle.unit_prop.specs.Variables.{variables};
 ghost use Rattle.unit_prop.specs.declared.refuter.Refuted.{Refuted};
 ghost use Rattle.unit_prop.specs.declared.refuter.Refuted.TheVariants.{Spent};
 

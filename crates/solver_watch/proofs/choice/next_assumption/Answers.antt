@@ -3,7 +3,7 @@ use Rattle.lits.specs.Clause.{has}
 use Rattle.lits.specs.Same.{same_lit, opposite}
 use Rattle.lits.specs.declared.literal.Lit.{Lit}
 use Rattle.watch_lists.specs.Trail.{lits_of, no_lit}
-use Rattle.solver_watch.proofs.CodeLemmas.{flip-code}
+use Rattle.watch_lists.proofs.Facts.{flip-code}
 use Rattle.solver_watch.proofs.ChoiceLemmas.{lit-in, refuted-forced, open-of, assumed-next, negation-there}
 use Rattle.solver_watch.proofs.choice.next_assumption.Goals as goal
 

@@ -4,11 +4,11 @@ use Rattle.lits.specs.Clause.{firsts}
 use Rattle.lits.specs.Same.{same_lit, opposite}
 use Rattle.watch_lists.specs.Trail.{put_at}
 use Rattle.solver_watch.specs.Marked.{negations_at}
-use Rattle.solver_watch.proofs.CountLemmas.{has-get}
+use Rattle.watch_lists.proofs.Facts.{has-at}
 use Rattle.solver_watch.proofs.learn.negated.Goals as goal
 
 pub put-requires-in-loop-place : goal.put-requires-in-loop-place
-put-requires-in-loop-place c = c.requires.within _ (has-get c.args.below.now c.loop-place.place-index c.loop-place-test.true)
+put-requires-in-loop-place c = c.requires.within _ (has-at c.args.below.now c.loop-place.place-index c.loop-place-test.true)
 
 pub loop-place-preserved : goal.loop-place-preserved
 loop-place-preserved c =

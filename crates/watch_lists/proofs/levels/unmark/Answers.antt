@@ -1,6 +1,6 @@
 use Rattle.std.proofs.Common.{arith}
-use Rattle.watch_lists.proofs.VisitLemmas.{has-at}
 use Rattle.watch_lists.proofs.levels.unmark.Goals as goal
+use Rattle.watch_lists.proofs.Facts.{has-at}
 
 pub index_mut-requires : goal.index_mut-requires
 index_mut-requires c =

@@ -7,10 +7,10 @@ use Rattle.watch_lists.specs.State.{codes_at, IsEngine, IsBest, Guards}
 use Rattle.watch_lists.specs.declared.engine.Engine.{Engine}
 use Rattle.watch_lists.specs.declared.flat.Pair.{Pair}
 use Rattle.std.specs.List.{All}
+use Rattle.std.proofs.lemmas.Bool.{cases_Bool}
 use Rattle.watch_lists.proofs.VisitLemmas.{mark-true, mark-false}
 use Rattle.watch_lists.proofs.HeightLemmas.{height-below}
 use Rattle.watch_lists.proofs.TrailLemmas.{has-take, flips, starts-most}
-use Rattle.watch_lists.proofs.GuardLemmas.{cases}
 use Rattle.unit_prop.proofs.Facts.{contrary}
 use Rattle.watch_lists.proofs.AttachLemmas.{best-bounds, guards-met, guards-free, first-negates, second-forces, alone-forces}
 use Rattle.watch_lists.proofs.engine.Engine.attach_pair.Goals as goal
@@ -23,7 +23,7 @@ flip-false : (e : Engine) → IsEngine e → (l neg : ℕ) (b : Bool) → neg �
 flip-false e engine l neg b is read f = subst (λ (n : ℕ). has nat_eq e.trail.items n ≡ false) is (mark-false engine.trail neg b read f)
 
 lacks-take : (n : ℕ) (xs : List ℕ) (q : ℕ) → has nat_eq xs q ≡ false → has nat_eq (take n xs) q ≡ false
-lacks-take n xs q f = elim (cases (has nat_eq (take n xs) q)) [ inl h ↦ contrary _ (has-take n xs q h) f | inr g ↦ g ]
+lacks-take n xs q f = elim (cases_Bool (has nat_eq (take n xs) q)) [ inl h ↦ contrary _ (has-take n xs q h) f | inr g ↦ g ]
 
 bounds-of : (e : Engine) (at : ℕ) (pair : Pair) → IsEngine e → at < length e.clauses → IsBest e.trail.items (codes_at e.clauses at) pair
     → All (λ v. Guards (take v.head e.trail.items) (take v.start e.trail.items) (codes_at e.clauses at) pair) e.levels.items

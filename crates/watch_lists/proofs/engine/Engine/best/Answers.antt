@@ -1,8 +1,8 @@
 use Rattle.std.proofs.Common.{◌∷◌, arith, get_or, take}
 use Rattle.std.proofs.lemmas.List.{take_more}
-use Rattle.watch_lists.proofs.VisitLemmas.{has-at}
 use Rattle.watch_lists.proofs.HeightLemmas.{inside-whole}
 use Rattle.watch_lists.proofs.engine.Engine.best.Goals as goal
+use Rattle.watch_lists.proofs.Facts.{has-at}
 
 pub better-pair-requires-clause-within : goal.better-pair-requires-clause-within
 better-pair-requires-clause-within c =
