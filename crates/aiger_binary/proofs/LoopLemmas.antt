@@ -51,12 +51,6 @@ pub power-first : (n : ℕ) → n ≢ 0 → 128 ≤ power_of n
 power-first zero ne = absurd (ne refl)
 power-first (suc n) ne = let h = power-some n in omega (arith, h)
 
-pub power-more : (n b m : ℕ) → n ≢ 0 → b < 256 → m < power_of (n - 1) → b - 128 + 128 * m < power_of n
-power-more zero b m ne small lt = absurd (ne refl)
-power-more (suc n) b m ne small lt =
-    let e : suc n - 1 ≡ n = omega arith in
-    let h : m < power_of n = rw e at lt in omega (arith, h)
-
 none_nil : (xs : List ℕ) → None ≡ slice_get xs 0 → xs ≡ []
 none_nil [] e = refl
 none_nil (x ∷ xs) e = absurd (none-some x e)

@@ -7,7 +7,7 @@ use Rattle.std.proofs.lemmas.List.Folds.{list_any-append}
 use Rattle.std.proofs.Math.Bool.{or-false, or_comm}
 use Rattle.std.proofs.lemmas.Bool.{or_right}
 use Rattle.lits.specs.Clause.{has}
-use Rattle.lits.proofs.Facts.{no_repeat-range}
+use Rattle.lits.proofs.Facts.{no_repeat-range, range-above}
 use Rattle.netlist.specs.declared.gate.And.{And}
 use Rattle.netlist.specs.Circuit.{IsCircuit, AreOrdered, gate_vars, is_over, var_of, most}
 use Rattle.aiger_binary.specs.Binary.{AreStacked, AreBelow}
@@ -85,7 +85,7 @@ IsCircuit-stacked i m gates outputs is le stacked below few =
     let all : (1 + i) + length gates ≡ m + 1 = omega (arith, is) in
     let knows : Knows (m + 1) (0 ∷ (range_with_len 1 i ++ gate_vars gates)) = rw all at known in
     record {
-      inputs = rw (range_above i 1 0 (omega arith), no_repeat-range i 1) refl;
+      inputs = rw (range-above i 1 0 (omega arith), no_repeat-range i 1) refl;
       gates = AreOrdered-stacked (1 + i) (0 ∷ range_with_len 1 i) gates (Knows-inputs i) stack;
       outputs = all_below (m + 1) (0 ∷ (range_with_len 1 i ++ gate_vars gates)) outputs knows below;
       range = all_from_has (λ v. nat_le v most) (0 ∷ (range_with_len 1 i ++ gate_vars gates)) (λ v h. small v (sym (knows v) ∙ h));

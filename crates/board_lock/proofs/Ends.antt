@@ -20,8 +20,9 @@ use Rattle.board_lock.proofs.TotalLemmas.{total-join, total-le, total-two, total
 use Rattle.board_lock.proofs.GatherLemmas.{gather-one}
 use Rattle.board_lock.proofs.TimesLemmas.{times-append, times-length, once-most}
 use Rattle.board_lock.proofs.LineLemmas.{line-quiet}
-use Rattle.board_lock.proofs.StoryLemmas.{are_so-append, starts-same}
+use Rattle.board_lock.proofs.StoryLemmas.{are_so-append}
 use Rattle.board_lock.proofs.AnswerLemmas.{answers-join}
+use Rattle.sweep_core.proofs.Facts.{starts-self}
 
 longer-known : (book first second : Entries) → StartsWith book first → StartsWith book second → (b : Bool)
     → StartsWith book (cond b second first)
@@ -82,8 +83,8 @@ begins root legal = let v : View = opener root in record {
   };
   counts = record { left = refl; turns = refl; drawn = refl; splits = refl };
   numbers = record { once = λ p. omega arith };
-  tale = record { legal = legal; replays = record { begins = starts-same root.opening; run = refl }; count = refl };
-  knows = each-one (Knows (record { book = root.opening; turns = []; missed = 0 })) v (record { known = λ _. starts-same root.opening; so = tt; taken = λ y. absurd (true≢false (sym y)) });
+  tale = record { legal = legal; replays = record { begins = starts-self root.opening; run = refl }; count = refl };
+  knows = each-one (Knows (record { book = root.opening; turns = []; missed = 0 })) v (record { known = λ _. starts-self root.opening; so = tt; taken = λ y. absurd (true≢false (sym y)) });
   answers = record { once = λ x. refl; missed = refl; under = λ p. refl; own = each-one (λ (x : View). (p : ℕ) → times p x.numbers ≡ 0 → noted p x ≡ []) v (λ p z. refl) };
 }
 

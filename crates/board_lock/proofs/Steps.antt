@@ -8,17 +8,13 @@ use Rattle.board_lock.specs.Totals.{times}
 use Rattle.board_lock.specs.Line.{waiting, holding}
 use Rattle.board_lock.specs.Story.{Story, Root}
 use Rattle.board_lock.specs.Rule.{Kept, Knows, stand_of, shelf, left, turns, drawn, splits, numbered, draws_of}
-use Rattle.board_lock.specs.Views.{IsIdle, kept_of, cut_of, first_of}
+use Rattle.board_lock.specs.Views.{IsIdle, kept_of, cut_of}
 use Rattle.board_lock.specs.Plays.{Ticketed, Drawn, Numbered}
 use Rattle.board_lock.proofs.TotalLemmas.{total-keep, total-cut, total-le, each-set, each-from, from-cut}
-use Rattle.board_lock.proofs.TimesLemmas.{times-append, times-one, once-last, drawn-below, below-all}
+use Rattle.board_lock.proofs.TimesLemmas.{times-append, once-last, drawn-below, below-all}
 use Rattle.board_lock.proofs.LineLemmas.{line-set, line-keep, line-quiet}
 use Rattle.board_lock.proofs.CountLemmas.{counts-set, numbers-set, given-most}
 use Rattle.board_lock.proofs.AnswerLemmas.{answers-set, answers-cut}
-
-pub head-there : (xs : List ℕ) → 1 ≤ length xs → 1 ≤ times (first_of xs) xs
-head-there [] h = absurd (omega arith)
-head-there (x ∷ xs) h = let o = times-one x in omega arith
 
 pub draws_go : (root : Root) (id : ℕ) (v : View) (c : List (ℕ × Story)) → v.waits ≡ false → v.holds ≡ false → 1 ≤ v.left
     → Allows (Kept root) 1 id (v, c) 2 (λ n. (n + 1) % 2 ^ 64) (Drawn (step 1 2 1 0 none) (v, c))

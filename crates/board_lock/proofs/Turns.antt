@@ -193,12 +193,5 @@ missed_seat root id me v now is inside missed = subst (λ (m : Me Story View). A
 pub slot_held : (l : List (ℕ × Story)) (y : Story) → l ≡ (0, y) ∷ [] → (x : Story) × (l ≡ (0, x) ∷ rest l)
 slot_held l y h = (y, h ∙ ap (λ (r : List (ℕ × Story)). (0, y) ∷ r) (sym (ap rest h)))
 
-abbrev first_story : Story → List (ℕ × Story) → Story
-first_story d [] = d
-first_story d (x ∷ xs) = x.1
-
-pub slot_had : (l : List (ℕ × Story)) (x y : Story) → l ≡ (0, x) ∷ rest l → l ≡ (0, y) ∷ [] → x ≡ y
-slot_had l x y h k = ap (first_story x) (sym h ∙ k)
-
 pub slot_has : (v : View) (l : List (ℕ × Story)) (y z : Story) (me : Me Story View) → l ≡ (0, y) ∷ [] → me ≡ (v, (0, z) ∷ rest l) → me ≡ (v, (0, z) ∷ [])
 slot_has v l y z me h k = k ∙ ap (λ (r : List (ℕ × Story)). (v, (0, z) ∷ r)) (ap rest h)

@@ -16,9 +16,6 @@ pub record HasWords (words : List (List ℕ)) (numbers : List ℕ) (count : ℕ)
   pub each : list_all is_number words ≡ true
   pub so_far : numbers ≡ map value words ++ replicate (9 - count) 0
 
-pub HasWords-none : HasWords [] (replicate 9 0) 0
-HasWords-none = record { counted = refl; most = omega arith; each = refl; so_far = refl }
-
 -- one more word, whose value goes where the first zero was
 pub HasWords-push : (words : List (List ℕ)) (numbers : List ℕ) (count : ℕ) (word : List ℕ) → HasWords words numbers count → (count ≡ 9 → ⊥) → is_number word ≡ true → HasWords (words ++ word ∷ []) (set numbers count (value word)) (count + 1)
 HasWords-push words numbers count word read room is =

@@ -1,5 +1,5 @@
 -- Behind a line stand the later lines.
-use Rattle.std.proofs.Common.{◌≡◌, ℕ, suc, ◌+◌, min, Bool, true, false, eqb, List, [], ◌∷◌, length, drop, Some, None, Ok, refl, sym, ap, ◌∙◌, inl, inr, arith, subst, add-one}
+use Rattle.std.proofs.Common.{◌≡◌, ℕ, suc, ◌+◌, min, Bool, true, false, eqb, List, [], ◌∷◌, length, drop, Some, None, Ok, refl, sym, ap, ◌∙◌, inl, inr, arith, subst}
 use Rattle.std.proofs.Math.Dec.{eqb-suc-zero}
 use Rattle.std.proofs.lemmas.Bool.{cases_lt}
 use Rattle.std.proofs.lemmas.List.{drop-drop}
@@ -9,9 +9,6 @@ use Rattle.byte_scan.specs.Scanning.{Place, ahead, moved, line_of, next_line}
 use Rattle.std.specs.Prelude.{Err}
 use Rattle.byte_scan.specs.declared.errors.AigerErr.TheVariants.{BadSymbol}
 use Rattle.byte_scan.specs.Reading.{Line, lines_from, onto_line, lines_ahead, begins_with, is_symbol, tail_of}
-
-drop-suc : {X : Type 0} (n : ℕ) (x : X) (xs : List X) → drop (n + 1) (x ∷ xs) ≡ drop n xs
-drop-suc n x xs = ap (λ (k : ℕ). drop k (x ∷ xs)) (add-one n)
 
 drop-onto : (at b : ℕ) (ls : List Line) → drop 1 (onto_line at b ls) ≡ drop 1 ls
 drop-onto at b [] = refl

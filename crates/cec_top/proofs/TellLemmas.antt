@@ -1,5 +1,5 @@
 -- How a check goes on from a file to the next, and from its files to its verdict.
-use Rattle.std.proofs.Common.{◌≡◌, ℕ, inl, inr, List, [], ◌∷◌, ◌++◌, Option, Some, None, Ok, Err, Result, refl, sym, ap, ◌∙◌, subst}
+use Rattle.std.proofs.Common.{◌≡◌, ℕ, inl, inr, List, [], ◌∷◌, Option, Some, None, Ok, Err, Result, refl, sym, ap, ◌∙◌, subst}
 use Rattle.desk_port.specs.Desk.{DeskState}
 use Rattle.endings.specs.declared.stop.Stop.{Stop}
 use Rattle.endings.specs.declared.stop.Stop.TheVariants.{OutOfMemory}
@@ -13,12 +13,6 @@ use Rattle.check_session.specs.Outputs.{ListsOpen, finding_of}
 use Rattle.cec_top.specs.Texts.{open_text}
 use Rattle.cec_top.specs.Check.{Made, outputs_of, text_of, text_of_check}
 use Rattle.cec_top.specs.Steps.{after_outputs, opens_in}
-
--- what stops behind files that are left stops all that is left
-pub stops-behind : (os more : List Output) (old mid new : DeskState) (stop : Stop) → mid ≡ after_outputs old os
-    → ((any : List ℕ) → Leaves more any mid new (Err stop)) → (any : List ℕ) → Leaves (os ++ more) any old new (Err stop)
-stops-behind [] more old mid new stop at p any = subst (λ (s : DeskState). Leaves more any s new (Err stop)) at (p any)
-stops-behind (o ∷ os) more old mid new stop at p any = inr (stops-behind os more (after_file old o) mid new stop at p any)
 
 -- memory runs out behind all files
 pub runs-out : (os : List Output) (old new : DeskState) → new ≡ after_outputs old os

@@ -80,10 +80,6 @@ about-last es e j subject =
     let last : find (is_on (Output j)) (e ∷ []) ≡ Some e = rw on refl in
     rw (find-append (is_on (Output j)) es (e ∷ []), last) (or-some (about es j) e)
 
--- and one that was there is there
-pub about-keeps : (es : List Entry) (e : Entry) (j : ℕ) → about es j ≢ None → about (es ++ e ∷ []) j ≢ None
-about-keeps es e j some = rw (find-append (is_on (Output j)) es (e ∷ [])) (or-first (about es j) (find (is_on (Output j)) (e ∷ [])) some)
-
 -- ---- what open outputs saw
 
 any-drop : (n : ℕ) (es : List Entry) (e : Entry) → list_any is_merge (drop n es) ≡ false → is_merge e ≡ false

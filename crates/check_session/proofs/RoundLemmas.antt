@@ -18,13 +18,12 @@ use Rattle.lemma_book.specs.Root.{IsRoot, merge_in}
 use Rattle.std.specs.declared.alloc.AllocError.{AllocError}
 use Rattle.word_sim.specs.Patterns.{Patterns}
 use Rattle.lemma_book.specs.Good.{IsBefore, IsEarlier, IsGood, NotApart}
-use Rattle.sig_classes.specs.Leader.{IsOpenGate}
 use Rattle.lemma_book.specs.Book.{IsLegal}
 use Rattle.lemma_book.proofs.Facts.{root-unsettled}
 use Rattle.check_session.specs.Growth.{is_of_pair}
 use Rattle.check_session.specs.Rounds.{Extends, Fits, HasWholeInput, Joins, MayAsk, AreAsked, Settles}
 use Rattle.std.proofs.lemmas.Option.{same_Some}
-use Rattle.cone_query.specs.Query.{task_of, IsGate}
+use Rattle.cone_query.specs.Query.{task_of}
 use Rattle.check_session.proofs.OutputLemmas.{on-subject}
 
 -- ---- roots
@@ -158,12 +157,6 @@ fits-more net book (Out j steps) old new good fits joins = subst (λ (p : Patter
 fits-more net book (OutApart j input) old new good fits joins = subst (λ (p : Patterns). Fits net p) (sym joins) fits
 fits-more net book (OutSpent j seen log) old new good fits joins = subst (λ (p : Patterns). Fits net p) (sym joins) fits
 
--- a pattern with a truth value for each input fits
-pub fits-last : (net : AigPair) (input : List Bool) (old new : Patterns) → Fits net old → length input ≡ old.inputs
-    → new ≡ record { inputs = old.inputs; patterns = old.patterns ++ input ∷ [] } → Fits net new
-fits-last net input old new fits size joins = subst (λ (p : Patterns). Fits net p) (sym joins)
-    (record { inputs = fits.inputs; whole = whole-last (length net.a.inputs) old.patterns input fits.whole (size ∙ fits.inputs) })
-
 -- the pool is longer by that at most
 pub extends-same : (old new : Patterns) → new ≡ old → Extends old new
 extends-same old new same = record { added = []; is = ap (λ (p : Patterns). p.patterns) same ∙ sym (append-nil old.patterns) }
@@ -196,7 +189,3 @@ kept-extends net old new kept extends are =
 pub on-ok-both : {T E : Type 0} (r : Result T E) (Q : Type 0) → Q → OnOk r Q
 on-ok-both (Ok x) Q q = q
 on-ok-both (Err e) Q q = tt
-
--- a gate that isn't merged is a gate
-pub open-gate : (net : AigPair) (es : List Entry) (n : Node) → IsOpenGate net es n → IsGate n
-open-gate net es n gate = subst (λ (m : Node). IsGate m) (sym gate.gate) tt

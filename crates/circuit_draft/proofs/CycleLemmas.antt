@@ -1,10 +1,9 @@
 -- The first gate without a level, and what follows where each gate has one.
-use Rattle.std.proofs.Common.{◌≡◌, ◌≢◌, ℕ, zero, suc, ◌+◌, ◌*◌, ◌<◌, ◌≤◌, Bool, true, false, None, Some, List, [], ◌∷◌, length, replicate, refl, ap, ◌∙◌, subst, arith}
+use Rattle.std.proofs.Common.{◌≡◌, ◌≢◌, ℕ, zero, suc, ◌+◌, ◌*◌, ◌<◌, Bool, true, false, None, Some, List, [], ◌∷◌, length, refl, ap, ◌∙◌, subst, arith}
 use Rattle.std.specs.Prelude.{◌==◌, slice_index, slice_index_or, is_none}
 use Rattle.std.specs.List.{find}
 use Rattle.std.specs.Option.{option_map}
 use Rattle.std.proofs.lemmas.Bool.Decides.{nat_tests}
-use Rattle.std.proofs.lemmas.List.{length-replicate}
 use Rattle.byte_scan.specs.declared.errors.AigerErr.TheVariants.{Cycle}
 use Rattle.netlist.specs.declared.gate.And.{And}
 use Rattle.netlist.specs.Circuit.{Aig}
@@ -14,7 +13,6 @@ use Rattle.circuit_draft.specs.Steps.{gate_at, AreLevels, AreAllLevels}
 use Rattle.circuit_draft.specs.Buckets.{AreWithin}
 use Rattle.circuit_draft.proofs.LevelLemmas.{level-some, level-bound}
 use Rattle.circuit_draft.proofs.VariableLemmas.{few_gates}
-use Rattle.circuit_draft.proofs.BucketLemmas.{zeros}
 
 find_first : (test : And → Bool) (gates : List And) (i : ℕ) → i < length gates
     → ((p : ℕ) → p < i → test (slice_index_or gates p (record { var = 0; left = 0; right = 0 })) ≡ false)
@@ -42,20 +40,6 @@ cycle_at c levels i v are lt found none is =
   where
     earlier : (p : ℕ) → p < i → is_none (level_of c (gate_at c p).var) ≡ false
     earlier p l = rw (are.known p (omega arith) (found p l)) refl
-
--- no level is known yet
-pub AreLevels-none : (c : Aig) (levels : List ℕ) (n : ℕ) → n ≡ length c.gates → levels ≡ replicate n 0 → AreLevels c levels
-AreLevels-none c levels n is e = rw e (record {
-  count = length-replicate n 0 ∙ is;
-  known = λ p lt some. absurd (some (zeros n p));
-  low = λ p lt some. absurd (some (zeros n p));
-})
-
-pub AreAllLevels-from : (c : Aig) (levels : List ℕ) (n : ℕ) → AreLevels c levels → length c.gates ≤ n → ((p : ℕ) → p < n → slice_index levels p ≢ 0) → AreAllLevels c levels
-AreAllLevels-from c levels n are le found = record {
-  count = are.count;
-  each = λ p lt. are.known p lt (found p (omega arith));
-}
 
 pub found_more : (levels new : List ℕ) (n : ℕ) → ((p : ℕ) → slice_index levels p ≢ 0 → slice_index new p ≢ 0)
     → ((p : ℕ) → p < n → slice_index levels p ≢ 0) → slice_index new n ≢ 0 → (p : ℕ) → p < n + 1 → slice_index new p ≢ 0

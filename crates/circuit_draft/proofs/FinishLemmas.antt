@@ -49,14 +49,6 @@ AreDefined-uses c e = record {
 
 -- ---- the file's order serves
 
-or_turned : (a b d : Bool) → (a || (b || d)) ≡ ((b || d) || (a || false))
-or_turned true true d = refl
-or_turned true false true = refl
-or_turned true false false = refl
-or_turned false true d = refl
-or_turned false false true = refl
-or_turned false false false = refl
-
 -- known lists that hold the same variables
 abbrev pub Same : List ℕ → List ℕ → Type 0
 Same known others = (v : ℕ) → has ◌==◌ known v ≡ has ◌==◌ others v

@@ -39,9 +39,6 @@ over-node base l e = go l.neg l.node e
 
 module _ (net : AigPair) (book : Entries) (task : Task) (pair : IsPair net book task) (base : List Named)
     (is_base : IsCone net (take (length book.entries) book.entries) (seeds_of task) base) where
-  es : List Entry
-  es = take (length book.entries) book.entries
-
   there : (n : Node) → is_base.reached n ≡ true → has same_node (variables_of net) n ≡ true
   there n h =
       reach-there net pair.net_is book pair.legal (length book.entries) (seeds_of task) (pair-starts net book task pair) is_base.reached is_base.reach n h

@@ -25,9 +25,6 @@ entries-push (c ∷ cs) clause =
     ap (λ (l : List (Option DimacsLiteral)). entries_of c ++ l) (entries-push cs clause)
     ∙ sym (append_assoc (entries_of c) (entries cs) (entries_of clause))
 
-pub read-nothing : AreReadAs [] [] []
-read-nothing = record { clauses = []; kept = refl; split = refl }
-
 pub read-literal : (es : List (Option DimacsLiteral)) (ended : List (List DimacsLiteral))
     (literals : List DimacsLiteral) (d : DimacsLiteral)
     → AreReadAs es ended literals → AreReadAs (es ++ Some d ∷ []) ended (literals ++ d ∷ [])

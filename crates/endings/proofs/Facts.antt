@@ -5,7 +5,7 @@ use Rattle.endings.specs.declared.status.Status.{Status}
 use Rattle.endings.specs.declared.status.Status.TheVariants as status
 use Rattle.endings.specs.declared.stop.Stop.{Stop}
 use Rattle.endings.specs.declared.stop.Stop.TheVariants.{CannotRead, TooLong, BadFile, NotAlike, CannotWrite, OutOfMemory}
-use Rattle.endings.specs.Stops.{EndsBy, Warns, status_of}
+use Rattle.endings.specs.Stops.{Warns, status_of}
 use Rattle.endings.specs.Reading.{Input, StopsAt, ReadsUpTo, after_reads}
 use Rattle.endings.specs.Writing.{Output, Leaves, Says, StopsIn, after_file, while_writing}
 
@@ -31,10 +31,6 @@ of_stop OutOfMemory = tt
 pub warned-status : (line : List ℕ) (stop : Stop) (old new : DeskState) (answered : Status) → Warns line (status_of stop) old new answered → IsOfStop answered
 warned-status line stop old new answered (inl w) = subst IsOfStop (sym w.0) (of_stop stop)
 warned-status line stop old new answered (inr w) = subst IsOfStop (sym w.0) tt
-
-pub ended-status : (names : List (List ℕ)) (Cause : DeskState → Stop → Type 0) (new : DeskState) (answered : Status)
-    → EndsBy names Cause new answered → IsOfStop answered
-ended-status names Cause new answered ends = warned-status _ ends.stop ends.mid new answered ends.warns
 
 -- no count of faults falls
 falls-same : (a b : DeskState) → b.read_faults ≡ a.read_faults → b.write_faults ≡ a.write_faults → b.warn_faults ≡ a.warn_faults → NoCountFalls a b

@@ -1,5 +1,5 @@
 -- What stands at a position, and that each value that is found leaves less to find.
-use Rattle.std.proofs.Common.{◌≡◌, ◌∙◌, ℕ, zero, suc, ◌+◌, ◌-◌, ◌<◌, ◌≤◌, Bool, true, false, cond, Option, None, Some, List, length, refl, sym, ap, ap₂, subst, arith, nat_eq, IfSome}
+use Rattle.std.proofs.Common.{◌≡◌, ◌∙◌, ℕ, zero, suc, ◌+◌, ◌-◌, ◌<◌, ◌≤◌, Bool, true, false, cond, Option, None, Some, List, length, refl, sym, ap, ap₂, subst, arith, nat_eq}
 use Rattle.std.specs.Prelude.{slice_index_or}
 use Rattle.std.specs.Option.{option_map}
 use Rattle.std.specs.HashMap.{HashMap, get}
@@ -10,7 +10,7 @@ use Rattle.netlist.specs.declared.gate.Definition.{Definition}
 use Rattle.netlist.specs.declared.gate.Fanins.{Fanins}
 use Rattle.netlist.specs.Net.{AigPair, IsNet, definitions, fanins_of, fanins_at, nodes_of, value_of}
 use Rattle.netlist.proofs.Facts.{IsGateAt, gate-at, node-input, length-nodes, length-definitions}
-use Rattle.lemma_book.specs.ConeValue.{value_at, IsAndAt, AreValues, IsNext}
+use Rattle.lemma_book.specs.ConeValue.{value_at, IsAndAt, IsNext}
 
 -- an input's value stands at its place
 pub value-input : (net : AigPair) (bits : List Bool) (p : ℕ) → 0 < p → p ≤ length net.a.inputs
@@ -98,15 +98,3 @@ module _ {S : Type 0} (old new : HashMap ℕ Bool S) (p : ℕ) (b : Bool)
       low : (o : Option ℕ) → IsNext new sought o → rank o ≤ sought + 1
       low None next = omega arith
       low (Some q) next = omega (arith, next.0)
-
-  -- a found value is that of its node
-  pub values-more : (net : AigPair) (bits : List Bool) → b ≡ value_at net bits p → AreValues old net bits → AreValues new net bits
-  values-more net bits right known q = go (nat_eq p q) refl
-    where
-      go : (t : Bool) → nat_eq p q ≡ t → IfSome (get nat_eq new q) (λ x. x ≡ value_at net bits q)
-      go true e =
-          let same : p ≡ q = grind (arith, nat_tests, e) in
-          subst (λ (o : Option Bool). IfSome o (λ x. x ≡ value_at net bits q)) (sym (at-key q e))
-          (right ∙ ap (value_at net bits) same)
-      go false e =
-          subst (λ (o : Option Bool). IfSome o (λ x. x ≡ value_at net bits q)) (sym (at-other q e)) (known q)

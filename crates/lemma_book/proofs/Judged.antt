@@ -1,5 +1,5 @@
 -- What the first bad step and the first clause that isn't new make of an entry.
-use Rattle.std.proofs.Common.{◌≡◌, ℕ, Bool, List, [], ◌∷◌, take, length, Option, None, Some, Result, Ok, Err, IfOk, OnErr, inl, sym, ◌∙◌, subst, arith}
+use Rattle.std.proofs.Common.{◌≡◌, ℕ, List, [], ◌∷◌, take, length, Option, None, Some, Result, Ok, Err, IfOk, OnErr, inl, sym, ◌∙◌, subst, arith}
 use Rattle.std.specs.Option.{IsSome}
 use Rattle.std.proofs.lemmas.Option.{none-some}
 use Rattle.lits.specs.declared.node.Node.{Node}
@@ -14,7 +14,7 @@ use Rattle.netlist.proofs.Facts.{has-xor, range-has}
 use Rattle.unit_prop.specs.declared.why.BadStep.{BadStep}
 use Rattle.unit_prop.specs.Log.{base_clause}
 use Rattle.lemma_book.specs.declared.entry.Entry.{Entry}
-use Rattle.lemma_book.specs.declared.entry.Entry.TheVariants.{Merge, Apart, Spent, Out, OutApart, OutSpent}
+use Rattle.lemma_book.specs.declared.entry.Entry.TheVariants.{Merge, Spent, Out, OutSpent}
 use Rattle.lemma_book.specs.declared.refused.Fault.TheVariants as fault
 use Rattle.lemma_book.specs.declared.refused.Refused.{Refused}
 use Rattle.lemma_book.specs.declared.refused.Offered.{Offered}
@@ -52,12 +52,6 @@ module _ (net : AigPair) (book : Entries) where
   pub out-good : (j : ℕ) (steps : List Step) → IsFreeBefore net book (Out j steps) (NoStep 0)
       → IsFirstBad (out_clause net book.entries) steps None → IsGood net book (Out j steps)
   out-good j steps free first = good-all net book (Out j steps) free first (λ k. tt)
-
-  pub apart-good : (node : Node) (lit : Lit) (input : List Bool) → IsFreeBefore net book (Apart node lit input) (NoStep 0) → IsGood net book (Apart node lit input)
-  apart-good node lit input free = good-all net book (Apart node lit input) free (λ k. tt) (λ k. tt)
-
-  pub out_apart-good : (j : ℕ) (input : List Bool) → IsFreeBefore net book (OutApart j input) (NoStep 0) → IsGood net book (OutApart j input)
-  out_apart-good j input free = good-all net book (OutApart j input) free (λ k. tt) (λ k. tt)
 
   module _ (seen : ℕ) (seeds : List Node) (cone : List Named) (is_cone : IsCone net (take seen book.entries) seeds cone) where
     of : (P : List Named → Type 0) → P cone → OfCone net (take seen book.entries) seeds P

@@ -8,7 +8,7 @@ use Rattle.lits.specs.Clause.{has}
 use Rattle.lits.specs.declared.literal.Lit.{Lit}
 use Rattle.lits.specs.Same.{same_lit, opposite}
 use Rattle.unit_prop.proofs.Facts.{lit_laws}
-use Rattle.unit_prop.specs.Closure.{IsOpen, ClosureClashes, IsClosure, Clashes, ClosesTo}
+use Rattle.unit_prop.specs.Closure.{IsOpen, IsClosure, Clashes, ClosesTo}
 use Rattle.unit_prop.specs.declared.propagation.Closure.TheVariants.{Free}
 use Rattle.unit_prop.specs.New.{occurs, others_negated, Lacks, IsNew}
 use Rattle.lits.specs.declared.step.Named.{Named}
@@ -24,10 +24,6 @@ use Rattle.lemma_book.specs.Judging.{Tells}
 use Rattle.lemma_book.proofs.Telling.{tells-yes, tells-no}
 
 module _ (clauses : List (List Lit)) where
-  -- the closure clashes, so it lacks nothing
-  pub clash-lacks : (given : List Lit) (l : Lit) → ClosureClashes same_lit opposite clauses given → ¬ Lacks same_lit opposite clauses given l
-  clash-lacks given l clash lacks = lacks.apart (clash lacks.set lacks.closed)
-
   -- the closure lacks what its list lacks
   pub closure-lacks : (given found : List Lit) (l : Lit) → IsClosure same_lit opposite clauses given found → ¬ Clashes opposite clauses (has same_lit found)
       → Tells (Lacks same_lit opposite clauses given l) (not (has same_lit found l))

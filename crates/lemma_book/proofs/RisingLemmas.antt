@@ -28,10 +28,6 @@ abbrev IsRising : List Node → ℕ → List (ℕ × Node) → Type 0
 IsRising vars low [] = ⊤
 IsRising vars low (e ∷ es) = (low ≤ e.0) × (slice_get vars (e.0 - 1) ≡ Some e.1) × IsRising vars (e.0 + 1) es
 
-rising-lower : (vars : List Node) (low high : ℕ) (es : List (ℕ × Node)) → low ≤ high → IsRising vars high es → IsRising vars low es
-rising-lower vars low high [] le r = tt
-rising-lower vars low high (e ∷ es) le r = (omega arith, r.1, r.2)
-
 -- whose own number is the next place
 split : (a b : ℕ) → a ≤ b → (b ≡ a) ⊎ (a + 1 ≤ b)
 split a b le = go (nat_lt a b) refl

@@ -1,5 +1,5 @@
 -- Answers that tell whether something holds.
-use Rattle.std.proofs.Common.{◌≡◌, ℕ, ◌-◌, ◌≤◌, ◌<◌, suc, Bool, true, false, not, ◌≢◌, ◌&&◌, List, [], ◌∷◌, map, length, take, drop, get_or, Option, None, Some, refl, sym, ap, ◌∙◌, subst, arith}
+use Rattle.std.proofs.Common.{◌≡◌, ℕ, ◌-◌, ◌≤◌, suc, Bool, true, false, not, ◌≢◌, ◌&&◌, List, [], ◌∷◌, map, length, take, drop, get_or, Option, None, Some, refl, sym, ap, ◌∙◌, subst, arith}
 use Rattle.std.specs.Prelude.{is_some, if◌then◌else◌}
 use Rattle.std.proofs.Math.Bool.{beq}
 use Rattle.std.specs.Option.{IsSome}
@@ -93,12 +93,6 @@ module _ (clauses : List (List Lit)) (steps : List Step) where
 
   pub tells-ends : (n : ℕ) → n ≡ length clauses → (b : Bool) → Tells (map (λ s. s.clause) (drop (length steps - n) steps) ≡ clauses) b → Tells (EndsIn clauses steps) b
   tells-ends n e b t = tells-like (map (λ s. s.clause) (drop (length steps - n) steps) ≡ clauses) (EndsIn clauses steps) b (last-ends n e) (ends-last n e) t
-
-  pub too-short : length steps < length clauses → ¬ EndsIn clauses steps
-  too-short short ends =
-      let few = sym (mapped ends.last) ∙ ap length ends.clauses_are in
-      let all = ap length ends.parts ∙ length-append ends.before ends.last in
-      omega (arith, few, all)
 
 -- two last steps of which the first adds its clause
 pub tells-two : (steps : List Step) (c d : List Lit) (s t : Step) → 2 ≤ length steps → drop (length steps - 2) steps ≡ s ∷ t ∷ [] → s.clause ≡ c

@@ -1,5 +1,5 @@
 -- How a walk grows, and that what it has found in the end is what the seeds reach.
-use Rattle.std.proofs.Common.{◌≡◌, ℕ, ◌+◌, ◌<◌, Bool, true, false, not, ◌&&◌, ◌||◌, Option, Some, None, List, [], ◌∷◌, ◌++◌, length, refl, sym, ap, ◌∙◌, subst, arith, length-append, take, get_or}
+use Rattle.std.proofs.Common.{◌≡◌, ℕ, ◌+◌, Bool, true, false, not, ◌&&◌, ◌||◌, Option, Some, None, List, [], ◌∷◌, ◌++◌, length, refl, sym, ap, ◌∙◌, subst, arith, length-append}
 use Rattle.std.specs.Ordering.{nat_cmp, match_ordering, is_eq}
 use Rattle.std.specs.declared.cmp.Ordering.{Ordering}
 use Rattle.std.specs.declared.cmp.Ordering.TheVariants.{Less, Equal, Greater}
@@ -7,7 +7,6 @@ use Rattle.std.specs.Option.{option_map, is_some}
 use Rattle.std.specs.Map.{values_of, lookup}
 use Rattle.std.specs.BTreeMap.{insert_entry, is_at, IsOrdered, get}
 use Rattle.std.proofs.lemmas.Bool.Decides.{nat_tests}
-use Rattle.std.proofs.lemmas.List.{map_more}
 use Rattle.std.proofs.lemmas.List.Folds.{list_any-append}
 use Rattle.std.proofs.lemmas.Option.{none-some, same_Some}
 use Rattle.std.proofs.Math.Bool.{or-false, or_assoc, or_comm}
@@ -22,7 +21,6 @@ use Rattle.netlist.specs.Miter.{variable_of, cnf_number_of}
 use Rattle.netlist.proofs.Facts.{variable-one}
 use Rattle.unit_prop.proofs.Facts.{contrary}
 use Rattle.lemma_book.specs.declared.walk.Walk.{Walk}
-use Rattle.lemma_book.specs.Cone.{nodes_in}
 use Rattle.lemma_book.specs.Walk.{AreNumbered, is_found, is_pending, IsWalk, Finds}
 
 pub number-variable : (net : AigPair) (l : Lit) (d : DimacsLiteral) → cnf_number_of net l ≡ Some d → variable_of net l.node ≡ Some d.var
@@ -154,48 +152,3 @@ module _ (net : AigPair) (node : Node) (k : ℕ) (at : variable_of net node ≡ 
             go true e =
                 sym (or-false (is_pending old n))
                 ∙ ap (λ (b : Bool). is_pending old n || not b) (sym (subst (λ (m : Node). is_found old m ≡ true) (exact-node node n e) there))
-
-module _ (net : AigPair) where
-  pub finds-none : (w : Walk) → IsWalk net w → Finds net w [] w
-  finds-none w walk = record {
-    walk = walk;
-    found = λ n. sym (or-false (is_found w n));
-    pending = λ n. sym (or-false (is_pending w n));
-    count = refl;
-  }
-
-  -- one step after another
-  pub finds-append : (old mid new : Walk) (xs ys : List Node) → Finds net old xs mid → Finds net mid ys new → Finds net old (xs ++ ys) new
-  finds-append old mid new xs ys f g = record {
-    walk = g.walk;
-    found = λ n. g.found n ∙ ap (λ (b : Bool). b || has same_node ys n) (f.found n)
-        ∙ or_assoc (is_found old n) (has same_node xs n) (has same_node ys n)
-        ∙ ap (λ (b : Bool). is_found old n || b) (sym (joined n));
-    pending = λ n. g.pending n
-        ∙ ap (λ (b : Bool). b || (has same_node ys n && not (is_found mid n))) (f.pending n)
-        ∙ ap (λ (b : Bool). (is_pending old n || (has same_node xs n && not (is_found old n))) || (has same_node ys n && not b)) (f.found n)
-        ∙ bits (is_pending old n) (has same_node xs n) (has same_node ys n) (is_found old n)
-        ∙ ap (λ (b : Bool). is_pending old n || (b && not (is_found old n))) (sym (joined n));
-    count = omega (arith, f.count, g.count);
-  }
-    where
-      joined : (n : Node) → has same_node (xs ++ ys) n ≡ (has same_node xs n || has same_node ys n)
-      joined n = list_any-append (λ y. same_node y n) xs ys
-
-      bits : (p x y f : Bool) → ((p || (x && not f)) || (y && not (f || x))) ≡ (p || ((x || y) && not f))
-      bits true x y f = refl
-      bits false true true true = refl
-      bits false true true false = refl
-      bits false true false true = refl
-      bits false true false false = refl
-      bits false false true true = refl
-      bits false false true false = refl
-      bits false false false f = refl
-
-  -- the next literal of a list
-  pub finds-next : (old mid new : Walk) (lits : List Lit) (i : ℕ) (l : Lit) → i < length lits → l ≡ get_or lits i l
-      → Finds net old (nodes_in (take i lits)) mid → Finds net mid (l.node ∷ []) new → Finds net old (nodes_in (take (i + 1) lits)) new
-  finds-next old mid new lits i l below at f g =
-      subst (λ (ns : List Node). Finds net old ns new)
-      (ap (λ (m : Lit). nodes_in (take i lits) ++ m.node ∷ []) at ∙ sym (map_more (λ m. m.node) lits i l below))
-      (finds-append old mid new (nodes_in (take i lits)) (l.node ∷ []) f g)

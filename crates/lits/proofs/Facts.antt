@@ -4,8 +4,8 @@
 
 -- what is left of a count: one less after each, and in the end nothing
 pub use Rattle.lits.proofs.ListLemmas.{left-more, left-none}
--- one number more; none stands twice
-pub use Rattle.lits.proofs.ListLemmas.{range-more, no_repeat-range}
+-- one number more; none stands before the first one, and none twice
+pub use Rattle.lits.proofs.ListLemmas.{range-more, range-above, no_repeat-range}
 -- ---- lists: what all elements have, and what some element passes
 
 -- the element at a place has what all elements have

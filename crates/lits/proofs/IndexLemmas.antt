@@ -16,11 +16,6 @@ pub leads-nothing : (links : List ℕ) (place name : ℕ) → name ≡ 0 → Lea
 leads-nothing links place name none (here n e) = omega arith
 leads-nothing links place name none (there n i e within rest) = omega arith
 
--- what leads to a place of the list begins in the list
-pub leads-within : (links : List ℕ) (place name : ℕ) → place < length links → Leads links place name → name ≤ length links
-leads-within links place name below (here n e) = omega arith
-leads-within links place name below (there n i e within rest) = omega arith
-
 -- links that are put behind change no chain
 pub leads-push : (links : List ℕ) (y place name : ℕ) → Leads links place name → Leads (links ++ y ∷ []) place name
 leads-push links y place name (here n e) = here n e
@@ -122,14 +117,6 @@ kept-past head count h = grind (arith, leb_tells)
 
 kept-le : (head count : ℕ) → kept head count ≤ count
 kept-le head count = grind (arith, leb_tells)
-
--- the index of no literal
-pub index-nothing : {L : Type 0} → (code : L → ℕ) (heads links : List ℕ) → links ≡ [] → IsIndex code heads links []
-index-nothing code heads links none = record {
-  each = ap length none;
-  back = λ i. subst (λ (l : List ℕ). get_or l i 0 ≤ i) (sym none) (omega arith);
-  finds = λ place x h. cc;
-}
 
 links-back : (links : List ℕ) (first i : ℕ) → first ≤ length links → ((k : ℕ) → get_or links k 0 ≤ k)
     → get_or (links ++ first ∷ []) i 0 ≤ i

@@ -21,7 +21,7 @@ range-more a zero = let e : a ≡ a + 0 = omega arith in ap (λ (x : ℕ). x ∷
 range-more a (suc n) = let e : (a + 1) + n ≡ a + suc n = omega arith in ap (λ (xs : List ℕ). a ∷ xs) (range-more (a + 1) n ∙ rw e refl)
 
 -- a range has no number before its first one, and none twice
-range-above : (n a q : ℕ) → q < a → has ◌==◌ (range_with_len a n) q ≡ false
+pub range-above : (n a q : ℕ) → q < a → has ◌==◌ (range_with_len a n) q ≡ false
 range-above zero a q below = refl
 range-above (suc n) a q below =
     let apart : (a == q) ≡ false = grind (arith, nat_tests) in

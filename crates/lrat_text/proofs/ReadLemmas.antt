@@ -10,7 +10,6 @@ use Rattle.tokens.specs.Words.{is_empty}
 use Rattle.lrat_text.specs.declared.error.LratErr.{LratErr}
 use Rattle.lrat_text.specs.declared.error.LratErr.TheVariants.{BadNumber, Truncated, Order, Rat, NoMemory}
 use Rattle.lrat_text.specs.declared.parts.Parts.{Parts}
-use Rattle.lrat_text.specs.declared.step.LratStep.{LratStep}
 use Rattle.lrat_text.specs.declared.step.LratStep.TheVariants.{Del}
 use Rattle.lrat_text.specs.Numbers.{is_zero, is_id, is_hint, up_to_zero, past_zero, in_place}
 use Rattle.lrat_text.specs.Reading.{judged, deletion, Gives}
@@ -72,9 +71,6 @@ deletion-read at (Some ns) parts r =
     rw (ids-are ns, good.0, good.1, r.hints_are, r.minus_is, sym r.second_zero)
     (go (list_any (λ n. n.minus) (up_to_zero ns)))
   where
-    said : LratStep
-    said = Del (map (λ n. n.size) (up_to_zero ns))
-
     go : (m : Bool)
         → judged at (not m && true) (list_any is_zero ns) true true
         (Del (map (λ n. n.size) (up_to_zero ns)))

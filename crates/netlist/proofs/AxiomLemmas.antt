@@ -58,19 +58,6 @@ twice x y = go x.node y.node x.neg y.neg
     go n m p true = refl
     go n m p false = refl
 
-pub clause-none : IsClause same_lit opposite []
-clause-none = record { once = refl; apart = refl }
-
-pub clause-one : (x : Lit) → IsClause same_lit opposite (x ∷ [])
-clause-one x = record { once = refl; apart = refl }
-
--- two literals over two nodes are a clause
-pub clause-two : (x y : Lit) → x.node ≢ y.node → IsClause same_lit opposite (x ∷ y ∷ [])
-clause-two x y apart = record {
-  once = rw (apart-lit y x (turned x.node y.node apart)) refl;
-  apart = rw (apart-lit y (opposite x) (turned x.node y.node apart)) refl;
-}
-
 -- a third literal may join them that is neither the second nor its negation
 pub clause-three : (x y z : Lit) → x.node ≢ y.node → x.node ≢ z.node → same_lit z (opposite y) ≡ false → same_lit y z ≡ false
     → IsClause same_lit opposite (x ∷ y ∷ z ∷ [])

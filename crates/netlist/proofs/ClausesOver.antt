@@ -119,13 +119,6 @@ module _ (net : AigPair) (is : IsNet net) where
           ap (λ (b : Bool). 0 == x || b) (list_any-append (λ y. y == x) c.inputs (gate_vars c.gates))
           ∙ sym (or_assoc (0 == x) (has ◌==◌ c.inputs x) (has ◌==◌ (gate_vars c.gates) x)) ∙ h
 
-  -- the nodes with positions are closed under fanins
-  pub nodes-fanins : HasFanins net (has same_node (nodes_of net))
-  nodes-fanins = record {
-    left = λ s v g found q. (fanins_there s v g found).0;
-    right = λ s v g found q. (fanins_there s v g found).1;
-  }
-
   -- so are those with CNF variables, which have also each XOR's outputs
   pub variables-fanins : HasFanins net (has same_node (variables_of net))
   variables-fanins = record {

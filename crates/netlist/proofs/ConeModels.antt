@@ -1,6 +1,6 @@
 -- Values that meet the clauses that define the nodes of a cone are the nodes' values there, so a model of a cone's
 -- clauses is a real counterexample.
-use Rattle.std.proofs.Common.{◌≡◌, ℕ, ◌<◌, Bool, true, false, ◌&&◌, Option, Some, List, [], length, refl, ap, ap₂, ◌∙◌, subst, not, if◌then◌else◌, sym}
+use Rattle.std.proofs.Common.{◌≡◌, ℕ, ◌<◌, Bool, true, false, ◌&&◌, Option, Some, List, [], length, refl, ap, ap₂, ◌∙◌, subst, sym}
 use Rattle.std.specs.Prelude.{◌==◌, slice_index, slice_index_or, ⊤}
 use Rattle.std.specs.Option.{option_map, option_map_or}
 use Rattle.std.proofs.Math.Bool.{or-false}
@@ -106,8 +106,3 @@ module _ (net : AigPair) (is : IsNet net) (p a : Node → Bool) (bits : List Boo
   model-all outputs (Gate s v) there q = model-node (Gate s v) (has-position net (Gate s v) (λ j. refl) there) q
   model-all outputs (Xor j) there q =
       model-xor j (xor-below net j there) q (λ s l found. outputs.output s j l found q)
-
-  -- so has a literal of it
-  pub model-lit : HasOutputs net p → (l : Lit) → has same_node (variables_of net) l.node ≡ true → p l.node ≡ true
-      → lit_holds a l ≡ lit_holds (value_of net bits) l
-  model-lit outputs l there q = ap (λ (b : Bool). if l.neg then not b else b) (model-all outputs l.node there q)

@@ -22,7 +22,7 @@ use Rattle.lits.specs.Same.{same_node}
 use Rattle.lits.proofs.Facts.{list_any-map}
 use Rattle.netlist.proofs.SameNodes.{equal-number, other-number, place_from_any, at-place, both-all, found-one, any_from_find, find_from_any}
 use Rattle.netlist.proofs.RunValues.{IsAmong, Follows, lit_value-same, all-new, all-found, run-unique}
-use Rattle.netlist.proofs.NodeValues.{at_variables, lit_holds-named, is_circuit, given-zero, value_of-gate, value-gate}
+use Rattle.netlist.proofs.NodeValues.{at_variables, lit_holds-named, is_circuit, given-zero, value_of-gate}
 use Rattle.netlist.proofs.NodesThere.{has-gate, no-xor, input-below, length-inputs, output-there, node_of-gate}
 
 -- the set has with each gate the nodes of its fanins
@@ -148,11 +148,6 @@ module _ (net : AigPair) (is : IsNet net) (p a : Node → Bool) (bits : List Boo
       evaluation-gate s v r.0 r.1 q
   evaluation-node (Xor j) there q = let f = sym (no-xor net j) ∙ there in cc
 
-  -- so has a literal of it
-  pub evaluation-lit : (l : Lit) → has same_node (nodes_of net) l.node ≡ true → p l.node ≡ true
-      → lit_holds a l ≡ lit_holds (value_of net bits) l
-  evaluation-lit l there q = ap (λ (b : Bool). if l.neg then not b else b) (evaluation-node l.node there q)
-
   -- an output's literal has the output's value
   pub evaluation-output : (s : Side) (j : ℕ) (l : Lit) → j < length net.a.outputs → output_of net s j ≡ Some l
       → p l.node ≡ true → lit_holds a l ≡ output_value (circuit_of net s) bits j
@@ -162,16 +157,6 @@ module _ (net : AigPair) (is : IsNet net) (p a : Node → Bool) (bits : List Boo
       let same : lit_named s c (slice_index c.outputs j) ≡ l =
       same_Some (lit_named s c (slice_index c.outputs j)) l (sym (ap (option_map (lit_named s c)) r.0) ∙ found) in
       ap (lit_holds a) (sym same) ∙ evaluation-literal s (slice_index c.outputs j) r.1 (subst (λ (m : Lit). p m.node ≡ true) (sym same) q)
-
--- the nodes' values are such values
-pub values-evaluate : (net : AigPair) → IsNet net → (p : Node → Bool) (bits : List Bool) → HasFanins net p
-    → IsEvaluation net p (value_of net bits) bits
-values-evaluate net is p bits fanins = record {
-  fanins = fanins;
-  constant = λ q. refl;
-  inputs = λ k below q. refl;
-  gates = λ s v g found q. value-gate net is bits s v g found;
-}
 
 -- the inputs' truth values under a
 abbrev pub inputs_under : AigPair → (Node → Bool) → List Bool

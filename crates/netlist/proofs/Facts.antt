@@ -72,7 +72,7 @@ pub use Rattle.netlist.proofs.PlaceLemmas.{is_some-place}
 -- the element at the place passes
 pub use Rattle.netlist.proofs.PlaceLemmas.{at_place}
 -- where none passes there is no place; a mapped list has the same one
-pub use Rattle.netlist.proofs.PlaceLemmas.{place_none-all, none_from_is_some, place_of-map}
+pub use Rattle.netlist.proofs.PlaceLemmas.{none_from_is_some, place_of-map}
 -- ---- a circuit's variables differ, so each is found at its own place, and there are few of them
 pub use Rattle.netlist.proofs.VariableLemmas.{few, few_gates_of}
 -- in a list without repeats an element stands in no part before it, and a new one may join it
@@ -122,5 +122,3 @@ pub use Rattle.netlist.proofs.ClauseMeaning.{same-values}
 pub use Rattle.netlist.proofs.ClauseMeaning.{meets_from_kept}
 -- a gate's clauses say that it is the AND of its fanins, an XOR's that it is true exactly where its outputs differ
 pub use Rattle.netlist.proofs.ClauseMeaning.{gate_from_meets, xor_from_meets}
--- a node at a place is there
-pub use Rattle.netlist.proofs.MiterLemmas.{has-get}

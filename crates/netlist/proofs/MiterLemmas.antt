@@ -1,12 +1,11 @@
 -- The numbered clauses of the miter.
 use Rattle.std.proofs.Common.{◌≡◌, ℕ, zero, suc, ◌+◌, ◌<◌, ◌≤◌, Bool, true, false, not, Option, Some, None, List, [], ◌∷◌, ◌++◌, length, take, map, get_or, add-one, zero-add, refl, sym, ap, ◌∙◌, subst, arith}
-use Rattle.std.specs.Prelude.{◌&&◌, ◌||◌, slice_get, slice_set, IfSome}
+use Rattle.std.specs.Prelude.{◌&&◌, ◌||◌, slice_get}
 use Rattle.std.specs.Option.{option_map, option_map_or}
 use Rattle.std.specs.List.{AllByRecursion, range_with_len, flat_map}
-use Rattle.std.proofs.Math.Seq.{take-length, take-suc-set}
-use Rattle.std.proofs.lemmas.List.{map-append, take_more, take_all, length-set}
-use Rattle.std.proofs.lemmas.Option.{none-some, same_Some, slice_get-get_or}
-use Rattle.std.proofs.lemmas.Bool.{or_right}
+use Rattle.std.proofs.Math.Seq.{take-length}
+use Rattle.std.proofs.lemmas.List.{map-append, take_all}
+use Rattle.std.proofs.lemmas.Option.{none-some, slice_get-get_or}
 use Rattle.lits.specs.Clause.{has, no_repeat, has_pair, IsClause}
 use Rattle.lits.specs.Dimacs.{DimacsLiteral}
 use Rattle.lits.specs.declared.node.Node.{Node}
@@ -14,7 +13,7 @@ use Rattle.lits.specs.declared.node.Node.TheVariants.{Const, Xor}
 use Rattle.lits.specs.declared.literal.Lit.{Lit}
 use Rattle.netlist.specs.Net.{AigPair, IsNet}
 use Rattle.lits.specs.Same.{same_node, same_lit, opposite, same_dim, opposite_dim}
-use Rattle.lits.proofs.Facts.{take_next, all-parts, same-node_self, exact-lit, all-slice_get}
+use Rattle.lits.proofs.Facts.{take_next, all-parts, exact-lit, all-slice_get}
 use Rattle.netlist.specs.Miter.{positive, axioms_of, axiom_of, xors_of, variables_of, variable_of, numbered, miter_of}
 use Rattle.netlist.specs.Numbered.{AreThere, numbered_at, numbered_before}
 use Rattle.netlist.proofs.StartLemmas.{flat_next}
@@ -24,13 +23,6 @@ use Rattle.netlist.proofs.SameNodes.{range-has}
 use Rattle.netlist.proofs.NetLemmas.{axioms_of-none}
 use Rattle.netlist.proofs.NodesThere.{has-xor}
 use Rattle.netlist.proofs.PlaceLemmas.{place_none}
-
--- a node at a place is there
-pub has-get : (xs : List Node) (k : ℕ) (n : Node) → slice_get xs k ≡ Some n → has same_node xs n ≡ true
-has-get [] k n e = absurd (none-some n e)
-has-get (x ∷ xs) zero n e =
-    let here : same_node x n ≡ true = subst (λ (m : Node). same_node x m ≡ true) (same_Some x n e) (same-node_self x) in rw here refl
-has-get (x ∷ xs) (suc k) n e = or_right (same_node x n) (has same_node xs n) (has-get xs k n e)
 
 -- numbering keeps clauses
 has-numbered : (net : AigPair) (xs : List Lit) (x : Lit) → AreThere net xs → has same_node (variables_of net) x.node ≡ true
@@ -68,13 +60,6 @@ axiom-there net node k c is e = go (has same_node (variables_of net) node) refl
         let none : variable_of net node ≡ None = ap (option_map (λ n. n + 1)) (place_none (λ n. same_node n node) (variables_of net) f) in
         absurd (none-some c (sym (ap (λ (cs : List (List Lit)). slice_get cs k) (axioms_of-none net node none)) ∙ e))
 
-pub axiom_of-there : (net : AigPair) (node : Node) (k : ℕ) → IsNet net → IfSome (axiom_of net node k) (AreThere net)
-axiom_of-there net node k is = go (axiom_of net node k) refl
-  where
-    go : (o : Option (List Lit)) → axiom_of net node k ≡ o → IfSome o (AreThere net)
-    go None e = tt
-    go (Some c) e = axiom-there net node k c is e
-
 -- the first k clauses of a node, numbered
 pub numbered_axioms : AigPair → Node → ℕ → List (List DimacsLiteral)
 numbered_axioms net node k = map (λ c. map (numbered net) c) (take k (axioms_of net node))
@@ -111,26 +96,10 @@ pub record AreNumbered (net : AigPair) (lits : List Lit) (numbers : List DimacsL
   pub long : length numbers ≡ 3
   pub done : take i numbers ≡ map (numbered net) (take i lits)
 
-pub numbered_next : (net : AigPair) (lits : List Lit) (numbers : List DimacsLiteral) (i : ℕ) (d : Lit) → i < length lits → i < 3
-    → AreNumbered net lits numbers i → AreNumbered net lits (slice_set numbers i (numbered net (get_or lits i d))) (i + 1)
-numbered_next net lits numbers i d l room old = record {
-  long = length-set numbers i (numbered net (get_or lits i d)) ∙ old.long;
-  done =
-      ap (λ (n : ℕ). take n (slice_set numbers i (numbered net (get_or lits i d)))) (add-one i)
-      ∙ take-suc-set numbers i (numbered net (get_or lits i d)) (omega (arith, old.long))
-      ∙ ap (λ (ns : List DimacsLiteral). ns ++ numbered net (get_or lits i d) ∷ []) old.done
-      ∙ sym (map-append (numbered net) (take i lits) (get_or lits i d ∷ []))
-      ∙ ap (map (numbered net)) (sym (take_more lits i d l));
-}
-
 pub numbered_whole : (net : AigPair) (lits : List Lit) (numbers : List DimacsLiteral) (i : ℕ) → length lits ≡ i
     → AreNumbered net lits numbers i → take (length lits) numbers ≡ map (numbered net) lits
 numbered_whole net lits numbers i e done =
     ap (λ (n : ℕ). take n numbers) e ∙ done.done ∙ ap (λ (n : ℕ). map (numbered net) (take n lits)) (sym e) ∙ ap (map (numbered net)) (take-length lits)
-
-pub there-at : (net : AigPair) (lits : List Lit) (i : ℕ) (d : Lit) → AreThere net lits → i < length lits
-    → has same_node (variables_of net) (get_or lits i d).node ≡ true
-there-at net lits i d all l = all-slice_get (λ l. has same_node (variables_of net) l.node ≡ true) lits i (get_or lits i d) all (slice_get-get_or lits i d l)
 
 -- the numbers of the first j XORs
 pub numbered_xors : AigPair → ℕ → List DimacsLiteral
@@ -170,11 +139,6 @@ xors-clause net = record {
   apart = apart (xors_of net);
 }
   where
-    not_both : (b c d : Bool) → b ≡ false → c ≡ false → (not (b || c) && d) ≡ d
-    not_both true c d e f = cc
-    not_both false true d e f = cc
-    not_both false false d e f = refl
-
     other : (x y : Lit) → (x ≡ y → ⊥) → (b : Bool) → same_lit x y ≡ b → b ≡ false
     other x y ne true e = absurd (ne (exact-lit x y e))
     other x y ne false e = refl

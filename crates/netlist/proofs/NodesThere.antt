@@ -15,7 +15,7 @@ use Rattle.lits.specs.declared.node.Node.TheVariants.{Const, Input, Gate, Xor}
 use Rattle.netlist.specs.declared.gate.And.{And}
 use Rattle.netlist.specs.Place.{place_of}
 use Rattle.netlist.specs.Circuit.{gate_vars, variables_in, is_over, Aig}
-use Rattle.netlist.specs.Net.{AigPair, IsNet, circuit_of, node_of, definition_of, definitions, nodes_of, position_of}
+use Rattle.netlist.specs.Net.{AigPair, IsNet, circuit_of, node_of, definition_of, definitions, nodes_of}
 use Rattle.lits.specs.Same.{same_node}
 use Rattle.lits.proofs.Facts.{list_any-map}
 use Rattle.netlist.specs.Miter.{xors_of, variables_of}
@@ -119,13 +119,6 @@ module _ (net : AigPair) where
       sym (has-append (nodes_of net) (xors_of net) n ∙ ap (λ (b : Bool). has same_node (nodes_of net) n || b) (no-xors n none)
       ∙ or-false (has same_node (nodes_of net) n))
       ∙ h
-
--- a node with a position is among the nodes, and the other way round
-pub position-has : (net : AigPair) (n : Node) (k : ℕ) → position_of net n ≡ Some k → has same_node (nodes_of net) n ≡ true
-position-has net n k e = (at-place (λ m. same_node m n) (nodes_of net) k e).4
-
-pub position-some : (net : AigPair) (n : Node) → has same_node (nodes_of net) n ≡ true → (k : ℕ) × (position_of net n ≡ Some k)
-position-some net n h = place_from_any (λ m. same_node m n) (nodes_of net) h
 
 -- the parts of a net have as many inputs and outputs as A
 pub length-inputs : (net : AigPair) → IsNet net → (s : Side) → length (circuit_of net s).inputs ≡ length net.a.inputs

@@ -5,17 +5,16 @@ use Rattle.std.specs.Option.{option_map, option_map_or, unwrap_or}
 use Rattle.std.specs.List.{AllByRecursion, list_any}
 use Rattle.std.proofs.lemmas.Option.{none-some, same_Some}
 use Rattle.lits.specs.Clause.{has}
-use Rattle.lits.specs.Assignment.{IsAssignment, Meets, Follows, IsSatisfiable}
+use Rattle.lits.specs.Assignment.{IsAssignment, Meets, IsSatisfiable}
 use Rattle.lits.specs.Dimacs.{DimacsLiteral}
 use Rattle.lits.specs.declared.node.Node.{Node}
 use Rattle.lits.specs.declared.literal.Lit.{Lit}
 use Rattle.netlist.specs.Place.{place_of}
 use Rattle.netlist.specs.Net.{AigPair, lit_holds}
-use Rattle.lits.specs.Same.{same_node, same_lit, opposite, same_dim, opposite_dim}
+use Rattle.lits.specs.Same.{same_node, same_lit, same_dim, opposite_dim}
 use Rattle.lits.proofs.Facts.{exact-node, exact-lit, same-lit_self}
-use Rattle.netlist.specs.Miter.{positive, variables_of, variable_of, cnf_number_of, numbered}
-use Rattle.netlist.proofs.SameNodes.{list_any-same, place_from_any, at-place}
-use Rattle.netlist.proofs.ClauseMeaning.{lit_holds-assigns}
+use Rattle.netlist.specs.Miter.{positive, variables_of, variable_of, numbered}
+use Rattle.netlist.proofs.SameNodes.{place_from_any, at-place}
 use Rattle.netlist.proofs.ClausesOver.{AreOver}
 
 exact-number : (x y : DimacsLiteral) → same_dim x y ≡ true → x ≡ y
@@ -23,10 +22,6 @@ exact-number = search rules
 
 same-number_self : (x : DimacsLiteral) → same_dim x x ≡ true
 same-number_self = search rules
-
--- the number of a negation is the negation of the number
-pub numbered-opposite : (net : AigPair) (l : Lit) → numbered net (opposite l) ≡ opposite_dim (numbered net l)
-numbered-opposite net l = refl
 
 -- the node at its own place
 node_at : (xs : List Node) (n : Node) (k : ℕ) → place_of (λ m. same_node m n) xs ≡ Some k → slice_get xs k ≡ Some n
@@ -62,14 +57,6 @@ variable-has net n k e = go (place_of (λ m. same_node m n) (variables_of net)) 
     go None f = absurd (none-some k (rw f at e))
     go (Some i) f = (at-place (λ m. same_node m n) (variables_of net) i f).4
 
--- the number of a literal whose node is there
-pub cnf_number-numbered : (net : AigPair) (l : Lit) → has same_node (variables_of net) l.node ≡ true
-    → cnf_number_of net l ≡ Some (numbered net l)
-cnf_number-numbered net l there =
-    let r = variable-some net l.node there in
-    ap (option_map (λ v. record { var = v; neg = l.neg })) r.1
-    ∙ ap (λ (o : Option ℕ). Some (record { var = unwrap_or o 0; neg = l.neg })) (sym r.1)
-
 -- two literals of the miter with one number are one
 pub numbered-one : (net : AigPair) (x y : Lit) → has same_node (variables_of net) x.node ≡ true
     → has same_node (variables_of net) y.node ≡ true → numbered net x ≡ numbered net y → x ≡ y
@@ -96,28 +83,6 @@ numbered-same net x y hx hy = go (same_dim (numbered net x) (numbered net y)) (s
     go false true e f =
         let one = exact-lit x y f in
         sym e ∙ subst (λ (z : Lit). same_dim (numbered net x) (numbered net z) ≡ true) one (same-number_self (numbered net x))
-
--- the values of nodes by those of literals
-abbrev pub values_of_nodes : (Lit → Bool) → Node → Bool
-values_of_nodes u n = u (positive n)
-
--- both give each literal one value
-pub values_of_nodes-literal : (u : Lit → Bool) → IsAssignment opposite u → (l : Lit) → lit_holds (values_of_nodes u) l ≡ u l
-values_of_nodes-literal u assigns l = go l.neg l.node
-  where
-    go : (neg : Bool) (n : Node) → (if neg then not (u (positive n)) else u (positive n)) ≡ u (record { node = n; neg = neg })
-    go true n = sym (assigns.negates (positive n))
-    go false n = refl
-
--- clauses hold under both alike
-pub values_of_nodes-holds : (u : Lit → Bool) → IsAssignment opposite u → (c : List Lit)
-    → list_any (lit_holds (values_of_nodes u)) c ≡ list_any u c
-values_of_nodes-holds u assigns c = list_any-same (lit_holds (values_of_nodes u)) u (values_of_nodes-literal u assigns) c
-
-pub values_of_nodes-meet : (u : Lit → Bool) → IsAssignment opposite u → (cs : List (List Lit)) → Meets u cs
-    → Meets (lit_holds (values_of_nodes u)) cs
-values_of_nodes-meet u assigns [] m = tt
-values_of_nodes-meet u assigns (c ∷ cs) m = (values_of_nodes-holds u assigns c ∙ m.0, values_of_nodes-meet u assigns cs m.1)
 
 -- the values of nodes by those of DIMACS literals
 abbrev pub values_by_number : AigPair → (DimacsLiteral → Bool) → Node → Bool
@@ -213,11 +178,3 @@ module _ (net : AigPair) (cs : List (List Lit)) where
       meets = numbers-meet over s.0 s.1;
     },
   )
-
-  -- what follows from clauses over nodes follows from them by numbers
-  pub follows-numbers : (c : List Lit) → Follows opposite cs c
-      → Follows opposite_dim (map (λ d. map (numbered net) d) cs) (map (numbered net) c)
-  follows-numbers c follows u assigns m =
-      holds-replaced u (lit_holds (values_by_number net u)) (numbered net) c
-      (all-all (λ l. u (numbered net l) ≡ lit_holds (values_by_number net u) l) (λ l. sym (values_by_number-literal net u assigns l)) c)
-      ∙ follows (lit_holds (values_by_number net u)) (lit_holds-assigns (values_by_number net u)) (nodes-meet u assigns m)

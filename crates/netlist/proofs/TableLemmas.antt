@@ -1,6 +1,6 @@
 -- How the table of a circuit's variables grows.
-use Rattle.std.proofs.Common.{◌≡◌, ◌≢◌, ℕ, zero, suc, ◌+◌, ◌<◌, Bool, true, false, Option, None, Some, List, [], ◌∷◌, ◌++◌, length, refl, sym, ap, ◌∙◌, subst, arith, length-append, get_or-set_same, get_or-set_other}
-use Rattle.std.specs.Prelude.{◌==◌, slice_index, slice_set, replicate, if◌then◌else◌}
+use Rattle.std.proofs.Common.{◌≡◌, ◌≢◌, ℕ, ◌+◌, ◌<◌, Bool, true, false, Option, None, Some, List, [], ◌∷◌, ◌++◌, length, refl, sym, ap, ◌∙◌, subst, arith, length-append, get_or-set_same, get_or-set_other}
+use Rattle.std.specs.Prelude.{◌==◌, slice_index, slice_set}
 use Rattle.std.specs.Option.{is_some}
 use Rattle.std.proofs.lemmas.Bool.Decides.{nat_tests}
 use Rattle.lits.specs.Clause.{has}
@@ -54,21 +54,3 @@ push_table t vars v table room new = record {
         let old : slice_index (slice_set t.by_variable v t.count) q ≡ slice_index t.by_variable q =
         get_or-set_other t.by_variable v q t.count 0 apart in
         rw (old, place_of-append (λ x. x == q) vars (v ∷ []), e, or_place-none (place_of (λ x. x == q) vars)) (table.finds q)
-
--- room behind the known variables changes nothing
-pub table-room : (t : Places) (n : ℕ) (vars : List ℕ) → IsTable t vars
-    → IsTable (record { by_variable = t.by_variable ++ replicate n 0; count = t.count }) vars
-table-room t n vars table = record {
-  finds = λ q. ap (λ (p : ℕ). if q == 0 then Some 0 else (if p == 0 then None else Some p)) (same t.by_variable q) ∙ table.finds q;
-  count = table.count;
-}
-  where
-    zeros : (n q : ℕ) → slice_index (replicate n 0) q ≡ 0
-    zeros zero q = refl
-    zeros (suc n) zero = refl
-    zeros (suc n) (suc q) = zeros n q
-
-    same : (xs : List ℕ) (q : ℕ) → slice_index (xs ++ replicate n 0) q ≡ slice_index xs q
-    same [] q = zeros n q
-    same (x ∷ xs) zero = refl
-    same (x ∷ xs) (suc q) = same xs q

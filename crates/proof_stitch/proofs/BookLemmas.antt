@@ -410,19 +410,3 @@ log-whole net out entries sound j spent = go (about entries j) refl
     go (Some x) e =
         let f : is_spent x ≡ true = rw e at spent in
         rw e ((about-all (IsSound net out) entries j x sound e).log_whole f)
-
--- an output whose query hasn't spent its budget has no log
-pub no_log : (entries : List Entry) (j : ℕ) → has_spent entries j ≡ false → spent_log entries j ≡ []
-no_log entries j none = go (about entries j) refl
-  where
-    empty : (x : Entry) → is_spent x ≡ false → log_of x ≡ []
-    empty (Merge node lit steps) e = refl
-    empty (Apart node lit input) e = refl
-    empty (Spent node lit seen log) e = refl
-    empty (Out i steps) e = refl
-    empty (OutApart i input) e = refl
-    empty (OutSpent i seen log) e = cc
-
-    go : (o : Option Entry) → about entries j ≡ o → spent_log entries j ≡ []
-    go None e = rw e refl
-    go (Some x) e = let f : is_spent x ≡ false = rw e at none in rw e (empty x f)

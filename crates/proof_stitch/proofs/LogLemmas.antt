@@ -1,14 +1,11 @@
 -- What a writer of a book's logs has written at each output.
-use Rattle.std.proofs.Common.{◌≡◌, ℕ, suc, ◌+◌, ◌-◌, ◌<◌, ◌≤◌, ◌^◌, Some, List, [], ◌∷◌, ◌++◌, length, map, refl, sym, ap, ◌∙◌, subst, arith, append_assoc}
+use Rattle.std.proofs.Common.{◌≡◌, ℕ, suc, ◌+◌, ◌-◌, ◌<◌, ◌≤◌, ◌^◌, List, [], ◌∷◌, ◌++◌, length, map, refl, sym, ap, ◌∙◌, subst, arith, append_assoc}
 use Rattle.std.specs.Prelude.{All}
 use Rattle.std.specs.List.{range_with_len}
 use Rattle.std.proofs.lemmas.List.{append-nil}
-use Rattle.lits.specs.declared.step.Step.{Step}
 use Rattle.netlist.specs.Net.{AigPair}
 use Rattle.netlist.specs.Miter.{miter_of}
 use Rattle.lemma_book.specs.declared.entry.Entry.{Entry}
-use Rattle.lemma_book.specs.declared.entry.Entry.TheVariants.{OutSpent}
-use Rattle.lemma_book.specs.Entry.{about}
 use Rattle.lrat_text.specs.declared.step.LratStep.{LratStep}
 use Rattle.lrat_text.specs.Writing.{text_from}
 use Rattle.proof_stitch.specs.declared.logs.Span.{Span}
@@ -97,10 +94,3 @@ log-done {net} {shown} {text0} {last0} {entries} {outputs} {text} {last} {spans}
 
     at : IsAtLog net shown text0 last0 entries outputs [] text last spans
     at = subst (λ (k : ℕ). IsAtLog net shown text0 last0 entries outputs (range_with_len j k) text last spans) none found
-
--- the span of an output whose entry has a log
-pub span_of-found : (entries : List Entry) (j last seen : ℕ) (log : List Step) → about entries j ≡ Some (OutSpent j seen log)
-    → span_of entries (last + 1) j ≡ record { output = j; first = last + 1; last = last + length log } ∷ []
-span_of-found entries j last seen log e =
-    let end : last + 1 + length log - 1 ≡ last + length log = omega arith in
-    rw (e, end) refl

@@ -242,9 +242,6 @@ shown-drop {net} {first} {known} {shown} {next} i e is at =
 
 module _ {net : AigPair} {first : ℕ} {known : List Entry} {e : Entry} {es : List Entry} {shown : List ℕ} {next : ℕ}
     (at : IsAtShown net first known (e ∷ es) shown next) where
-  pub shown-room : next + length (written_steps e) < 2 ^ 60
-  shown-room = omega (arith, at.next_is, at.few)
-
   -- an entry shows no more clauses than it has steps
   pub shown-within : length (shown_clauses e) ≤ length (written_steps e)
   shown-within =

@@ -1,5 +1,5 @@
 -- Rows of values are alike exactly where the values are the same for all patterns, or opposite for all.
-use Rattle.std.proofs.Common.{◌≡◌, ◌≢◌, ◌∙◌, ℕ, zero, suc, ◌+◌, ◌*◌, ◌-◌, ◌^◌, ◌/◌, ◌%◌, ◌<◌, ◌≤◌, ◌==◌, ◌&&◌, nat_lt, Bool, true, false, List, [], ◌∷◌, length, refl, sym, ap, ap₂, arith, add-one, inl, inr, if◌then◌else◌}
+use Rattle.std.proofs.Common.{◌≡◌, ◌≢◌, ◌∙◌, ℕ, zero, suc, ◌+◌, ◌*◌, ◌-◌, ◌^◌, ◌/◌, ◌%◌, ◌<◌, ◌≤◌, ◌==◌, ◌&&◌, nat_lt, Bool, true, false, List, refl, sym, ap, ap₂, arith, add-one, inl, inr, if◌then◌else◌}
 use Rattle.std.specs.List.{list_all, range_with_len, slice_index_or}
 use Rattle.std.specs.Int.{bit_at}
 use Rattle.std.specs.Int.RustNames.{bit_xor}
@@ -33,19 +33,6 @@ all-numbers test n k all below = all-below test 0 n all k (omega arith) (omega a
 
 pub each-number : (test : ℕ → Bool) (n : ℕ) → ((k : ℕ) → k < n → test k ≡ true) → list_all test (range_with_len 0 n) ≡ true
 each-number test n each = all-range test 0 n (λ k from below. each k (omega arith))
-
--- the same of the elements of a list
-pub all-elements : {X : Type 0} (test : X → Bool) (xs : List X) (k : ℕ) (d : X) → list_all test xs ≡ true → k < length xs
-    → test (slice_index_or xs k d) ≡ true
-all-elements test [] k d all below = absurd (omega arith)
-all-elements test (x ∷ xs) zero d all below = (and_parts (test x) _ all).0
-all-elements test (x ∷ xs) (suc k) d all below = all-elements test xs k d (and_parts (test x) _ all).1 (omega arith)
-
-pub each-element : {X : Type 0} (test : X → Bool) (xs : List X) (d : X) → ((k : ℕ) → k < length xs → test (slice_index_or xs k d) ≡ true)
-    → list_all test xs ≡ true
-each-element test [] d each = refl
-each-element test (x ∷ xs) d each =
-    rw (each 0 (omega arith)) (each-element test xs d (λ k below. each (suc k) (omega arith)))
 
 pub same-numbers : (a b : ℕ) → a ≡ b → (a == b) ≡ true
 same-numbers a b e = grind (arith, nat_tests)

@@ -1,23 +1,13 @@
 -- Chains: empty ones, and one member more.
-use Rattle.std.proofs.Common.{◌≡◌, ◌≢◌, ◌∙◌, ℕ, ◌+◌, ◌-◌, ◌<◌, ◌≤◌, ◌==◌, ◌||◌, ◌&&◌, ◌⊎◌, Bool, true, false, List, [], length, slice_index, slice_set, refl, sym, ap, ap₂, subst, arith, inl, inr}
+use Rattle.std.proofs.Common.{◌≡◌, ◌≢◌, ◌∙◌, ℕ, ◌+◌, ◌-◌, ◌<◌, ◌==◌, ◌||◌, ◌&&◌, ◌⊎◌, Bool, true, false, List, [], length, slice_index, slice_set, refl, sym, ap, ap₂, subst, arith, inl, inr}
 use Rattle.std.proofs.lemmas.Bool.{and_parts}
 use Rattle.std.proofs.lemmas.Bool.Decides.{nat_tests, eqb_tells}
 use Rattle.std.proofs.lemmas.List.{length-set, get_or_past, get_or-set_same, get_or-set_other}
 use Rattle.word_sim.specs.Rows.{Signatures}
 use Rattle.sig_classes.specs.Alike.{row_of, alike, hash_of, bucket_of}
-use Rattle.sig_classes.specs.Chains.{Chains, AreLinks, AreBefore, IsLink, AreChains, HasMembers, bucket_at, class_of, are_alike, are_one, with_member}
-use Rattle.sig_classes.proofs.AlikeLemmas.{alike-hash, equal-numbers, same-numbers}
-
--- chains without members
-pub no-chains : (bucket : ℕ → ℕ) (member : ℕ → Bool) (heads behind : List ℕ) → ((q : ℕ) → member q ≡ false)
-    → ((h : ℕ) → slice_index heads h ≤ 0) → AreChains bucket member heads behind
-no-chains bucket member heads behind none before = record {
-  inside = λ q there. let f : true ≡ false = sym there ∙ none q in cc;
-  head = λ h. record { is_member = λ l. absurd (omega (arith, before h)); in_bucket = λ l. absurd (omega (arith, before h)) };
-  next = λ q there. let f : true ≡ false = sym there ∙ none q in cc;
-  from_head = λ q there. let f : true ≡ false = sym there ∙ none q in cc;
-  from_next = λ p q there. let f : true ≡ false = sym there ∙ none p in cc;
-}
+use Rattle.sig_classes.specs.Chains.{Chains, AreBefore, IsLink, AreChains, HasMembers, bucket_at, class_of, are_alike, are_one, with_member}
+use Rattle.sig_classes.proofs.AlikeLemmas.{alike-hash, same-numbers}
+use Rattle.netlist.proofs.Facts.{equal-number}
 
 -- chains of members that are told in another way
 pub chains-same : (bucket : ℕ → ℕ) (member other : ℕ → Bool) (heads behind : List ℕ) → ((q : ℕ) → member q ≡ other q)
@@ -77,9 +67,6 @@ module _ (bucket : ℕ → ℕ) (member : ℕ → Bool) (heads behind : List ℕ
   behind-other : (q : ℕ) → q ≢ n → slice_index new_behind q ≡ slice_index behind q
   behind-other q other = get_or-set_other behind n q (slice_index heads (bucket n)) 0 other
 
-  last : ℕ
-  last = n + 1
-
   -- the member is put first into its chain
   pub chains-more : AreChains bucket more new_heads new_behind
   chains-more = record {
@@ -138,23 +125,6 @@ set-cases xs i v q inside = elim (eqb_tells q i) [
 
 module _ (heads behind : List ℕ) (n b : ℕ) (room : n < length behind) (there : b < length heads)
     (before : AreBefore n (record { heads = heads; behind = behind })) where
-  -- links after a member was put
-  pub links-more : AreLinks (record { heads = heads; behind = behind })
-      → AreLinks (record { heads = slice_set heads b (n + 1); behind = slice_set behind n (slice_index heads b) })
-  links-more links = record {
-    some = omega (arith, length-set heads b (n + 1), links.some);
-    few = omega (arith, length-set heads b (n + 1), links.few);
-    room = omega (arith, length-set behind n (slice_index heads b), links.room);
-    heads = λ h. elim (set-cases heads b (n + 1) h there) [
-      | inl p ↦ omega (arith, p.1, room, length-set behind n (slice_index heads b))
-      | inr p ↦ omega (arith, p, links.heads h, length-set behind n (slice_index heads b))
-    ];
-    behind = λ q. elim (set-cases behind n (slice_index heads b) q room) [
-      | inl p ↦ omega (arith, p.0, p.1, before b)
-      | inr p ↦ omega (arith, p, links.behind q)
-    ];
-  }
-
   -- no chain begins behind it
   pub before-more : AreBefore (n + 1) (record { heads = slice_set heads b (n + 1); behind = slice_set behind n (slice_index heads b) })
   before-more h = elim (set-cases heads b (n + 1) h there) [
@@ -184,19 +154,13 @@ pub bucket-is : (classes : List ℕ) (sigs : Signatures) (t : Chains) (p buckets
 bucket-is classes sigs t p buckets class count row b is size own many same =
     is ∙ ap₂ bucket_of size (ap (λ (c : ℕ). hash_of c count row) own ∙ ap₂ (hash_of (class_of classes p)) many same)
 
--- whether rows are alike, by what it is computed of
-pub alike-is : (sigs : Signatures) (q p count : ℕ) (a b : List ℕ) (t : Bool) → t ≡ alike count a b → count ≡ sigs.patterns → a ≡ row_of sigs q
-    → b ≡ row_of sigs p → t ≡ are_alike sigs q p
-alike-is sigs q p count a b t is many first second =
-    is ∙ ap (λ (n : ℕ). alike n a b) many ∙ ap₂ (alike sigs.patterns) first second
-
 -- ---- whether two positions are in one class
 
 pub one-parts : (classes : List ℕ) (sigs : Signatures) (q p : ℕ) → are_one classes sigs q p ≡ true
     → (class_of classes q ≡ class_of classes p) × (are_alike sigs q p ≡ true)
 one-parts classes sigs q p one =
     let parts = and_parts (class_of classes q == class_of classes p) (are_alike sigs q p) one in
-    (equal-numbers _ _ parts.0, parts.1)
+    (equal-number _ _ parts.0, parts.1)
 
 pub one-from : (classes : List ℕ) (sigs : Signatures) (q p : ℕ) → class_of classes q ≡ class_of classes p → are_alike sigs q p ≡ true
     → are_one classes sigs q p ≡ true
@@ -245,11 +209,3 @@ search-next classes sigs member t p link v some other read chains searched =
           let before : q < link - 1 = omega (arith, searched.1 q there one, apart) in
           omega (arith, read, chains.from_next (link - 1) q here there (bucket ∙ sym (one-bucket classes sigs t q p one)) before),
     )
-
-pub search-end : (classes : List ℕ) (sigs : Signatures) (member : ℕ → Bool) (t : Chains) (p : ℕ) → IsSearched classes sigs member t p 0
-    → (q : ℕ) → member q ≡ true → are_one classes sigs q p ≡ false
-search-end classes sigs member t p searched q there = go (are_one classes sigs q p) refl
-  where
-    go : (b : Bool) → are_one classes sigs q p ≡ b → b ≡ false
-    go true e = absurd (omega (arith, searched.1 q there e))
-    go false e = refl

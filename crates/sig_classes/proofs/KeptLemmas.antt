@@ -214,23 +214,6 @@ kept-all net patterns count leaders all classes =
     let whole : take count patterns ≡ patterns = ap (λ (n : ℕ). take n patterns) all ∙ take-length patterns in
     record { some = omega (arith, all); classes = subst (λ (ps : List (List Bool)). AreClasses net ps leaders) (sym whole) classes }
 
--- before a pattern is looked at there is one class
-pub kept-none : (net : AigPair) (patterns : List (List Bool)) (leaders : List ℕ) → length leaders ≡ length (nodes_of net)
-    → ((p : ℕ) → p < length leaders → class_of leaders p ≡ 0) → AreKept net patterns (record { seen = 0; leaders = leaders })
-kept-none net patterns leaders size none = record {
-  some = omega arith;
-  classes = record {
-    size = size;
-    each = λ p below.
-        let zero-class : class_of leaders p ≡ 0 = none p (omega (arith, size, below)) in
-        record {
-          low = omega (arith, zero-class);
-          same = λ k less. absurd (omega (arith, less));
-          least = λ r less. absurd (omega (arith, zero-class, less));
-        };
-  };
-}
-
 -- ---- tasks
 
 abbrev task-with : AigPair → List Entry → ℕ → Lit → Option Task

@@ -1,13 +1,10 @@
 -- The least positions of classes, one more.
-use Rattle.std.proofs.Common.{◌≡◌, ◌∙◌, ℕ, ◌+◌, List, [], ◌∷◌, ◌++◌, length, refl, sym, ap, subst, arith, inl, inr, length-append}
+use Rattle.std.proofs.Common.{◌≡◌, ◌∙◌, ℕ, ◌+◌, List, [], ◌∷◌, ◌++◌, length, sym, ap, subst, arith, inl, inr, length-append}
 use Rattle.std.proofs.lemmas.Bool.{cases_lt}
 use Rattle.std.proofs.lemmas.List.{get_or_append_left, get_or-append-add}
 use Rattle.word_sim.specs.Rows.{Signatures}
 use Rattle.sig_classes.specs.Chains.{class_of}
 use Rattle.sig_classes.specs.Kept.{IsLeastOne, AreLeast}
-
-pub least-none : (classes : List ℕ) (sigs : Signatures) → AreLeast classes sigs 0 []
-least-none classes sigs = record { size = refl; each = λ p below. absurd (omega arith) }
 
 pub least-next : (classes : List ℕ) (sigs : Signatures) (n : ℕ) (now new : List ℕ) (q : ℕ) → AreLeast classes sigs n now → new ≡ now ++ q ∷ []
     → IsLeastOne classes sigs q n → AreLeast classes sigs (n + 1) new

@@ -136,9 +136,6 @@ rising-last net (x ∷ xs) n t rising passed place = (
 )
 
 module _ (net : AigPair) (is : IsNet net) (entries : List Entry) (patterns : List (List Bool)) where
-  pub before-none : AreTasksBefore net entries patterns 0 []
-  before-none = record { due = tt; rising = tt; passed = tt; whole = λ t due p. absurd (omega (arith, p.less)) }
-
   longer : (n : ℕ) (t : Task) → IsPassed net n t → IsPassed net (n + 1) t
   longer n t p = record { place = p.place; is = p.is; less = omega (arith, p.less) }
 

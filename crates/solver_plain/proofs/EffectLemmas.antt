@@ -2,7 +2,7 @@
 use Rattle.std.proofs.Common.{◌≡◌, Bool, true, false, not, ◌||◌, List, [], ◌∷◌, ◌++◌, Some, None, Ok, refl, sym, ap, ◌∙◌, subst, ◌⊎◌, inl, inr}
 use Rattle.std.specs.Prelude.{filter}
 use Rattle.std.specs.List.{find}
-use Rattle.std.proofs.lemmas.Bool.{or_cases, and_parts, and_from, not-false}
+use Rattle.std.proofs.lemmas.Bool.{or_cases, and_parts, and_from, not-false, not-true}
 use Rattle.lits.specs.Clause.{has, firsts}
 use Rattle.lits.proofs.Facts.{IsLiteral}
 use Rattle.unit_prop.specs.Closure.{forces, is_negated}
@@ -10,7 +10,7 @@ use Rattle.unit_prop.specs.Propagation.{IsConsistent}
 use Rattle.unit_prop.specs.Step.{open_in, is_satisfied, after_hint}
 use Rattle.unit_prop.proofs.Facts.{contrary, witness, has-filter, all-true, all-at}
 use Rattle.solver_plain.specs.Effect.{IsUnit, IsQuiet}
-use Rattle.solver_plain.proofs.ListLemmas.{not_true, list_all-not, find-some, find-none, firsts-one}
+use Rattle.solver_plain.proofs.ListLemmas.{list_all-not, find-some, find-none, firsts-one}
 
 module _ {L : Type 0} {eq : L → L → Bool} {opposite : L → L} (laws : IsLiteral eq opposite) where
   pub negated-of_none : (set clause : List L) → find (λ l. not (has eq set (opposite l))) clause ≡ None
@@ -23,13 +23,13 @@ module _ {L : Type 0} {eq : L → L → Bool} {opposite : L → L} (laws : IsLit
       → has eq set l ≡ false → forces eq opposite (has eq set) clause l ≡ true → IsUnit eq opposite set clause l
   unit-of_first set clause l e missing forced =
       let found = find-some laws (λ m. not (has eq set (opposite m))) clause l e in
-      record { free = record { fresh = missing; apart = not_true _ found.1 }; forced = and_from _ _ found.0 forced }
+      record { free = record { fresh = missing; apart = not-true _ found.1 }; forced = and_from _ _ found.0 forced }
 
   quiet-of_first : (set clause : List L) (l : L) → find (λ m. not (has eq set (opposite m))) clause ≡ Some l
       → (forces eq opposite (has eq set) clause l ≡ true → has eq set l ≡ true) → IsQuiet eq opposite set clause
   quiet-of_first set clause l e settled =
       record {
-        not_negated = list_all-not laws (λ m. has eq set (opposite m)) clause l found.0 (not_true _ found.1);
+        not_negated = list_all-not laws (λ m. has eq set (opposite m)) clause l found.0 (not-true _ found.1);
         settled = λ k h f. same k f (or_cases _ _ (all-at laws (λ m. eq m k || has eq set (opposite m)) clause l f found.0));
       }
     where
@@ -41,7 +41,7 @@ module _ {L : Type 0} {eq : L → L → Bool} {opposite : L → L} (laws : IsLit
       same k f (inl g) =
           let at = laws.exact l k g in
           ap (has eq set) (sym at) ∙ settled (subst (λ (z : L). forces eq opposite (has eq set) clause z ≡ true) (sym at) f)
-      same k f (inr g) = contrary _ g (not_true _ found.1)
+      same k f (inr g) = contrary _ g (not-true _ found.1)
 
   pub quiet-settled : (set clause : List L) (l : L) → find (λ m. not (has eq set (opposite m))) clause ≡ Some l
       → has eq set l ≡ true → IsQuiet eq opposite set clause
@@ -111,7 +111,7 @@ module _ {L : Type 0} {eq : L → L → Bool} {opposite : L → L} (laws : IsLit
           go in_both =
               elim (or_cases _ _ (all-at laws (λ k. eq k l || has eq set (opposite k)) clause m parts.1 in_both.0)) [
                 | inl e ↦ e
-                | inr e ↦ contrary _ e (not_true _ in_both.1)
+                | inr e ↦ contrary _ e (not-true _ in_both.1)
               ]
 
       one_open : open_in eq opposite set clause ≡ l ∷ []

@@ -1,8 +1,8 @@
 -- What the clauses of names are.
-use Rattle.std.proofs.Common.{◌≡◌, ℕ, ◌+◌, ◌<◌, ◌≤◌, zero, suc, length, take, get_or, arith, Bool, true, false, not, List, [], ◌∷◌, ◌++◌, Option, Some, None, refl, sym, ap, ◌∙◌, subst}
+use Rattle.std.proofs.Common.{◌≡◌, ℕ, ◌+◌, ◌<◌, zero, suc, length, take, get_or, arith, Bool, true, false, not, List, [], ◌∷◌, ◌++◌, Option, Some, None, refl, sym, ap, ◌∙◌, subst}
 use Rattle.std.specs.Prelude.{map, IfSome, IfNone}
 use Rattle.std.specs.List.{list_any, slice_get, AllByRecursion}
-use Rattle.std.proofs.lemmas.List.{take_more, take_all, map-append}
+use Rattle.std.proofs.lemmas.List.{take_more}
 use Rattle.std.proofs.lemmas.Option.{slice_get_read}
 use Rattle.std.proofs.lemmas.Bool.{and_parts, or_left, or_right, not-true}
 use Rattle.lits.specs.Clause.{has, no_repeat}
@@ -60,18 +60,6 @@ any-named p base log name c e passes = go (list_any p (clauses_of base log)) ref
 
 pub next : {X : Type 0} (xs : List X) (i : ℕ) (x : X) → i < length xs → x ≡ get_or xs i x → take (i + 1) xs ≡ take i xs ++ x ∷ []
 next xs i x below at = take_more xs i x below ∙ ap (λ y. take i xs ++ y ∷ []) (sym at)
-
--- the next clause of a list of named things joins those of which P holds
-pub all-next : {X : Type 0} (P : List Lit → Type 0) (clause_of : X → List Lit) (xs : List X) (i : ℕ) (x : X) → i < length xs
-    → x ≡ get_or xs i x → AllByRecursion P (map clause_of (take i xs)) → P (clause_of x)
-    → AllByRecursion P (map clause_of (take (i + 1) xs))
-all-next P clause_of xs i x below at so_far here =
-    rw (next xs i x below at, map-append clause_of (take i xs) (x ∷ []))
-    (all-append P (map clause_of (take i xs)) (clause_of x ∷ []) so_far (here, tt))
-
-pub all-clauses : {X : Type 0} (P : List Lit → Type 0) (clause_of : X → List Lit) (xs : List X) (i : ℕ) → length xs ≤ i
-    → AllByRecursion P (map clause_of (take i xs)) → AllByRecursion P (map clause_of xs)
-all-clauses P clause_of xs i past all = subst (λ ys. AllByRecursion P (map clause_of ys)) (take_all i xs past) all
 
 same_refl : (n : Ref) → same_name n n ≡ true
 same_refl = ref_eq.laws-law.refl

@@ -3,7 +3,7 @@ use Rattle.std.proofs.Common.{◌≡◌, ℕ, ◌+◌, ◌<◌, length, take, ge
 use Rattle.std.specs.Prelude.{map, filter, if◌then◌else◌}
 use Rattle.std.specs.List.{AllByRecursion}
 use Rattle.std.proofs.lemmas.List.{take_more, map-append}
-use Rattle.std.proofs.lemmas.Bool.{or_left, or_right, and_parts}
+use Rattle.std.proofs.lemmas.Bool.{or_left, or_right, and_parts, not-true}
 use Rattle.lits.specs.Clause.{has, firsts}
 use Rattle.lits.specs.declared.literal.Lit.{Lit}
 use Rattle.lits.specs.declared.step.Named.{Named}
@@ -23,7 +23,7 @@ use Rattle.solver_plain.specs.Literals.{variable_of, is_free, with_lit}
 use Rattle.solver_plain.specs.Formula.{Clauses, clause_named, clauses_in, variables_of}
 use Rattle.solver_plain.specs.Effect.{IsUnit, IsQuiet, HasEffect, IsHint}
 use Rattle.solver_plain.specs.Scan.{IsSound, IsOpenClosure, IsClash}
-use Rattle.solver_plain.proofs.ListLemmas.{not_true, each-at, all-each, none-passes, filter-lt}
+use Rattle.solver_plain.proofs.ListLemmas.{each-at, all-each, none-passes, filter-lt}
 use Rattle.solver_plain.proofs.EffectLemmas.{after-negated, after-unit}
 use Rattle.solver_plain.proofs.NameLemmas.{all-named, any-named}
 use Rattle.solver_plain.proofs.FormulaLemmas.{over-variables, is_free-variable}
@@ -90,8 +90,8 @@ free-less base set set' x more over free now =
     less l f =
         let parts = and_parts _ _ f in
         rw (
-          still l (has same_lit set l) refl (not_true _ parts.0),
-          still (opposite l) (has same_lit set (opposite l)) refl (not_true _ parts.1),
+          still l (has same_lit set l) refl (not-true _ parts.0),
+          still (opposite l) (has same_lit set (opposite l)) refl (not-true _ parts.1),
         ) refl
 
 -- how far a scan from the given literals has come
@@ -119,10 +119,6 @@ sound-push f set x sound free here = record {
 hint-unit : (f : Clauses) (set : List Lit) (h : Hint) (x : Lit) → (hint : IsHint (clause_named f) set h) → h.effect ≡ Forces x
     → IsUnit same_lit opposite set hint.clause x
 hint-unit f set h x hint e = subst (λ (k : Effect). HasEffect set hint.clause k) e hint.acts
-
-pub forces-free : (f : Clauses) (set : List Lit) (h : Hint) (x : Lit) → IsHint (clause_named f) set h → h.effect ≡ Forces x
-    → has same_lit set x ≡ false
-forces-free f set h x hint e = (hint-unit f set h x hint e).free.fresh
 
 module _ (f : Clauses) (over : AllByRecursion (IsOver f.base) (clauses_in f)) where
   forces-over : (set : List Lit) (h : Hint) (x : Lit) → IsHint (clause_named f) set h → h.effect ≡ Forces x → is_over f.base x ≡ true

@@ -1,7 +1,7 @@
 -- The steps of a search, and what a clash teaches.
 use Rattle.std.proofs.Common.{◌≡◌, ◌<◌, length, Bool, true, false, not, ◌||◌, List, [], ◌∷◌, ◌++◌, Option, Some, None, refl, sym, ap, ◌∙◌, subst, ◌⊎◌, inl, inr}
 use Rattle.std.specs.Prelude.{map, filter}
-use Rattle.std.specs.Bool.{OnTrue, OnFalse}
+use Rattle.std.specs.Bool.{OnTrue}
 use Rattle.std.specs.Option.{is_some}
 use Rattle.std.specs.List.{find}
 use Rattle.std.proofs.lemmas.List.{map-append}
@@ -256,8 +256,3 @@ pub decision-clashes : (f : Clauses) (given set : List Lit) (o : Option (List Re
     → OnTrue (is_some o) (ClashesFrom f given)
 decision-clashes f given set None scan = tt
 decision-clashes f given set (Some hints) scan = scan.clashes
-
-pub decision-closure : (f : Clauses) (given set : List Lit) (o : Option (List Ref)) → IsScan f given set o
-    → OnFalse (is_some o) (IsOpenClosure f given set)
-decision-closure f given set None scan = scan
-decision-closure f given set (Some hints) scan = tt

@@ -63,9 +63,6 @@ assuming-propagates target old new assumed p is = record {
       (up_to-more assumed old.puts p.more (opposite l) (is.whole (let e = p.last in omega arith) l h));
 }
 
-min-left : (a b : ℕ) → a ≤ b → min a b ≡ a
-min-left a b h = omega arith
-
 pub assuming-back : (target : List Lit) (t : TrailState) (assumed level : ℕ) → IsAssuming target t assumed
     → IsAssuming target (back_to level t) (min assumed level)
 assuming-back target t assumed level is = record {

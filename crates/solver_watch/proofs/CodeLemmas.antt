@@ -1,5 +1,5 @@
 -- Codes among the codes of literals, and a variable's code.
-use Rattle.std.proofs.Common.{◌≡◌, ◌<◌, ◌+◌, ◌-◌, ◌*◌, ◌/◌, ℕ, arith, true, List, [], ◌∷◌, map, zero, suc, get_or, length, refl, inl, inr}
+use Rattle.std.proofs.Common.{◌≡◌, ◌<◌, ◌+◌, ◌*◌, ◌/◌, ℕ, arith, true, List, [], ◌∷◌, map, zero, suc, get_or, length, refl, inl, inr}
 use Rattle.std.proofs.lemmas.Bool.{or_cases, or_left, or_right}
 use Rattle.lits.specs.Clause.{has}
 use Rattle.lits.specs.Same.{same_lit}

@@ -9,9 +9,6 @@ use Rattle.watch_lists.specs.declared.put.Put.{Put}
 use Rattle.watch_lists.proofs.Facts.{same_exact}
 use Rattle.solver_watch.specs.Marked.{is_marked, open_below}
 
-one_if : Bool → ℕ
-one_if b = if b then 1 else 0
-
 pub apart-false : (a b : ℕ) → a ≢ b → nat_eq a b ≡ false
 apart-false a b ne = go (nat_eq a b) refl
   where

@@ -14,9 +14,8 @@ use Rattle.lits.specs.declared.step.Named.{Named}
 use Rattle.lits.specs.declared.step.Step.{Step}
 use Rattle.unit_prop.specs.Closure.{is_negated, IsOpen}
 use Rattle.unit_prop.specs.Log.{IsBase, base_clauses, clauses_of}
-use Rattle.unit_prop.specs.Refuter.{is_over, IsOver, IsModel, IsAnswer, Answers}
-use Rattle.unit_prop.specs.declared.refuter.Refuted.{Refuted}
-use Rattle.solver_plain.proofs.Facts.{IsUnderWay, each-of, each-at, all-fail, all-left, pair-none, over-opposite, all-occur, all-both}
+use Rattle.unit_prop.specs.Refuter.{is_over, IsOver, IsModel}
+use Rattle.solver_plain.proofs.Facts.{each-of, each-at, all-fail, all-left, pair-none, over-opposite, all-occur, all-both}
 use Rattle.solver_watch.specs.declared.engine.Engine.{Engine}
 use Rattle.solver_watch.proofs.AssumeLemmas.{assuming-propagates}
 use Rattle.unit_prop.proofs.Facts.{lit_laws, contrary, has-map-opposite, all-true, all-at, witness}
@@ -70,9 +69,6 @@ learned-for f lesson assumed known is below target assuming = record {
 pub same-variable : (m l : Lit) → m.node ≡ l.node → (m ≡ l) ⊎ (m ≡ opposite l)
 same-variable m l e = go m.neg l.neg refl refl
   where
-    lit_of : Node → Bool → Lit
-    lit_of n b = record { node = n; neg = b }
-
     same_neg : m.neg ≡ l.neg → m ≡ l
     same_neg f = ap (λ (n : Node). let k : Lit = record { node = n; neg = m.neg } in k) e
         ∙ ap (λ (b : Bool). let k : Lit = record { node = l.node; neg = b } in k) f
@@ -297,18 +293,6 @@ state-propagates e target t s p = record {
   known = known-trail e.formula t s.known p.clauses p.nodes;
   over = s.over;
   assuming = assuming-propagates target e.formula.trail t e.assumed p s.assuming;
-}
-
--- what a query has made is its answer
-pub answers-of : (first now : Clauses) (target : List Lit) (left left' : ℕ) (result : Refuted) → IsUnderWay first target left now left'
-    → IsAnswer first.base now.log target left' result → Answers first.base target first.log left now.log left' result
-answers-of first now target left left' result way answer = record {
-  steps = way.steps;
-  grows = way.grows;
-  spends = way.spends;
-  learned = way.learned;
-  undecided = way.undecided;
-  answer = answer;
 }
 
 -- one more decision

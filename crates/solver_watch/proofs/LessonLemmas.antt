@@ -75,9 +75,6 @@ module _ (t : TrailState) (trail : IsTrail t) (point : ℕ) (cut : Cut) (is_cut 
   pub below-within : AreWithin t.puts cut.below.items
   below-within k h = (is_cut.only k h).0
 
-  goal : List Lit
-  goal = firsts same_lit (negations_at t.puts (point ∷ cut.below.items))
-
   -- what the goal negates
   goal-has : (l : Lit) → has same_lit (firsts same_lit (negations_at t.puts (point ∷ cut.below.items))) l
       ≡ has same_lit (negations_at t.puts (point ∷ cut.below.items)) l

@@ -116,15 +116,6 @@ pub record IsMarkingSome (t : TrailState) (clause : List Lit) (codes : List ℕ)
   pub fresh : (k : ℕ) → k < length t.puts → is_marked new.marks k ≡ true
       → (is_marked old.marks k ≡ true) ⊎ (has same_lit clause (opposite (put_at t.puts k).lit) ≡ true)
 
-pub marking-start : (t : TrailState) (clause : List Lit) (codes : List ℕ) (cut : Cut) → IsCounted t.puts t.last cut
-    → IsMarkingSome t clause codes 0 cut cut
-marking-start t clause codes cut counted = record {
-  counted = counted;
-  met = λ j h. absurd (omega arith);
-  keeps = λ k m. m;
-  fresh = λ k h m. inl m;
-}
-
 pub met-keeps : (puts : List Put) (old new : List Bool) (l : Lit) → Keeps old new → IsMet puts old l → IsMet puts new l
 met-keeps puts old new l keeps met k h e = keeps k (met k h e)
 

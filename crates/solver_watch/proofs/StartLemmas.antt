@@ -14,7 +14,7 @@ use Rattle.unit_prop.specs.Log.{IsBase, base_clauses}
 use Rattle.unit_prop.specs.Refuter.{is_over}
 use Rattle.unit_prop.proofs.Facts.{lit_laws, witness}
 use Rattle.solver_plain.proofs.Facts.{next, over-opposite}
-use Rattle.watch_lists.specs.Trail.{Adds, empty_trail}
+use Rattle.watch_lists.specs.Trail.{Adds}
 use Rattle.solver_watch.specs.declared.formula.Formula.{Formula}
 use Rattle.solver_watch.specs.Known.{IsStarted}
 use Rattle.solver_watch.proofs.EngineLemmas.{same-variable, node-append, clauses-both}
@@ -27,16 +27,6 @@ pub record IsStarting (base : List Named) (f : Formula) : Type 0 where
   pub puts : f.trail.puts ≡ []
   pub last : f.trail.last ≡ 0
   pub nodes : (l : Lit) → has same_node f.trail.nodes l.node ≡ true → is_over base l ≡ true
-
-pub starting-none : (f : Formula) → f.base.items ≡ [] → f.log.items ≡ [] → f.trail ≡ empty_trail → IsStarting [] f
-starting-none f base log trail = record {
-  base_is = base;
-  log_is = log;
-  clauses = ap (λ t. t.clauses) trail;
-  puts = ap (λ t. t.puts) trail;
-  last = ap (λ t. t.last) trail;
-  nodes = λ l h. let e : has same_node [] l.node ≡ true = ap (λ (ns : List Node). has same_node ns l.node) (sym (ap (λ t. t.nodes) trail)) ∙ h in cc;
-}
 
 over-more : (base more : List Named) (l : Lit) → is_over (base ++ more) l ≡ (is_over base l || is_over more l)
 over-more base more l =

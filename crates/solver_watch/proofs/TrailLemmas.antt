@@ -51,12 +51,6 @@ place-before (p ∷ ps) (suc n) l h =
       | inr e ↦ let w = place-before ps n l e in (suc w.0, omega (arith, w.1), omega (arith, w.2), w.3)
     ]
 
-pub before-at : (puts : List Put) (n k : ℕ) → k < n → k < length puts → has same_lit (lits_of (take n puts)) (put_at puts k).lit ≡ true
-before-at [] n k h within = absurd (omega arith)
-before-at (p ∷ ps) zero k h within = absurd (omega arith)
-before-at (p ∷ ps) (suc n) zero h within = or_left _ _ (lit_laws.equivalence.refl p.lit)
-before-at (p ∷ ps) (suc n) (suc k) h within = or_right (same_lit p.lit (put_at ps k).lit) _ (before-at ps n k (omega arith) (omega arith))
-
 le-of : (a b : ℕ) → nat_le a b ≡ true → a ≤ b
 le-of a b h = grind (arith, nat_tests)
 

@@ -1,55 +1,23 @@
--- A gate by its number: its position-definition, what defines it, its clauses, and that its fanins stand earlier.
-use Rattle.std.proofs.Common.{◌≡◌, ℕ, zero, suc, ◌+◌, ◌-◌, ◌<◌, ◌≤◌, Bool, true, false, not, Option, Some, None, List, [], ◌∷◌, ◌++◌, map, length, refl, sym, ap, ◌∙◌, subst, arith}
+-- A gate by its number: its position, what defines it, its clauses, and that its fanins stand earlier.
+use Rattle.std.proofs.Common.{◌≡◌, ℕ, ◌+◌, ◌-◌, ◌<◌, ◌≤◌, Bool, true, false, Option, Some, None, List, [], map, length, refl, sym, ap, ◌∙◌, subst, arith}
 use Rattle.std.specs.Prelude.{slice_get, nat_lt}
 use Rattle.std.specs.Option.{option_map, option_map_or}
 use Rattle.std.proofs.lemmas.Bool.Decides.{nat_tests}
 use Rattle.std.proofs.lemmas.List.{length-map}
 use Rattle.std.proofs.lemmas.Option.{none-some, same_Some, slice_get-map, slice_get_within}
-use Rattle.std.proofs.lemmas.Bool.{and_parts, not-true, or_parts}
-use Rattle.lits.specs.Clause.{has, no_repeat}
 use Rattle.lits.specs.Same.{same_node}
 use Rattle.lits.specs.declared.node.Side.{Side}
 use Rattle.lits.specs.declared.node.Side.TheVariants.{A, B}
 use Rattle.lits.specs.declared.node.Node.{Node}
-use Rattle.lits.proofs.Facts.{exact-node, same-node_self}
+use Rattle.lits.proofs.Facts.{exact-node}
 use Rattle.netlist.specs.declared.gate.And.{And}
 use Rattle.netlist.specs.declared.gate.Definition.{Definition}
-use Rattle.netlist.specs.Place.{place_of}
 use Rattle.netlist.specs.Pair.{first_gate}
 use Rattle.netlist.specs.Net.{AigPair, IsNet, circuit_of, definition_of, definitions, defined_by, gate_at, position_of}
 use Rattle.netlist.specs.Miter.{axioms_of, gate_clauses, kept}
-use Rattle.netlist.proofs.Facts.{gate-definition, slice_get-left, slice_get-right, position-definition, has-get}
+use Rattle.netlist.proofs.Facts.{gate-definition, slice_get-left, slice_get-right, position-definition}
 
--- ---- places in a list without repeats
-
-first-part : (xs ys : List Node) → no_repeat same_node (xs ++ ys) ≡ true → no_repeat same_node xs ≡ true
-first-part [] ys once = refl
-first-part (x ∷ xs) ys once =
-    let both = and_parts (not (has same_node (xs ++ ys) x)) (no_repeat same_node (xs ++ ys)) once in
-    rw (absent xs (not-true (has same_node (xs ++ ys) x) both.0), first-part xs ys both.1) refl
-  where
-    absent : (zs : List Node) → has same_node (zs ++ ys) x ≡ false → has same_node zs x ≡ false
-    absent [] h = refl
-    absent (z ∷ zs) h =
-        let parts = or_parts (same_node z x) (has same_node (zs ++ ys) x) h in
-        rw (parts.0, absent zs parts.1) refl
-
-place-exact : (xs : List Node) (i : ℕ) (x : Node) → no_repeat same_node xs ≡ true → slice_get xs i ≡ Some x → place_of (λ m. same_node m x) xs ≡ Some i
-place-exact [] i x once e = absurd (none-some x e)
-place-exact (y ∷ ys) zero x once e = rw (ap (λ (n : Node). same_node n x) (same_Some y x e) ∙ same-node_self x) refl
-place-exact (y ∷ ys) (suc i) x once e = go (same_node y x) refl (place-exact ys i x both.1 e)
-  where
-    both : (not (has same_node ys y) ≡ true) × (no_repeat same_node ys ≡ true)
-    both = and_parts (not (has same_node ys y)) (no_repeat same_node ys) once
-
-    go : (b : Bool) → same_node y x ≡ b → place_of (λ m. same_node m x) ys ≡ Some i → place_of (λ m. same_node m x) (y ∷ ys) ≡ Some (suc i)
-    go false f rest = let n : i + 1 ≡ suc i = omega arith in rw (f, rest) (ap Some n)
-    go true f rest =
-        let here : has same_node ys y ≡ true = ap (has same_node ys) (exact-node y x f) ∙ has-get ys i x e in
-        let none : true ≡ false = sym here ∙ not-true (has same_node ys y) both.0 in
-        cc
-
--- two nodes of which one has-get earlier differ
+-- two nodes of which one stands earlier differ
 pub apart-placed : (net : AigPair) (n m : Node) (q p : ℕ) → position_of net n ≡ Some q → position_of net m ≡ Some p → p < q → same_node n m ≡ false
 apart-placed net n m q p e f below = go (same_node n m) refl
   where

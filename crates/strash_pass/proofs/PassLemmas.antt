@@ -323,14 +323,6 @@ all-plain net es p (Ok t) pass visited =
     ))
 all-plain net es p (Err e) pass visited = tt
 
--- the pass begins with nothing
-pub pass-start : (net : AigPair) (es : List Entry) (p : Pass) → p.gates.entries ≡ [] → IsPass net es p 0
-pass-start net es p e = record {
-  plain = λ k c below. absurd (omega arith);
-  sound = λ a b c f. let none : get same_pair p.gates (pair_of a b) ≡ None = rw e refl in absurd (none-some c (sym none ∙ f));
-  whole = λ k c below. absurd (omega arith);
-}
-
 -- a gate that was noted with a gate's roots, in either order, is its twin
 pub seen-twin : (net : AigPair) (es : List Entry) (p : Pass) (n : ℕ) (d c : Definition) → slice_get (definitions net) n ≡ Some d → IsPass net es p n
     → (a b : Lit) → a ≡ root_of es d.left → b ≡ root_of es d.right → folded a b ≡ None

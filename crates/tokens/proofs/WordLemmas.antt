@@ -19,9 +19,6 @@ filled-bytes : (at : ℕ) (parts : List (List ℕ))
 filled-bytes at [] = refl
 filled-bytes at (p ∷ ps) = go (is_empty p) refl (filled-bytes (at + length p + 1) ps)
   where
-    there : ℕ
-    there = at + length p + 1
-
     go : (b : Bool) → is_empty p ≡ b
         → bytes_of (filter is_filled (placed (at + length p + 1) ps)) ≡ filter
         (λ w. not (is_empty w)) ps

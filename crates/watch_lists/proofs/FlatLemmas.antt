@@ -1,8 +1,6 @@
 -- Pieces of a flat list.
-use Rattle.std.proofs.Common.{Bool, true, false, ◌≡◌, ℕ, zero, suc, ◌+◌, ◌-◌, ◌<◌, ◌≤◌, List, [], ◌∷◌, ◌++◌, length, refl, sym, ap, ◌∙◌, subst, arith, get_or, take, drop, set, map, ◌⊎◌, inl, inr}
-use Rattle.std.proofs.lemmas.List.{same_lists, length-append, get_or-map, length-map, length-set, get_or-set_same, get_or-set_other, drop-set-add, drop-set-lt, take-set-le, take-append-le, drop-append-le, drop_at, take_all, length-take, length-drop, map-append, drop-take, take-take, take_more, get_or_append_left, get_or_push, length_push, set-set, append-nil}
-use Rattle.std.proofs.lemmas.List.Elements.{filter-append}
-use Rattle.std.specs.Prelude.{filter}
+use Rattle.std.proofs.Common.{◌≡◌, ℕ, zero, suc, ◌+◌, ◌-◌, ◌<◌, ◌≤◌, List, [], ◌∷◌, ◌++◌, length, refl, sym, ap, ◌∙◌, subst, arith, get_or, take, drop, set, map, ◌⊎◌, inl, inr}
+use Rattle.std.proofs.lemmas.List.{same_lists, length-append, get_or-map, length-map, length-set, get_or-set_same, get_or-set_other, drop-set-add, drop-set-lt, take-set-le, take-append-le, drop-append-le, drop_at, take_all, length-take, length-drop, map-append, drop-take, take-take, get_or_append_left, get_or_push, length_push, set-set}
 use Rattle.watch_lists.specs.Flat.{piece, span_at, no_span, AreSpans}
 use Rattle.watch_lists.specs.declared.flat.Span.{Span}
 
@@ -156,13 +154,3 @@ put-three ls at place lit other new h =
     let b = get_or-set_same ls at (set (set (get_or ls at []) 0 other) 1 new) [] h in
     rw (a, set-set ls at (set (get_or ls at []) 0 other) (set (set (get_or ls at []) 0 other) 1 new), b)
     (set-set ls at (set (set (get_or ls at []) 0 other) 1 new) (set (set (set (get_or ls at []) 0 other) 1 new) place lit))
-
--- the next literal of a clause joins those that stand behind the pair
-pub filter-next : (p : ℕ → Bool) (xs : List ℕ) (i x : ℕ) → i < length xs → x ≡ get_or xs i x → (p x ≡ true → filter p (take (i + 1) xs) ≡ filter p (take i xs) ++ x ∷ []) × (p x ≡ false → filter p (take (i + 1) xs) ≡ filter p (take i xs))
-filter-next p xs i x h read = (
-  λ e. ap (filter p) whole ∙ (filter-append p (take i xs) (x ∷ []) ∙ ap (λ (z : List ℕ). filter p (take i xs) ++ z) (rw e refl)),
-  λ e. ap (filter p) whole ∙ (filter-append p (take i xs) (x ∷ []) ∙ (ap (λ (z : List ℕ). filter p (take i xs) ++ z) (rw e refl) ∙ append-nil (filter p (take i xs)))),
-)
-  where
-    whole : take (i + 1) xs ≡ take i xs ++ x ∷ []
-    whole = take_more xs i x h ∙ ap (λ (y : ℕ). take i xs ++ y ∷ []) (sym read)

@@ -2,10 +2,9 @@
 use Rattle.std.proofs.Common.{◌≡◌, ◌≢◌, ℕ, zero, suc, ◌<◌, ◌≤◌, Bool, true, false, List, [], ◌∷◌, length, refl, sym, ap, ◌∙◌, subst, arith, get_or, take, nat_eq, inl, inr, Option}
 use Rattle.std.proofs.lemmas.Bool.{or_cases, or_left, or_right}
 use Rattle.lits.specs.Clause.{has}
-use Rattle.unit_prop.proofs.Facts.{contrary, alone}
+use Rattle.unit_prop.proofs.Facts.{contrary}
 use Rattle.watch_lists.specs.Codes.{flip}
-use Rattle.watch_lists.specs.State.{height, IsMarked, IsBest}
-use Rattle.watch_lists.specs.declared.flat.Pair.{Pair}
+use Rattle.watch_lists.specs.State.{height, IsMarked}
 use Rattle.watch_lists.specs.declared.engine.Level.{Level}
 use Rattle.watch_lists.proofs.LevelLemmas.{place_of}
 use Rattle.watch_lists.proofs.TrailLemmas.{has-take}
@@ -57,31 +56,6 @@ height-placed {clauses} {truth} {places} {trail} is l h =
     there ∙ sym (height-at trail l w.place w.below w.is (λ j b e.
     let other : get_or places (flip l) 0 ≡ j = ap (λ (z : ℕ). get_or places z 0) (sym e) ∙ is.placed j (let m = w.below in omega arith) in
     absurd (omega (arith, there, other))))
-
--- the pair of a list whose first literal stands in it once more
-pub best-tail : {trail : List ℕ} {pair : Pair} (x : ℕ) (xs : List ℕ) → has nat_eq xs x ≡ true → IsBest trail (x ∷ xs) pair → IsBest trail xs pair
-best-tail x xs h b = record {
-  first_in = inside _ b.first_in;
-  second_in = inside _ b.second_in;
-  rest = λ m i. b.rest m (or_right (nat_eq x m) _ i);
-  order = b.order;
-  alone = λ e m i. b.alone e m (or_right (nat_eq x m) _ i);
-}
-  where
-    inside : (m : ℕ) → has nat_eq (x ∷ xs) m ≡ true → has nat_eq xs m ≡ true
-    inside m i = elim (or_cases (nat_eq x m) (has nat_eq xs m) i) [
-      | inl e ↦ subst (λ (z : ℕ). has nat_eq xs z ≡ true) (same_exact x m e) h
-      | inr f ↦ f
-    ]
-
-pub best-start : (trail : List ℕ) (x : ℕ) → IsBest trail (x ∷ []) (record { first = x; second = x })
-best-start trail x = record {
-  first_in = or_left _ _ (is_literal-flip.equivalence.refl x);
-  second_in = or_left _ _ (is_literal-flip.equivalence.refl x);
-  rest = λ m i. inl (sym (same_exact x m (alone _ i)));
-  order = omega arith;
-  alone = λ e m i. sym (same_exact x m (alone _ i));
-}
 
 pub inside-whole : (xs : List ℕ) (i m : ℕ) → 0 < length xs → has nat_eq (get_or xs 0 0 ∷ take i xs) m ≡ true → has nat_eq xs m ≡ true
 inside-whole xs i m h inside = elim (or_cases (nat_eq (get_or xs 0 0) m) (has nat_eq (take i xs) m) inside) [

@@ -12,7 +12,6 @@ use Rattle.unit_prop.proofs.Facts.{contrary}
 use Rattle.watch_lists.specs.Codes.{lit_at, IsCode}
 use Rattle.watch_lists.specs.Trail.{TrailState, Numbers, Keeps, IsQuiet, up_to}
 use Rattle.watch_lists.specs.declared.put.Put.{Put}
-use Rattle.watch_lists.specs.Whole.{IsNumbered}
 use Rattle.watch_lists.proofs.Facts.{code-more}
 use Rattle.watch_lists.proofs.TransferLemmas.{lits_at}
 use Rattle.watch_lists.proofs.PutsLemmas.{all-are, lits-more}
@@ -56,14 +55,6 @@ keeps-trans a b c xs ys k l = record {
 pub keeps-first : (a b : TrailState) (xs : List Lit) (i : ℕ) → Keeps a (take i xs) b → Keeps a xs b
 keeps-first a b xs i k = subst (λ (l : List Lit). Keeps a l b) (take-append-drop i xs)
     (record { numbers = numbers-more a.nodes b.nodes (take i xs) (drop i xs) k.numbers; clauses = k.clauses; puts = k.puts; last = k.last })
-
-pub keeps-numbered : (a b : TrailState) (lit : Lit) → IsNumbered a lit.node b → Keeps a (lit ∷ []) b
-keeps-numbered a b lit is = record {
-  numbers = record { more = lit.node ∷ []; behind = is.nodes; from = λ n h. h };
-  clauses = is.clauses;
-  puts = is.puts;
-  last = is.last;
-}
 
 pub keeps-next : (a b c : TrailState) (lits : List Lit) (i : ℕ) (l : Lit) → i < length lits → l ≡ get_or lits i l
     → Keeps a (take i lits) b → Keeps b (l ∷ []) c → Keeps a (take (i + 1) lits) c

@@ -19,7 +19,7 @@ use Rattle.watch_lists.specs.Codes.{flip, lit_at, IsCode}
 use Rattle.watch_lists.specs.State.{AsksNothing, codes_at, level_at, no_level, decisions, IsJustified, IsEngine, IsStuck, Stays}
 use Rattle.watch_lists.specs.Step.{IsSame, IsEmpty, IsGrown, IsAdded, IsDecided, IsCut}
 use Rattle.watch_lists.specs.Trail.{put_at, no_put, clause_at, lits_of, decisions_of, up_to, IsComplete, IsConflict, IsQuiet, IsForced, Propagates, back_to}
-use Rattle.watch_lists.specs.Whole.{IsWhole, IsTold, IsNumbered, with_clause, state_of}
+use Rattle.watch_lists.specs.Whole.{IsWhole, IsTold, IsNumbered, state_of}
 use Rattle.watch_lists.specs.declared.put.Put.{Put}
 use Rattle.watch_lists.specs.declared.engine.Engine.{Engine}
 use Rattle.watch_lists.specs.declared.engine.Level.{Level}
@@ -47,9 +47,6 @@ whole-empty nodes e puts capacity no_nodes is no_puts = rw (no_nodes, no_puts) (
   starts = λ k i a b. absurd (omega arith);
   most = λ k a. absurd (omega arith);
 })
-
-pub empty-state : (nodes : List Node) (e : Engine) (puts : List Put) → nodes ≡ [] → IsEmpty e → puts ≡ [] → state_of nodes e puts ≡ record { nodes = []; clauses = []; puts = []; last = 0 }
-empty-state nodes e puts no_nodes is no_puts = rw (no_nodes, no_puts, is.clauses, is.levels) refl
 
 -- all literals of codes stay where variables come after
 pub lits-more : (nodes more : List Node) (codes : List ℕ) → AreCodes nodes codes → lits_at (nodes ++ more) codes ≡ lits_at nodes codes
@@ -113,9 +110,6 @@ module _ {nodes : List Node} {e : Engine} {puts : List Put} {capacity : ℕ} (wh
     most = rw grown.levels whole.most;
   }
 
-  pub state-grown : (new : Engine) → IsGrown e new → state_of nodes new puts ≡ state_of nodes e puts
-  state-grown new grown = rw (grown.clauses, grown.levels) refl
-
   pub whole-same : (new : Engine) (room : ℕ) → IsSame e new → capacity ≤ room → IsWhole nodes new puts room
   whole-same new room same fits = record {
     engine = engine-same e new whole.engine same;
@@ -130,9 +124,6 @@ module _ {nodes : List Node} {e : Engine} {puts : List Put} {capacity : ℕ} (wh
     starts = rw same.levels whole.starts;
     most = rw same.levels whole.most;
   }
-
-  pub state-same : (new : Engine) → IsSame e new → state_of nodes new puts ≡ state_of nodes e puts
-  state-same new same = rw (same.clauses, same.levels) refl
 
   pub whole-added : (new : Engine) (codes : List ℕ) → IsEngine new → IsAdded e codes new → AreCodes nodes codes → IsWhole nodes new puts capacity
   whole-added new codes engine added are = record {
@@ -154,9 +145,6 @@ module _ {nodes : List Node} {e : Engine} {puts : List Put} {capacity : ℕ} (wh
     starts = rw added.levels whole.starts;
     most = rw added.levels whole.most;
   }
-
-  pub state-added : (new : Engine) (codes : List ℕ) → IsAdded e codes new → state_of nodes new puts ≡ with_clause (state_of nodes e puts) (lits_at nodes codes)
-  state-added new codes added = rw (added.clauses, added.levels) (ap (λ (cs : List (List Lit)). record { nodes = nodes; clauses = cs; puts = puts; last = length e.levels.items }) (map-append (map (lit_at nodes)) e.clauses (codes ∷ [])))
 
   -- what the clause asks of literals it asks of codes
   pub quiet-down : (n : ℕ) (codes : List ℕ) → AreCodes nodes codes → IsQuiet (take n puts) (lits_at nodes codes) → AsksNothing (take n e.trail.items) codes

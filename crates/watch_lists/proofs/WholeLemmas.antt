@@ -115,8 +115,6 @@ module _ {nodes : List Node} {e : Engine} {puts : List Put} {capacity : ℕ} (wh
       (λ k a b. le-test (put_at puts k).level level (elim (up_to_or_after (put_at puts k).level level) [ inl f ↦ f | inr f ↦ let s = whole.starts k level a f in absurd (omega arith) ]))
       (λ k a b. above (put_at puts k).level level (whole.started k level a h b))
     where
-
-
       above : (a b : ℕ) → b < a → nat_le a b ≡ false
       above a b h = grind (arith, nat_tests)
 
@@ -209,7 +207,6 @@ module _ {nodes : List Node} {e : Engine} {puts : List Put} {capacity : ℕ} (wh
     complete = whole-complete;
   }
     where
-
       apart : (i j : ℕ) → i < j → j < length (lits_at nodes e.trail.items) → same_lit (get_or (lits_at nodes e.trail.items) i no_lit) (get_or (lits_at nodes e.trail.items) j no_lit) ≡ false
       apart i j a b =
           let c : j < length e.trail.items = omega (arith, length-map e.trail.items (lit_at nodes)) in

@@ -37,9 +37,6 @@ block-next pool word n old now new value s put is = record {
   ];
 }
 
-pub blocks-none : (pool : Patterns) (from : ℕ) → AreBlocks pool from 0 []
-blocks-none pool from = record { size = omega arith; bits = λ w i b below inside within. absurd (omega arith) }
-
 pub blocks-next : (pool : Patterns) (from n : ℕ) (now new : List ℕ) → AreBlocks pool from n now
     → IsBlock pool (from + n) pool.inputs now new → AreBlocks pool from (n + 1) new
 blocks-next pool from n now new s block =

@@ -1,5 +1,6 @@
 -- The two steps stand on the clauses of the nodes on the way.
 use Rattle.std.proofs.Common.{◌≡◌, ◌∙◌, List, ap, sym, subst, take, ℕ, length}
+use Rattle.std.proofs.Math.Seq.{take-length}
 use Rattle.lits.specs.declared.step.Named.{Named}
 use Rattle.lits.specs.declared.literal.Lit.{Lit}
 use Rattle.lits.specs.Same.{opposite}
@@ -9,14 +10,14 @@ use Rattle.unit_prop.specs.Log.{base_clauses}
 use Rattle.lemma_book.specs.declared.entry.Entry.{Entry}
 use Rattle.lemma_book.specs.Cone.{clauses_on, nodes_in}
 use Rattle.strash_pass.specs.Pass.{ShowsOver}
-use Rattle.strash_pass.proofs.MergeLemmas.{base-named, earlier-apart, steps-good, whole}
+use Rattle.strash_pass.proofs.MergeLemmas.{base-named, earlier-apart, steps-good}
 use Rattle.strash_pass.proofs.merge.merge.Goals as goal
 
 -- the clauses over all entries
 over-all : (net : AigPair) (es : List Entry) (way : List Lit) (base items : List Named) (n : ℕ) → base ≡ items
     → items ≡ clauses_on net (take n es) (nodes_in way) → n ≡ length es → base ≡ clauses_on net es (nodes_in way)
 over-all net es way base items n e f count =
-    e ∙ f ∙ ap (λ (l : List Entry). clauses_on net l (nodes_in way)) (ap (λ (k : ℕ). take k es) count ∙ whole es)
+    e ∙ f ∙ ap (λ (l : List Entry). clauses_on net l (nodes_in way)) (ap (λ (k : ℕ). take k es) count ∙ take-length es)
 
 pub both_steps-requires-clause-named : goal.both_steps-requires-clause-named
 both_steps-requires-clause-named c =
