@@ -6,6 +6,8 @@ outspent J SEEN STEPS. A step is (clause, hints); hints are a3.2, an axiom, e0.1
 """
 import itertools
 
+from propagation import closed
+
 
 def negated(lit):
     return lit[1:] if lit.startswith("-") else "-" + lit
@@ -77,31 +79,12 @@ def value_in(values, lit):
     return values[node_of(lit)] != lit.startswith("-")
 
 
-def closed(clauses, given):
-    """The least set that has the literals and what clauses force, or None where it clashes."""
-    true, grown = set(given), True
-    if any(negated(lit) in true for lit in true):
-        return None
-    while grown:
-        grown = False
-        for clause in clauses:
-            if any(lit in true for lit in clause):
-                continue
-            free = [lit for lit in clause if negated(lit) not in true]
-            if not free:
-                return None
-            if len(free) == 1:
-                true.add(free[0])
-                grown = True
-    return true
-
-
 def is_new(clauses, clause):
     known = {node_of(lit) for other in clauses for lit in other}
     if any(node_of(lit) not in known for lit in clause):
         return False
     for lit in clause:
-        found = closed(clauses, [negated(other) for other in clause if other != lit])
+        found = closed(clauses, [negated(other) for other in clause if other != lit], negated)
         if found is not None and lit not in found:
             return True
     return False
@@ -256,7 +239,7 @@ class SecondBook:
             own.append(clause)
         for place, clause in enumerate(own):
             clauses = [*base.values(), *own[:place]]
-            decided = entry[0] == "outspent" and closed(clauses, [f"x{entry[1]}"]) is None
+            decided = entry[0] == "outspent" and closed(clauses, [f"x{entry[1]}"], negated) is None
             if decided or not is_new(clauses, clause):
                 return f"Bad(NotNew({place}))"
         return None

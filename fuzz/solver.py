@@ -12,6 +12,7 @@ clause of a log must be a strict step, and new: for one of its literals unit pro
 clashes nor finds it. Status 1 where anything is wrong.
 """
 import argparse
+import operator
 import random
 import shutil
 import subprocess
@@ -21,6 +22,7 @@ from pathlib import Path
 from rounds import SEED, Tally, house
 import runner
 from lrat_strict import is_step
+from propagation import closed
 
 USES = ["lits", "unit_prop", "solver_plain", "solver_watch"]
 WHOLE = 1_000_000
@@ -108,28 +110,9 @@ def is_satisfiable(command, base, target, folder):
     return status == 10
 
 
-def closure(clauses, given):
-    """What unit propagation makes of the literals; None where it clashes."""
-    true, grown = set(given), True
-    if any(-lit in true for lit in true):
-        return None
-    while grown:
-        grown = False
-        for clause in clauses:
-            if any(lit in true for lit in clause):
-                continue
-            free = [lit for lit in clause if -lit not in true]
-            if not free:
-                return None
-            if len(free) == 1:
-                true.add(free[0])
-                grown = True
-    return true
-
-
 def is_new(clauses, clause):
     for lit in clause:
-        found = closure(clauses, [-other for other in clause if other != lit])
+        found = closed(clauses, [-other for other in clause if other != lit], operator.neg)
         if found is not None and lit not in found:
             return True
     return False
