@@ -1,18 +1,13 @@
 ghost use Rattle.std.specs.Prelude.{◌≡◌, [], ◌∷◌, ◌++◌, IfOk, IfSome, IfNone};
-ghost use Rattle.lits.specs.Clause.{IsClause};
-ghost use Rattle.lits.specs.Same.{same_lit, opposite};
-ghost use Rattle.unit_prop.specs.HintScan.{IsNamed};
-ghost use Rattle.unit_prop.specs.Log.{base_clause, base_clauses};
-ghost use Rattle.unit_prop.specs.Step.{IsStep};
 ghost use Rattle.cone_query.specs.Answered.{IsOutput, SettlesOutput};
-ghost use Rattle.cone_query.specs.EqualRoots.{AreShown, HaveOtherRoots, IsWayTo, Shows};
+ghost use Rattle.cone_query.specs.EqualRoots.{AreShown, HaveOtherRoots, IsWayTo};
 
 use crate::copies::unit;
 use lemma_book::{Book, Entry};
 use lits::{Clause, Listed, Lit, Literal, Named, Node, Ref, Step};
 use netlist::Net;
 use std::alloc::{AllocError, Global};
-use unit_prop::scan;
+use unit_prop::{scan, scanned_step};
 
 /// The entry of an output whose two literals have one root; none exactly where their roots differ.
 ///
@@ -82,12 +77,12 @@ fn two_steps_to(
     requires { IsWayTo base.old.items lit half }
     ensures { IfOk result (λ v. AreShown base.old.items lit half v.items) }
 {
-    let first = step(alloc, base, &[lit, half])?;
+    let first = scanned_step(alloc, base, &[lit, half])?;
     base.push(Named {
         clause: first.clause.copy()?,
         by: Ref::Own(0),
     })?;
-    let second = step(alloc, base, &[lit])?;
+    let second = scanned_step(alloc, base, &[lit])?;
     let steps = with_last(Vec::new(alloc), first)?;
     with_last(steps, second)
 }
@@ -99,22 +94,4 @@ fn with_last(steps: Vec<Step>, last: Step) -> Result<Vec<Step>, AllocError>
     let mut steps = steps;
     steps.push(last)?;
     Ok(steps)
-}
-
-/// The step that adds the clause, which unit propagation over the base shows.
-fn step(alloc: Global, base: &[Named], lits: &[Lit]) -> Result<Step, AllocError>
-    requires named { IsNamed base.now }
-    requires clause { IsClause same_lit opposite lits.now }
-    requires shown { Shows (base_clauses base.now) lits.now }
-    ensures { IfOk result (λ s.
-        (s.clause ≡ lits.now) × IsStep same_lit opposite (base_clause base.now) s.clause s.hints) }
-{
-    let clause = Clause::from_slice(alloc, lits)?;
-    match scan(alloc, base, &clause)? {
-        Some(hints) => Ok(Step {
-            clause,
-            hints: Listed::of(hints),
-        }),
-        None => unreachable!(),
-    }
 }

@@ -47,7 +47,7 @@ module _ (net : AigPair) (is : IsNet net) where
   at-side s j k g e place there =
       let d = gate-definition net is s j g e in
       record {
-        node = position-definition k (definition_of s (circuit_of net s) g) there;
+        node = position-definition net is k (definition_of s (circuit_of net s) g) there;
         left = (d.1.0, d.1.1, omega (arith, d.1.2));
         right = (d.2.0, d.2.1, omega (arith, d.2.2));
         defined = d.0;

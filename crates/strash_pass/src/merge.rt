@@ -1,12 +1,9 @@
-ghost use Rattle.std.specs.Prelude.{◌≡◌, false, map, IfOk, OnOk, OnErr};
-ghost use Rattle.lits.specs.Clause.{IsClause};
-ghost use Rattle.lits.specs.Same.{same_lit, same_node, opposite};
+ghost use Rattle.std.specs.Prelude.{◌≡◌, false, IfOk, OnOk, OnErr};
+ghost use Rattle.lits.specs.Same.{same_node, opposite};
 ghost use Rattle.netlist.specs.Net.{IsNet};
 ghost use Rattle.netlist.specs.Miter.{positive, negative};
-ghost use Rattle.unit_prop.specs.Closure.{IsOpen};
 ghost use Rattle.unit_prop.specs.HintScan.{IsNamed};
-ghost use Rattle.unit_prop.specs.Log.{base_clause, base_clauses};
-ghost use Rattle.unit_prop.specs.Step.{IsStep};
+ghost use Rattle.unit_prop.specs.Log.{base_clauses};
 ghost use Rattle.lemma_book.specs.Root.{IsRoot};
 ghost use Rattle.lemma_book.specs.Cone.{AreThere};
 ghost use Rattle.lemma_book.specs.Good.{ArePlaced, IsEarlier, IsGood};
@@ -14,10 +11,10 @@ ghost use Rattle.lemma_book.specs.Book.{IsLegal};
 ghost use Rattle.strash_pass.specs.Pass.{ShowsMerge, ShowsOver, AreSteps, Merges, AreNotXors};
 
 use lemma_book::{Book, Entry};
-use lits::{Clause, Listed, Lit, Literal, Named, Node, Step};
+use lits::{Listed, Lit, Literal, Named, Node, Step};
 use netlist::Net;
 use std::alloc::{AllocError, Global};
-use unit_prop::scan;
+use unit_prop::scanned_step;
 
 /// Merges a node to a literal of an earlier one, by two steps over the clauses of the nodes on the way alone.
 ///
@@ -63,8 +60,8 @@ fn both_steps(
 {
     let lit = Lit { node, neg: false };
     let mut steps = Vec::new(alloc);
-    steps.push(step(alloc, base, &[lit.not(), target])?)?;
-    steps.push(step(alloc, base, &[lit, target.not()])?)?;
+    steps.push(scanned_step(alloc, base, &[lit.not(), target])?)?;
+    steps.push(scanned_step(alloc, base, &[lit, target.not()])?)?;
     Ok(steps)
 }
 
@@ -93,23 +90,5 @@ fn put(
     match book.append(alloc, net, known, entry) {
         Ok(_) => Ok(()),
         Err((_entry, error)) => Err(error),
-    }
-}
-
-/// The step that adds the clause, which unit propagation over the base shows.
-fn step(alloc: Global, base: &[Named], lits: &[Lit]) -> Result<Step, AllocError>
-    requires named { IsNamed base.now }
-    requires clause { IsClause same_lit opposite lits.now }
-    requires shown { ¬ IsOpen same_lit opposite (base_clauses base.now) (map opposite lits.now) }
-    ensures { IfOk result
-        (λ s. (s.clause ≡ lits.now) × IsStep same_lit opposite (base_clause base.now) s.clause s.hints) }
-{
-    let clause = Clause::from_slice(alloc, lits)?;
-    match scan(alloc, base, &clause)? {
-        Some(hints) => Ok(Step {
-            clause,
-            hints: Listed::of(hints),
-        }),
-        None => unreachable!(),
     }
 }

@@ -9,7 +9,7 @@ ghost use Rattle.unit_prop.specs.Log.{base_clause, base_clauses};
 ghost use Rattle.unit_prop.specs.Step.{IsStep, open_in};
 
 use crate::step_check::{OpenPart, open_part};
-use lits::{Clause, Lit, Literal, LiteralSet, Named, Ref};
+use lits::{Clause, Listed, Lit, Literal, LiteralSet, Named, Ref, Step};
 use std::alloc::{AllocError, Global};
 
 /// The hints of a step that adds the clause over the base, or none exactly where unit propagation from the
@@ -47,6 +47,26 @@ pub fn scan(
                 }
             }
         }
+    }
+}
+
+/// The step that adds the clause of these literals over the base, which unit propagation shows; its hints are
+/// those of `scan`.
+pub fn scanned_step(alloc: Global, base: &[Named], lits: &[Lit]) -> Result<Step, AllocError>
+    requires named { IsNamed base.now }
+    requires clause { IsClause same_lit opposite lits.now }
+    requires shown { ¬ IsOpen same_lit opposite (base_clauses base.now) (map opposite lits.now) }
+    ensures step { IfOk result
+        (λ s. (s.clause ≡ lits.now) × IsStep same_lit opposite (base_clause base.now) s.clause s.hints) }
+    ensures first { IfOk result (λ s. ScansTo base.now (map opposite lits.now) s.hints) }
+{
+    let clause = Clause::from_slice(alloc, lits)?;
+    match scan(alloc, base, &clause)? {
+        Some(hints) => Ok(Step {
+            clause,
+            hints: Listed::of(hints),
+        }),
+        None => unreachable!(),
     }
 }
 

@@ -14,7 +14,7 @@
 //! Begin to read at `step_check.rt`.
 #![tactic(auto)]
 
-pub use hint_scan::scan;
+pub use hint_scan::{scan, scanned_step};
 pub use propagation::{Closure, close_under};
 pub use refuter::{Refuted, Refuter};
 pub use step_check::StepCheck;

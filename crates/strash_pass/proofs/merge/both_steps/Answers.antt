@@ -9,22 +9,22 @@ use Rattle.strash_pass.specs.Pass.{ShowsOver}
 use Rattle.strash_pass.proofs.MergeLemmas.{below-clause, above-clause, steps-are}
 use Rattle.strash_pass.proofs.merge.both_steps.Goals as goal
 
-pub step-requires-clause-clause : goal.step-requires-clause-clause
-step-requires-clause-clause c =
+pub scanned_step-requires-clause-clause : goal.scanned_step-requires-clause-clause
+scanned_step-requires-clause-clause c =
     subst (λ (l : Lit). IsClause same_lit opposite (l ∷ c.args.target ∷ [])) (sym c.not.ensures) (below-clause c.args.node c.args.target c.requires.apart)
 
-pub step-requires-clause-shown : goal.step-requires-clause-shown
-step-requires-clause-shown c = subst (λ (l : Lit). ShowsOver (base_clauses c.args.base.now) l c.args.target) (sym c.not.ensures) c.requires.below
+pub scanned_step-requires-clause-shown : goal.scanned_step-requires-clause-shown
+scanned_step-requires-clause-shown c = subst (λ (l : Lit). ShowsOver (base_clauses c.args.base.now) l c.args.target) (sym c.not.ensures) c.requires.below
 
-pub step-requires-2-clause-clause : goal.step-requires-2-clause-clause
-step-requires-2-clause-clause c =
+pub scanned_step-requires-2-clause-clause : goal.scanned_step-requires-2-clause-clause
+scanned_step-requires-2-clause-clause c =
     subst (λ (l : Lit). IsClause same_lit opposite (positive c.args.node ∷ l ∷ [])) (sym c.not-2.ensures) (above-clause c.args.node c.args.target c.requires.apart)
 
-pub step-requires-2-clause-shown : goal.step-requires-2-clause-shown
-step-requires-2-clause-shown c =
+pub scanned_step-requires-2-clause-shown : goal.scanned_step-requires-2-clause-shown
+scanned_step-requires-2-clause-shown c =
     subst (λ (l : Lit). ShowsOver (base_clauses c.args.base.now) (positive c.args.node) l) (sym c.not-2.ensures) c.requires.above
 
 pub returns : goal.returns
 returns c =
-    steps-are c.args.node c.args.target c.requires.apart c.args.base.now c.not.result c.not-2.result c.in_ok-step.field-0 c.in_ok-step-2.field-0 _ _ _
-    c.not.ensures c.not-2.ensures c.new-steps.ensures.items c.in_ok-push.ensures.items c.in_ok-push-2.ensures.items c.in_ok-step.ensures c.in_ok-step-2.ensures
+    steps-are c.args.node c.args.target c.requires.apart c.args.base.now c.not.result c.not-2.result c.in_ok-scanned_step.field-0 c.in_ok-scanned_step-2.field-0 _ _ _
+    c.not.ensures c.not-2.ensures c.new-steps.ensures.items c.in_ok-push.ensures.items c.in_ok-push-2.ensures.items c.in_ok-scanned_step.ensures.step c.in_ok-scanned_step-2.ensures.step
