@@ -33,6 +33,22 @@ fn check_seeded(rt: &impl Abort, mut pool: Pool) -> Result<(), Fail>
 /// Where the first input alone is true.
 const INPUT: [bool; 2] = [true, false];
 
+/// Of two seeded words and a pattern, of which the words were seen: the first word, and the pattern.
+#[test]
+fn part_of_pool(rt: HostRuntime) -> Result<(), Fail> {
+    check_part(&rt, rt.alloc(), Pool::seeded(rt.alloc(), 7, 2, 2)?)
+}
+
+fn check_part(rt: &impl Abort, alloc: Global, mut pool: Pool) -> Result<(), Fail>
+    requires { pool.inputs ≡ 2 }
+{
+    pool.add(&INPUT)?;
+    assert!(rt; pool.patterns() == 129);
+    let part = pool.part(alloc, 128)?;
+    expect(rt, "a word and a pattern", part.patterns() == 65);
+    Ok(())
+}
+
 /// Whether a pattern has a truth value for each input.
 fn fits(net: &Net, pool: &Pool) -> bool
     ensures { OnTrue result (pool.now.inputs ≡ length net.now.a.inputs) }
