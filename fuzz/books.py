@@ -14,9 +14,10 @@ import random
 import re
 
 from pairs import random_circuit, rewritten
+from propagation import closed
 from rounds import SEED, Tally
 import runner
-from second_book import SecondBook, SecondNet, closed, is_new, negated, node_of, simplified
+from second_book import SecondBook, SecondNet, is_new, negated, node_of, simplified
 
 USES = ["lits", "netlist", "unit_prop", "lemma_book"]
 OFFERS = 14
@@ -76,7 +77,7 @@ def drawn_log(rng, named, count, given=()):
             break
         clause = drawn_clause(rng, nodes)
         hints = hints_for(named, clause)
-        if hints and is_new(named.values(), clause) and closed(named.values(), given) is not None:
+        if hints and is_new(named.values(), clause) and closed(named.values(), given, negated) is not None:
             named[f"s{len(log)}"] = clause
             log.append([clause, hints])
     return log

@@ -50,8 +50,6 @@ good-each net sweep out before (e ∷ es) legal rest = (
       (in_turn-append (IsGoodAfter net sweep out) [] before (e ∷ []) legal (rest.0, tt)) rest.1,
 )
 
-)
-
 grows : (a n : ℕ) → 3 ^ a ≤ 3 ^ (a + n)
 grows a zero = rw (add-zero a) (omega arith)
 grows a (suc n) =
