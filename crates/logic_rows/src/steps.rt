@@ -227,7 +227,7 @@ fn close_under(rt: HostRuntime) -> Result<(), Fail> {
     Ok(())
 }
 
-/// Whether the scan of the base for the clause of the literals finds these hints.
+/// Whether the scan of the base for the clause of the literals finds these hints, and the step has them.
 fn scans_to(
     alloc: Global,
     base: &[Named],
@@ -237,12 +237,15 @@ fn scans_to(
     if !is_named(base) {
         return Err("a name stands twice".into());
     }
-    let found = unit_prop::scan(alloc, base, &clause_of(alloc, lits)?)?;
-    Ok(match (&found, want) {
-        (Some(hints), Some(wanted)) => hints.as_slice() == wanted,
-        (None, None) => true,
-        _ => false,
-    })
+    let clause = clause_of(alloc, lits)?;
+    let Some(hints) = unit_prop::scan(alloc, base, &clause)? else {
+        return Ok(want.is_none());
+    };
+    let step = unit_prop::scanned_step(alloc, base, clause.lits())?;
+    let Some(wanted) = want else {
+        return Ok(false);
+    };
+    Ok(hints.as_slice() == wanted && step.hints.as_slice() == wanted && step.clause.lits() == lits)
 }
 
 /// A name, a clause, and the hints that the scan of twin gates finds for it.
