@@ -32,6 +32,7 @@ use Rattle.cec_top.proofs.WordsLemmas.{check_or, same_request}
 abbrev pub IsExcused : DeskState → DeskState → Stop → Type 0
 IsExcused old new stop = (stop ≡ OutOfMemory) ⊎ Rose old.read_faults new.read_faults ⊎ Rose old.write_faults new.write_faults
 
+-- what may stop a reader may stop a command
 pub excused-read : (old new : DeskState) (stop : Stop) → (stop ≡ OutOfMemory) ⊎ Rose old.read_faults new.read_faults → IsExcused old new stop
 excused-read old new stop (inl e) = inl e
 excused-read old new stop (inr r) = inr (inl r)

@@ -53,6 +53,7 @@ AreDefined-uses c e = record {
 abbrev pub Same : List ℕ → List ℕ → Type 0
 Same known others = (v : ℕ) → has ◌==◌ known v ≡ has ◌==◌ others v
 
+-- two lists of the same variables stay so with one put first in the one and last in the other
 pub Same-push : (known others : List ℕ) (v : ℕ) → Same known others → Same (v ∷ known) (others ++ v ∷ [])
 Same-push known others v same w =
     rw (list_any-append (λ y. y == w) others (v ∷ []), same w) (turned (v == w) (has ◌==◌ others w))

@@ -90,10 +90,12 @@ pub covers-left : (xs ys ls : List Lit) → Covers (nodes_in xs) ls → Covers (
 covers-left xs ys [] all = tt
 covers-left xs ys (l ∷ ls) all = (has-nodes_append xs ys l.node ∙ or_left _ _ all.0, covers-left xs ys ls all.1)
 
+-- and what the second covers
 pub covers-right : (xs ys ls : List Lit) → Covers (nodes_in ys) ls → Covers (nodes_in (xs ++ ys)) ls
 covers-right xs ys [] all = tt
 covers-right xs ys (l ∷ ls) all = (has-nodes_append xs ys l.node ∙ or_right (has same_node (nodes_in xs) l.node) _ all.0, covers-right xs ys ls all.1)
 
+-- the nodes of literals cover them
 pub covers-self : (xs : List Lit) → Covers (nodes_in xs) xs
 covers-self [] = tt
 covers-self (x ∷ xs) = (or_left _ _ (same-node_self x.node), covers-right (x ∷ []) xs xs (covers-self xs))

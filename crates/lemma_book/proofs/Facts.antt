@@ -51,7 +51,7 @@ pub use Rattle.lemma_book.proofs.RootLemmas.{carried-opposite, root-opposite}
 pub use Rattle.lemma_book.proofs.IndexLemmas.{about-all}
 -- ---- unit propagation over the clauses of a few nodes, a set of literals being closed under it
 
--- the nodes have those of the literals
+-- nodes that have those of some literals have those of their negations; the nodes of two lists have those of each, and of the list itself
 pub use Rattle.lemma_book.proofs.AlongMerges.{covers-opposite, has-nodes_append, covers-left, covers-right, covers-self}
 -- the set is closed under the axioms of an unmerged node
 pub use Rattle.lemma_book.proofs.AlongMerges.{takes-axioms}

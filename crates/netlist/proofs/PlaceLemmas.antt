@@ -56,6 +56,7 @@ pub is_some-place : {X : Type 0} (test : X → Bool) (xs : List X) → is_some (
 is_some-place test [] = refl
 is_some-place test (x ∷ xs) = is_some-next (test x) (place_of test xs) ∙ ap (λ (b : Bool). test x || b) (is_some-place test xs)
 
+-- what isn't there is None
 pub none_from_is_some : (o : Option ℕ) → is_some o ≡ false → o ≡ None
 none_from_is_some None e = refl
 none_from_is_some (Some k) e = cc

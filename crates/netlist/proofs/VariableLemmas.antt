@@ -113,6 +113,7 @@ vars_more inputs gates i d l =
     ∙ ap (λ (xs : List ℕ). inputs ++ xs)
     (sym (map-append (λ g. g.var) (take i gates) (get_or gates i d ∷ [])) ∙ ap gate_vars (sym (take_more gates i d l)))
 
+-- a list without repeats stays so with a new number put last
 pub no_repeat_push : (xs : List ℕ) (y : ℕ) → no_repeat ◌==◌ xs ≡ true → has ◌==◌ xs y ≡ false → no_repeat ◌==◌ (xs ++ y ∷ []) ≡ true
 no_repeat_push [] y e f = refl
 no_repeat_push (x ∷ xs) y e f =

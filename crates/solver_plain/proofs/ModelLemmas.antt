@@ -159,6 +159,7 @@ module _ (f : Clauses) (set : List Lit) (sound : IsSound f set) (full : find (is
               value (inl k) = let there = model-has m over_m k in cc
               value (inr k) = k
 
+-- what follows from two properties holds of each clause that has both
 pub all-both : (P Q R : List Lit → Type 0) (xs : List (List Lit)) → ((x : List Lit) → P x → Q x → R x) → AllByRecursion P xs
     → AllByRecursion Q xs → AllByRecursion R xs
 all-both P Q R [] join ps qs = tt

@@ -25,6 +25,7 @@ flip-flip l = elim (parity l) [
 pub flip_apart : (l : ℕ) → l ≢ flip l
 flip_apart l s = elim (parity l) [ inl h ↦ let e = flip-even l h in omega arith | inr h ↦ let e = flip-odd l h in omega arith ]
 
+-- a number is equal to itself
 pub same_refl : (x : ℕ) → nat_eq x x ≡ true
 same_refl x = grind (arith, nat_tests)
 
