@@ -1,4 +1,4 @@
-//! The small circuits of the worked cases, for `cec_tests`.
+//! The small circuits of the worked cases, for the crates of tests.
 //!
 //! `circuit` and `and` write a circuit down as a line or two of a test; `swapped_ands` and `two_xors` are the
 //! pairs that most cases are about. What `circuit` promises is exact, so that a test may ask for what a
