@@ -16,8 +16,8 @@ use Rattle.lits.specs.declared.step.Ref.TheVariants.{Axiom, Entry as Shown}
 use Rattle.lits.specs.declared.step.Named.{Named}
 use Rattle.lits.specs.contracts.literal.LitLiteral.TheImpl.Laws as laws
 use Rattle.lits.proofs.Facts.{exact-node, same-node_self}
-use Rattle.netlist.specs.Net.{AigPair}
-use Rattle.netlist.specs.Miter.{axioms_of, variables_of, variable_of, positive, negative}
+use Rattle.netlist.specs.Net.{AigPair, position_of}
+use Rattle.netlist.specs.Miter.{axioms_of, variables_of, positive, negative}
 use Rattle.netlist.proofs.Facts.{flat_map-member}
 use Rattle.unit_prop.specs.Log.{base_clauses}
 use Rattle.unit_prop.proofs.Facts.{Takes, take-first, take-second}
@@ -112,20 +112,32 @@ covers-opposite nodes (suc k) es l covers = go (merge_of es l.node) refl (λ t. 
         let all : Covers nodes (l ∷ passed k es (carried l.neg m.lit)) = rw e at covers in
         rw (e, carried-opposite l.neg m.lit) (all.0, rest (carried l.neg m.lit) all.1)
 
-module _ (net : AigPair) (book : Entries) (legal : IsLegal net book) where
-  merged-there : (n : Node) (m : MergeAt) → merge_of book.entries n ≡ Some m → IsSome (variable_of net n)
-  merged-there n m e =
-      placed-there net n (merge-placed net book legal (length book.entries) n m (ap (λ (l : List Entry). merge_of l n) (take-length book.entries) ∙ e)).0
+-- literals whose nodes have positions
+abbrev pub ArePlacedAll : AigPair → List Lit → Type 0
+ArePlacedAll net lits = AllByRecursion (λ l. IsSome (position_of net l.node)) lits
 
-  -- what is passed has a variable
-  pub passed-there : (k : ℕ) (l : Lit) → AreThere net (passed k book.entries l)
-  passed-there zero l = tt
-  passed-there (suc k) l = go (merge_of book.entries l.node) refl (passed-there k)
+-- so their nodes have variables
+pub placed-all : (net : AigPair) (lits : List Lit) → ArePlacedAll net lits → AreThere net lits
+placed-all net [] all = tt
+placed-all net (l ∷ ls) all = (placed-there net l.node all.0, placed-all net ls all.1)
+
+module _ (net : AigPair) (book : Entries) (legal : IsLegal net book) where
+  merged-placed : (n : Node) (m : MergeAt) → merge_of book.entries n ≡ Some m → IsSome (position_of net n)
+  merged-placed n m e = (merge-placed net book legal (length book.entries) n m (ap (λ (l : List Entry). merge_of l n) (take-length book.entries) ∙ e)).0
+
+  -- what is passed is merged, and so has a position
+  pub passed-placed : (k : ℕ) (l : Lit) → ArePlacedAll net (passed k book.entries l)
+  passed-placed zero l = tt
+  passed-placed (suc k) l = go (merge_of book.entries l.node) refl (passed-placed k)
     where
-      go : (o : Option MergeAt) → merge_of book.entries l.node ≡ o → ((x : Lit) → AreThere net (passed k book.entries x))
-          → AreThere net (passed (suc k) book.entries l)
+      go : (o : Option MergeAt) → merge_of book.entries l.node ≡ o → ((x : Lit) → ArePlacedAll net (passed k book.entries x))
+          → ArePlacedAll net (passed (suc k) book.entries l)
       go None e rest = rw e tt
-      go (Some m) e rest = rw e (merged-there l.node m e, rest (carried l.neg m.lit))
+      go (Some m) e rest = rw e (merged-placed l.node m e, rest (carried l.neg m.lit))
+
+  -- and a variable
+  pub passed-there : (k : ℕ) (l : Lit) → AreThere net (passed k book.entries l)
+  passed-there k l = placed-all net (passed k book.entries l) (passed-placed k l)
 
   -- a literal and what the merges on its path lead to are true together
   module _ (nodes : List Node) (p : Lit → Bool) (units : AllByRecursion (Takes p) (base_clauses (clauses_on net book.entries nodes))) where
@@ -141,7 +153,7 @@ module _ (net : AigPair) (book : Entries) (legal : IsLegal net book) where
         go None e rest = rw e (λ h. h, λ h. h)
         go (Some m) e rest =
             let all : Covers nodes (l ∷ passed k book.entries (carried l.neg m.lit)) = rw e at covers in
-            let there : has same_node (variables_of net) l.node ≡ true = sym (is_some-variable net l.node) ∙ merged-there l.node m e in
+            let there : has same_node (variables_of net) l.node ≡ true = sym (is_some-variable net l.node) ∙ placed-there net l.node (merged-placed l.node m e) in
             let next = rest (carried l.neg m.lit) all.1 in
             rw e (λ h. next.0 (down net book.entries nodes p units l all.0 there m e h), λ h. up net book.entries nodes p units l all.0 there m e (next.1 h))
 

@@ -55,8 +55,8 @@ pub use Rattle.lemma_book.proofs.IndexLemmas.{about-all}
 pub use Rattle.lemma_book.proofs.AlongMerges.{covers-opposite, has-nodes_append, covers-left, covers-right, covers-self}
 -- the set is closed under the axioms of an unmerged node
 pub use Rattle.lemma_book.proofs.AlongMerges.{takes-axioms}
--- what is passed on the path to a root has a variable
-pub use Rattle.lemma_book.proofs.AlongMerges.{passed-there}
+-- literals whose nodes have positions have variables; what is passed on the path to a root has both
+pub use Rattle.lemma_book.proofs.AlongMerges.{ArePlacedAll, placed-all, passed-placed, passed-there}
 -- a literal is in the set exactly where its root is, so two with one root are in it together
 pub use Rattle.lemma_book.proofs.AlongMerges.{along, together}
 -- what holds of the one at each place holds in turn

@@ -1,9 +1,8 @@
 -- The nodes whose clauses a merge stands on: they have positions, none is an XOR, and they have what the proof needs.
-use Rattle.std.proofs.Common.{◌≡◌, ℕ, zero, suc, ◌+◌, ◌<◌, Bool, true, false, ◌||◌, Option, Some, None, List, [], ◌∷◌, ◌++◌, length, refl, sym, ap, ◌∙◌, arith}
+use Rattle.std.proofs.Common.{◌≡◌, ℕ, ◌+◌, ◌<◌, Bool, true, false, ◌||◌, Option, Some, None, List, [], ◌∷◌, ◌++◌, length, refl, sym, ap, ◌∙◌, arith}
 use Rattle.std.specs.Option.{IsSome, is_some}
 use Rattle.std.specs.List.{AllByRecursion}
 use Rattle.std.proofs.lemmas.Bool.{or_right}
-use Rattle.std.proofs.Math.Seq.{take-length}
 use Rattle.lits.specs.Clause.{has}
 use Rattle.lits.specs.Same.{same_node}
 use Rattle.lits.specs.declared.node.Node.{Node}
@@ -16,22 +15,15 @@ use Rattle.netlist.specs.Miter.{positive, negative}
 use Rattle.netlist.proofs.Facts.{is_some-place, no-xor}
 use Rattle.lemma_book.specs.declared.entry.Entry.{Entry}
 use Rattle.lemma_book.specs.Entry.{Entries}
-use Rattle.lemma_book.specs.Root.{MergeAt, merge_of, carried, passed, passed_by, root_of, IsRoot}
-use Rattle.lemma_book.specs.Cone.{AreThere, nodes_in}
+use Rattle.lemma_book.specs.Root.{MergeAt, merge_of, passed_by, root_of, IsRoot}
+use Rattle.lemma_book.specs.Cone.{nodes_in}
 use Rattle.lemma_book.specs.Good.{ArePlaced, IsEarlier}
 use Rattle.lemma_book.specs.Book.{IsLegal}
-use Rattle.lemma_book.proofs.Facts.{placed-there, merge-placed, target-lower, root-lower, has-nodes_append, covers-left, covers-right, covers-self}
+use Rattle.lemma_book.proofs.Facts.{ArePlacedAll, passed-placed, target-lower, root-lower, has-nodes_append, covers-left, covers-right, covers-self}
 use Rattle.strash_pass.specs.Strash.{folded}
 use Rattle.strash_pass.specs.Pass.{AreNotXors, IsTwin, IsWay, Reaches, ShowsMerge, constant_among, is_const, is_xor}
 use Rattle.strash_pass.proofs.GateFacts.{IsGate, is-gate}
 use Rattle.strash_pass.proofs.ShowsLemmas.{fold-cases, fold-shows, twin-shows}
-
-abbrev pub ArePlacedAll : AigPair → List Lit → Type 0
-ArePlacedAll net lits = AllByRecursion (λ l. IsSome (position_of net l.node)) lits
-
-pub placed-all : (net : AigPair) (lits : List Lit) → ArePlacedAll net lits → AreThere net lits
-placed-all net [] all = tt
-placed-all net (l ∷ ls) all = (placed-there net l.node all.0, placed-all net ls all.1)
 
 pub placed-no_xors : (net : AigPair) (lits : List Lit) → ArePlacedAll net lits → AreNotXors lits
 placed-no_xors net [] all = tt
@@ -55,17 +47,6 @@ reaches-more es xs ys d r = record {
 }
 
 module _ (net : AigPair) (book : Entries) (legal : IsLegal net book) where
-  -- what is passed is merged, and so has a position
-  passed-placed : (k : ℕ) (l : Lit) → ArePlacedAll net (passed k book.entries l)
-  passed-placed zero l = tt
-  passed-placed (suc k) l = go (merge_of book.entries l.node) refl (passed-placed k)
-    where
-      go : (o : Option MergeAt) → merge_of book.entries l.node ≡ o → ((x : Lit) → ArePlacedAll net (passed k book.entries x))
-          → ArePlacedAll net (passed (suc k) book.entries l)
-      go None e rest = rw e tt
-      go (Some m) e rest =
-          rw e ((merge-placed net book legal (length book.entries) l.node m (ap (λ (x : List Entry). merge_of x l.node) (take-length book.entries) ∙ e)).0, rest (carried l.neg m.lit))
-
   -- a gate and what its fanins pass
   pub way-of : (way : List Lit) → ArePlacedAll net way → (k : ℕ) (c : Definition) → IsGate net k c → IsRoot book.entries c.node
       → IsWay net book.entries (((way ++ positive c.node ∷ []) ++ passed_by book.entries c.left) ++ passed_by book.entries c.right) c
@@ -76,8 +57,8 @@ module _ (net : AigPair) (book : Entries) (legal : IsLegal net book) where
       record {
         placed = all-append (λ l. IsSome (position_of net l.node)) (here ++ left) right
             (all-append (λ l. IsSome (position_of net l.node)) here left
-            (all-append (λ l. IsSome (position_of net l.node)) way (positive c.node ∷ []) placed (ap is_some gate.node, tt)) (passed-placed (length book.entries) c.left))
-            (passed-placed (length book.entries) c.right);
+            (all-append (λ l. IsSome (position_of net l.node)) way (positive c.node ∷ []) placed (ap is_some gate.node, tt)) (passed-placed net book legal (length book.entries) c.left))
+            (passed-placed net book legal (length book.entries) c.right);
         reaches = record {
           inside = (covers-left (here ++ left) right (positive c.node ∷ []) (covers-left here left (positive c.node ∷ [])
               (covers-right way (positive c.node ∷ []) (positive c.node ∷ []) (covers-self (positive c.node ∷ []))))).0;

@@ -3,8 +3,9 @@ use Rattle.std.proofs.Common.{◌∙◌, ◌++◌, List, ap, sym, subst}
 use Rattle.lits.specs.declared.literal.Lit.{Lit}
 use Rattle.netlist.specs.Miter.{positive}
 use Rattle.lemma_book.specs.Root.{passed_by}
+use Rattle.lemma_book.proofs.Facts.{ArePlacedAll, placed-all}
 use Rattle.strash_pass.specs.Pass.{ShowsMerge}
-use Rattle.strash_pass.proofs.WayLemmas.{ArePlacedAll, placed-all, placed-no_xors, twin-placed_all, twin-placed, twin-earlier, twin-way}
+use Rattle.strash_pass.proofs.WayLemmas.{placed-no_xors, twin-placed_all, twin-placed, twin-earlier, twin-way}
 use Rattle.strash_pass.proofs.ways.merge_by_search.Goals as goal
 
 pub merge-requires-clause-there : goal.merge-requires-clause-there

@@ -1,9 +1,10 @@
 -- What the gate folds to stands earlier, and the clauses on the way show it.
 use Rattle.std.proofs.Common.{◌∙◌, List, sym, subst}
 use Rattle.lits.specs.declared.literal.Lit.{Lit}
+use Rattle.lemma_book.proofs.Facts.{ArePlacedAll, placed-all}
 use Rattle.strash_pass.specs.Pass.{ShowsMerge}
 use Rattle.strash_pass.proofs.GateFacts.{is-gate}
-use Rattle.strash_pass.proofs.WayLemmas.{ArePlacedAll, placed-all, placed-no_xors, constant-placed, fold-placed, fold-earlier, fold-way}
+use Rattle.strash_pass.proofs.WayLemmas.{placed-no_xors, constant-placed, fold-placed, fold-earlier, fold-way}
 use Rattle.strash_pass.proofs.ways.merge_folded.Goals as goal
 
 pub merge-requires-clause-there : goal.merge-requires-clause-there
