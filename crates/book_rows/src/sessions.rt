@@ -81,14 +81,15 @@ fn words_of_book(book: &Book) -> &'static str {
 fn check_session(
     rt: &impl Abort,
     alloc: Global,
-    mut session: Session,
+    session: &mut Session,
     sweep_budget: u64,
     expected: (&str, &str),
 ) -> Result<(), Fail> {
-    let is_checked = is_checked(alloc, &mut session, sweep_budget, expected.0)?;
+    let is_checked = is_checked(alloc, session, sweep_budget, expected.0)?;
     expect(rt, expected.0, is_checked);
-    let says = words_of_book(&session.into_book()) == expected.1;
+    let says = words_of_book(&session.take_book(alloc)) == expected.1;
     expect(rt, expected.1, says);
+    expect(rt, "no entry is left", session.book().len() == 0);
     Ok(())
 }
 
@@ -102,8 +103,8 @@ fn check_pair(
 ) -> Result<(), Fail>
     requires { AreInRange options }
 {
-    let session = session_of(alloc, pair, options)?;
-    check_session(rt, alloc, session, options.sweep_budget, expected)
+    let mut session = session_of(alloc, pair, options)?;
+    check_session(rt, alloc, &mut session, options.sweep_budget, expected)
 }
 
 /// Why no session is opened for the circuits.

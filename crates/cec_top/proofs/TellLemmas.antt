@@ -1,5 +1,5 @@
 -- How a check goes on from a file to the next, and from its files to its verdict.
-use Rattle.std.proofs.Common.{◌≡◌, ℕ, inl, inr, List, [], ◌∷◌, Option, Some, None, Ok, Err, Result, refl, sym, ap, ◌∙◌, subst}
+use Rattle.std.proofs.Common.{◌≡◌, ℕ, inl, inr, List, [], ◌∷◌, Option, Some, None, Ok, Err, Result, refl, sym, ap, subst}
 use Rattle.desk_port.specs.Desk.{DeskState}
 use Rattle.endings.specs.declared.stop.Stop.{Stop}
 use Rattle.endings.specs.declared.stop.Stop.TheVariants.{OutOfMemory}
@@ -28,15 +28,9 @@ says-behind (o ∷ os) text old mid new (Ok u) at p = says-behind os text (after
 says-behind (o ∷ os) text old mid new (Err stop) at p = inr (says-behind os text (after_file old o) mid new (Err stop) at p)
 
 -- the second of two files isn't written whole
-pub stops-second : (a b m n x y : List ℕ) → m ≡ a → n ≡ b → (old mid new : DeskState) (stop : Stop)
-    → mid ≡ after_file old (record { name = m; bytes = x })
-    → StopsIn (record { name = n; bytes = y }) mid new stop
-    → (any : List ℕ) → Leaves (record { name = a; bytes = x } ∷ record { name = b; bytes = y } ∷ []) any old new (Err stop)
-stops-second a b m n x y same_a same_b old mid new stop at p any =
-    let whole : mid ≡ after_file old (record { name = a; bytes = x }) =
-    at ∙ ap (λ (name : List ℕ). after_file old (record { name = name; bytes = x })) same_a in
-    inr (inl (subst (λ (s : DeskState). StopsIn (record { name = b; bytes = y }) s new stop) whole
-    (subst (λ (name : List ℕ). StopsIn (record { name = name; bytes = y }) mid new stop) same_b p)))
+pub stops-second : (first second : Output) (old mid new : DeskState) (stop : Stop) → mid ≡ after_file old first → StopsIn second mid new stop
+    → (any : List ℕ) → Leaves (first ∷ second ∷ []) any old new (Err stop)
+stops-second first second old mid new stop at p any = inr (inl (subst (λ (s : DeskState). StopsIn second s new stop) at p))
 
 module _ (out : Option (List ℕ)) (number : ℕ) (m : Made) (old mid new : DeskState) where
   -- nothing is left, and the verdict is said

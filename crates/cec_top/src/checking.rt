@@ -1,6 +1,7 @@
 ghost use Rattle.std.specs.Prelude.{◌≡◌, [], IfOk, IfErr, OnErr, ◌++◌, decimal, codes, string_bytes};
 ghost use Rattle.check_session.specs.Outputs.{finding_of};
 ghost use Rattle.command_line.specs.Answers.{check_texts};
+ghost use Rattle.endings.specs.Writing.{WritesFile};
 ghost use Rattle.cec_top.specs.Answers.{Ends, Stops};
 ghost use Rattle.cec_top.specs.Check.{Tells, outputs_of, status_of_finding, text_of_check};
 ghost use Rattle.cec_top.specs.Steps.{HasBook, IsTold, LeavesFiles, MakesAndTells, Settles, made_of, options_of};
@@ -14,7 +15,7 @@ use crate::texts::{plain_text, text_with_lines};
 use check_session::{Session, Verdict};
 use command_line::CheckWords;
 use desk_port::Desk;
-use endings::{Status, Stop, say, write_file};
+use endings::{Content, Status, Stop, say, write_file};
 use itoa::Buffer;
 use std::alloc::{AllocError, Global};
 
@@ -27,6 +28,29 @@ fn named(alloc: Global, prefix: &str, number: u64, ending: &str) -> Result<Strin
     name.push_str(Buffer::new().format(number))?;
     name.push_str(ending)?;
     Ok(name)
+}
+
+/// Writes the file of a check with this number that has this ending.
+fn leave_file<D: Desk, C: Content>(
+    alloc: Global,
+    desk: &mut D,
+    prefix: &str,
+    number: u64,
+    ending: &str,
+    content: &C,
+) -> Result<C::Told, Stop>
+    requires started { (D.state desk.old).started ≡ None }
+    requires ready { C.is_ready content.now }
+    ensures writes { WritesFile
+        (record {
+          name = prefix.now ++ codes "." ++ decimal number ++ ending.now;
+          bytes = C.bytes content.now;
+        })
+        (D.state desk.old) (D.state desk.new) result }
+    ensures tells { IfOk result (C.tells content.now) }
+{
+    let name = named(alloc, prefix, number, ending)?;
+    write_file(alloc, desk, name.as_str(), content)
 }
 
 /// Leaves the files of a check under the prefix, and gives the text of its verdict.
@@ -42,10 +66,8 @@ fn leave_files<D: Desk>(
     ensures { LeavesFiles (outputs_of (Some prefix.now) number (made_of check.entry))
         (text_of_check (Some prefix.now) (made_of check.entry)) (D.state desk.old) (D.state desk.new) result }
 {
-    let cnf = named(alloc, prefix, number, ".cnf")?;
-    let proof = named(alloc, prefix, number, ".lrat")?;
-    write_file(alloc, desk, cnf.as_str(), &Miter(check.net))?;
-    let spans = write_file(alloc, desk, proof.as_str(), &Proof(check))?;
+    leave_file(alloc, desk, prefix, number, ".cnf", &Miter(check.net))?;
+    let spans = leave_file(alloc, desk, prefix, number, ".lrat", &Proof(check))?;
     Ok(text_with_lines(alloc, spans.as_slice(), check.verdict)?)
 }
 
@@ -83,8 +105,8 @@ pub(crate) fn check<D: Desk>(
     ensures err { IfErr result
         (Stops (check_texts words.entry) (D.state desk.old) kept.new.items (D.state desk.new)) }
 {
-    let session = read_session(alloc, desk, words)?;
-    settle(alloc, desk, words, session, kept)
+    let mut session = read_session(alloc, desk, words)?;
+    settle(alloc, desk, words, &mut session, kept)
 }
 
 /// Settles the pair of a session, leaves the files and says the verdict. The book of a check that has a
@@ -93,18 +115,18 @@ pub(crate) fn settle<D: Desk>(
     alloc: Global,
     desk: &mut D,
     words: CheckWords<'_>,
-    mut session: Session,
+    session: &mut Session,
     kept: &mut Vec<Kept>,
 ) -> Result<Status, Stop>
     requires started { (D.state desk.old).started ≡ None }
     requires empty { kept.old.items ≡ [] }
-    requires options { session.options ≡ options_of (check_texts words) }
-    ensures { Settles (check_texts words.entry) session.net (D.state desk.old) (D.state desk.new)
+    requires options { session.old.options ≡ options_of (check_texts words) }
+    ensures { Settles (check_texts words.entry) session.old.net (D.state desk.old) (D.state desk.new)
         kept.new.items result }
 {
     kept.reserve(1)?;
-    let told = check_and_tell(alloc, desk, words, &mut session)?;
-    let book = session.into_book();
+    let told = check_and_tell(alloc, desk, words, session)?;
+    let book = session.take_book(alloc);
     kept.push_reserved(Kept { check: 0, book });
     told
 }

@@ -1,4 +1,4 @@
-ghost use Rattle.std.specs.Prelude.{◌≡◌, [], IfOk, IfErr, None};
+ghost use Rattle.std.specs.Prelude.{◌≡◌, [], IfOk, IfErr, None, Ok};
 ghost use Rattle.netlist.specs.Circuit.{Aig};
 ghost use Rattle.aiger_file.specs.File.{SpellsAiger};
 ghost use Rattle.command_line.specs.Answers.{check_texts, self_texts};
@@ -33,7 +33,26 @@ pub(crate) fn check_own<D: Desk>(
     ensures err { IfErr result
         (StopsSelf (self_texts words) (D.state desk.old) kept.new.items (D.state desk.new)) }
 {
-    let session = own_session(alloc, words)?;
+    let mut session = own_session(alloc, words)?;
+    say_and_settle(alloc, desk, words, &mut session, kept)
+}
+
+/// Says which circuits the session has, settles them and says the verdict.
+fn say_and_settle<D: Desk>(
+    alloc: Global,
+    desk: &mut D,
+    words: SelfWords,
+    session: &mut Session,
+    kept: &mut Vec<Kept>,
+) -> Result<Status, Stop>
+    requires started { (D.state desk.old).started ≡ None }
+    requires empty { kept.old.items ≡ [] }
+    requires made { MakesSession (self_texts words) (Ok session.old) }
+    ensures ok { IfOk result (λ status.
+        EndsSelf (self_texts words) (D.state desk.old) (D.state desk.new) status kept.new.items) }
+    ensures err { IfErr result
+        (StopsSelf (self_texts words) (D.state desk.old) kept.new.items (D.state desk.new)) }
+{
     say_workload(alloc, desk, words, session.net())?;
     settle(alloc, desk, without_options(), session, kept)
 }

@@ -10,6 +10,7 @@ use lemma_book::Book;
 use netlist::{Circuit, Net, Unlike};
 use std::alloc::{AllocError, Global};
 use std::marker::Model;
+use std::mem::replace;
 
 /// A pair of circuits that is checked.
 #[derive(Drop)]
@@ -70,11 +71,14 @@ impl Session {
         &self.book
     }
 
-    /// The book of the last check, and the session is given up.
-    pub fn into_book(self) -> Book
-        ensures { result ≡ self.book }
+    /// Takes the book of the last check out of the session, which keeps an empty one.
+    pub fn take_book(&mut self, alloc: Global) -> Book
+        ensures net { self.new.net ≡ self.old.net }
+        ensures options { self.new.options ≡ self.old.options }
+        ensures taken { result ≡ self.old.book }
+        ensures left { self.new.book ≡ empty_book self.old.options }
     {
-        let Session { book, .. } = self;
-        book
+        let empty = Book::new(alloc, self.options.sweep_budget, self.options.out_budget);
+        replace(&mut self.book, empty)
     }
 }

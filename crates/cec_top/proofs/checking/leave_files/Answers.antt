@@ -1,4 +1,3 @@
-use Rattle.std.proofs.Common.{◌∙◌}
 use Rattle.std.proofs.lemmas.Result.{err_from_is_err_and}
 use Rattle.cec_top.proofs.TellLemmas.{stops-second}
 use Rattle.cec_top.proofs.checking.leave_files.Goals as goal
@@ -7,5 +6,5 @@ pub returns-in_err-spans : goal.returns-in_err-spans
 returns-in_err-spans g c =
     let p = err_from_is_err_and c.from_residual-in_err-spans.result c.from_residual-in_err-spans.ensures.1 in
     rw (p.1, p.2)
-    (stops-second _ _ _ _ _ _ (c.as_str.ensures.value ∙ c.in_ok-cnf.ensures) (c.as_str-2.ensures.value ∙ c.in_ok-proof.ensures)
-    (g.D.Desk.state c.args.desk.now) _ (g.D.Desk.state c.write_file-2.new.desk) _ c.in_ok-write_file.ensures.writes c.in_err-spans.ensures.writes)
+    (stops-second _ _ (g.D.Desk.state c.args.desk.now) _ (g.D.Desk.state c.leave_file-2.new.desk) _ c.in_ok-leave_file.ensures.writes
+    c.in_err-spans.ensures.writes)

@@ -17,7 +17,7 @@ returns-in_err-told g c =
 
 pub returns : goal.returns
 returns g c =
-    settles (check_texts c.args.words) c.check_and_tell.new.session c.args.session.net (g.D.Desk.state c.args.desk.now)
+    settles (check_texts c.args.words) c.check_and_tell.new.session c.args.session.now.net (g.D.Desk.state c.args.desk.now)
     (g.D.Desk.state c.check_and_tell.new.desk) _ c.in_ok-told.told c.check_and_tell.ensures.net c.in_ok-told.ensures.told
     (c.push_reserved.ensures.items ∙ rw (c.in_ok-reserve.ensures.items, c.requires.empty)
-    (ap (λ (b : Entries). record { check = 0; book = b } ∷ []) c.into_book-book.ensures))
+    (ap (λ (b : Entries). record { check = 0; book = b } ∷ []) c.take_book-book.ensures.taken))
