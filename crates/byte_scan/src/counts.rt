@@ -1,5 +1,5 @@
 /// The nine numbers of an AIGER header, under the letters of its definition.
-#[derive(Clone, Copy, PartialEq, Eq)]
+#[derive(Clone, Copy)]
 pub struct Header {
     /// The greatest variable.
     pub m: u32,

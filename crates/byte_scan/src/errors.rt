@@ -3,10 +3,11 @@ ghost use Rattle.byte_scan.specs.declared.errors.AigerErr.TheVariants.{NoMemory}
 
 use crate::header_line::VARIABLE_LIMIT;
 use std::alloc::{AllocError, AllocFailed};
+use std::fmt::{self, Debug, Display, Formatter, Write};
 use thiserror::Error;
 
 /// The first fault of an AIGER file. Places count bytes from 0, literals are the file's.
-#[derive(Clone, Copy, Debug, PartialEq, Eq, Error)]
+#[derive(Clone, Copy, PartialEq, Eq, Error)]
 pub enum AigerErr {
     #[error("bad header")]
     BadHeader,
@@ -45,6 +46,13 @@ pub enum AigerErr {
     BadSymbol(u64),
     #[error("out of memory")]
     NoMemory,
+}
+
+/// A fault is shown by its text everywhere.
+impl Debug for AigerErr {
+    fn fmt<W: Write>(&self, to: &mut Formatter<W>) -> fmt::Result {
+        Display::fmt(self, to)
+    }
 }
 
 impl From<AllocError> for AigerErr {

@@ -1,4 +1,4 @@
-ghost use Rattle.std.specs.Prelude.{◌≡◌, ◌++◌, IfOk, string_bytes, codes, decimal};
+ghost use Rattle.std.specs.Prelude.{◌≡◌, ◌++◌, IfOk, string_bytes, codes, decimal, encode_utf8};
 ghost use Rattle.cec_top.specs.Lines.{aiger_text, unlike_text};
 
 use byte_scan::AigerErr;
@@ -12,23 +12,46 @@ pub(crate) fn aiger_fault(alloc: Global, fault: AigerErr) -> Result<String, Allo
     ensures { IfOk result (λ s. string_bytes s ≡ aiger_text fault) }
 {
     match fault {
-        AigerErr::BadHeader => format!(in alloc; "bad header"),
-        AigerErr::TooLarge(n) => format!(in alloc; "{n} is above 16777216"),
-        AigerErr::HasLatches(n) => format!(in alloc; "{n} latches"),
-        AigerErr::HasProperty(letter) => {
-            let letter = char::from(letter);
-            format!(in alloc; "section {letter} is not supported")
-        }
-        AigerErr::BadNumber(at) => format!(in alloc; "bad number at byte {at}"),
-        AigerErr::BadLiteral(n) => format!(in alloc; "bad literal {n}"),
-        AigerErr::DefinedTwice(n) => format!(in alloc; "literal {n} is defined twice"),
-        AigerErr::Undefined(n) => format!(in alloc; "literal {n} is undefined"),
-        AigerErr::Cycle(n) => format!(in alloc; "literal {n} is on or above a cycle"),
-        AigerErr::BadDelta(gate) => format!(in alloc; "bad delta at gate {gate}"),
-        AigerErr::Truncated(at) => format!(in alloc; "ends too early at byte {at}"),
-        AigerErr::BadSymbol(at) => format!(in alloc; "bad symbol line at byte {at}"),
-        AigerErr::NoMemory => format!(in alloc; "out of memory"),
+        AigerErr::BadHeader => String::from_str(alloc, "bad header"),
+        AigerErr::TooLarge(n) => around(alloc, "", n, " is above 16777216"),
+        AigerErr::HasLatches(n) => around(alloc, "", n, " latches"),
+        AigerErr::HasProperty(letter) => section_fault(alloc, char::from(letter)),
+        AigerErr::BadNumber(at) => before(alloc, "bad number at byte ", at),
+        AigerErr::BadLiteral(n) => before(alloc, "bad literal ", n),
+        AigerErr::DefinedTwice(n) => around(alloc, "literal ", n, " is defined twice"),
+        AigerErr::Undefined(n) => around(alloc, "literal ", n, " is undefined"),
+        AigerErr::Cycle(n) => around(alloc, "literal ", n, " is on or above a cycle"),
+        AigerErr::BadDelta(gate) => before(alloc, "bad delta at gate ", gate),
+        AigerErr::Truncated(at) => before(alloc, "ends too early at byte ", at),
+        AigerErr::BadSymbol(at) => before(alloc, "bad symbol line at byte ", at),
+        AigerErr::NoMemory => String::from_str(alloc, "out of memory"),
     }
+}
+
+/// The text of a section that the program doesn't take.
+fn section_fault(alloc: Global, letter: char) -> Result<String, AllocError>
+    ensures { IfOk result (λ s. string_bytes s
+        ≡ codes "section " ++ encode_utf8 letter ++ codes " is not supported") }
+{
+    format!(in alloc; "section {letter} is not supported")
+}
+
+/// Words, and a number behind them.
+fn before(alloc: Global, words: &str, number: u64) -> Result<String, AllocError>
+    ensures { IfOk result (λ s. string_bytes s ≡ words.now ++ decimal number) }
+{
+    let mut text = String::from_str(alloc, words)?;
+    text.push_str(Buffer::new().format(number))?;
+    Ok(text)
+}
+
+/// Words on both sides of a number.
+fn around(alloc: Global, words: &str, number: u64, others: &str) -> Result<String, AllocError>
+    ensures { IfOk result (λ s. string_bytes s ≡ words.now ++ decimal number ++ others.now) }
+{
+    let mut text = before(alloc, words, number)?;
+    text.push_str(others)?;
+    Ok(text)
 }
 
 /// The text of circuits that can't be compared.

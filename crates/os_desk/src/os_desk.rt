@@ -1,7 +1,8 @@
 //! Real files, standard output and standard error.
-ghost use Rattle.std.specs.Prelude.{◌≡◌, ◌≤◌, IfOk, IfSome, IsSome, OnOk, length};
+ghost use Rattle.std.specs.Prelude.{◌≡◌, ◌≤◌, IfErr, IfOk, IfSome, IsSome, None, OnOk, length};
 ghost use Rattle.std.specs.Io.KnownBytes.{Appends};
-ghost use Rattle.desk_port.specs.Desk.{NoCountFalls, Rose, Says, Warns, Writes};
+ghost use Rattle.desk_port.specs.Desk.{NoCountFalls, Reads, Rose, Says, Starts, Warns, Writes};
+ghost use Rattle.desk_port.specs.MemDesk.{next_count};
 
 use crate::streams::{put_all, read_within};
 use desk_port::{Desk, PutErr, ReadErr};
@@ -61,7 +62,12 @@ impl<R: Files, O: Write, E: Write> Desk for OsDesk<R, O, E> {
 
     ghost started_is_there = { started_is_there };
 
-    fn read(&mut self, alloc: Global, name: &str, limit: u64) -> Result<Vec<u8>, ReadErr> {
+    fn read(&mut self, alloc: Global, name: &str, limit: u64) -> Result<Vec<u8>, ReadErr>
+        ensures answer { Reads (state_of self.old) (state_of self.new) name.now limit result }
+        ensures counts { NoCountFalls (state_of self.old) (state_of self.new) }
+        ensures one { IfErr result (λ e. e ≡ ReadErr.Failed → (state_of self.new).read_faults
+            ≡ next_count (state_of self.old).read_faults) }
+    {
         let answer = read_file(&self.files, alloc, name, limit);
         if let Err(ReadErr::Failed) = answer {
             count_fault(&mut self.read_faults);
@@ -70,7 +76,13 @@ impl<R: Files, O: Write, E: Write> Desk for OsDesk<R, O, E> {
     }
 
     /// The name is kept before the file is made: where memory is refused no file has changed.
-    fn start(&mut self, name: &str) -> Result<(), PutErr> {
+    fn start(&mut self, name: &str) -> Result<(), PutErr>
+        requires { (state_of self.old).started ≡ None }
+        ensures answer { Starts (state_of self.old) (state_of self.new) name.now result }
+        ensures counts { NoCountFalls (state_of self.old) (state_of self.new) }
+        ensures one { IfErr result (λ e. e ≡ PutErr.Failed → (state_of self.new).write_faults
+            ≡ next_count (state_of self.old).write_faults) }
+    {
         let name = String::from_str(self.alloc, name)?;
         match fs::create(&self.files, name.as_str()) {
             Ok(file) => {
@@ -88,6 +100,8 @@ impl<R: Files, O: Write, E: Write> Desk for OsDesk<R, O, E> {
         requires { IsSome (state_of self.old).started }
         ensures answer { Writes (state_of self.old) (state_of self.new) bytes.now result }
         ensures counts { NoCountFalls (state_of self.old) (state_of self.new) }
+        ensures one { IfErr result (λ e. e ≡ PutErr.Failed → (state_of self.new).write_faults
+            ≡ next_count (state_of self.old).write_faults) }
         ensures put { OnOk result
             (IfSome (file_of self.old) (λ old. IfSome (file_of self.new) (λ new.
             Appends (R.File.contents old) (R.File.contents new) bytes.now))) }
@@ -109,6 +123,8 @@ impl<R: Files, O: Write, E: Write> Desk for OsDesk<R, O, E> {
     fn say(&mut self, bytes: &[u8]) -> Result<(), PutErr>
         ensures answer { Says (state_of self.old) (state_of self.new) bytes.now result }
         ensures counts { NoCountFalls (state_of self.old) (state_of self.new) }
+        ensures one { IfErr result (λ e. e ≡ PutErr.Failed → (state_of self.new).write_faults
+            ≡ next_count (state_of self.old).write_faults) }
         ensures put { OnOk result
             (Appends (O.contents (out_of self.old)) (O.contents (out_of self.new)) bytes.now) }
     {
@@ -122,6 +138,8 @@ impl<R: Files, O: Write, E: Write> Desk for OsDesk<R, O, E> {
     fn warn(&mut self, bytes: &[u8]) -> Result<(), PutErr>
         ensures answer { Warns (state_of self.old) (state_of self.new) bytes.now result }
         ensures counts { NoCountFalls (state_of self.old) (state_of self.new) }
+        ensures one { IfErr result (λ e. e ≡ PutErr.Failed → (state_of self.new).warn_faults
+            ≡ next_count (state_of self.old).warn_faults) }
         ensures put { OnOk result
             (Appends (E.contents (err_of self.old)) (E.contents (err_of self.new)) bytes.now) }
     {
@@ -135,7 +153,8 @@ impl<R: Files, O: Write, E: Write> Desk for OsDesk<R, O, E> {
 
 // Counts a fault. At the last value the count stands still.
 fn count_fault(count: &mut u64)
-    ensures { Rose count.old count.new }
+    ensures one { count.new ≡ next_count count.old }
+    ensures rose { Rose count.old count.new }
 {
     *count = count.saturating_add(1);
 }
@@ -149,6 +168,3 @@ fn read_file<R: Files>(files: &R, alloc: Global, name: &str, limit: u64) -> Resu
     };
     read_within(&mut file, alloc, limit)
 }
-
-#[cfg(test)]
-mod tests;
