@@ -13,11 +13,21 @@ use std::marker::Model;
 use std::mem::replace;
 
 /// A pair of circuits that is checked.
-#[derive(Drop)]
 pub struct Session {
     net: Net,
     options: Options,
     book: Book,
+}
+
+// Written out, so that a drop is one call and not one for each field at each exit of a function.
+impl Drop for Session {
+    fn drop(self) {
+        let Session {
+            net: _,
+            options: _,
+            book: _,
+        } = self;
+    }
 }
 
 impl Model for Session {

@@ -14,12 +14,23 @@ use std::alloc::{AllocError, Global};
 use std::marker::Model;
 
 /// A circuit as far as it is read.
-#[derive(Drop)]
 pub struct Draft {
     pub(crate) inputs: Vec<u32>,
     pub(crate) gates: Vec<And>,
     pub(crate) outputs: Vec<u32>,
     pub(crate) table: VariableTable,
+}
+
+// Written out, so that a drop is one call and not one for each field at each exit of a function.
+impl Drop for Draft {
+    fn drop(self) {
+        let Draft {
+            inputs: _,
+            gates: _,
+            outputs: _,
+            table: _,
+        } = self;
+    }
 }
 
 impl Model for Draft {

@@ -13,13 +13,24 @@ use std::alloc::{AllocError, Global};
 
 /// Searches a net for why two nodes, or the two literals of an output, are equal or not. It keeps its memory
 /// from query to query.
-#[derive(Drop)]
 pub struct Search {
     engine: Engine,
     scratch: Scratch,
     /// Whether the pair before was told apart by a pattern that is there already.
     is_known: bool,
     dropped: u64,
+}
+
+// Written out, so that a drop is one call and not one for each field at each exit of a function.
+impl Drop for Search {
+    fn drop(self) {
+        let Search {
+            engine: _,
+            scratch: _,
+            is_known: _,
+            dropped: _,
+        } = self;
+    }
 }
 
 impl Search {

@@ -15,11 +15,21 @@ use std::marker::Model;
 
 /// Entries in the order in which they came, and the budgets of a query about two nodes and of one about
 /// an output, in learned clauses.
-#[derive(Drop)]
 pub struct Book {
     sweep_budget: u64,
     out_budget: u64,
     shelf: Shelf,
+}
+
+// Written out, so that a drop is one call and not one for each field at each exit of a function.
+impl Drop for Book {
+    fn drop(self) {
+        let Book {
+            sweep_budget: _,
+            out_budget: _,
+            shelf: _,
+        } = self;
+    }
 }
 
 impl Model for Book {

@@ -42,9 +42,15 @@ impl<T: Drop> From<AllocFailed<T>> for ClauseErr {
 /// A clause: a disjunction of literals without repeats and without a complementary pair.
 ///
 /// Up to three literals stand in the value itself, since most clauses of a circuit have no more.
-#[derive(Drop)]
 pub struct Clause<L: Literal> {
     lits: SmallVec<L, 3>,
+}
+
+// Written out, so that a drop is one call and not one for each field at each exit of a function.
+impl<L: Literal> Drop for Clause<L> {
+    fn drop(self) {
+        let Clause { lits: _ } = self;
+    }
 }
 
 impl<L: Literal> Model for Clause<L> {

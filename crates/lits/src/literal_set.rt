@@ -8,10 +8,19 @@ use std::marker::Model;
 
 /// Literals in the order in which they came, each once. A few are looked through, and among more one is found
 /// in constant time on average.
-#[derive(Drop)]
 pub struct LiteralSet<L: Literal> {
     order: Vec<L>,
     chains: Chains,
+}
+
+// Written out, so that a drop is one call and not one for each field at each exit of a function.
+impl<L: Literal> Drop for LiteralSet<L> {
+    fn drop(self) {
+        let LiteralSet {
+            order: _,
+            chains: _,
+        } = self;
+    }
 }
 
 impl<L: Literal> Model for LiteralSet<L> {

@@ -14,12 +14,23 @@ use std::marker::Model;
 ///
 /// Variables are those of AIGER, from 1 to 16,777,216, each defined once, as an input or by a gate. A gate's
 /// fanins are constants, inputs or earlier gates.
-#[derive(Drop)]
 pub struct Circuit {
     inputs: Vec<u32>,
     gates: Vec<And>,
     outputs: Vec<u32>,
     table: VariableTable,
+}
+
+// Written out, so that a drop is one call and not one for each field at each exit of a function.
+impl Drop for Circuit {
+    fn drop(self) {
+        let Circuit {
+            inputs: _,
+            gates: _,
+            outputs: _,
+            table: _,
+        } = self;
+    }
 }
 
 impl Model for Circuit {

@@ -21,11 +21,21 @@ use std::marker::Model;
 /// The nodes are numbered twice. Positions count from 0: the constant, the inputs, the gates of A in order,
 /// the gates of B in order. CNF variables count from 1 in the same order, and behind them come the XORs, one
 /// per output.
-#[derive(Drop)]
 pub struct Net {
     pair: CircuitPair,
     fanins: Vec<Fanins>,
     starts: ClauseStarts,
+}
+
+// Written out, so that a drop is one call and not one for each field at each exit of a function.
+impl Drop for Net {
+    fn drop(self) {
+        let Net {
+            pair: _,
+            fanins: _,
+            starts: _,
+        } = self;
+    }
 }
 
 impl Model for Net {

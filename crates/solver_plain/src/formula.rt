@@ -15,11 +15,21 @@ use std::alloc::{AllocError, Global};
 use std::marker::Model;
 
 /// The clauses of a base and of the steps learned over it.
-#[derive(Drop)]
 pub(crate) struct Formula {
     base: Vec<Named>,
     log: Vec<Step>,
     variables: LiteralSet<Lit>,
+}
+
+// Written out, so that a drop is one call and not one for each field at each exit of a function.
+impl Drop for Formula {
+    fn drop(self) {
+        let Formula {
+            base: _,
+            log: _,
+            variables: _,
+        } = self;
+    }
 }
 
 impl Model for Formula {

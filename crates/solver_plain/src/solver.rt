@@ -10,10 +10,19 @@ use unit_prop::{Refuted, Refuter};
 
 /// The plain solver: it decides variables false in the order of the base, scans all clauses after
 /// each decision, and learns from a clash the clause of all negated decisions.
-#[derive(Drop)]
 pub struct PlainSolver {
     formula: Formula,
     ready: bool,
+}
+
+// Written out, so that a drop is one call and not one for each field at each exit of a function.
+impl Drop for PlainSolver {
+    fn drop(self) {
+        let PlainSolver {
+            formula: _,
+            ready: _,
+        } = self;
+    }
 }
 
 impl Model for PlainSolver {

@@ -37,7 +37,6 @@ pub(crate) enum Found {
 }
 
 /// Formula and tools of a search.
-#[derive(Drop)]
 pub(crate) struct Engine {
     pub(crate) formula: Formula,
     /// How many levels are those of the target's negations.
@@ -45,6 +44,19 @@ pub(crate) struct Engine {
     cut: Cut,
     order: Order,
     restarts: Restarts,
+}
+
+// Written out, so that a drop is one call and not one for each field at each exit of a function.
+impl Drop for Engine {
+    fn drop(self) {
+        let Engine {
+            formula: _,
+            assumed: _,
+            cut: _,
+            order: _,
+            restarts: _,
+        } = self;
+    }
 }
 
 impl Engine {

@@ -9,12 +9,22 @@ use std::alloc::{AllocError, Global};
 use watch_lists::Trail;
 
 /// The clauses of a base and of the steps learned over it, by their names and on a trail.
-#[derive(Drop)]
 pub(crate) struct Formula {
     pub(crate) base: Vec<Named>,
     pub(crate) log: Vec<Step>,
     /// It has the base's clauses and then the log's.
     pub(crate) trail: Trail,
+}
+
+// Written out, so that a drop is one call and not one for each field at each exit of a function.
+impl Drop for Formula {
+    fn drop(self) {
+        let Formula {
+            base: _,
+            log: _,
+            trail: _,
+        } = self;
+    }
 }
 
 impl Formula {

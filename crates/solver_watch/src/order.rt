@@ -15,7 +15,6 @@ const ABSENT: usize = usize::MAX;
 /// Nothing rests on it but speed: who asks for a variable looks whether it is free, and where the order
 /// has none left looks for one himself. Variables that were put stay in the heap until they come to its
 /// top, so that only those that came out have to come back.
-#[derive(Drop)]
 pub(crate) struct Order {
     activity: Vec<f64>,
     /// A binary heap, the variable of the greatest activity at its top.
@@ -24,6 +23,18 @@ pub(crate) struct Order {
     places: Vec<usize>,
     /// What a bump adds.
     step: f64,
+}
+
+// Written out, so that a drop is one call and not one for each field at each exit of a function.
+impl Drop for Order {
+    fn drop(self) {
+        let Order {
+            activity: _,
+            heap: _,
+            places: _,
+            step: _,
+        } = self;
+    }
 }
 
 impl Order {

@@ -8,10 +8,19 @@ use unit_prop::{Refuted, Refuter};
 
 /// The learning solver: it decides by activity, propagates by watched literals, and learns from each
 /// conflict the clause of its first unique implication point.
-#[derive(Drop)]
 pub struct WatchSolver {
     engine: Engine,
     ready: bool,
+}
+
+// Written out, so that a drop is one call and not one for each field at each exit of a function.
+impl Drop for WatchSolver {
+    fn drop(self) {
+        let WatchSolver {
+            engine: _,
+            ready: _,
+        } = self;
+    }
 }
 
 impl Model for WatchSolver {

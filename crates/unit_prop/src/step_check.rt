@@ -10,10 +10,16 @@ use std::alloc::Global;
 use std::marker::Model;
 
 /// Judges the hints of a step one by one, each in the time of its clause's literals.
-#[derive(Drop)]
 pub struct StepCheck<L: Literal> {
     set: LiteralSet<L>,
     clashed: bool,
+}
+
+// Written out, so that a drop is one call and not one for each field at each exit of a function.
+impl<L: Literal> Drop for StepCheck<L> {
+    fn drop(self) {
+        let StepCheck { set: _, clashed: _ } = self;
+    }
 }
 
 impl<L: Literal> Model for StepCheck<L> {

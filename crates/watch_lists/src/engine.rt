@@ -17,7 +17,6 @@ pub(crate) struct Level {
 ///
 /// Watches stay as they are when levels are given up. Clauses that were added since the last
 /// propagation have none yet: `work` has the first clauses only.
-#[derive(Drop)]
 pub(crate) struct Engine {
     /// The clauses as they were added.
     pub(crate) clauses: Flat,
@@ -35,6 +34,23 @@ pub(crate) struct Engine {
     pub(crate) levels: Vec<Level>,
     /// How much of the trail has been propagated.
     pub(crate) head: usize,
+}
+
+// Written out, so that a drop is one call and not one for each field at each exit of a function.
+impl Drop for Engine {
+    fn drop(self) {
+        let Engine {
+            clauses: _,
+            work: _,
+            lists: _,
+            truth: _,
+            places: _,
+            trail: _,
+            reasons: _,
+            levels: _,
+            head: _,
+        } = self;
+    }
 }
 
 /// What became of a watch.

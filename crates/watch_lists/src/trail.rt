@@ -18,13 +18,24 @@ use std::alloc::{AllocError, Global};
 use std::marker::Model;
 
 /// Clauses, and literals that are decided or propagated, level by level.
-#[derive(Drop)]
 pub struct Trail {
     alloc: Global,
     numbers: Numbers,
     engine: Engine,
     /// The engine's literals once more, for those who read them.
     puts: Vec<Put>,
+}
+
+// Written out, so that a drop is one call and not one for each field at each exit of a function.
+impl Drop for Trail {
+    fn drop(self) {
+        let Trail {
+            alloc: _,
+            numbers: _,
+            engine: _,
+            puts: _,
+        } = self;
+    }
 }
 
 impl Model for Trail {

@@ -11,13 +11,25 @@ use std::marker::Model;
 ///
 /// The drawn words stand input by input, as they were drawn; of the added patterns each 64 share a
 /// block of one word per input, so that a pattern is added in the time of its own length.
-#[derive(Drop)]
 pub struct Pool {
     inputs: u32,
     drawn_words: u32,
     drawn: Vec<u64>,
     added_count: u32,
     added: Vec<u64>,
+}
+
+// Written out, so that a drop is one call and not one for each field at each exit of a function.
+impl Drop for Pool {
+    fn drop(self) {
+        let Pool {
+            inputs: _,
+            drawn_words: _,
+            drawn: _,
+            added_count: _,
+            added: _,
+        } = self;
+    }
 }
 
 impl Model for Pool {
