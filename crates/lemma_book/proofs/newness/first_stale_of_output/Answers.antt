@@ -1,15 +1,22 @@
 -- Each round reads one clause more.
-use Rattle.std.proofs.Common.{◌∙◌, [], ◌∷◌, ◌++◌, List, take, sym, ap, Some}
+use Rattle.std.proofs.Common.{◌∙◌, [], ◌∷◌, ◌++◌, List, take, sym, ap, Some, arith}
+use Rattle.std.proofs.lemmas.List.{append-nil}
 use Rattle.std.proofs.lemmas.Option.{slice_get-get_or}
 use Rattle.lits.specs.declared.literal.Lit.{Lit}
 use Rattle.lits.specs.declared.step.Step.{Step}
 use Rattle.lits.specs.Same.{same_lit, opposite}
 use Rattle.unit_prop.specs.New.{IsNew}
 use Rattle.unit_prop.specs.Refuter.{IsUndecided}
-use Rattle.unit_prop.specs.Log.{clauses_of}
+use Rattle.unit_prop.specs.Log.{base_clauses, clauses_of}
 use Rattle.lemma_book.specs.Entry.{equal_clause}
 use Rattle.lemma_book.proofs.NewClauses.{stale-now_out, new-now_out, next-clauses, each-next, each-past}
 use Rattle.lemma_book.proofs.newness.first_stale_of_output.Goals as goal
+
+pub loop-k-init : goal.loop-k-init
+loop-k-init c = (
+  c.in_ok-clauses.ensures ∙ sym (append-nil (base_clauses c.args.cone.now)),
+  λ j below. absurd (omega arith),
+)
 
 pub returns-then-not-branch : goal.returns-then-not-branch
 returns-then-not-branch c =
