@@ -1,5 +1,5 @@
 -- What the first bad step and the first clause that isn't new make of an entry.
-use Rattle.std.proofs.Common.{◌≡◌, ℕ, List, [], ◌∷◌, take, length, Option, None, Some, Result, Ok, Err, IfOk, OnErr, inl, sym, ◌∙◌, subst, arith}
+use Rattle.std.proofs.Common.{◌≡◌, ℕ, List, [], ◌∷◌, take, length, Option, None, Some, Result, Ok, Err, IfOk, IfErr, OnErr, inl, refl, sym, ◌∙◌, subst, arith}
 use Rattle.std.specs.Option.{IsSome}
 use Rattle.std.proofs.lemmas.Option.{none-some}
 use Rattle.lits.specs.declared.node.Node.{Node}
@@ -17,13 +17,14 @@ use Rattle.lemma_book.specs.declared.entry.Entry.{Entry}
 use Rattle.lemma_book.specs.declared.entry.Entry.TheVariants.{Merge, Spent, Out, OutSpent}
 use Rattle.lemma_book.specs.declared.refused.Fault.TheVariants as fault
 use Rattle.lemma_book.specs.declared.refused.Refused.{Refused}
+use Rattle.lemma_book.specs.declared.refused.Refused.TheVariants.{NoMemory}
 use Rattle.lemma_book.specs.declared.refused.Offered.{Offered}
 use Rattle.lemma_book.specs.declared.refused.Offered.TheVariants.{At}
 use Rattle.lemma_book.specs.Entry.{Entries, with_last}
 use Rattle.lemma_book.specs.Book.{IsLegal}
 use Rattle.lemma_book.specs.Cone.{IsCone}
 use Rattle.lemma_book.specs.Good.{NoNode, NoStep, node_clause, out_clause, IsStepAt, IsNewAt, IsUndecidedAt, OfCone, IsGood}
-use Rattle.lemma_book.specs.Fault.{IsFreeBefore, FailsAt, IsFault}
+use Rattle.lemma_book.specs.Fault.{IsFreeBefore, FailsAt, IsFault, IsRefusal, Takes}
 use Rattle.lemma_book.specs.Judging.{IsFirstBad, IsFirstPlace}
 use Rattle.lemma_book.proofs.ConeLemmas.{cone-one}
 use Rattle.lemma_book.proofs.MergedNodes.{placed-there}
@@ -128,3 +129,15 @@ pub legal-taken : (net : AigPair) (old new : Entries) (e : Entry) (r : Result Of
     → IfOk r (λ o. (o ≡ At (length old.entries)) × (new ≡ with_last old e)) → OnErr r (new ≡ old) → IsLegal net new
 legal-taken net old new e (Ok o) legal good taken same = subst (IsLegal net) (sym taken.1) (legal-last net old e legal good)
 legal-taken net old new e (Err x) legal good taken same = subst (IsLegal net) (sym same) legal
+
+-- a good entry that is the last one is taken
+pub last-taken : (net : AigPair) (old new : Entries) (e : Entry) (r : Result Offered (Entry × Refused)) → IsGood net old e
+    → IfOk r (λ o. (o ≡ At (length old.entries)) × (new ≡ with_last old e)) → IfOk r (Takes net old e new)
+last-taken net old new e (Ok o) good taken = subst (Takes net old e new) (sym taken.0) (good, refl, taken.1)
+last-taken net old new e (Err x) good taken = tt
+
+-- an entry that comes back for want of memory
+pub given-back : (net : AigPair) (old : Entries) (e : Entry) (r : Result Offered (Entry × Refused)) → IfErr r (λ x. (x.0 ≡ e) × (x.1 ≡ NoMemory))
+    → IfErr r (λ x. (x.0 ≡ e) × IsRefusal net old e x.1)
+given-back net old e (Ok o) back = tt
+given-back net old e (Err x) back = (back.0, subst (IsRefusal net old e) (sym back.1) tt)

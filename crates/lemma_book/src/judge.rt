@@ -12,7 +12,7 @@ use crate::newness::{first_stale, first_stale_of_output};
 use crate::presence::{has_earlier, is_there};
 use crate::refused::{Fault, Judgement};
 use crate::shape::{has_count, has_seen, has_shape};
-use crate::sources::{ConeClauses, NodeClauses, OutClauses, positive};
+use crate::sources::{ConeClauses, NodeClauses, OutClauses, differs, positive};
 use crate::steps::first_bad;
 use lits::{Lit, Node, Step};
 use netlist::Net;
@@ -139,7 +139,7 @@ fn judge_out_spent(
     requires free { IsFreeBefore net.now book.now (Entry.OutSpent output seen log.now) (NoStep 0) }
     ensures { IfOk result (IsJudgement net.now book.now (Entry.OutSpent output seen log.now)) }
 {
-    let cone = book.cone(alloc, net, seen, &[positive(Node::Xor(output))])?;
+    let cone = book.cone(alloc, net, seen, &[differs(output)])?;
     let cone = cone.as_slice();
     if let Some((k, bad)) = first_bad(alloc, &ConeClauses { cone }, log)? {
         return Ok(Judgement::Bad(Fault::Step(k, bad)));

@@ -1,4 +1,4 @@
-ghost use Rattle.std.specs.Prelude.{◌≡◌, [], ◌∷◌, ◌||◌, IfOk};
+ghost use Rattle.std.specs.Prelude.{◌≡◌, [], ◌∷◌, ◌++◌, ◌||◌, IfOk, OnOk};
 ghost use Rattle.std.specs.List.{list_all};
 ghost use Rattle.lits.specs.Same.{same_lit, opposite};
 ghost use Rattle.netlist.specs.Miter.{positive};
@@ -8,8 +8,8 @@ ghost use Rattle.unit_prop.specs.Log.{base_clauses};
 ghost use Rattle.lemma_book.specs.Good.{IsNewAt, IsUndecidedAt};
 ghost use Rattle.lemma_book.specs.Judging.{Tells, IsFirstPlace};
 
-use crate::sources::positive;
-use lits::{Clause, Lit, Literal, Named, Node, Step};
+use crate::sources::differs;
+use lits::{Clause, Lit, Literal, Named, Step};
 use std::alloc::{AllocError, Global};
 use unit_prop::{Closure, close_under};
 
@@ -29,7 +29,7 @@ pub(crate) fn first_stale(
         if !is_new(alloc, clauses.as_slice(), step.clause.lits())? {
             return Ok(Some(k as u64));
         }
-        clauses.push(step.clause.copy()?)?;
+        add_copy(&mut clauses, &step.clause)?;
     }
     Ok(None)
 }
@@ -44,13 +44,13 @@ pub(crate) fn first_stale_of_output(
     ensures { IfOk result
         (IsFirstPlace (λ k. IsNewAt cone.now log.now k × IsUndecidedAt cone.now output log.now k)) }
 {
+    let lit = differs(output);
     let mut clauses = clauses_of(alloc, cone)?;
-    let differs = positive(Node::Xor(output));
     for (k, step) in log.iter().enumerate() {
-        if !is_new_and_open(alloc, clauses.as_slice(), step.clause.lits(), differs)? {
+        if !is_new_and_open(alloc, clauses.as_slice(), step.clause.lits(), lit)? {
             return Ok(Some(k as u64));
         }
-        clauses.push(step.clause.copy()?)?;
+        add_copy(&mut clauses, &step.clause)?;
     }
     Ok(None)
 }
@@ -61,9 +61,17 @@ fn clauses_of(alloc: Global, cone: &[Named]) -> Result<Vec<Clause<Lit>>, AllocEr
 {
     let mut clauses = Vec::with_capacity(alloc, cone.len())?;
     for named in cone {
-        clauses.push(named.clause.copy()?)?;
+        add_copy(&mut clauses, &named.clause)?;
     }
     Ok(clauses)
+}
+
+/// Puts a copy of the clause last.
+fn add_copy(clauses: &mut Vec<Clause<Lit>>, clause: &Clause<Lit>) -> Result<(), AllocError>
+    ensures { OnOk result (clauses.new.items ≡ clauses.old.items ++ clause.now ∷ []) }
+{
+    clauses.push(clause.copy()?)?;
+    Ok(())
 }
 
 /// Whether the clause is new over the others, and these don't decide the literal.

@@ -9,7 +9,7 @@ use Rattle.lemma_book.proofs.newness.clauses_of.Goals as goal
 pub loop-named-preserved : goal.loop-named-preserved
 loop-named-preserved c =
     let n = c.named-item.result in
-    c.in_ok-push.ensures.items ∙ ap (λ (l : List Lit). c.loop-named.clauses.items ++ l ∷ []) c.in_ok-copy.ensures
+    c.in_ok-add_copy.ensures
     ∙ ap (λ (ls : List (List Lit)). ls ++ n.clause ∷ []) c.loop-named.invariant
     ∙ ap (λ (m : Named). base_clauses (take c.loop-named.named-index c.args.cone.now) ++ m.clause ∷ []) c.named-item.is
     ∙ sym (map_more (λ (m : Named). m.clause) c.args.cone.now c.loop-named.named-index n c.loop-named-test.true)

@@ -22,7 +22,7 @@ pub loop-k-preserved : goal.loop-k-preserved
 loop-k-preserved c =
     let s = c.index-log-k.result in
     let at = slice_get-get_or c.args.log.now c.loop-k.k s c.loop-k-test.true ∙ ap (λ (x : Step). Some x) (sym c.index-log-k.is) in (
-      c.in_ok-push.ensures.items ∙ ap (λ (l : List Lit). c.loop-k.clauses.items ++ l ∷ []) c.in_ok-copy.ensures
+      c.in_ok-add_copy.ensures
           ∙ ap (λ (l : List (List Lit)). l ++ s.clause ∷ []) c.loop-k.invariant.0 ∙ sym (next-clauses c.args.cone.now c.args.log.now c.loop-k.k s at),
       each-next (λ j t. IsNew same_lit opposite (clauses_of c.args.cone.now (take j c.args.log.now)) t.clause) c.args.log.now c.loop-k.k s at
           (new-now c.args.cone.now c.args.log.now c.loop-k.k s at c.as_slice.result.now (c.as_slice.ensures.value ∙ c.loop-k.invariant.0) c.lits.result.now

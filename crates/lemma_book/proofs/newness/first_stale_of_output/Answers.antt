@@ -24,7 +24,7 @@ returns-then-not-branch c =
     let at = slice_get-get_or c.args.log.now c.loop-k.k s c.loop-k-test.true ∙ ap (λ (x : Step). Some x) (sym c.index-log-k.is) in (
       c.loop-k.invariant.1,
       stale-now_out c.args.cone.now c.args.log.now c.loop-k.k s at c.as_slice.result.now (c.as_slice.ensures.value ∙ c.loop-k.invariant.0) c.lits.result.now
-          c.lits.ensures.lits c.in_ok-is_new_and_open.field-0 c.args.output c.positive-differs.result c.positive-differs.ensures c.if-not-branch.true
+          c.lits.ensures.lits c.in_ok-is_new_and_open.field-0 c.args.output c.differs-lit.result c.differs-lit.ensures c.if-not-branch.true
           c.in_ok-is_new_and_open.ensures,
     )
 
@@ -33,9 +33,9 @@ loop-k-preserved c =
     let s = c.index-log-k.result in
     let at = slice_get-get_or c.args.log.now c.loop-k.k s c.loop-k-test.true ∙ ap (λ (x : Step). Some x) (sym c.index-log-k.is) in
     let now = new-now_out c.args.cone.now c.args.log.now c.loop-k.k s at c.as_slice.result.now (c.as_slice.ensures.value ∙ c.loop-k.invariant.0) c.lits.result.now
-    c.lits.ensures.lits c.in_ok-is_new_and_open.field-0 c.args.output c.positive-differs.result c.positive-differs.ensures c.if-not-branch.false
+    c.lits.ensures.lits c.in_ok-is_new_and_open.field-0 c.args.output c.differs-lit.result c.differs-lit.ensures c.if-not-branch.false
     c.in_ok-is_new_and_open.ensures in (
-      c.in_ok-push.ensures.items ∙ ap (λ (l : List Lit). c.loop-k.clauses.items ++ l ∷ []) c.in_ok-copy.ensures
+      c.in_ok-add_copy.ensures
           ∙ ap (λ (l : List (List Lit)). l ++ s.clause ∷ []) c.loop-k.invariant.0 ∙ sym (next-clauses c.args.cone.now c.args.log.now c.loop-k.k s at),
       λ j below. (
         each-next (λ i t. IsNew same_lit opposite (clauses_of c.args.cone.now (take i c.args.log.now)) t.clause) c.args.log.now c.loop-k.k s at now.0
