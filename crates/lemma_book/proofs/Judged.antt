@@ -18,14 +18,18 @@ use Rattle.lemma_book.specs.declared.entry.Entry.TheVariants.{Merge, Spent, Out,
 use Rattle.lemma_book.specs.declared.refused.Fault.TheVariants as fault
 use Rattle.lemma_book.specs.declared.refused.Refused.{Refused}
 use Rattle.lemma_book.specs.declared.refused.Refused.TheVariants.{NoMemory}
+use Rattle.lemma_book.specs.declared.refused.Refused.TheVariants as refused
+use Rattle.lemma_book.specs.declared.refused.Judgement.{Judgement}
+use Rattle.lemma_book.specs.declared.refused.Judgement.TheVariants as judged
+use Rattle.std.specs.declared.alloc.AllocError.{AllocError}
 use Rattle.lemma_book.specs.declared.refused.Offered.{Offered}
 use Rattle.lemma_book.specs.declared.refused.Offered.TheVariants.{At}
 use Rattle.lemma_book.specs.Entry.{Entries, with_last}
 use Rattle.lemma_book.specs.Book.{IsLegal}
 use Rattle.lemma_book.specs.Cone.{IsCone}
 use Rattle.lemma_book.specs.Good.{NoNode, NoStep, node_clause, out_clause, IsStepAt, IsNewAt, IsUndecidedAt, OfCone, IsGood}
-use Rattle.lemma_book.specs.Fault.{IsFreeBefore, FailsAt, IsFault, IsRefusal, Takes}
-use Rattle.lemma_book.specs.Judging.{IsFirstBad, IsFirstPlace}
+use Rattle.lemma_book.specs.Fault.{IsFreeBefore, FailsAt, IsFault, IsSettled, IsJudgement, IsRefusal, Takes}
+use Rattle.lemma_book.specs.Judging.{IsFirstBad, IsFirstPlace, IsNewUndecided, verdict_of}
 use Rattle.lemma_book.proofs.ConeLemmas.{cone-one}
 use Rattle.lemma_book.proofs.MergedNodes.{placed-there}
 use Rattle.lemma_book.proofs.ThereLemmas.{is_some-variable}
@@ -95,20 +99,20 @@ module _ (net : AigPair) (book : Entries) where
       of seen (Xor j ∷ []) cone is_cone (λ c. FailsAt (base_clause c) log k bad) first.1,
     )
 
-    pub out_spent-stale : (k : ℕ) → IsFirstBad (base_clause cone) log None → IsFirstPlace (λ i. IsNewAt cone log i × IsUndecidedAt cone j log i) (Some k)
+    pub out_spent-stale : (k : ℕ) → IsFirstBad (base_clause cone) log None → IsFirstPlace (IsNewUndecided cone j log) (Some k)
         → IsFault net book (OutSpent j seen log) (fault.NotNew k)
     out_spent-stale k steps first =
         first-new net book (OutSpent j seen log) free k
         (λ i. of seen (Xor j ∷ []) cone is_cone (λ c. IsStepAt (base_clause c) log i) (steps i))
-        (λ i less. of seen (Xor j ∷ []) cone is_cone (λ c. IsNewAt c log i × IsUndecidedAt c j log i) (first.0 i less))
-        (not-of seen (Xor j ∷ []) cone is_cone (λ c. IsNewAt c log k × IsUndecidedAt c j log k) first.1)
+        (λ i less. of seen (Xor j ∷ []) cone is_cone (λ c. IsNewAt c log i × IsUndecidedAt c j log i) ((first.0 i less).new, (first.0 i less).undecided))
+        (not-of seen (Xor j ∷ []) cone is_cone (λ c. IsNewAt c log k × IsUndecidedAt c j log k) (λ both. first.1 (record { new = both.0; undecided = both.1 })))
 
-    pub out_spent-good : IsFirstBad (base_clause cone) log None → IsFirstPlace (λ i. IsNewAt cone log i × IsUndecidedAt cone j log i) None
+    pub out_spent-good : IsFirstBad (base_clause cone) log None → IsFirstPlace (IsNewUndecided cone j log) None
         → IsGood net book (OutSpent j seen log)
     out_spent-good steps news =
         good-all net book (OutSpent j seen log) free
         (λ i. of seen (Xor j ∷ []) cone is_cone (λ c. IsStepAt (base_clause c) log i) (steps i))
-        (λ i. of seen (Xor j ∷ []) cone is_cone (λ c. IsNewAt c log i × IsUndecidedAt c j log i) (news i))
+        (λ i. of seen (Xor j ∷ []) cone is_cone (λ c. IsNewAt c log i × IsUndecidedAt c j log i) ((news i).new, (news i).undecided))
 
 -- the nodes of what is judged have CNF variables
 pub pair-there : (net : AigPair) (book : Entries) (node : Node) (lit : Lit) (seen : ℕ) (log : List Step)
@@ -141,3 +145,27 @@ pub given-back : (net : AigPair) (old : Entries) (e : Entry) (r : Result Offered
     → IfErr r (λ x. (x.0 ≡ e) × IsRefusal net old e x.1)
 given-back net old e (Ok o) back = tt
 given-back net old e (Err x) back = (back.0, subst (IsRefusal net old e) (sym back.1) tt)
+
+-- what an entry's judgement comes to
+module _ (net : AigPair) (book : Entries) (e : Entry) where
+  pub verdict-good : (r : Result Judgement AllocError) → IfOk r (IsJudgement net book e) → verdict_of r ≡ Ok None → IsGood net book e
+  verdict-good (Ok judged.Good) is told = is
+  verdict-good (Ok (judged.Settled i)) is told = cc
+  verdict-good (Ok judged.NotApart) is told = cc
+  verdict-good (Ok (judged.Bad f)) is told = cc
+  verdict-good (Err x) is told = cc
+
+  pub verdict-settled : (r : Result Judgement AllocError) (place : ℕ) → IfOk r (IsJudgement net book e) → verdict_of r ≡ Ok (Some place)
+      → IsSettled net book e place
+  verdict-settled (Ok judged.Good) place is told = cc
+  verdict-settled (Ok (judged.Settled i)) place is told = let same : i ≡ place = cc in subst (IsSettled net book e) same is
+  verdict-settled (Ok judged.NotApart) place is told = cc
+  verdict-settled (Ok (judged.Bad f)) place is told = cc
+  verdict-settled (Err x) place is told = cc
+
+  pub verdict-refused : (r : Result Judgement AllocError) (x : Refused) → IfOk r (IsJudgement net book e) → verdict_of r ≡ Err x → IsRefusal net book e x
+  verdict-refused (Ok judged.Good) x is told = cc
+  verdict-refused (Ok (judged.Settled i)) x is told = cc
+  verdict-refused (Ok judged.NotApart) x is told = let same : refused.NotApart ≡ x = cc in subst (IsRefusal net book e) same is
+  verdict-refused (Ok (judged.Bad f)) x is told = let same : refused.Bad f ≡ x = cc in subst (IsRefusal net book e) same is
+  verdict-refused (Err y) x is told = let same : NoMemory ≡ x = cc in subst (IsRefusal net book e) same tt

@@ -19,8 +19,8 @@ use Rattle.lits.proofs.Facts.{exact-lit}
 use Rattle.netlist.specs.Miter.{positive}
 use Rattle.unit_prop.specs.Refuter.{IsUndecided}
 use Rattle.lemma_book.specs.Entry.{equal_clause}
-use Rattle.lemma_book.specs.Good.{IsNewAt, IsUndecidedAt}
-use Rattle.lemma_book.specs.Judging.{Tells}
+use Rattle.lemma_book.specs.Good.{IsNewAt}
+use Rattle.lemma_book.specs.Judging.{Tells, IsNewUndecided}
 use Rattle.lemma_book.proofs.Telling.{tells-yes, tells-no}
 
 module _ (clauses : List (List Lit)) where
@@ -127,9 +127,9 @@ module _ (cone : List Named) (log : List Step) (k : ℕ) (s : Step) (at : slice_
     abbrev At : List (List Lit) → Lit → Type 0
     At l y = IsOpen same_lit opposite l (y ∷ [])
 
-    pub stale-now_out : b ≡ false → Tells IsFine b → ¬ (IsNewAt cone log k × IsUndecidedAt cone j log k)
+    pub stale-now_out : b ≡ false → Tells IsFine b → ¬ IsNewUndecided cone j log k
     stale-now_out e t all =
-        tells-no IsFine b e t (back (all.0 s at), subst (At cs) (sym x_is) (subst (λ (l : List (List Lit)). At l (positive (Xor j))) (sym is) (all.1 s at)))
+        tells-no IsFine b e t (back (all.new s at), subst (At cs) (sym x_is) (subst (λ (l : List (List Lit)). At l (positive (Xor j))) (sym is) (all.undecided s at)))
 
     pub new-now_out : b ≡ true → Tells IsFine b → IsNew same_lit opposite (clauses_of cone (take k log)) s.clause × IsUndecided cone (equal_clause j) (take k log)
     new-now_out e t =

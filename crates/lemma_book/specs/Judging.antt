@@ -1,12 +1,18 @@
 -- What the parts of a judgement answer.
-use Rattle.std.specs.Prelude.{◌≡◌, ℕ, ◌<◌, Bool, true, false, Option, None, Some, List}
+use Rattle.std.specs.Prelude.{◌≡◌, ℕ, ◌<◌, Bool, true, false, Option, None, Some, List, Result, Ok, Err}
 use Rattle.lits.specs.declared.literal.Lit.{Lit}
 use Rattle.lits.specs.declared.step.Ref.{Ref}
 use Rattle.lits.specs.declared.step.Step.{Step}
 use Rattle.unit_prop.specs.declared.why.BadStep.{BadStep}
 use Rattle.unit_prop.specs.declared.why.StepErr.{StepErr}
 use Rattle.unit_prop.specs.declared.why.StepErr.TheVariants.{Bad, NoMemory}
-use Rattle.lemma_book.specs.Good.{IsStepAt}
+use Rattle.lits.specs.declared.step.Named.{Named}
+use Rattle.lemma_book.specs.declared.refused.Judgement.{Judgement}
+use Rattle.lemma_book.specs.declared.refused.Judgement.TheVariants as judged
+use Rattle.lemma_book.specs.declared.refused.Refused.{Refused}
+use Rattle.lemma_book.specs.declared.refused.Refused.TheVariants as refused
+use Rattle.std.specs.declared.alloc.AllocError.{AllocError}
+use Rattle.lemma_book.specs.Good.{IsStepAt, IsNewAt, IsUndecidedAt}
 use Rattle.lemma_book.specs.Fault.{FailsAt}
 
 -- the answer is whether P holds
@@ -28,3 +34,16 @@ IsFirstPlace P (Some n) = ((k : ℕ) → k < n → P k) × (¬ P n)
 abbrev pub IsFaultOf : ℕ → StepErr → Option BadStep → Type 0
 IsFaultOf place (Bad why) fault = fault ≡ Some (record { hint = place; why = why })
 IsFaultOf place NoMemory fault = ⊥
+
+-- the log's clause at place k is new, and before it unit propagation doesn't decide the output
+pub record IsNewUndecided (cone : List Named) (output : ℕ) (log : List Step) (k : ℕ) : Type 0 where
+  pub new : IsNewAt cone log k
+  pub undecided : IsUndecidedAt cone output log k
+
+-- what becomes of an entry that is judged so: it is refused, or settled at a place, or neither where it is good
+abbrev pub verdict_of : Result Judgement AllocError → Result (Option ℕ) Refused
+verdict_of (Ok judged.Good) = Ok None
+verdict_of (Ok (judged.Settled place)) = Ok (Some place)
+verdict_of (Ok judged.NotApart) = Err refused.NotApart
+verdict_of (Ok (judged.Bad fault)) = Err (refused.Bad fault)
+verdict_of (Err e) = Err refused.NoMemory

@@ -5,8 +5,8 @@ ghost use Rattle.netlist.specs.Miter.{positive};
 ghost use Rattle.unit_prop.specs.Closure.{IsOpen};
 ghost use Rattle.unit_prop.specs.New.{occurs, others_negated, Lacks, IsNew};
 ghost use Rattle.unit_prop.specs.Log.{base_clauses};
-ghost use Rattle.lemma_book.specs.Good.{IsNewAt, IsUndecidedAt};
-ghost use Rattle.lemma_book.specs.Judging.{Tells, IsFirstPlace};
+ghost use Rattle.lemma_book.specs.Good.{IsNewAt};
+ghost use Rattle.lemma_book.specs.Judging.{Tells, IsFirstPlace, IsNewUndecided};
 
 use crate::sources::differs;
 use lits::{Clause, Lit, Literal, Named, Step};
@@ -41,8 +41,7 @@ pub(crate) fn first_stale_of_output(
     output: u32,
     log: &[Step],
 ) -> Result<Option<u64>, AllocError>
-    ensures { IfOk result
-        (IsFirstPlace (λ k. IsNewAt cone.now log.now k × IsUndecidedAt cone.now output log.now k)) }
+    ensures { IfOk result (IsFirstPlace (IsNewUndecided cone.now output log.now)) }
 {
     let lit = differs(output);
     let mut clauses = clauses_of(alloc, cone)?;

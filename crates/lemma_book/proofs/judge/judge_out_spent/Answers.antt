@@ -6,8 +6,7 @@ use Rattle.lits.specs.declared.node.Node.TheVariants.{Xor}
 use Rattle.netlist.specs.Miter.{variable_of}
 use Rattle.unit_prop.specs.Log.{base_clause}
 use Rattle.lemma_book.specs.Cone.{IsCone}
-use Rattle.lemma_book.specs.Good.{IsNewAt, IsUndecidedAt}
-use Rattle.lemma_book.specs.Judging.{IsFirstBad, IsFirstPlace}
+use Rattle.lemma_book.specs.Judging.{IsFirstBad, IsFirstPlace, IsNewUndecided}
 use Rattle.lemma_book.proofs.Judged.{output-there, out_spent-bad, out_spent-stale, out_spent-good}
 use Rattle.lemma_book.proofs.judge.judge_out_spent.Goals as goal
 
@@ -31,7 +30,7 @@ returns-in-Some-2 c =
     (subst (λ (l : Lit). IsCone c.args.net.now (take c.args.seen c.args.book.now.entries) (l.node ∷ []) c.in_ok-cone.cone.items) c.differs.ensures c.in_ok-cone.ensures) in
     out_spent-stale c.args.net.now c.args.book.now c.args.output c.args.seen c.args.log.now c.requires.free c.as_slice-cone.result.now is_cone c.in-Some-2.k
     (subst (IsFirstBad (base_clause c.as_slice-cone.result.now) c.args.log.now) c.in_default.is c.in_ok-k.ensures)
-    (subst (IsFirstPlace (λ k. IsNewAt c.as_slice-cone.result.now c.args.log.now k × IsUndecidedAt c.as_slice-cone.result.now c.args.output c.args.log.now k)) c.in-Some-2.is c.in_ok-k-2.ensures)
+    (subst (IsFirstPlace (IsNewUndecided c.as_slice-cone.result.now c.args.output c.args.log.now)) c.in-Some-2.is c.in_ok-k-2.ensures)
 
 pub returns : goal.returns
 returns c =
@@ -39,4 +38,4 @@ returns c =
     (subst (λ (l : Lit). IsCone c.args.net.now (take c.args.seen c.args.book.now.entries) (l.node ∷ []) c.in_ok-cone.cone.items) c.differs.ensures c.in_ok-cone.ensures) in
     out_spent-good c.args.net.now c.args.book.now c.args.output c.args.seen c.args.log.now c.requires.free c.as_slice-cone.result.now is_cone
     (subst (IsFirstBad (base_clause c.as_slice-cone.result.now) c.args.log.now) c.in_default.is c.in_ok-k.ensures)
-    (subst (IsFirstPlace (λ k. IsNewAt c.as_slice-cone.result.now c.args.log.now k × IsUndecidedAt c.as_slice-cone.result.now c.args.output c.args.log.now k)) c.in-None.is c.in_ok-k-2.ensures)
+    (subst (IsFirstPlace (IsNewUndecided c.as_slice-cone.result.now c.args.output c.args.log.now)) c.in-None.is c.in_ok-k-2.ensures)

@@ -37,19 +37,19 @@ loop-k-preserved c =
     c.in_ok-is_new_and_open.ensures in (
       c.in_ok-add_copy.ensures
           ∙ ap (λ (l : List (List Lit)). l ++ s.clause ∷ []) c.loop-k.invariant.0 ∙ sym (next-clauses c.args.cone.now c.args.log.now c.loop-k.k s at),
-      λ j below. (
-        each-next (λ i t. IsNew same_lit opposite (clauses_of c.args.cone.now (take i c.args.log.now)) t.clause) c.args.log.now c.loop-k.k s at now.0
-            (λ i less. (c.loop-k.invariant.1 i less).0) j below,
-        each-next (λ i t. IsUndecided c.args.cone.now (equal_clause c.args.output) (take i c.args.log.now)) c.args.log.now c.loop-k.k s at now.1
-            (λ i less. (c.loop-k.invariant.1 i less).1) j below,
-      ),
+      λ j below. record {
+        new = each-next (λ i t. IsNew same_lit opposite (clauses_of c.args.cone.now (take i c.args.log.now)) t.clause) c.args.log.now c.loop-k.k s at now.0
+            (λ i less. (c.loop-k.invariant.1 i less).new) j below;
+        undecided = each-next (λ i t. IsUndecided c.args.cone.now (equal_clause c.args.output) (take i c.args.log.now)) c.args.log.now c.loop-k.k s at now.1
+            (λ i less. (c.loop-k.invariant.1 i less).undecided) j below;
+      },
     )
 
 pub returns : goal.returns
 returns c =
-    λ j. (
-      each-past (λ i t. IsNew same_lit opposite (clauses_of c.args.cone.now (take i c.args.log.now)) t.clause) c.args.log.now c.loop-k.k c.loop-k-test.false
-          (λ i less. (c.loop-k.invariant.1 i less).0) j,
-      each-past (λ i t. IsUndecided c.args.cone.now (equal_clause c.args.output) (take i c.args.log.now)) c.args.log.now c.loop-k.k c.loop-k-test.false
-          (λ i less. (c.loop-k.invariant.1 i less).1) j,
-    )
+    λ j. record {
+      new = each-past (λ i t. IsNew same_lit opposite (clauses_of c.args.cone.now (take i c.args.log.now)) t.clause) c.args.log.now c.loop-k.k c.loop-k-test.false
+          (λ i less. (c.loop-k.invariant.1 i less).new) j;
+      undecided = each-past (λ i t. IsUndecided c.args.cone.now (equal_clause c.args.output) (take i c.args.log.now)) c.args.log.now c.loop-k.k c.loop-k-test.false
+          (λ i less. (c.loop-k.invariant.1 i less).undecided) j;
+    }
