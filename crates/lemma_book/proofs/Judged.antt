@@ -9,7 +9,7 @@ use Rattle.lits.specs.declared.step.Ref.{Ref}
 use Rattle.lits.specs.declared.step.Step.{Step}
 use Rattle.lits.specs.declared.step.Named.{Named}
 use Rattle.netlist.specs.Net.{AigPair}
-use Rattle.netlist.specs.Miter.{variable_of}
+use Rattle.netlist.specs.Miter.{positive, variable_of}
 use Rattle.netlist.proofs.Facts.{has-xor, range-has}
 use Rattle.unit_prop.specs.declared.why.BadStep.{BadStep}
 use Rattle.unit_prop.specs.Log.{base_clause}
@@ -29,7 +29,7 @@ use Rattle.lemma_book.specs.Book.{IsLegal}
 use Rattle.lemma_book.specs.Cone.{IsCone}
 use Rattle.lemma_book.specs.Good.{NoNode, NoStep, node_clause, out_clause, IsStepAt, IsNewAt, IsUndecidedAt, OfCone, IsGood}
 use Rattle.lemma_book.specs.Fault.{IsFreeBefore, FailsAt, IsFault, IsSettled, IsJudgement, IsRefusal, Takes}
-use Rattle.lemma_book.specs.Judging.{IsFirstBad, IsFirstPlace, IsNewUndecided, verdict_of}
+use Rattle.lemma_book.specs.Judging.{IsFirstBad, IsFirstPlace, IsFresh, verdict_of}
 use Rattle.lemma_book.proofs.ConeLemmas.{cone-one}
 use Rattle.lemma_book.proofs.MergedNodes.{placed-there}
 use Rattle.lemma_book.proofs.ThereLemmas.{is_some-variable}
@@ -75,19 +75,19 @@ module _ (net : AigPair) (book : Entries) where
       of seen (node ∷ lit.node ∷ []) cone is_cone (λ c. FailsAt (base_clause c) log k bad) first.1,
     )
 
-    pub spent-stale : (k : ℕ) → IsFirstBad (base_clause cone) log None → IsFirstPlace (IsNewAt cone log) (Some k)
+    pub spent-stale : (k : ℕ) → IsFirstBad (base_clause cone) log None → IsFirstPlace (IsFresh cone None log) (Some k)
         → IsFault net book (Spent node lit seen log) (fault.NotNew k)
     spent-stale k steps first =
         first-new net book (Spent node lit seen log) free k
         (λ j. of seen (node ∷ lit.node ∷ []) cone is_cone (λ c. IsStepAt (base_clause c) log j) (steps j))
-        (λ j less. of seen (node ∷ lit.node ∷ []) cone is_cone (λ c. IsNewAt c log j) (first.0 j less))
-        (not-of seen (node ∷ lit.node ∷ []) cone is_cone (λ c. IsNewAt c log k) first.1)
+        (λ j less. of seen (node ∷ lit.node ∷ []) cone is_cone (λ c. IsNewAt c log j) (first.0 j less).new)
+        (not-of seen (node ∷ lit.node ∷ []) cone is_cone (λ c. IsNewAt c log k) (λ new. first.1 (record { new = new; undecided = λ s at. tt })))
 
-    pub spent-good : IsFirstBad (base_clause cone) log None → IsFirstPlace (IsNewAt cone log) None → IsGood net book (Spent node lit seen log)
+    pub spent-good : IsFirstBad (base_clause cone) log None → IsFirstPlace (IsFresh cone None log) None → IsGood net book (Spent node lit seen log)
     spent-good steps news =
         good-all net book (Spent node lit seen log) free
         (λ j. of seen (node ∷ lit.node ∷ []) cone is_cone (λ c. IsStepAt (base_clause c) log j) (steps j))
-        (λ j. of seen (node ∷ lit.node ∷ []) cone is_cone (λ c. IsNewAt c log j) (news j))
+        (λ j. of seen (node ∷ lit.node ∷ []) cone is_cone (λ c. IsNewAt c log j) (news j).new)
 
   module _ (j seen : ℕ) (log : List Step) (free : IsFreeBefore net book (OutSpent j seen log) (NoStep 0))
       (cone : List Named) (is_cone : IsCone net (take seen book.entries) (Xor j ∷ []) cone) where
@@ -99,7 +99,7 @@ module _ (net : AigPair) (book : Entries) where
       of seen (Xor j ∷ []) cone is_cone (λ c. FailsAt (base_clause c) log k bad) first.1,
     )
 
-    pub out_spent-stale : (k : ℕ) → IsFirstBad (base_clause cone) log None → IsFirstPlace (IsNewUndecided cone j log) (Some k)
+    pub out_spent-stale : (k : ℕ) → IsFirstBad (base_clause cone) log None → IsFirstPlace (IsFresh cone (Some (positive (Xor j))) log) (Some k)
         → IsFault net book (OutSpent j seen log) (fault.NotNew k)
     out_spent-stale k steps first =
         first-new net book (OutSpent j seen log) free k
@@ -107,7 +107,7 @@ module _ (net : AigPair) (book : Entries) where
         (λ i less. of seen (Xor j ∷ []) cone is_cone (λ c. IsNewAt c log i × IsUndecidedAt c j log i) ((first.0 i less).new, (first.0 i less).undecided))
         (not-of seen (Xor j ∷ []) cone is_cone (λ c. IsNewAt c log k × IsUndecidedAt c j log k) (λ both. first.1 (record { new = both.0; undecided = both.1 })))
 
-    pub out_spent-good : IsFirstBad (base_clause cone) log None → IsFirstPlace (IsNewUndecided cone j log) None
+    pub out_spent-good : IsFirstBad (base_clause cone) log None → IsFirstPlace (IsFresh cone (Some (positive (Xor j))) log) None
         → IsGood net book (OutSpent j seen log)
     out_spent-good steps news =
         good-all net book (OutSpent j seen log) free

@@ -1,6 +1,5 @@
 ghost use Rattle.std.specs.Prelude.{◌≡◌, Ok, Err, OnOk, IfErr};
 ghost use Rattle.std.specs.Option.{option_copied};
-ghost use Rattle.lits.specs.declared.node.Node.TheVariants.{Xor};
 ghost use Rattle.lits.specs.Same.{same_lit, opposite};
 ghost use Rattle.unit_prop.specs.Step.{after_found, IfBad};
 ghost use Rattle.unit_prop.specs.Log.{base_clause};
@@ -79,13 +78,6 @@ pub(crate) fn positive(node: Node) -> Lit
     ensures { result ≡ positive node }
 {
     Lit { node, neg: false }
-}
-
-/// The literal that is true where the output's values differ.
-pub(crate) fn differs(output: u32) -> Lit
-    ensures { result ≡ positive (Xor output) }
-{
-    positive(Node::Xor(output))
 }
 
 /// The negation of the node's literal.
