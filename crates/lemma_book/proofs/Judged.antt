@@ -1,5 +1,5 @@
 -- What the first bad step and the first clause that isn't new make of an entry.
-use Rattle.std.proofs.Common.{◌≡◌, ℕ, List, [], ◌∷◌, take, length, Option, None, Some, Result, Ok, Err, IfOk, OnErr, inl, sym, ◌∙◌, subst, arith}
+use Rattle.std.proofs.Common.{◌≡◌, ℕ, List, [], ◌∷◌, take, length, Option, None, Some, Result, Ok, Err, IfOk, IfErr, OnErr, inl, refl, sym, ◌∙◌, subst, arith}
 use Rattle.std.specs.Option.{IsSome}
 use Rattle.std.proofs.lemmas.Option.{none-some}
 use Rattle.lits.specs.declared.node.Node.{Node}
@@ -9,7 +9,7 @@ use Rattle.lits.specs.declared.step.Ref.{Ref}
 use Rattle.lits.specs.declared.step.Step.{Step}
 use Rattle.lits.specs.declared.step.Named.{Named}
 use Rattle.netlist.specs.Net.{AigPair}
-use Rattle.netlist.specs.Miter.{variable_of}
+use Rattle.netlist.specs.Miter.{positive, variable_of}
 use Rattle.netlist.proofs.Facts.{has-xor, range-has}
 use Rattle.unit_prop.specs.declared.why.BadStep.{BadStep}
 use Rattle.unit_prop.specs.Log.{base_clause}
@@ -17,14 +17,19 @@ use Rattle.lemma_book.specs.declared.entry.Entry.{Entry}
 use Rattle.lemma_book.specs.declared.entry.Entry.TheVariants.{Merge, Spent, Out, OutSpent}
 use Rattle.lemma_book.specs.declared.refused.Fault.TheVariants as fault
 use Rattle.lemma_book.specs.declared.refused.Refused.{Refused}
+use Rattle.lemma_book.specs.declared.refused.Refused.TheVariants.{NoMemory}
+use Rattle.lemma_book.specs.declared.refused.Refused.TheVariants as refused
+use Rattle.lemma_book.specs.declared.refused.Judgement.{Judgement}
+use Rattle.lemma_book.specs.declared.refused.Judgement.TheVariants as judged
+use Rattle.std.specs.declared.alloc.AllocError.{AllocError}
 use Rattle.lemma_book.specs.declared.refused.Offered.{Offered}
 use Rattle.lemma_book.specs.declared.refused.Offered.TheVariants.{At}
 use Rattle.lemma_book.specs.Entry.{Entries, with_last}
 use Rattle.lemma_book.specs.Book.{IsLegal}
 use Rattle.lemma_book.specs.Cone.{IsCone}
 use Rattle.lemma_book.specs.Good.{NoNode, NoStep, node_clause, out_clause, IsStepAt, IsNewAt, IsUndecidedAt, OfCone, IsGood}
-use Rattle.lemma_book.specs.Fault.{IsFreeBefore, FailsAt, IsFault}
-use Rattle.lemma_book.specs.Judging.{IsFirstBad, IsFirstPlace}
+use Rattle.lemma_book.specs.Fault.{IsFreeBefore, FailsAt, IsFault, IsSettled, IsJudgement, IsRefusal, Takes}
+use Rattle.lemma_book.specs.Judging.{IsFirstBad, IsFirstPlace, IsFresh, verdict_of}
 use Rattle.lemma_book.proofs.ConeLemmas.{cone-one}
 use Rattle.lemma_book.proofs.MergedNodes.{placed-there}
 use Rattle.lemma_book.proofs.ThereLemmas.{is_some-variable}
@@ -70,19 +75,19 @@ module _ (net : AigPair) (book : Entries) where
       of seen (node ∷ lit.node ∷ []) cone is_cone (λ c. FailsAt (base_clause c) log k bad) first.1,
     )
 
-    pub spent-stale : (k : ℕ) → IsFirstBad (base_clause cone) log None → IsFirstPlace (IsNewAt cone log) (Some k)
+    pub spent-stale : (k : ℕ) → IsFirstBad (base_clause cone) log None → IsFirstPlace (IsFresh cone None log) (Some k)
         → IsFault net book (Spent node lit seen log) (fault.NotNew k)
     spent-stale k steps first =
         first-new net book (Spent node lit seen log) free k
         (λ j. of seen (node ∷ lit.node ∷ []) cone is_cone (λ c. IsStepAt (base_clause c) log j) (steps j))
-        (λ j less. of seen (node ∷ lit.node ∷ []) cone is_cone (λ c. IsNewAt c log j) (first.0 j less))
-        (not-of seen (node ∷ lit.node ∷ []) cone is_cone (λ c. IsNewAt c log k) first.1)
+        (λ j less. of seen (node ∷ lit.node ∷ []) cone is_cone (λ c. IsNewAt c log j) (first.0 j less).new)
+        (not-of seen (node ∷ lit.node ∷ []) cone is_cone (λ c. IsNewAt c log k) (λ new. first.1 (record { new = new; undecided = λ s at. tt })))
 
-    pub spent-good : IsFirstBad (base_clause cone) log None → IsFirstPlace (IsNewAt cone log) None → IsGood net book (Spent node lit seen log)
+    pub spent-good : IsFirstBad (base_clause cone) log None → IsFirstPlace (IsFresh cone None log) None → IsGood net book (Spent node lit seen log)
     spent-good steps news =
         good-all net book (Spent node lit seen log) free
         (λ j. of seen (node ∷ lit.node ∷ []) cone is_cone (λ c. IsStepAt (base_clause c) log j) (steps j))
-        (λ j. of seen (node ∷ lit.node ∷ []) cone is_cone (λ c. IsNewAt c log j) (news j))
+        (λ j. of seen (node ∷ lit.node ∷ []) cone is_cone (λ c. IsNewAt c log j) (news j).new)
 
   module _ (j seen : ℕ) (log : List Step) (free : IsFreeBefore net book (OutSpent j seen log) (NoStep 0))
       (cone : List Named) (is_cone : IsCone net (take seen book.entries) (Xor j ∷ []) cone) where
@@ -94,20 +99,20 @@ module _ (net : AigPair) (book : Entries) where
       of seen (Xor j ∷ []) cone is_cone (λ c. FailsAt (base_clause c) log k bad) first.1,
     )
 
-    pub out_spent-stale : (k : ℕ) → IsFirstBad (base_clause cone) log None → IsFirstPlace (λ i. IsNewAt cone log i × IsUndecidedAt cone j log i) (Some k)
+    pub out_spent-stale : (k : ℕ) → IsFirstBad (base_clause cone) log None → IsFirstPlace (IsFresh cone (Some (positive (Xor j))) log) (Some k)
         → IsFault net book (OutSpent j seen log) (fault.NotNew k)
     out_spent-stale k steps first =
         first-new net book (OutSpent j seen log) free k
         (λ i. of seen (Xor j ∷ []) cone is_cone (λ c. IsStepAt (base_clause c) log i) (steps i))
-        (λ i less. of seen (Xor j ∷ []) cone is_cone (λ c. IsNewAt c log i × IsUndecidedAt c j log i) (first.0 i less))
-        (not-of seen (Xor j ∷ []) cone is_cone (λ c. IsNewAt c log k × IsUndecidedAt c j log k) first.1)
+        (λ i less. of seen (Xor j ∷ []) cone is_cone (λ c. IsNewAt c log i × IsUndecidedAt c j log i) ((first.0 i less).new, (first.0 i less).undecided))
+        (not-of seen (Xor j ∷ []) cone is_cone (λ c. IsNewAt c log k × IsUndecidedAt c j log k) (λ both. first.1 (record { new = both.0; undecided = both.1 })))
 
-    pub out_spent-good : IsFirstBad (base_clause cone) log None → IsFirstPlace (λ i. IsNewAt cone log i × IsUndecidedAt cone j log i) None
+    pub out_spent-good : IsFirstBad (base_clause cone) log None → IsFirstPlace (IsFresh cone (Some (positive (Xor j))) log) None
         → IsGood net book (OutSpent j seen log)
     out_spent-good steps news =
         good-all net book (OutSpent j seen log) free
         (λ i. of seen (Xor j ∷ []) cone is_cone (λ c. IsStepAt (base_clause c) log i) (steps i))
-        (λ i. of seen (Xor j ∷ []) cone is_cone (λ c. IsNewAt c log i × IsUndecidedAt c j log i) (news i))
+        (λ i. of seen (Xor j ∷ []) cone is_cone (λ c. IsNewAt c log i × IsUndecidedAt c j log i) ((news i).new, (news i).undecided))
 
 -- the nodes of what is judged have CNF variables
 pub pair-there : (net : AigPair) (book : Entries) (node : Node) (lit : Lit) (seen : ℕ) (log : List Step)
@@ -128,3 +133,39 @@ pub legal-taken : (net : AigPair) (old new : Entries) (e : Entry) (r : Result Of
     → IfOk r (λ o. (o ≡ At (length old.entries)) × (new ≡ with_last old e)) → OnErr r (new ≡ old) → IsLegal net new
 legal-taken net old new e (Ok o) legal good taken same = subst (IsLegal net) (sym taken.1) (legal-last net old e legal good)
 legal-taken net old new e (Err x) legal good taken same = subst (IsLegal net) (sym same) legal
+
+-- a good entry that is the last one is taken
+pub last-taken : (net : AigPair) (old new : Entries) (e : Entry) (r : Result Offered (Entry × Refused)) → IsGood net old e
+    → IfOk r (λ o. (o ≡ At (length old.entries)) × (new ≡ with_last old e)) → IfOk r (Takes net old e new)
+last-taken net old new e (Ok o) good taken = subst (Takes net old e new) (sym taken.0) (good, refl, taken.1)
+last-taken net old new e (Err x) good taken = tt
+
+-- an entry that comes back for want of memory
+pub given-back : (net : AigPair) (old : Entries) (e : Entry) (r : Result Offered (Entry × Refused)) → IfErr r (λ x. (x.0 ≡ e) × (x.1 ≡ NoMemory))
+    → IfErr r (λ x. (x.0 ≡ e) × IsRefusal net old e x.1)
+given-back net old e (Ok o) back = tt
+given-back net old e (Err x) back = (back.0, subst (IsRefusal net old e) (sym back.1) tt)
+
+-- what an entry's judgement comes to
+module _ (net : AigPair) (book : Entries) (e : Entry) where
+  pub verdict-good : (r : Result Judgement AllocError) → IfOk r (IsJudgement net book e) → verdict_of r ≡ Ok None → IsGood net book e
+  verdict-good (Ok judged.Good) is told = is
+  verdict-good (Ok (judged.Settled i)) is told = cc
+  verdict-good (Ok judged.NotApart) is told = cc
+  verdict-good (Ok (judged.Bad f)) is told = cc
+  verdict-good (Err x) is told = cc
+
+  pub verdict-settled : (r : Result Judgement AllocError) (place : ℕ) → IfOk r (IsJudgement net book e) → verdict_of r ≡ Ok (Some place)
+      → IsSettled net book e place
+  verdict-settled (Ok judged.Good) place is told = cc
+  verdict-settled (Ok (judged.Settled i)) place is told = let same : i ≡ place = cc in subst (IsSettled net book e) same is
+  verdict-settled (Ok judged.NotApart) place is told = cc
+  verdict-settled (Ok (judged.Bad f)) place is told = cc
+  verdict-settled (Err x) place is told = cc
+
+  pub verdict-refused : (r : Result Judgement AllocError) (x : Refused) → IfOk r (IsJudgement net book e) → verdict_of r ≡ Err x → IsRefusal net book e x
+  verdict-refused (Ok judged.Good) x is told = cc
+  verdict-refused (Ok (judged.Settled i)) x is told = cc
+  verdict-refused (Ok judged.NotApart) x is told = let same : refused.NotApart ≡ x = cc in subst (IsRefusal net book e) same is
+  verdict-refused (Ok (judged.Bad f)) x is told = let same : refused.Bad f ≡ x = cc in subst (IsRefusal net book e) same is
+  verdict-refused (Err y) x is told = let same : NoMemory ≡ x = cc in subst (IsRefusal net book e) same tt

@@ -1,6 +1,6 @@
 -- When clauses are new, as it is found out: by closures, clause by clause.
 use Rattle.std.proofs.Common.{◌≡◌, ℕ, ◌+◌, ◌<◌, ◌≤◌, Bool, true, false, not, ◌||◌, List, [], ◌∷◌, ◌++◌, map, length, take, zero, suc, Some, refl, inl, inr, sym, ap, ◌∙◌, subst, append_assoc, arith}
-use Rattle.std.specs.Prelude.{slice_get, ◌&&◌}
+use Rattle.std.specs.Prelude.{slice_get, ◌&&◌, Option, IfSome}
 use Rattle.std.proofs.lemmas.Bool.{cases_lt, or_right}
 use Rattle.std.proofs.lemmas.Option.{none-some, same_Some, slice_get_within}
 use Rattle.std.specs.List.{list_all, AllByRecursion}
@@ -14,13 +14,8 @@ use Rattle.unit_prop.specs.New.{occurs, others_negated, Lacks, IsNew}
 use Rattle.lits.specs.declared.step.Named.{Named}
 use Rattle.lits.specs.declared.step.Step.{Step}
 use Rattle.unit_prop.specs.Log.{base_clauses, clauses_of}
-use Rattle.lits.specs.declared.node.Node.TheVariants.{Xor}
 use Rattle.lits.proofs.Facts.{exact-lit}
-use Rattle.netlist.specs.Miter.{positive}
-use Rattle.unit_prop.specs.Refuter.{IsUndecided}
-use Rattle.lemma_book.specs.Entry.{equal_clause}
-use Rattle.lemma_book.specs.Good.{IsNewAt, IsUndecidedAt}
-use Rattle.lemma_book.specs.Judging.{Tells}
+use Rattle.lemma_book.specs.Judging.{Tells, IsFresh}
 use Rattle.lemma_book.proofs.Telling.{tells-yes, tells-no}
 
 module _ (clauses : List (List Lit)) where
@@ -112,30 +107,21 @@ module _ (cone : List Named) (log : List Step) (k : ℕ) (s : Step) (at : slice_
   back : IsNew same_lit opposite (clauses_of cone (take k log)) s.clause → IsNew same_lit opposite cs read
   back new = subst (IsNew same_lit opposite cs) (sym read_is) (subst (λ (l : List (List Lit)). IsNew same_lit opposite l s.clause) (sym is) new)
 
-  pub stale-now : b ≡ false → Tells (IsNew same_lit opposite cs read) b → ¬ IsNewAt cone log k
-  stale-now e t all = tells-no (IsNew same_lit opposite cs read) b e t (back (all s at))
+  module _ (x : Option Lit) where
+    abbrev At : List (List Lit) → Type 0
+    At l = IfSome x (λ m. IsOpen same_lit opposite l (m ∷ []))
 
-  pub new-now : b ≡ true → Tells (IsNew same_lit opposite cs read) b → IsNew same_lit opposite (clauses_of cone (take k log)) s.clause
-  new-now e t =
-      subst (λ (l : List (List Lit)). IsNew same_lit opposite l s.clause) is
-      (subst (IsNew same_lit opposite cs) read_is (tells-yes (IsNew same_lit opposite cs read) b e t))
-
-  module _ (j : ℕ) (x : Lit) (x_is : x ≡ positive (Xor j)) where
     abbrev IsFine : Type 0
-    IsFine = IsNew same_lit opposite cs read × IsOpen same_lit opposite cs (x ∷ [])
+    IsFine = IsNew same_lit opposite cs read × At cs
 
-    abbrev At : List (List Lit) → Lit → Type 0
-    At l y = IsOpen same_lit opposite l (y ∷ [])
+    pub stale-now : b ≡ false → Tells IsFine b → ¬ IsFresh cone x log k
+    stale-now e t all = tells-no IsFine b e t (back (all.new s at), subst At (sym is) (all.undecided s at))
 
-    pub stale-now_out : b ≡ false → Tells IsFine b → ¬ (IsNewAt cone log k × IsUndecidedAt cone j log k)
-    stale-now_out e t all =
-        tells-no IsFine b e t (back (all.0 s at), subst (At cs) (sym x_is) (subst (λ (l : List (List Lit)). At l (positive (Xor j))) (sym is) (all.1 s at)))
-
-    pub new-now_out : b ≡ true → Tells IsFine b → IsNew same_lit opposite (clauses_of cone (take k log)) s.clause × IsUndecided cone (equal_clause j) (take k log)
-    new-now_out e t =
+    pub new-now : b ≡ true → Tells IsFine b → IsNew same_lit opposite (clauses_of cone (take k log)) s.clause × At (clauses_of cone (take k log))
+    new-now e t =
         let both = tells-yes IsFine b e t in (
           subst (λ (l : List (List Lit)). IsNew same_lit opposite l s.clause) is (subst (IsNew same_lit opposite cs) read_is both.0),
-          subst (λ (l : List (List Lit)). At l (positive (Xor j))) is (subst (At cs) x_is both.1),
+          subst At is both.1,
         )
 
 module _ (P : ℕ → Step → Type 0) (log : List Step) where

@@ -1,10 +1,21 @@
 -- What the parts of a judgement answer.
-use Rattle.std.specs.Prelude.{ℕ, ◌<◌, Bool, true, false, Option, None, Some, List}
+use Rattle.std.specs.Prelude.{◌≡◌, ℕ, ◌<◌, Bool, true, false, Option, None, Some, IfSome, List, [], ◌∷◌, take, slice_get, Result, Ok, Err}
 use Rattle.lits.specs.declared.literal.Lit.{Lit}
 use Rattle.lits.specs.declared.step.Ref.{Ref}
 use Rattle.lits.specs.declared.step.Step.{Step}
 use Rattle.unit_prop.specs.declared.why.BadStep.{BadStep}
-use Rattle.lemma_book.specs.Good.{IsStepAt}
+use Rattle.unit_prop.specs.declared.why.StepErr.{StepErr}
+use Rattle.unit_prop.specs.declared.why.StepErr.TheVariants.{Bad, NoMemory}
+use Rattle.lits.specs.declared.step.Named.{Named}
+use Rattle.lemma_book.specs.declared.refused.Judgement.{Judgement}
+use Rattle.lemma_book.specs.declared.refused.Judgement.TheVariants as judged
+use Rattle.lemma_book.specs.declared.refused.Refused.{Refused}
+use Rattle.lemma_book.specs.declared.refused.Refused.TheVariants as refused
+use Rattle.std.specs.declared.alloc.AllocError.{AllocError}
+use Rattle.lits.specs.Same.{same_lit, opposite}
+use Rattle.unit_prop.specs.Closure.{IsOpen}
+use Rattle.unit_prop.specs.Log.{clauses_of}
+use Rattle.lemma_book.specs.Good.{IsStepAt, IsNewAt}
 use Rattle.lemma_book.specs.Fault.{FailsAt}
 
 -- the answer is whether P holds
@@ -21,3 +32,21 @@ IsFirstBad find steps (Some f) = ((k : ℕ) → k < f.0 → IsStepAt find steps 
 abbrev pub IsFirstPlace : (ℕ → Type 0) → Option ℕ → Type 0
 IsFirstPlace P None = (k : ℕ) → P k
 IsFirstPlace P (Some n) = ((k : ℕ) → k < n → P k) × (¬ P n)
+
+-- the fault is the error's, of the hint at that place; want of memory is none
+abbrev pub IsFaultOf : ℕ → StepErr → Option BadStep → Type 0
+IsFaultOf place (Bad why) fault = fault ≡ Some (record { hint = place; why = why })
+IsFaultOf place NoMemory fault = ⊥
+
+-- the log's clause at place k is new, and before it unit propagation doesn't decide the literal, if there is one
+pub record IsFresh (cone : List Named) (lit : Option Lit) (log : List Step) (k : ℕ) : Type 0 where
+  pub new : IsNewAt cone log k
+  pub undecided : (s : Step) → slice_get log k ≡ Some s → IfSome lit (λ l. IsOpen same_lit opposite (clauses_of cone (take k log)) (l ∷ []))
+
+-- what becomes of an entry that is judged so: it is refused, or settled at a place, or neither where it is good
+abbrev pub verdict_of : Result Judgement AllocError → Result (Option ℕ) Refused
+verdict_of (Ok judged.Good) = Ok None
+verdict_of (Ok (judged.Settled place)) = Ok (Some place)
+verdict_of (Ok judged.NotApart) = Err refused.NotApart
+verdict_of (Ok (judged.Bad fault)) = Err (refused.Bad fault)
+verdict_of (Err e) = Err refused.NoMemory

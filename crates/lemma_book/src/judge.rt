@@ -8,7 +8,7 @@ ghost use Rattle.lemma_book.specs.Book.{IsLegal};
 use crate::apart::has_apart;
 use crate::book::Book;
 use crate::entry::Entry;
-use crate::newness::{first_stale, first_stale_of_output};
+use crate::newness::first_stale;
 use crate::presence::{has_earlier, is_there};
 use crate::refused::{Fault, Judgement};
 use crate::shape::{has_count, has_seen, has_shape};
@@ -120,7 +120,7 @@ fn judge_spent(
     if let Some((k, bad)) = first_bad(alloc, &ConeClauses { cone }, log)? {
         return Ok(Judgement::Bad(Fault::Step(k, bad)));
     }
-    match first_stale(alloc, cone, log)? {
+    match first_stale(alloc, cone, None, log)? {
         Some(k) => Ok(Judgement::Bad(Fault::NotNew(k))),
         None => Ok(Judgement::Good),
     }
@@ -139,12 +139,13 @@ fn judge_out_spent(
     requires free { IsFreeBefore net.now book.now (Entry.OutSpent output seen log.now) (NoStep 0) }
     ensures { IfOk result (IsJudgement net.now book.now (Entry.OutSpent output seen log.now)) }
 {
-    let cone = book.cone(alloc, net, seen, &[positive(Node::Xor(output))])?;
+    let differs = positive(Node::Xor(output));
+    let cone = book.cone(alloc, net, seen, &[differs])?;
     let cone = cone.as_slice();
     if let Some((k, bad)) = first_bad(alloc, &ConeClauses { cone }, log)? {
         return Ok(Judgement::Bad(Fault::Step(k, bad)));
     }
-    match first_stale_of_output(alloc, cone, output, log)? {
+    match first_stale(alloc, cone, Some(differs), log)? {
         Some(k) => Ok(Judgement::Bad(Fault::NotNew(k))),
         None => Ok(Judgement::Good),
     }

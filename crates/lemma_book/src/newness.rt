@@ -1,56 +1,35 @@
-ghost use Rattle.std.specs.Prelude.{◌≡◌, [], ◌∷◌, ◌||◌, IfOk};
+ghost use Rattle.std.specs.Prelude.{◌≡◌, [], ◌∷◌, ◌++◌, ◌||◌, IfOk, IfSome, OnOk};
 ghost use Rattle.std.specs.List.{list_all};
 ghost use Rattle.lits.specs.Same.{same_lit, opposite};
 ghost use Rattle.netlist.specs.Miter.{positive};
 ghost use Rattle.unit_prop.specs.Closure.{IsOpen};
 ghost use Rattle.unit_prop.specs.New.{occurs, others_negated, Lacks, IsNew};
 ghost use Rattle.unit_prop.specs.Log.{base_clauses};
-ghost use Rattle.lemma_book.specs.Good.{IsNewAt, IsUndecidedAt};
-ghost use Rattle.lemma_book.specs.Judging.{Tells, IsFirstPlace};
+ghost use Rattle.lemma_book.specs.Judging.{Tells, IsFirstPlace, IsFresh};
 
-use crate::sources::positive;
-use lits::{Clause, Lit, Literal, Named, Node, Step};
+use lits::{Clause, Lit, Literal, Named, Step};
 use std::alloc::{AllocError, Global};
 use unit_prop::{Closure, close_under};
 
-/// The first of the log's clauses that isn't new over the cone and the clauses before it.
+/// The first of the log's clauses that isn't new over the cone and the clauses before it, or before which unit
+/// propagation decides the literal, if there is one.
 ///
 /// A log without this could be padded with clauses that unit propagation has already, and its length would
 /// say nothing of the work that was done.
 pub(crate) fn first_stale(
     alloc: Global,
     cone: &[Named],
+    lit: Option<Lit>,
     log: &[Step],
 ) -> Result<Option<u64>, AllocError>
-    ensures { IfOk result (IsFirstPlace (IsNewAt cone.now log.now)) }
+    ensures { IfOk result (IsFirstPlace (IsFresh cone.now lit log.now)) }
 {
     let mut clauses = clauses_of(alloc, cone)?;
     for (k, step) in log.iter().enumerate() {
-        if !is_new(alloc, clauses.as_slice(), step.clause.lits())? {
+        if !is_fresh(alloc, clauses.as_slice(), step.clause.lits(), lit)? {
             return Ok(Some(k as u64));
         }
-        clauses.push(step.clause.copy()?)?;
-    }
-    Ok(None)
-}
-
-/// The same of an output's log; before each of its clauses unit propagation mustn't decide the output either.
-pub(crate) fn first_stale_of_output(
-    alloc: Global,
-    cone: &[Named],
-    output: u32,
-    log: &[Step],
-) -> Result<Option<u64>, AllocError>
-    ensures { IfOk result
-        (IsFirstPlace (λ k. IsNewAt cone.now log.now k × IsUndecidedAt cone.now output log.now k)) }
-{
-    let mut clauses = clauses_of(alloc, cone)?;
-    let differs = positive(Node::Xor(output));
-    for (k, step) in log.iter().enumerate() {
-        if !is_new_and_open(alloc, clauses.as_slice(), step.clause.lits(), differs)? {
-            return Ok(Some(k as u64));
-        }
-        clauses.push(step.clause.copy()?)?;
+        add_copy(&mut clauses, &step.clause)?;
     }
     Ok(None)
 }
@@ -61,26 +40,37 @@ fn clauses_of(alloc: Global, cone: &[Named]) -> Result<Vec<Clause<Lit>>, AllocEr
 {
     let mut clauses = Vec::with_capacity(alloc, cone.len())?;
     for named in cone {
-        clauses.push(named.clause.copy()?)?;
+        add_copy(&mut clauses, &named.clause)?;
     }
     Ok(clauses)
 }
 
-/// Whether the clause is new over the others, and these don't decide the literal.
-fn is_new_and_open(
+/// Puts a copy of the clause last.
+fn add_copy(clauses: &mut Vec<Clause<Lit>>, clause: &Clause<Lit>) -> Result<(), AllocError>
+    ensures { OnOk result (clauses.new.items ≡ clauses.old.items ++ clause.now ∷ []) }
+{
+    clauses.push(clause.copy()?)?;
+    Ok(())
+}
+
+/// Whether the clause is new over the others, and these don't decide the literal, if there is one.
+fn is_fresh(
     alloc: Global,
     clauses: &[Clause<Lit>],
     clause: &[Lit],
-    lit: Lit,
+    lit: Option<Lit>,
 ) -> Result<bool, AllocError>
     ensures { IfOk result
         (Tells (IsNew same_lit opposite clauses.now clause.now
-        × IsOpen same_lit opposite clauses.now (lit ∷ []))) }
+        × IfSome lit (λ l. IsOpen same_lit opposite clauses.now (l ∷ [])))) }
 {
     if !is_new(alloc, clauses, clause)? {
         return Ok(false);
     }
-    is_open(alloc, clauses, lit)
+    match lit {
+        Some(lit) => is_open(alloc, clauses, lit),
+        None => Ok(true),
+    }
 }
 
 /// Whether unit propagation from the literal over the clauses doesn't clash.

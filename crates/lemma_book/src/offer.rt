@@ -2,6 +2,7 @@ ghost use Rattle.std.specs.Prelude.{◌≡◌, ◌≤◌, None, length, IfOk, If
 ghost use Rattle.lemma_book.specs.Entry.{first_entries, settled_at, with_last};
 ghost use Rattle.lemma_book.specs.Good.{IsGood};
 ghost use Rattle.lemma_book.specs.Fault.{IsJudgement, IsRefusal, Takes};
+ghost use Rattle.lemma_book.specs.Judging.{verdict_of};
 ghost use Rattle.lemma_book.specs.Book.{IsLegal, answer_to, book_after, IsFrom};
 
 use crate::book::Book;
@@ -45,12 +46,10 @@ impl Book {
         ensures unchanged { OnErr result (self.new ≡ self.old) }
         ensures stays_legal { IsLegal net.now self.new }
     {
-        match self.judge(alloc, net, &entry) {
-            Ok(Judgement::Good) => self.take(alloc, entry),
-            Ok(Judgement::Settled(place)) => Ok(Offered::Already(place)),
-            Ok(Judgement::NotApart) => Err((entry, Refused::NotApart)),
-            Ok(Judgement::Bad(fault)) => Err((entry, Refused::Bad(fault))),
-            Err(AllocError) => Err((entry, Refused::NoMemory)),
+        match verdict(self.judge(alloc, net, &entry)) {
+            Ok(None) => self.take(alloc, entry),
+            Ok(Some(place)) => Ok(Offered::Already(place)),
+            Err(refused) => Err((entry, refused)),
         }
     }
 
@@ -104,5 +103,18 @@ impl Book {
             Some(subject) => self.place_on(subject),
             None => None,
         }
+    }
+}
+
+/// What becomes of an entry that is judged so: it is refused, or settled at a place, or neither where it is good.
+fn verdict(judgement: Result<Judgement, AllocError>) -> Result<Option<u64>, Refused>
+    ensures { result ≡ verdict_of judgement }
+{
+    match judgement {
+        Ok(Judgement::Good) => Ok(None),
+        Ok(Judgement::Settled(place)) => Ok(Some(place)),
+        Ok(Judgement::NotApart) => Err(Refused::NotApart),
+        Ok(Judgement::Bad(fault)) => Err(Refused::Bad(fault)),
+        Err(AllocError) => Err(Refused::NoMemory),
     }
 }

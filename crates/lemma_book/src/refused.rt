@@ -9,7 +9,7 @@ pub enum Offered {
 }
 
 /// What is wrong with an entry.
-#[derive(Clone, Copy, Debug, PartialEq, Eq)]
+#[derive(Clone, Copy, Debug)]
 pub enum Fault {
     /// The net hasn't a node, an output, or the node of a literal of some step.
     NoNode,
@@ -28,7 +28,7 @@ pub enum Fault {
 }
 
 /// Why an entry is refused.
-#[derive(Clone, Copy, Debug, PartialEq, Eq)]
+#[derive(Clone, Copy, Debug)]
 pub enum Refused {
     Bad(Fault),
     /// The input has another length, or the values are equal on it.

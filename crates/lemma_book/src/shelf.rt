@@ -28,7 +28,10 @@ impl Entry {
                 node: *node,
                 lit: *lit,
             })),
-            _ => self.subject().map(Key::On),
+            _ => match self.subject() {
+                Some(subject) => Some(Key::On(subject)),
+                None => None,
+            },
         }
     }
 }

@@ -4,7 +4,7 @@ ghost use Rattle.lits.specs.declared.step.Ref.{Ref};
 ghost use Rattle.lits.specs.Same.{same_lit, opposite};
 ghost use Rattle.unit_prop.specs.Step.{first_fault, after_found, IfBad};
 ghost use Rattle.unit_prop.specs.Log.{with_own};
-ghost use Rattle.lemma_book.specs.Judging.{IsFirstBad};
+ghost use Rattle.lemma_book.specs.Judging.{IsFirstBad, IsFaultOf};
 
 use lits::{Lit, Ref, Step};
 use std::alloc::{AllocError, Global};
@@ -51,11 +51,11 @@ fn fault_of<S: Sources>(
         step.now.clause step.now.hints) }
 {
     if let Err(error) = check.begin(step.clause.lits()) {
-        return bad_step(0, error).map(Some);
+        return told(0, error);
     }
     for (i, name) in step.hints.as_slice().iter().enumerate() {
         if let Err(error) = take_hint(check, sources, before, *name) {
-            return bad_step(i as u64 + 1, error).map(Some);
+            return told(i as u64 + 1, error);
         }
     }
     match check.end() {
@@ -86,11 +86,11 @@ fn take_hint<S: Sources>(
 }
 
 /// The fault with its place, unless memory ran out.
-fn bad_step(hint: u64, error: StepErr) -> Result<BadStep, AllocError>
-    ensures { IfOk result (λ bad. error ≡ StepErr.Bad bad.why × bad.hint ≡ hint) }
+fn told(hint: u64, error: StepErr) -> Result<Option<BadStep>, AllocError>
+    ensures { IfOk result (IsFaultOf hint error) }
 {
     match error {
-        StepErr::Bad(why) => Ok(BadStep { hint, why }),
+        StepErr::Bad(why) => Ok(Some(BadStep { hint, why })),
         StepErr::NoMemory => Err(AllocError),
     }
 }

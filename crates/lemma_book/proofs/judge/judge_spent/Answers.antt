@@ -1,12 +1,11 @@
 -- The cone of the two is the one over which the log is judged.
-use Rattle.std.proofs.Common.{[], ◌∷◌, take, sym, subst}
+use Rattle.std.proofs.Common.{[], ◌∷◌, None, take, sym, subst}
 use Rattle.std.specs.Option.{IsSome}
 use Rattle.lits.specs.declared.literal.Lit.{Lit}
 use Rattle.netlist.specs.Miter.{variable_of}
 use Rattle.unit_prop.specs.Log.{base_clause}
 use Rattle.lemma_book.specs.Cone.{IsCone}
-use Rattle.lemma_book.specs.Good.{IsNewAt}
-use Rattle.lemma_book.specs.Judging.{IsFirstBad, IsFirstPlace}
+use Rattle.lemma_book.specs.Judging.{IsFirstBad, IsFirstPlace, IsFresh}
 use Rattle.lemma_book.proofs.Judged.{pair-there, spent-bad, spent-stale, spent-good}
 use Rattle.lemma_book.proofs.judge.judge_spent.Goals as goal
 
@@ -28,7 +27,7 @@ returns-in-Some-2 c =
     (subst (λ (l : Lit). IsCone c.args.net.now (take c.args.seen c.args.book.now.entries) (l.node ∷ c.args.lit.node ∷ []) c.in_ok-cone.cone.items) c.positive.ensures c.in_ok-cone.ensures) in
     spent-stale c.args.net.now c.args.book.now c.args.node c.args.lit c.args.seen c.args.log.now c.requires.free c.as_slice-cone.result.now is_cone c.in-Some-2.k
     (subst (IsFirstBad (base_clause c.as_slice-cone.result.now) c.args.log.now) c.in_default.is c.in_ok-k.ensures)
-    (subst (IsFirstPlace (IsNewAt c.as_slice-cone.result.now c.args.log.now)) c.in-Some-2.is c.in_ok-k-2.ensures)
+    (subst (IsFirstPlace (IsFresh c.as_slice-cone.result.now None c.args.log.now)) c.in-Some-2.is c.in_ok-k-2.ensures)
 
 pub returns : goal.returns
 returns c =
@@ -36,4 +35,4 @@ returns c =
     (subst (λ (l : Lit). IsCone c.args.net.now (take c.args.seen c.args.book.now.entries) (l.node ∷ c.args.lit.node ∷ []) c.in_ok-cone.cone.items) c.positive.ensures c.in_ok-cone.ensures) in
     spent-good c.args.net.now c.args.book.now c.args.node c.args.lit c.args.seen c.args.log.now c.requires.free c.as_slice-cone.result.now is_cone
     (subst (IsFirstBad (base_clause c.as_slice-cone.result.now) c.args.log.now) c.in_default.is c.in_ok-k.ensures)
-    (subst (IsFirstPlace (IsNewAt c.as_slice-cone.result.now c.args.log.now)) c.in-None.is c.in_ok-k-2.ensures)
+    (subst (IsFirstPlace (IsFresh c.as_slice-cone.result.now None c.args.log.now)) c.in-None.is c.in_ok-k-2.ensures)
