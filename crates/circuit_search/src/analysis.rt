@@ -1,7 +1,7 @@
 use crate::clauses::Name;
 use crate::engine::Engine;
 use crate::lessons::Hints;
-use crate::table::{NONE, at, count};
+use crate::table::NONE;
 use crate::trail::FALSE;
 use std::alloc::AllocError;
 
@@ -12,8 +12,8 @@ impl Engine {
         let level = self.trail.level();
         self.lessons.restart();
         let mut many = self.trace(conflict, level)?;
-        for place in (0..count(self.trail.lits().len())).rev() {
-            let code = at(self.trail.lits(), place);
+        for place in (0..self.trail.len()).rev() {
+            let code = self.trail.lit(place);
             if self.lessons.unmark(code / 2) {
                 many = self.pass(code, level, many)?;
             }
@@ -64,7 +64,7 @@ impl Engine {
         self.trail.cut(second);
         self.lessons.push(number, hints)?;
         self.watch(number)?;
-        self.trail.settle(&self.clauses, number)?;
+        self.trail.settle(&self.clauses, number);
         Ok(())
     }
 
@@ -72,8 +72,8 @@ impl Engine {
     pub(crate) fn refutation(&mut self, conflict: u32) -> Result<Hints, AllocError> {
         self.lessons.restart();
         self.trace(conflict, NONE)?;
-        for place in (0..count(self.trail.lits().len())).rev() {
-            let var = at(self.trail.lits(), place) / 2;
+        for place in (0..self.trail.len()).rev() {
+            let var = self.trail.lit(place) / 2;
             let is_traced = self.lessons.unmark(var);
             if is_traced && var != self.assumed.0 && var != self.assumed.1 {
                 let reason = self.trail.reason(var);

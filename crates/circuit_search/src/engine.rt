@@ -88,7 +88,7 @@ impl Engine {
     pub(crate) fn put(&mut self, lits: &[u32], name: Name) -> Result<u32, AllocError> {
         let clause = self.clauses.push(lits, name)?;
         self.watch(clause)?;
-        self.trail.settle(&self.clauses, clause)
+        Ok(self.trail.settle(&self.clauses, clause))
     }
 
     /// Watches the clause that was put last by the two of its codes that aren't false for longest.

@@ -2,7 +2,7 @@ use crate::merges::lit_code;
 use crate::table::{at, count, put};
 use lemma_book::Task;
 use lits::Side;
-use netlist::Net;
+use netlist::{Net, Placed};
 use rand_core::SeedableRng;
 use rand_core::utils::NextWord;
 use rand_pcg::Lcg128Xsl64;
@@ -80,18 +80,23 @@ impl Scratch {
         for _ in 0..u64::from(self.inputs).saturating_mul(u64::from(words)) {
             let _drawn = generator.next_word();
         }
-        for _ in 0..EVEN {
-            self.draw_rare(&mut generator, 0, 0)?;
-        }
-        for often in 0..RARE {
-            self.draw_rare(&mut generator, often, 0)?;
-            self.draw_rare(&mut generator, often, u64::MAX)?;
-        }
-        for often in 0..LIKE {
-            self.draw_like(&mut generator, often, 1)?;
-            self.draw_like(&mut generator, often, 2)?;
+        for word in 0..DRAWN {
+            self.draw_word(&mut generator, word)?;
         }
         Ok(())
+    }
+
+    /// Draws a word of each input, in the way that its number asks for.
+    fn draw_word(&mut self, generator: &mut Lcg128Xsl64, word: u32) -> Result<(), AllocError> {
+        if word < EVEN {
+            return self.draw_rare(generator, 0, 0);
+        }
+        let rare = word - EVEN;
+        if rare < 2 * RARE {
+            return self.draw_rare(generator, rare / 2, turn(rare % 2 == 1));
+        }
+        let like = rare - 2 * RARE;
+        self.draw_like(generator, like / 2, like as usize % 2 + 1)
     }
 
     /// Draws a word of each input, of which a bit differs from this one once in 2, 4, 8 and so on.
@@ -217,7 +222,16 @@ impl Scratch {
     fn output_word(&self, net: &Net, side: Side, output: u32) -> Option<u64> {
         let lit = net.output(side, output)?;
         let position = net.position(lit.node)?;
-        Some(word_at(&self.row, position as usize) ^ turn(lit.neg))
+        Some(self.value(Placed {
+            position,
+            neg: lit.neg,
+        }))
+    }
+
+    /// The values of a literal on the simulated word.
+    #[inline(always)]
+    fn value(&self, placed: Placed) -> u64 {
+        word_at(&self.row, placed.position as usize) ^ turn(placed.neg)
     }
 
     /// The inputs' truth values in a pattern.
@@ -245,9 +259,8 @@ impl Scratch {
         }
         let mut position = self.inputs as usize + 1;
         for fanins in net.all_fanins() {
-            let left = word_at(&self.row, fanins.left.position as usize) ^ turn(fanins.left.neg);
-            let right = word_at(&self.row, fanins.right.position as usize) ^ turn(fanins.right.neg);
-            put_word(&mut self.row, position, left & right);
+            let value = self.value(fanins.left) & self.value(fanins.right);
+            put_word(&mut self.row, position, value);
             position = position.saturating_add(1);
         }
     }
@@ -256,9 +269,7 @@ impl Scratch {
     fn compare(&mut self, word: u32) {
         for asked in &self.asked {
             if at(&self.found, asked.node) == 0 {
-                let node = word_at(&self.row, asked.node as usize);
-                let target = word_at(&self.row, (asked.target / 2) as usize);
-                let apart = node ^ target ^ turn(asked.target & 1 == 1);
+                let apart = apart(&self.row, *asked);
                 if apart != 0 {
                     let pattern = word
                         .saturating_mul(64)
@@ -291,6 +302,13 @@ fn rare(generator: &mut Lcg128Xsl64, often: u32) -> u64 {
         word &= generator.next_word();
     }
     word
+}
+
+/// On which patterns of the simulated word a pair differs.
+fn apart(row: &[u64], asked: Asked) -> u64 {
+    let node = word_at(row, asked.node as usize);
+    let target = word_at(row, (asked.target / 2) as usize);
+    node ^ target ^ turn(asked.target & 1 == 1)
 }
 
 /// All bits where the literal is negated.
