@@ -62,10 +62,8 @@ impl Engine {
         let number = self.clauses.push(&self.lessons.lits, name)?;
         let (_, _, second) = self.trail.levels(self.clauses.get(number));
         self.trail.cut(second);
-        self.lessons.push(number, hints)?;
         self.watch(number)?;
-        self.trail.settle(&self.clauses, number);
-        Ok(())
+        self.lessons.push(number, hints)
     }
 
     /// The clauses by which a false clause refutes what is assumed.

@@ -65,13 +65,13 @@ impl Merges {
 
     /// Measures the depths of the gates.
     fn measure(&mut self, net: &Net) {
-        let mut position = self.first_gate as usize;
+        let mut position = self.first_gate;
         for fanins in net.all_fanins() {
             let left = self.depth(fanins.left.position);
             let right = self.depth(fanins.right.position);
-            if position < self.nodes.len() {
-                self.nodes[position].depth = left.max(right).saturating_add(1);
-            }
+            let mut known = self.known(position);
+            known.depth = left.max(right).saturating_add(1);
+            self.set(position, known);
             position = position.saturating_add(1);
         }
     }
@@ -81,6 +81,14 @@ impl Merges {
         match self.nodes.get(position as usize) {
             Some(known) => *known,
             None => NOTHING,
+        }
+    }
+
+    /// Says what is known of the node at a position.
+    fn set(&mut self, position: u32, known: Known) {
+        let position = position as usize;
+        if position < self.nodes.len() {
+            self.nodes[position] = known;
         }
     }
 
@@ -126,21 +134,19 @@ impl Merges {
             return;
         };
         if let (Some(position), Some(target)) = (net.position(node), lit_code(net, lit)) {
-            let position = position as usize;
-            if position < self.nodes.len() {
-                self.nodes[position].entry = place.saturating_add(1);
-                self.nodes[position].target = target;
-            }
+            let mut known = self.known(position);
+            known.entry = place.saturating_add(1);
+            known.target = target;
+            self.set(position, known);
         }
     }
 
     /// Notes that the query of a pair spent its budget.
     fn note_spent(&mut self, net: &Net, node: Node, lit: Lit) {
         if let (Some(position), Some(target)) = (net.position(node), lit_code(net, lit)) {
-            let position = position as usize;
-            if position < self.nodes.len() {
-                self.nodes[position].spent = target.saturating_add(1);
-            }
+            let mut known = self.known(position);
+            known.spent = target.saturating_add(1);
+            self.set(position, known);
         }
     }
 

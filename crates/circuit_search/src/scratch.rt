@@ -222,16 +222,7 @@ impl Scratch {
     fn output_word(&self, net: &Net, side: Side, output: u32) -> Option<u64> {
         let lit = net.output(side, output)?;
         let position = net.position(lit.node)?;
-        Some(self.value(Placed {
-            position,
-            neg: lit.neg,
-        }))
-    }
-
-    /// The values of a literal on the simulated word.
-    #[inline(always)]
-    fn value(&self, placed: Placed) -> u64 {
-        word_at(&self.row, placed.position as usize) ^ turn(placed.neg)
+        Some(word_at(&self.row, position as usize) ^ turn(lit.neg))
     }
 
     /// The inputs' truth values in a pattern.
@@ -259,8 +250,9 @@ impl Scratch {
         }
         let mut position = self.inputs as usize + 1;
         for fanins in net.all_fanins() {
-            let value = self.value(fanins.left) & self.value(fanins.right);
-            put_word(&mut self.row, position, value);
+            let left = word_of(&self.row, fanins.left);
+            let right = word_of(&self.row, fanins.right);
+            put_word(&mut self.row, position, left & right);
             position = position.saturating_add(1);
         }
     }
@@ -302,6 +294,12 @@ fn rare(generator: &mut Lcg128Xsl64, often: u32) -> u64 {
         word &= generator.next_word();
     }
     word
+}
+
+/// The values of a literal on the simulated word.
+#[inline(always)]
+fn word_of(row: &[u64], placed: Placed) -> u64 {
+    word_at(row, placed.position as usize) ^ turn(placed.neg)
 }
 
 /// On which patterns of the simulated word a pair differs.
