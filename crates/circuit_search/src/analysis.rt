@@ -26,18 +26,13 @@ impl Engine {
     fn pass(&mut self, code: u32, level: u32, many: u32) -> Result<u32, AllocError> {
         let here = self.trail.level_of(code / 2);
         let is_last = here == level;
-        if (is_last && many > 1) || here == 0 {
-            let rest = if is_last {
-                many.saturating_sub(1)
-            } else {
-                many
-            };
-            let reason = self.trail.reason(code / 2);
-            let more = self.trace(reason, level)?;
-            return Ok(rest.saturating_add(more));
+        let rest = many.saturating_sub(u32::from(is_last));
+        if here > 0 && (!is_last || many <= 1) {
+            self.lessons.lits.push(code ^ 1)?;
+            return Ok(rest);
         }
-        self.lessons.lits.push(code ^ 1)?;
-        Ok(if is_last { 0 } else { many })
+        let reason = self.trail.reason(code / 2);
+        Ok(rest.saturating_add(self.trace(reason, level)?))
     }
 
     /// Takes a clause as a hint, and marks what makes its codes false. Tells how many codes of the level are

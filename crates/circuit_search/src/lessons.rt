@@ -83,13 +83,12 @@ impl Lessons {
         self.trace.clear();
     }
 
-    /// Keeps the trace as hints.
+    /// Keeps the trace as hints, after which it is no longer asked for.
     pub(crate) fn keep_trace(&mut self) -> Result<Hints, AllocError> {
         let start = count(self.hints.len());
         let len = count(self.trace.len());
-        for place in (0..len).rev() {
-            self.hints.push(at(&self.trace, place))?;
-        }
+        self.trace.reverse();
+        self.hints.extend_from_slice(&self.trace)?;
         Ok(Hints { start, len })
     }
 

@@ -35,9 +35,7 @@ impl Variables {
 
     /// Forgets all variables.
     pub(crate) fn clear(&mut self) {
-        for variable in &self.variables {
-            put(&mut self.numbers, variable.position, 0);
-        }
+        forget(&mut self.numbers, &self.variables);
         self.variables.clear();
     }
 
@@ -92,5 +90,12 @@ impl Variables {
         let was = self.variables[var].is_loaded;
         self.variables[var].is_loaded = true;
         was
+    }
+}
+
+/// Takes the numbers of these variables away.
+fn forget(numbers: &mut [u32], variables: &[Variable]) {
+    for variable in variables {
+        put(numbers, variable.position, 0);
     }
 }
