@@ -83,12 +83,13 @@ impl Lessons {
         self.trace.clear();
     }
 
-    /// Keeps the trace as hints, after which it is no longer asked for.
+    /// Keeps the trace as hints.
     pub(crate) fn keep_trace(&mut self) -> Result<Hints, AllocError> {
         let start = count(self.hints.len());
         let len = count(self.trace.len());
-        self.trace.reverse();
-        self.hints.extend_from_slice(&self.trace)?;
+        for place in (0..len).rev() {
+            self.hints.push(at(&self.trace, place))?;
+        }
         Ok(Hints { start, len })
     }
 

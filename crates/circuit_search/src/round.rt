@@ -84,7 +84,12 @@ impl Engine {
 
     /// Goes back to the second highest level of a false clause, and makes the code true that stood higher.
     fn force(&mut self, clause: u32, level: u32, second: u32) {
-        let forced = self.trail.last_at(self.clauses.get(clause), level);
+        let mut forced = NONE;
+        for code in self.clauses.get(clause) {
+            if self.trail.level_of(*code / 2) == level {
+                forced = *code;
+            }
+        }
         self.trail.cut(second);
         self.trail.assign(forced, clause);
     }

@@ -130,17 +130,6 @@ impl Trail {
         (highest, many, second)
     }
 
-    /// The last code of a false clause that stands at a level; `NONE` where none does.
-    pub(crate) fn last_at(&self, clause: &[u32], level: u32) -> u32 {
-        let mut last = NONE;
-        for code in clause {
-            if self.level_of(*code / 2) == level {
-                last = *code;
-            }
-        }
-        last
-    }
-
     /// The level that was begun last.
     pub(crate) fn level(&self) -> u32 {
         count(self.starts.len())
