@@ -1,7 +1,7 @@
 use crate::clauses::Name;
 use crate::engine::Engine;
 use crate::lessons::Hints;
-use crate::table::{NONE, at, count};
+use crate::table::NONE;
 use crate::trail::FALSE;
 use std::alloc::AllocError;
 
@@ -12,8 +12,8 @@ impl Engine {
         let level = self.trail.level();
         self.lessons.restart();
         let mut many = self.trace(conflict, level)?;
-        for place in (0..count(self.trail.lits().len())).rev() {
-            let code = at(self.trail.lits(), place);
+        for place in (0..self.trail.len()).rev() {
+            let code = self.trail.lit(place);
             if self.lessons.unmark(code / 2) {
                 many = self.pass(code, level, many)?;
             }
@@ -26,18 +26,13 @@ impl Engine {
     fn pass(&mut self, code: u32, level: u32, many: u32) -> Result<u32, AllocError> {
         let here = self.trail.level_of(code / 2);
         let is_last = here == level;
-        if (is_last && many > 1) || here == 0 {
-            let rest = if is_last {
-                many.saturating_sub(1)
-            } else {
-                many
-            };
-            let reason = self.trail.reason(code / 2);
-            let more = self.trace(reason, level)?;
-            return Ok(rest.saturating_add(more));
+        let rest = many.saturating_sub(u32::from(is_last));
+        if here > 0 && (!is_last || many <= 1) {
+            self.lessons.lits.push(code ^ 1)?;
+            return Ok(rest);
         }
-        self.lessons.lits.push(code ^ 1)?;
-        Ok(if is_last { 0 } else { many })
+        let reason = self.trail.reason(code / 2);
+        Ok(rest.saturating_add(self.trace(reason, level)?))
     }
 
     /// Takes a clause as a hint, and marks what makes its codes false. Tells how many codes of the level are
@@ -62,18 +57,16 @@ impl Engine {
         let number = self.clauses.push(&self.lessons.lits, name)?;
         let (_, _, second) = self.trail.levels(self.clauses.get(number));
         self.trail.cut(second);
-        self.lessons.push(number, hints)?;
         self.watch(number)?;
-        self.trail.settle(&self.clauses, number)?;
-        Ok(())
+        self.lessons.push(number, hints)
     }
 
     /// The clauses by which a false clause refutes what is assumed.
     pub(crate) fn refutation(&mut self, conflict: u32) -> Result<Hints, AllocError> {
         self.lessons.restart();
         self.trace(conflict, NONE)?;
-        for place in (0..count(self.trail.lits().len())).rev() {
-            let var = at(self.trail.lits(), place) / 2;
+        for place in (0..self.trail.len()).rev() {
+            let var = self.trail.lit(place) / 2;
             let is_traced = self.lessons.unmark(var);
             if is_traced && var != self.assumed.0 && var != self.assumed.1 {
                 let reason = self.trail.reason(var);

@@ -12,23 +12,22 @@ impl Trail {
             }
         }
         self.begin()?;
-        self.choose(first)?;
-        self.choose(second)?;
+        self.choose(first);
+        self.choose(second);
         Ok(NONE)
     }
 
     /// Makes a code true for no reason, if it is free.
-    fn choose(&mut self, code: u32) -> Result<(), AllocError> {
+    fn choose(&mut self, code: u32) {
         if self.value(code) == FREE {
-            self.assign(code, NONE)
-        } else {
-            Ok(())
+            self.assign(code, NONE);
         }
     }
 
     /// Makes a code true at a level of its own.
     pub(crate) fn decide(&mut self, code: u32) -> Result<(), AllocError> {
         self.begin()?;
-        self.choose(code)
+        self.choose(code);
+        Ok(())
     }
 }

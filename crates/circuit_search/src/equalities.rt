@@ -27,9 +27,7 @@ impl Equalities {
 
     /// Forgets all.
     pub(crate) fn forget(&mut self) {
-        for target in self.targets.iter_mut() {
-            *target = None;
-        }
+        self.targets.fill(None);
         self.steps.clear();
     }
 
@@ -103,14 +101,7 @@ impl Equalities {
                 }
             }
         }
-        let mut many: u32 = 0;
-        for number in numbers.iter_mut() {
-            if *number > 0 {
-                many = many.saturating_add(1);
-                *number = many;
-            }
-        }
-        many
+        number_marked(numbers)
     }
 
     /// Puts the step last, with the names that its hints have in a proof, which has so many steps of
@@ -155,6 +146,18 @@ impl Equalities {
         }
         Ref::Own(u64::from(at(numbers, place as u32).saturating_sub(1)))
     }
+}
+
+/// Numbers what is marked, from 1, and tells how many these are.
+fn number_marked(marks: &mut [u32]) -> u32 {
+    let mut many: u32 = 0;
+    for number in marks.iter_mut() {
+        if *number > 0 {
+            many = many.saturating_add(1);
+            *number = many;
+        }
+    }
+    many
 }
 
 /// Marks the steps that the hints of a step name.

@@ -1,5 +1,4 @@
 use crate::engine::Engine;
-use crate::table::{at, count};
 use crate::trail::{FALSE, FREE};
 
 impl Engine {
@@ -8,16 +7,16 @@ impl Engine {
     ///
     /// Such gates are the frontier that a test generator justifies (Goel 1981).
     pub(crate) fn open_fanin(&mut self) -> Option<u32> {
-        for place in self.trail.justified..count(self.trail.lits().len()) {
+        for place in self.trail.justified..self.trail.len() {
             self.trail.justified = place;
-            let code = at(self.trail.lits(), place);
+            let code = self.trail.lit(place);
             if code & 1 == 1 {
                 if let Some(fanin) = self.lower_fanin(code / 2) {
                     return Some(fanin ^ 1);
                 }
             }
         }
-        self.trail.justified = count(self.trail.lits().len());
+        self.trail.justified = self.trail.len();
         None
     }
 

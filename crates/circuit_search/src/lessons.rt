@@ -1,5 +1,5 @@
 use crate::clauses::{Clauses, Name};
-use crate::table::{at, count, has, mark, part, put};
+use crate::table::{at, count, has, mark, part};
 use std::alloc::{AllocError, Global};
 
 /// Where hints stand.
@@ -9,14 +9,22 @@ pub(crate) struct Hints {
     pub(crate) len: u32,
 }
 
+/// A clause that was learned.
+#[derive(Clone, Copy)]
+pub(crate) struct Lesson {
+    /// The clause's number.
+    pub(crate) clause: u32,
+    pub(crate) hints: Hints,
+    /// The lesson's number among those that the entry needs, and 1; 0 where it doesn't need it.
+    pub(crate) order: u32,
+}
+
 /// What a query learned: clauses, each with the clauses that show it by unit propagation, in order; and the
 /// tools to find these.
 #[derive(Drop)]
 pub(crate) struct Lessons {
-    /// The numbers of the lessons' clauses.
-    clauses: Vec<u32>,
-    /// The hints of each lesson.
-    spans: Vec<Hints>,
+    lessons: Vec<Lesson>,
+    /// The hints of all lessons, one after the other.
     hints: Vec<u32>,
     /// Which variables a conflict comes from.
     marked: Vec<bool>,
@@ -24,33 +32,27 @@ pub(crate) struct Lessons {
     pub(crate) lits: Vec<u32>,
     /// Its hints, the last one first.
     pub(crate) trace: Vec<u32>,
-    /// For each lesson its number among those that the entry needs, and 1; 0 where it doesn't need it.
-    order: Vec<u32>,
 }
 
 impl Lessons {
     /// No lessons.
     pub(crate) fn new(alloc: Global) -> Lessons {
         Lessons {
-            clauses: Vec::new(alloc),
-            spans: Vec::new(alloc),
+            lessons: Vec::new(alloc),
             hints: Vec::new(alloc),
             marked: Vec::new(alloc),
             lits: Vec::new(alloc),
             trace: Vec::new(alloc),
-            order: Vec::new(alloc),
         }
     }
 
     /// Forgets all.
     pub(crate) fn clear(&mut self) {
-        self.clauses.clear();
-        self.spans.clear();
+        self.lessons.clear();
         self.hints.clear();
         self.marked.clear();
         self.lits.clear();
         self.trace.clear();
-        self.order.clear();
     }
 
     /// Makes room for one more variable.
@@ -93,27 +95,28 @@ impl Lessons {
 
     /// Notes a lesson.
     pub(crate) fn push(&mut self, clause: u32, hints: Hints) -> Result<(), AllocError> {
-        self.clauses.push(clause)?;
-        self.spans.push(hints)?;
-        self.order.push(0)?;
+        self.lessons.push(Lesson {
+            clause,
+            hints,
+            order: 0,
+        })?;
         Ok(())
     }
 
     /// How many lessons there are.
     pub(crate) fn len(&self) -> u32 {
-        count(self.clauses.len())
+        count(self.lessons.len())
     }
 
-    /// The number of a lesson's clause.
-    pub(crate) fn clause(&self, lesson: u32) -> u32 {
-        at(&self.clauses, lesson)
-    }
-
-    /// Where the hints of a lesson stand.
-    pub(crate) fn span(&self, lesson: u32) -> Hints {
-        match self.spans.get(lesson as usize) {
-            Some(span) => *span,
-            None => Hints { start: 0, len: 0 },
+    /// The lesson of this number.
+    pub(crate) fn get(&self, number: u32) -> Lesson {
+        match self.lessons.get(number as usize) {
+            Some(lesson) => *lesson,
+            None => Lesson {
+                clause: 0,
+                hints: Hints { start: 0, len: 0 },
+                order: 0,
+            },
         }
     }
 
@@ -127,10 +130,10 @@ impl Lessons {
     pub(crate) fn reach(&mut self, clauses: &Clauses, first: Hints, second: Hints) {
         self.reach_from(clauses, first);
         self.reach_from(clauses, second);
-        for lesson in (0..self.len()).rev() {
-            if self.is_reached(lesson) {
-                let hints = self.span(lesson);
-                self.reach_from(clauses, hints);
+        for number in (0..self.len()).rev() {
+            let lesson = self.get(number);
+            if lesson.order > 0 {
+                self.reach_from(clauses, lesson.hints);
             }
         }
         self.number_reached();
@@ -140,30 +143,27 @@ impl Lessons {
     fn reach_from(&mut self, clauses: &Clauses, hints: Hints) {
         for place in 0..hints.len {
             let clause = at(self.hints(hints), place);
-            if let Some(Name::Lesson(lesson)) = clauses.name(clause) {
-                put(&mut self.order, lesson, 1);
+            if let Some(Name::Lesson(number)) = clauses.name(clause) {
+                self.need(number as usize);
             }
         }
     }
 
-    /// Whether the entry needs the lesson.
-    pub(crate) fn is_reached(&self, lesson: u32) -> bool {
-        at(&self.order, lesson) > 0
+    /// Marks a lesson as one that the entry needs.
+    fn need(&mut self, number: usize) {
+        if number < self.lessons.len() {
+            self.lessons[number].order = 1;
+        }
     }
 
     /// Numbers the lessons that were marked.
     fn number_reached(&mut self) {
         let mut number: u32 = 0;
-        for slot in self.order.iter_mut() {
-            if *slot > 0 {
+        for lesson in self.lessons.iter_mut() {
+            if lesson.order > 0 {
                 number = number.saturating_add(1);
-                *slot = number;
+                lesson.order = number;
             }
         }
-    }
-
-    /// The number of a lesson among those that the entry needs.
-    pub(crate) fn number(&self, lesson: u32) -> u32 {
-        at(&self.order, lesson).saturating_sub(1)
     }
 }

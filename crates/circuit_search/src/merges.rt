@@ -1,8 +1,28 @@
-use crate::table::{at, count, put};
+use crate::table::count;
 use lemma_book::{Book, Entry};
 use lits::{Lit, Node};
 use netlist::{Fanins, Net, Placed};
 use std::alloc::{AllocError, Global};
+
+/// What is known of a node.
+#[derive(Clone, Copy)]
+struct Known {
+    /// The place of the entry that merges the node, and 1; 0 where none does.
+    entry: u32,
+    /// The target of the merge, as a code: twice the target's position, and 1 where it is negated.
+    target: u32,
+    /// The length of the longest way down to an input.
+    depth: u32,
+    /// The code, and 1, of the last query about the node that spent its budget; else 0.
+    spent: u32,
+}
+
+const NOTHING: Known = Known {
+    entry: 0,
+    target: 0,
+    depth: 0,
+    spent: 0,
+};
 
 /// The circuit by positions: what a book merges, the gates' fanins, and how deep each node lies.
 ///
@@ -10,15 +30,8 @@ use std::alloc::{AllocError, Global};
 /// node.
 #[derive(Drop)]
 pub(crate) struct Merges {
-    /// For each position the place of the entry that merges its node, and 1; 0 where none does.
-    entries: Vec<u32>,
-    /// For each position the target of the merge, as a code: twice the target's position, and 1 where it is
-    /// negated.
-    targets: Vec<u32>,
-    /// For each position the length of the longest way down to an input.
-    depths: Vec<u32>,
-    /// For each position the code, and 1, of the last query about its node that spent its budget; else 0.
-    spent: Vec<u32>,
+    /// For each position what is known of its node.
+    nodes: Vec<Known>,
     /// The position of the first gate.
     first_gate: u32,
     /// How many entries of the book were read.
@@ -39,12 +52,8 @@ pub(crate) enum Source {
 impl Merges {
     /// The circuit without merges.
     pub(crate) fn of(alloc: Global, net: &Net) -> Result<Merges, AllocError> {
-        let len = net.positions() as usize;
         let mut merges = Merges {
-            entries: vec![in alloc; 0; len]?,
-            targets: vec![in alloc; 0; len]?,
-            depths: vec![in alloc; 0; len]?,
-            spent: vec![in alloc; 0; len]?,
+            nodes: vec![in alloc; NOTHING; net.positions() as usize]?,
             first_gate: net
                 .positions()
                 .saturating_sub(count(net.all_fanins().len())),
@@ -58,20 +67,34 @@ impl Merges {
     fn measure(&mut self, net: &Net) {
         let mut position = self.first_gate;
         for fanins in net.all_fanins() {
-            let left = at(&self.depths, fanins.left.position);
-            let right = at(&self.depths, fanins.right.position);
-            put(
-                &mut self.depths,
-                position,
-                left.max(right).saturating_add(1),
-            );
+            let left = self.depth(fanins.left.position);
+            let right = self.depth(fanins.right.position);
+            let mut known = self.known(position);
+            known.depth = left.max(right).saturating_add(1);
+            self.set(position, known);
             position = position.saturating_add(1);
+        }
+    }
+
+    /// What is known of the node at a position.
+    fn known(&self, position: u32) -> Known {
+        match self.nodes.get(position as usize) {
+            Some(known) => *known,
+            None => NOTHING,
+        }
+    }
+
+    /// Says what is known of the node at a position.
+    fn set(&mut self, position: u32, known: Known) {
+        let position = position as usize;
+        if position < self.nodes.len() {
+            self.nodes[position] = known;
         }
     }
 
     /// How deep the node at a position lies.
     pub(crate) fn depth(&self, position: u32) -> u32 {
-        at(&self.depths, position)
+        self.known(position).depth
     }
 
     /// Whether the position is that of an input.
@@ -99,11 +122,9 @@ impl Merges {
     /// Forgets what was read, where the book is another one.
     fn forget(&mut self) {
         self.seen = 0;
-        for entry in self.entries.iter_mut() {
-            *entry = 0;
-        }
-        for code in self.spent.iter_mut() {
-            *code = 0;
+        for known in self.nodes.iter_mut() {
+            known.entry = 0;
+            known.spent = 0;
         }
     }
 
@@ -113,34 +134,36 @@ impl Merges {
             return;
         };
         if let (Some(position), Some(target)) = (net.position(node), lit_code(net, lit)) {
-            put(&mut self.entries, position, place.saturating_add(1));
-            put(&mut self.targets, position, target);
+            let mut known = self.known(position);
+            known.entry = place.saturating_add(1);
+            known.target = target;
+            self.set(position, known);
         }
     }
 
     /// Notes that the query of a pair spent its budget.
     fn note_spent(&mut self, net: &Net, node: Node, lit: Lit) {
         if let (Some(position), Some(target)) = (net.position(node), lit_code(net, lit)) {
-            put(&mut self.spent, position, target.saturating_add(1));
+            let mut known = self.known(position);
+            known.spent = target.saturating_add(1);
+            self.set(position, known);
         }
     }
 
     /// The code that a node was last compared with, if it isn't merged and the query spent its budget.
     pub(crate) fn open(&self, position: u32) -> Option<u32> {
-        if at(&self.entries, position) > 0 {
+        let known = self.known(position);
+        if known.entry > 0 || known.spent == 0 {
             return None;
         }
-        match at(&self.spent, position) {
-            0 => None,
-            code => Some(code - 1),
-        }
+        Some(known.spent - 1)
     }
 
     /// What defines the node at a position.
     pub(crate) fn source(&self, net: &Net, position: u32) -> Source {
-        let entry = at(&self.entries, position);
-        if entry > 0 {
-            return Source::Merged(entry - 1, at(&self.targets, position));
+        let known = self.known(position);
+        if known.entry > 0 {
+            return Source::Merged(known.entry - 1, known.target);
         }
         if position < self.first_gate {
             return Source::Free;

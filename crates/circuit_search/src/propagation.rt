@@ -23,7 +23,7 @@ impl Engine {
             if late != NONE {
                 return Ok(late);
             }
-            let conflict = self.visit_all(code ^ 1)?;
+            let conflict = self.visit_all(code ^ 1);
             if conflict != NONE {
                 return Ok(conflict);
             }
@@ -32,33 +32,33 @@ impl Engine {
     }
 
     /// Visits the watches of a code that is false now.
-    fn visit_all(&mut self, code: u32) -> Result<u32, AllocError> {
+    fn visit_all(&mut self, code: u32) -> u32 {
         let mut before = 0;
         let mut watch = self.watches.first(code);
         for _ in 0..u64::MAX {
             if watch == 0 {
-                return Ok(NONE);
+                return NONE;
             }
             let next = self.watches.next(watch);
-            match self.visit(code, before, watch)? {
+            match self.visit(code, before, watch) {
                 Visit::Stays => before = watch,
                 Visit::Moves => {}
-                Visit::Conflict(clause) => return Ok(clause),
+                Visit::Conflict(clause) => return clause,
             }
             watch = next;
         }
-        Ok(NONE)
+        NONE
     }
 
     /// Visits one watch: it moves to a code that isn't false, or the clause's other watched code has to be
     /// true.
-    fn visit(&mut self, code: u32, before: u32, watch: u32) -> Result<Visit, AllocError> {
+    fn visit(&mut self, code: u32, before: u32, watch: u32) -> Visit {
         let clause = (watch / 2).wrapping_sub(1);
         let side = watch & 1;
         let other = self.clauses.lit(clause, side ^ 1);
         let value = self.trail.value(other);
         if value == TRUE {
-            return Ok(Visit::Stays);
+            return Visit::Stays;
         }
         for place in 2..self.clauses.len(clause) {
             let found = self.clauses.lit(clause, place);
@@ -66,13 +66,13 @@ impl Engine {
                 self.clauses.swap(clause, side, place);
                 self.watches.take(code, before, watch);
                 self.watches.push(found, watch);
-                return Ok(Visit::Moves);
+                return Visit::Moves;
             }
         }
         if value == FREE {
-            self.trail.assign(other, clause)?;
-            return Ok(Visit::Stays);
+            self.trail.assign(other, clause);
+            return Visit::Stays;
         }
-        Ok(Visit::Conflict(clause))
+        Visit::Conflict(clause)
     }
 }

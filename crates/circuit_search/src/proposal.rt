@@ -158,6 +158,21 @@ impl Engine {
     {
         let mut steps = self.steps(alloc, net, back, there)?;
         let xor = Node::Xor(output);
+        self.add_cases(alloc, net, xor, first, (back, there), &mut steps)?;
+        let steps = Listed::of(self.equalities.proof(alloc, &steps)?);
+        Ok(Some(Entry::Out { output, steps }))
+    }
+
+    /// Puts the two steps last that show that an output's difference is false, by the hints of its two cases.
+    fn add_cases(
+        &self,
+        alloc: Global,
+        net: &Net,
+        xor: Node,
+        first: Lit,
+        cases: (Hints, Hints),
+        steps: &mut Vec<Step>,
+    ) -> Result<(), AllocError> {
         let equal = Lit {
             node: xor,
             neg: true,
@@ -165,10 +180,8 @@ impl Engine {
         let before = self.own(count(steps.len()));
         let one = Ref::Axiom(xor, 0);
         let both = Ref::Axiom(xor, 1);
-        self.add_step(alloc, net, &[equal, first], &[one], back, &mut steps)?;
-        self.add_step(alloc, net, &[equal], &[before, both], there, &mut steps)?;
-        let steps = Listed::of(self.equalities.proof(alloc, &steps)?);
-        Ok(Some(Entry::Out { output, steps }))
+        self.add_step(alloc, net, &[equal, first], &[one], cases.0, steps)?;
+        self.add_step(alloc, net, &[equal], &[before, both], cases.1, steps)
     }
 
     /// The entry of an output that is one literal in both circuits.

@@ -71,7 +71,7 @@ impl Engine {
         }
         self.trail.cut(level);
         if many == 1 {
-            self.force(conflict, level, second)?;
+            self.force(conflict, level, second);
             return Ok(None);
         }
         if self.left.conflicts == 0 {
@@ -83,7 +83,7 @@ impl Engine {
     }
 
     /// Goes back to the second highest level of a false clause, and makes the code true that stood higher.
-    fn force(&mut self, clause: u32, level: u32, second: u32) -> Result<(), AllocError> {
+    fn force(&mut self, clause: u32, level: u32, second: u32) {
         let mut forced = NONE;
         for code in self.clauses.get(clause) {
             if self.trail.level_of(*code / 2) == level {
@@ -91,6 +91,6 @@ impl Engine {
             }
         }
         self.trail.cut(second);
-        self.trail.assign(forced, clause)
+        self.trail.assign(forced, clause);
     }
 }

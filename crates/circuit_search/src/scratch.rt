@@ -93,18 +93,23 @@ impl Scratch {
         for _ in 0..u64::from(self.inputs).saturating_mul(u64::from(words)) {
             let _drawn = generator.next_word();
         }
-        for _ in 0..EVEN {
-            self.draw_rare(&mut generator, 0, 0)?;
-        }
-        for often in 0..RARE {
-            self.draw_rare(&mut generator, often, 0)?;
-            self.draw_rare(&mut generator, often, u64::MAX)?;
-        }
-        for often in 0..LIKE {
-            self.draw_like(&mut generator, often, 1)?;
-            self.draw_like(&mut generator, often, 2)?;
+        for word in 0..DRAWN {
+            self.draw_word(&mut generator, word)?;
         }
         Ok(())
+    }
+
+    /// Draws a word of each input, in the way that its number asks for.
+    fn draw_word(&mut self, generator: &mut Lcg128Xsl64, word: u32) -> Result<(), AllocError> {
+        if word < EVEN {
+            return self.draw_rare(generator, 0, 0);
+        }
+        let rare = word - EVEN;
+        if rare < 2 * RARE {
+            return self.draw_rare(generator, rare / 2, turn(rare % 2 == 1));
+        }
+        let like = rare - 2 * RARE;
+        self.draw_like(generator, like / 2, like as usize % 2 + 1)
     }
 
     /// Draws a word of each input, of which a bit differs from this one once in 2, 4, 8 and so on.
@@ -153,17 +158,20 @@ impl Scratch {
             }
         }
         for word in 0..DRAWN {
-            self.simulate(net, word);
-            self.compare(word);
+            self.look(net, word);
         }
         Ok(())
     }
 
+    /// Simulates a word of patterns, and notes the pairs that it tells apart.
+    fn look(&mut self, net: &Net, word: u32) {
+        self.simulate(net, word);
+        compare(&mut self.found, &self.asked, &self.row, word);
+    }
+
     /// Forgets the round before.
     fn forget(&mut self) {
-        for asked in &self.asked {
-            put(&mut self.found, asked.node, 0);
-        }
+        forget(&mut self.found, &self.asked);
         self.asked.clear();
         self.noted = 0;
         self.words
@@ -176,22 +184,14 @@ impl Scratch {
         let bit = self.noted % 64;
         let word = DRAWN.saturating_add(self.noted / 64);
         if bit == 0 {
-            for _ in 0..self.inputs {
-                self.words.push(0)?;
-            }
+            let len = self.words.len().saturating_add(self.inputs as usize);
+            self.words.resize(len, 0)?;
         }
-        let mut place = self.place(word, 0);
-        for value in input {
-            if *value {
-                let old = word_at(&self.words, place);
-                put_word(&mut self.words, place, old | (1 << bit));
-            }
-            place = place.saturating_add(1);
-        }
+        let first = self.place(word, 0);
+        set_bits(&mut self.words, first, 1 << bit, input);
         self.noted = self.noted.saturating_add(1);
         if (bit + 1).is_power_of_two() {
-            self.simulate(net, word);
-            self.compare(word);
+            self.look(net, word);
         }
         Ok(())
     }
@@ -256,30 +256,8 @@ impl Scratch {
             let value = word_at(&self.words, self.place(word, input));
             put_word(&mut self.row, input as usize + 1, value);
         }
-        let mut position = self.inputs as usize + 1;
-        for fanins in net.all_fanins() {
-            let left = word_at(&self.row, fanins.left.position as usize) ^ turn(fanins.left.neg);
-            let right = word_at(&self.row, fanins.right.position as usize) ^ turn(fanins.right.neg);
-            put_word(&mut self.row, position, left & right);
-            position = position.saturating_add(1);
-        }
-    }
-
-    /// Notes the pairs that the simulated word tells apart, unless they were told apart before.
-    fn compare(&mut self, word: u32) {
-        for asked in &self.asked {
-            if at(&self.found, asked.node) == 0 {
-                let node = word_at(&self.row, asked.node as usize);
-                let target = word_at(&self.row, (asked.target / 2) as usize);
-                let apart = node ^ target ^ turn(asked.target & 1 == 1);
-                if apart != 0 {
-                    let pattern = word
-                        .saturating_mul(64)
-                        .saturating_add(apart.trailing_zeros());
-                    put(&mut self.found, asked.node, pattern.saturating_add(1));
-                }
-            }
-        }
+        let first_gate = self.inputs as usize + 1;
+        simulate_gates(&mut self.row, net, first_gate);
     }
 
     /// The pattern that tells the pair of a position apart.
@@ -304,6 +282,58 @@ fn rare(generator: &mut Lcg128Xsl64, often: u32) -> u64 {
         word &= generator.next_word();
     }
     word
+}
+
+/// Gives each gate its values, of which the first stands at this position.
+fn simulate_gates(row: &mut [u64], net: &Net, first: usize) {
+    let mut position = first;
+    for fanins in net.all_fanins() {
+        let left = word_at(row, fanins.left.position as usize) ^ turn(fanins.left.neg);
+        let right = word_at(row, fanins.right.position as usize) ^ turn(fanins.right.neg);
+        put_word(row, position, left & right);
+        position = position.saturating_add(1);
+    }
+}
+
+/// Forgets which patterns tell these pairs apart.
+fn forget(found: &mut [u32], pairs: &[Asked]) {
+    for asked in pairs {
+        put(found, asked.node, 0);
+    }
+}
+
+/// Notes the pairs that the simulated word tells apart, unless they were told apart before.
+fn compare(found: &mut [u32], pairs: &[Asked], row: &[u64], word: u32) {
+    for asked in pairs {
+        if at(found, asked.node) == 0 {
+            let apart = apart(row, asked);
+            if apart != 0 {
+                let pattern = word
+                    .saturating_mul(64)
+                    .saturating_add(apart.trailing_zeros());
+                put(found, asked.node, pattern.saturating_add(1));
+            }
+        }
+    }
+}
+
+/// On which patterns of the simulated word a pair differs.
+fn apart(row: &[u64], asked: &Asked) -> u64 {
+    let node = word_at(row, asked.node as usize);
+    let target = word_at(row, (asked.target / 2) as usize);
+    node ^ target ^ turn(asked.target & 1 == 1)
+}
+
+/// Sets a bit of the words from a place on, one for each input that is true.
+fn set_bits(words: &mut [u64], first: usize, bit: u64, input: &[bool]) {
+    let mut place = first;
+    for value in input {
+        if *value {
+            let old = word_at(words, place);
+            put_word(words, place, old | bit);
+        }
+        place = place.saturating_add(1);
+    }
 }
 
 /// All bits where the literal is negated.

@@ -1,6 +1,6 @@
 use crate::clauses::Name;
 use crate::engine::Engine;
-use crate::lessons::Hints;
+use crate::lessons::{Hints, Lesson};
 use lits::{Clause, ClauseErr, Listed, Lit, Node, Ref, Step};
 use netlist::Net;
 use std::alloc::{AllocError, Global};
@@ -16,14 +16,25 @@ impl Engine {
     ) -> Result<Vec<Step>, AllocError> {
         self.lessons.reach(&self.clauses, first, second);
         let mut steps = Vec::new(alloc);
-        for lesson in 0..self.lessons.len() {
-            if self.lessons.is_reached(lesson) {
-                let lits = self.lits_of(alloc, net, self.lessons.clause(lesson))?;
-                let hints = self.lessons.span(lesson);
-                self.add_step(alloc, net, &lits, &[], hints, &mut steps)?;
+        for number in 0..self.lessons.len() {
+            let lesson = self.lessons.get(number);
+            if lesson.order > 0 {
+                self.add_lesson(alloc, net, lesson, &mut steps)?;
             }
         }
         Ok(steps)
+    }
+
+    /// Puts the step of a lesson last.
+    fn add_lesson(
+        &self,
+        alloc: Global,
+        net: &Net,
+        lesson: Lesson,
+        steps: &mut Vec<Step>,
+    ) -> Result<(), AllocError> {
+        let lits = self.lits_of(alloc, net, lesson.clause)?;
+        self.add_step(alloc, net, &lits, &[], lesson.hints, steps)
     }
 
     /// Puts the step last that adds a clause, shown by these names and then by the hints. A clause with a
@@ -69,7 +80,9 @@ impl Engine {
             Some(Name::Axiom(var, k)) => Ref::Axiom(node_at(net, self.variables.position(var)), k),
             Some(Name::Entry(place, k)) => Ref::Entry(u64::from(place), k),
             Some(Name::Shown(place)) => Ref::Own(u64::from(place)),
-            Some(Name::Lesson(lesson)) => self.own(self.lessons.number(lesson)),
+            Some(Name::Lesson(number)) => self.own(
+                self.lessons.get(number).order.saturating_sub(1),
+            ),
             // Nothing has this name, so the book refuses the entry.
             None => Ref::Own(u64::MAX),
         }

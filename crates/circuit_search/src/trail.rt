@@ -1,5 +1,5 @@
 use crate::clauses::Clauses;
-use crate::table::{NONE, at, count, put};
+use crate::table::{NONE, at, count, part, put};
 use std::alloc::{AllocError, Global};
 
 /// A literal's value.
@@ -8,6 +8,14 @@ pub(crate) const FREE: u32 = 0;
 pub(crate) const TRUE: u32 = 1;
 
 pub(crate) const FALSE: u32 = 2;
+
+/// Why a variable has its value.
+#[derive(Clone, Copy)]
+struct Cause {
+    level: u32,
+    /// The clause that forced it; `NONE` where it was chosen.
+    reason: u32,
+}
 
 /// Where a level began, and up to where all gates were justified then.
 #[derive(Clone, Copy)]
@@ -21,12 +29,12 @@ struct Start {
 pub(crate) struct Trail {
     /// For each code `FREE`, `TRUE` or `FALSE`.
     values: Vec<u32>,
-    /// For each variable its level, if it has a value.
-    levels: Vec<u32>,
-    /// For each variable the clause that forced it; `NONE` where it was chosen.
-    reasons: Vec<u32>,
-    /// The codes that are true.
+    /// For each variable why it has its value, if it has one.
+    causes: Vec<Cause>,
+    /// The codes that are true, and behind them room for one of each other variable.
     lits: Vec<u32>,
+    /// How many codes are true.
+    len: u32,
     starts: Vec<Start>,
     /// How many of the codes were propagated.
     head: u32,
@@ -39,9 +47,9 @@ impl Trail {
     pub(crate) fn new(alloc: Global) -> Trail {
         Trail {
             values: Vec::new(alloc),
-            levels: Vec::new(alloc),
-            reasons: Vec::new(alloc),
+            causes: Vec::new(alloc),
             lits: Vec::new(alloc),
+            len: 0,
             starts: Vec::new(alloc),
             head: 0,
             justified: 0,
@@ -51,9 +59,9 @@ impl Trail {
     /// Forgets all.
     pub(crate) fn clear(&mut self) {
         self.values.clear();
-        self.levels.clear();
-        self.reasons.clear();
+        self.causes.clear();
         self.lits.clear();
+        self.len = 0;
         self.starts.clear();
         self.head = 0;
         self.justified = 0;
@@ -62,8 +70,11 @@ impl Trail {
     /// Makes room for one more variable.
     pub(crate) fn grow(&mut self) -> Result<(), AllocError> {
         self.values.extend_from_slice(&[FREE, FREE])?;
-        self.levels.push(0)?;
-        self.reasons.push(NONE)?;
+        self.causes.push(Cause {
+            level: 0,
+            reason: NONE,
+        })?;
+        self.lits.push(0)?;
         Ok(())
     }
 
@@ -75,12 +86,18 @@ impl Trail {
 
     /// The level of a variable that has a value.
     pub(crate) fn level_of(&self, var: u32) -> u32 {
-        at(&self.levels, var)
+        match self.causes.get(var as usize) {
+            Some(cause) => cause.level,
+            None => 0,
+        }
     }
 
     /// The clause that forced a variable.
     pub(crate) fn reason(&self, var: u32) -> u32 {
-        at(&self.reasons, var)
+        match self.causes.get(var as usize) {
+            Some(cause) => cause.reason,
+            None => 0,
+        }
     }
 
     /// The level from which on a code is false.
@@ -120,38 +137,50 @@ impl Trail {
 
     /// The codes that are true, in order.
     pub(crate) fn lits(&self) -> &[u32] {
-        &self.lits
+        part(&self.lits, 0, self.len)
+    }
+
+    /// The code at a place among those that are true.
+    pub(crate) fn lit(&self, place: u32) -> u32 {
+        at(&self.lits, place)
+    }
+
+    /// How many codes are true.
+    pub(crate) fn len(&self) -> u32 {
+        self.len
     }
 
     /// Makes a code true that is free.
-    pub(crate) fn assign(&mut self, code: u32, reason: u32) -> Result<(), AllocError> {
-        self.lits.push(code)?;
+    pub(crate) fn assign(&mut self, code: u32, reason: u32) {
+        put(&mut self.lits, self.len, code);
+        self.len = self.len.saturating_add(1);
         put(&mut self.values, code, TRUE);
         put(&mut self.values, code ^ 1, FALSE);
         let level = self.level();
-        put(&mut self.levels, code / 2, level);
-        put(&mut self.reasons, code / 2, reason);
-        Ok(())
+        let var = (code / 2) as usize;
+        if var < self.causes.len() {
+            self.causes[var] = Cause { level, reason };
+        }
     }
 
     /// What a clause that was added asks for: nothing, or a code that is to be true; its number where it is a
     /// conflict.
-    pub(crate) fn settle(&mut self, clauses: &Clauses, clause: u32) -> Result<u32, AllocError> {
+    pub(crate) fn settle(&mut self, clauses: &Clauses, clause: u32) -> u32 {
         let first = clauses.lit(clause, 0);
         if self.value(first) == FALSE {
-            return Ok(clause);
+            return clause;
         }
         let is_unit = clauses.len(clause) < 2 || self.value(clauses.lit(clause, 1)) == FALSE;
         if is_unit && self.value(first) == FREE {
-            self.assign(first, clause)?;
+            self.assign(first, clause);
         }
-        Ok(NONE)
+        NONE
     }
 
     /// Begins a level.
     pub(crate) fn begin(&mut self) -> Result<(), AllocError> {
         let start = Start {
-            lits: count(self.lits.len()),
+            lits: self.len,
             justified: self.justified,
         };
         self.starts.push(start)?;
@@ -160,13 +189,12 @@ impl Trail {
 
     /// The next code that is to be propagated.
     pub(crate) fn next(&mut self) -> Option<u32> {
-        match self.lits.get(self.head as usize) {
-            Some(code) => {
-                self.head = self.head.saturating_add(1);
-                Some(*code)
-            }
-            None => None,
+        if self.head >= self.len {
+            return None;
         }
+        let code = at(&self.lits, self.head);
+        self.head = self.head.saturating_add(1);
+        Some(code)
     }
 
     /// Gives the levels above this one up.
@@ -175,14 +203,19 @@ impl Trail {
             Some(start) => *start,
             None => return,
         };
-        for place in start.lits..count(self.lits.len()) {
-            let code = at(&self.lits, place);
-            put(&mut self.values, code, FREE);
-            put(&mut self.values, code ^ 1, FREE);
-        }
-        self.lits.truncate(start.lits as usize);
+        let many = self.len.saturating_sub(start.lits);
+        free(&mut self.values, part(&self.lits, start.lits, many));
+        self.len = start.lits;
         self.starts.truncate(level as usize);
         self.head = start.lits;
         self.justified = start.justified;
+    }
+}
+
+/// Takes the values of these codes away.
+fn free(values: &mut [u32], codes: &[u32]) {
+    for code in codes {
+        put(values, *code, FREE);
+        put(values, *code ^ 1, FREE);
     }
 }

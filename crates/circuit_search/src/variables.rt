@@ -1,5 +1,16 @@
-use crate::table::{at, count, has, mark, put};
+use crate::table::{at, count, put};
 use std::alloc::{AllocError, Global};
+
+/// A node that a query came to.
+#[derive(Clone, Copy)]
+struct Variable {
+    position: u32,
+    /// The codes of its gate's fanins, if it is a gate that was loaded; else 0.
+    left: u32,
+    right: u32,
+    /// Whether its clauses were loaded.
+    is_loaded: bool,
+}
 
 /// The variables of a query: nodes get numbers in the order in which it comes to them. The constant is
 /// variable 0.
@@ -10,13 +21,7 @@ use std::alloc::{AllocError, Global};
 pub(crate) struct Variables {
     /// For each position the variable of its node; 0 where it has none.
     numbers: Vec<u32>,
-    /// For each variable its node's position.
-    positions: Vec<u32>,
-    /// For each variable the codes of its gate's fanins, if it is a gate that was loaded; else 0.
-    left: Vec<u32>,
-    right: Vec<u32>,
-    /// Whether the clauses of each variable were loaded.
-    loaded: Vec<bool>,
+    variables: Vec<Variable>,
 }
 
 impl Variables {
@@ -24,59 +29,73 @@ impl Variables {
     pub(crate) fn of(alloc: Global, positions: u32) -> Result<Variables, AllocError> {
         Ok(Variables {
             numbers: vec![in alloc; 0; positions as usize]?,
-            positions: Vec::new(alloc),
-            left: Vec::new(alloc),
-            right: Vec::new(alloc),
-            loaded: Vec::new(alloc),
+            variables: Vec::new(alloc),
         })
     }
 
     /// Forgets all variables.
     pub(crate) fn clear(&mut self) {
-        for position in &self.positions {
-            put(&mut self.numbers, *position, 0);
-        }
-        self.positions.clear();
-        self.left.clear();
-        self.right.clear();
-        self.loaded.clear();
+        forget(&mut self.numbers, &self.variables);
+        self.variables.clear();
     }
 
     /// The variable of a position, and whether it is new.
     pub(crate) fn number(&mut self, position: u32) -> Result<(u32, bool), AllocError> {
         let known = at(&self.numbers, position);
-        if known > 0 || (position == 0 && !self.positions.is_empty()) {
+        if known > 0 || (position == 0 && !self.variables.is_empty()) {
             return Ok((known, false));
         }
-        let number = count(self.positions.len());
-        self.positions.push(position)?;
-        self.left.push(0)?;
-        self.right.push(0)?;
-        self.loaded.push(false)?;
+        let number = count(self.variables.len());
+        self.variables.push(Variable {
+            position,
+            left: 0,
+            right: 0,
+            is_loaded: false,
+        })?;
         put(&mut self.numbers, position, number);
         Ok((number, true))
     }
 
     /// The position of a variable's node.
     pub(crate) fn position(&self, var: u32) -> u32 {
-        at(&self.positions, var)
+        match self.variables.get(var as usize) {
+            Some(variable) => variable.position,
+            None => 0,
+        }
     }
 
     /// The codes of the fanins of a gate that was loaded.
     pub(crate) fn fanins(&self, var: u32) -> (u32, u32) {
-        (at(&self.left, var), at(&self.right, var))
+        match self.variables.get(var as usize) {
+            Some(variable) => (variable.left, variable.right),
+            None => (0, 0),
+        }
     }
 
     /// Notes the codes of a gate's fanins.
     pub(crate) fn note_fanins(&mut self, var: u32, left: u32, right: u32) {
-        put(&mut self.left, var, left);
-        put(&mut self.right, var, right);
+        let var = var as usize;
+        if var < self.variables.len() {
+            self.variables[var].left = left;
+            self.variables[var].right = right;
+        }
     }
 
     /// Whether the variable's clauses were loaded before now; afterwards they were.
     pub(crate) fn is_loaded(&mut self, var: u32) -> bool {
-        let was = has(&self.loaded, var);
-        mark(&mut self.loaded, var, true);
+        let var = var as usize;
+        if var >= self.variables.len() {
+            return false;
+        }
+        let was = self.variables[var].is_loaded;
+        self.variables[var].is_loaded = true;
         was
+    }
+}
+
+/// Takes the numbers of these variables away.
+fn forget(numbers: &mut [u32], variables: &[Variable]) {
+    for variable in variables {
+        put(numbers, variable.position, 0);
     }
 }
