@@ -209,8 +209,7 @@ impl Engine {
             conflict,
         )?;
         self.back(lesson.level)?;
-        self.formula.trail.add(&lesson.step.clause)?;
-        self.formula.log.push(lesson.step)?;
+        self.formula.learn(lesson.step)?;
         self.order.decay();
         Ok(())
     }

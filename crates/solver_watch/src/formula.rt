@@ -1,6 +1,6 @@
-ghost use Rattle.std.specs.Prelude.{◌≡◌, ◌<◌, [], Some, length, OnOk, IfOk};
+ghost use Rattle.std.specs.Prelude.{◌≡◌, ◌<◌, ◌++◌, [], ◌∷◌, ℕ, Some, length, OnOk, IfOk};
 ghost use Rattle.unit_prop.specs.Log.{IsBase};
-ghost use Rattle.watch_lists.specs.Trail.{clause_at};
+ghost use Rattle.watch_lists.specs.Trail.{Adds, IsQuiet, clause_at, up_to};
 ghost use Rattle.solver_plain.specs.Formula.{clause_named};
 ghost use Rattle.solver_watch.specs.Known.{IsKnown, IsStarted, clauses_known};
 
@@ -48,13 +48,37 @@ impl Formula {
         self.log.clear();
         self.trail.clear();
         for named in base {
-            self.trail.add(&named.clause)?;
-            let clause = named.clause.copy()?;
-            self.base.push(Named {
-                clause,
-                by: named.by,
-            })?;
+            self.add(named)?;
         }
+        Ok(())
+    }
+
+    /// Adds a clause of the base, as the last one.
+    fn add(&mut self, named: &Named) -> Result<(), AllocError>
+        requires { self.old.trail.last ≡ 0 }
+        ensures trail { OnOk result (Adds self.old.trail named.now.clause self.new.trail) }
+        ensures base { OnOk result (self.new.base.items ≡ self.old.base.items ++ named.now ∷ []) }
+        ensures log { self.new.log.items ≡ self.old.log.items }
+    {
+        self.trail.add(&named.clause)?;
+        let clause = named.clause.copy()?;
+        self.base.push(Named {
+            clause,
+            by: named.by,
+        })?;
+        Ok(())
+    }
+
+    /// Adds a learned step, as the last one.
+    pub(crate) fn learn(&mut self, step: Step) -> Result<(), AllocError>
+        requires { (level : ℕ) → level < self.old.trail.last
+            → IsQuiet (up_to level self.old.trail.puts) step.clause }
+        ensures trail { OnOk result (Adds self.old.trail step.clause self.new.trail) }
+        ensures log { OnOk result (self.new.log.items ≡ self.old.log.items ++ step ∷ []) }
+        ensures base { self.new.base.items ≡ self.old.base.items }
+    {
+        self.trail.add(&step.clause)?;
+        self.log.push(step)?;
         Ok(())
     }
 

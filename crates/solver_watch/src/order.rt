@@ -60,12 +60,17 @@ impl Order {
     pub(crate) fn grow(&mut self, count: u32) -> Result<(), AllocError> {
         for variable in 0..count {
             if variable as usize >= self.places.len() {
-                self.activity.push(0.0)?;
-                self.places.push(ABSENT)?;
-                self.put_back(variable)?;
+                self.add(variable)?;
             }
         }
         Ok(())
+    }
+
+    /// Takes in the next variable.
+    fn add(&mut self, variable: u32) -> Result<(), AllocError> {
+        self.activity.push(0.0)?;
+        self.places.push(ABSENT)?;
+        self.put_back(variable)
     }
 
     /// How many variables it can still hand out.

@@ -52,3 +52,22 @@ returns c =
     (hinting-end (clause_named (clauses_known c.args.formula.now)) c.args.formula.now.trail c.lits-puts.ensures.trail c.args.marks.now
     c.args.from c.args.shown.now c.args.goal.now c.args.conflict c.requires.supported c.loop-place.place c.loop-place.hints.items
     c.loop-place.invariant.1 c.name-2.result (let h = ap length c.lits-puts.ensures.puts in omega arith) c.name-2.ensures))
+
+pub reason-requires-clause-place : goal.reason-requires-clause-place
+reason-requires-clause-place c = let h = ap length c.lits-puts.ensures.puts in omega arith
+
+pub reason-requires-clause-room : goal.reason-requires-clause-room
+reason-requires-clause-room c = c.requires.supported.room
+
+pub reason-requires-clause-resolved : goal.reason-requires-clause-resolved
+reason-requires-clause-resolved c =
+    c.requires.supported.resolved c.loop-place.place c.loop-place.invariant.0 (let h = ap length c.lits-puts.ensures.puts in omega arith)
+
+pub name-requires-clause-known : goal.name-requires-clause-known
+name-requires-clause-known c = c.requires.known
+
+pub name-requires-clause-within : goal.name-requires-clause-within
+name-requires-clause-within c = c.in-Some.ensures.3
+
+pub name-requires-2-clause-within : goal.name-requires-2-clause-within
+name-requires-2-clause-within c = c.requires.supported.number

@@ -1,5 +1,6 @@
-use Rattle.std.proofs.Common.{◌≤◌, arith, length}
+use Rattle.std.proofs.Common.{◌≤◌, ℕ, arith, length, subst}
 use Rattle.watch_lists.specs.Trail.{clause_at}
+use Rattle.solver_watch.specs.Marked.{IsWalking}
 use Rattle.solver_watch.proofs.WalkLemmas.{blank-counted, walking-start, areMet-keeps}
 use Rattle.solver_watch.proofs.cut.Cut.first_point.Goals as goal
 
@@ -28,3 +29,13 @@ loop-place-preserved c = record {
   met = areMet-keeps c.args.trail.now.puts c.loop-place.self.marks c.is_point.new.self.marks (clause_at c.args.trail.now.clauses c.args.conflict)
       c.in_ok-is_point.ensures.keeps c.loop-place.invariant.met;
 }
+
+pub is_point-requires-clause-trail : goal.is_point-requires-clause-trail
+is_point-requires-clause-trail c = c.lits-count.ensures.trail
+
+pub is_point-requires-clause-walking : goal.is_point-requires-clause-walking
+is_point-requires-clause-walking c =
+    subst (λ (n : ℕ). IsWalking c.args.trail.now c.loop-place.passed n c.loop-place.self) (omega (arith, c.loop-place-test.true)) c.loop-place.invariant.walking
+
+pub returns-then-branch-clause-cut : goal.returns-then-branch-clause-cut
+returns-then-branch-clause-cut c = rw c.if-branch.true at c.in_ok-is_point.ensures.point

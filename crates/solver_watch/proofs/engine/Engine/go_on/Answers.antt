@@ -5,6 +5,8 @@ use Rattle.unit_prop.specs.Refuter.{is_over, IsModel}
 use Rattle.solver_plain.proofs.Facts.{each-at}
 use Rattle.watch_lists.specs.Codes.{lit_at}
 use Rattle.solver_watch.specs.Assuming.{IsAssuming}
+use Rattle.solver_watch.specs.Search.{IsState}
+use Rattle.solver_watch.specs.declared.engine.Engine.{Engine}
 use Rattle.solver_watch.proofs.AssumeLemmas.{assuming-assume, assuming-decide}
 use Rattle.solver_watch.proofs.EngineLemmas.{over-numbered, known-same, over-same, refuted-reason, model-is, taken-lits, whole-here, advances}
 use Rattle.solver_watch.proofs.engine.Engine.go_on.Goals as goal
@@ -70,3 +72,25 @@ pub returns-in-Open-clause-none : goal.returns-in-Open-clause-none
 returns-in-Open-clause-none c =
     advances c.args.self.now _ (lit_at c.args.self.now.formula.trail.nodes c.in-Open.code) c.in_ok-decide-in-Open.ensures.clauses
     c.in_ok-decide-in-Open.ensures.trail c.in_ok-decide-in-Open.ensures.nodes c.in_ok-decide-in-Open.ensures.room
+
+pub next_assumption-requires-clause-chosen : goal.next_assumption-requires-clause-chosen
+next_assumption-requires-clause-chosen c =
+    rw (sym c.level.ensures.level ∙ c.if-level-self.true) c.requires.state.assuming.chosen
+
+pub decide-requires-clause-complete : goal.decide-requires-clause-complete
+decide-requires-clause-complete c = c.requires.complete
+
+pub refutation-requires-clause-known : goal.refutation-requires-clause-known
+refutation-requires-clause-known c = c.requires.state.known
+
+-- only the order is another one
+pub returns-in_ok-model-in-None-clause-state : goal.returns-in_ok-model-in-None-clause-state
+returns-in_ok-model-in-None-clause-state c =
+    record { known = c.requires.state.known; over = c.requires.state.over; assuming = c.requires.state.assuming }
+
+state-kept : (old new : Engine) (target : List Lit) → new.formula ≡ old.formula → new.assumed ≡ old.assumed → IsState old target → IsState new target
+state-kept old new target f a s = record { known = rw f s.known; over = rw f s.over; assuming = rw (f, a) s.assuming }
+
+pub returns-in-Refuted-clause-state : goal.returns-in-Refuted-clause-state
+returns-in-Refuted-clause-state c =
+    state-kept c.args.self.now c.refutation.new.self c.args.target.now c.refutation.ensures.same.0 c.refutation.ensures.same.1 c.requires.state

@@ -13,6 +13,7 @@ use Rattle.watch_lists.proofs.HeightLemmas.{height-below}
 use Rattle.watch_lists.proofs.TrailLemmas.{has-take, flips, starts-most}
 use Rattle.unit_prop.proofs.Facts.{contrary}
 use Rattle.watch_lists.proofs.AttachLemmas.{best-bounds, guards-met, guards-free, first-negates, second-forces, alone-forces}
+use Rattle.watch_lists.proofs.TurnLemmas.{holds_refl}
 use Rattle.watch_lists.proofs.engine.Engine.attach_pair.Goals as goal
 
 flip-true : (e : Engine) → IsEngine e → (l neg : ℕ) (b : Bool) → l < length e.truth.items → neg ≡ flip l → b ≡ get_or e.truth.items neg b → b ≡ true → has nat_eq e.trail.items (flip l) ≡ true
@@ -81,3 +82,23 @@ index-requires-3 c =
     let e = c.args.self.now in
     let is = c.requires.engine.trail in
     omega (arith, c.flip-2.ensures, flips is c.args.pair.second (is.within c.args.at c.args.pair.second c.requires.best.second_in), e.truth.ok.0)
+
+pub force_first-requires-clause-free : goal.force_first-requires-clause-free
+force_first-requires-clause-free c = (
+  mark-false c.requires.engine.trail c.args.pair.first c.index-2.result.now c.index-2.ensures c.if-index-2.false,
+  flip-false c.args.self.now c.requires.engine c.args.pair.first c.flip.result c.index.result.now c.flip.ensures c.index.ensures c.if-index.false,
+)
+
+pub force_first-requires-then-index-3-clause-free : goal.force_first-requires-then-index-3-clause-free
+force_first-requires-then-index-3-clause-free c = (
+  mark-false c.requires.engine.trail c.args.pair.first c.index-2.result.now c.index-2.ensures c.if-index-2.false,
+  flip-false c.args.self.now c.requires.engine c.args.pair.first c.flip.result c.index.result.now c.flip.ensures c.index.ensures c.if-index.false,
+)
+
+pub returns-then-index-clause-keeps : goal.returns-then-index-clause-keeps
+returns-then-index-clause-keeps c = holds_refl _
+
+pub index-requires-2 : goal.index-requires-2
+index-requires-2 c =
+    let e = c.args.self.now in
+    omega (arith, c.requires.engine.trail.within c.args.at c.args.pair.first c.requires.best.first_in, e.truth.ok.0)

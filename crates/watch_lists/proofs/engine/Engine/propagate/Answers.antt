@@ -45,3 +45,13 @@ returns-in-Some-clause-stays c = stays-holds c.args.self.now c.attach_all.new.se
 
 pub returns-in_err-clause-clause-stays : goal.returns-in_err-clause-clause-stays
 returns-in_err-clause-clause-stays c = stays-holds c.args.self.now c.attach_all.new.self c.attach_all.ensures.keeps
+
+pub returns-in-Some-clause-some : goal.returns-in-Some-clause-some
+returns-in-Some-clause-some c =
+    subst (λ (r : Option ℕ). IfSome r (λ i. IsStuck c.attach_all.new.self i)) c.in-Some.is c.in_ok-clause.ensures.conflict
+
+pub returns-in-Some-clause-engine : goal.returns-in-Some-clause-engine
+returns-in-Some-clause-engine c = c.attach_all.ensures.engine
+
+pub returns-in_err-clause-clause-engine : goal.returns-in_err-clause-clause-engine
+returns-in_err-clause-clause-engine c = c.attach_all.ensures.engine
