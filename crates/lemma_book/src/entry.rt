@@ -14,7 +14,6 @@ pub struct Task {
 ///
 /// Nodes are merged as in SAT sweeping (Kuehlmann, Paruthi, Krohm and Ganai 2002): the later node
 /// stands for a literal of the earlier one from then on.
-#[derive(Drop)]
 pub enum Entry {
     /// The node has the value of the literal, which is that of an earlier node: the steps end with the
     /// two clauses that say so.
@@ -52,6 +51,43 @@ pub enum Entry {
         seen: u64,
         log: Listed<Step>,
     },
+}
+
+// Written out, so that a drop is one call and not one for each kind at each exit of a function.
+impl Drop for Entry {
+    fn drop(self) {
+        match self {
+            Entry::Merge {
+                node: _,
+                lit: _,
+                steps: _,
+            } => {}
+            Entry::Apart {
+                node: _,
+                lit: _,
+                input: _,
+            } => {}
+            Entry::Spent {
+                node: _,
+                lit: _,
+                seen: _,
+                log: _,
+            } => {}
+            Entry::Out {
+                output: _,
+                steps: _,
+            } => {}
+            Entry::OutApart {
+                output: _,
+                input: _,
+            } => {}
+            Entry::OutSpent {
+                output: _,
+                seen: _,
+                log: _,
+            } => {}
+        }
+    }
 }
 
 /// What a book has one entry of at most: a node's merge, and what is known of an output.

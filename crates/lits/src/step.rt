@@ -15,10 +15,19 @@ pub enum Ref {
 }
 
 /// A step of a proof: a clause, and the clauses that show it by unit propagation, in order.
-#[derive(Drop)]
 pub struct Step {
     pub clause: Clause<Lit>,
     pub hints: Listed<Ref>,
+}
+
+// Written out, so that a drop is one call and not one for each field at each exit of a function.
+impl Drop for Step {
+    fn drop(self) {
+        let Step {
+            clause: _,
+            hints: _,
+        } = self;
+    }
 }
 
 /// A clause with its name.

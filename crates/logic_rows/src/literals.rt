@@ -123,17 +123,17 @@ const NAME: Ref = Ref::Axiom(Node::Gate(Side::B, 3), 1);
 
 const HINTS: [Ref; 2] = [NAME, Ref::Own(0)];
 
-/// A step of a named clause, whose first hint is that name.
-fn step_of_named(alloc: Global) -> Result<Step, Fail> {
+/// The hints of a step: the name of a clause, and an own step.
+fn hints_of_named(alloc: Global) -> Result<Listed<Ref>, Fail> {
     let named = Named {
         clause: gate_or_input(alloc)?,
         by: NAME,
     };
-    let hints = Vec::from_slice(alloc, &[named.by, Ref::Own(0)])?;
-    Ok(Step {
-        clause: named.clause,
-        hints: Listed::of(hints),
-    })
+    let step = Step {
+        clause: gate_or_input(alloc)?,
+        hints: Listed::of(Vec::from_slice(alloc, &[named.by, Ref::Own(0)])?),
+    };
+    Ok(Listed::of(Vec::from_slice(alloc, step.hints.as_slice())?))
 }
 
 /// Whether these are the two hints, also as a vector.
@@ -149,7 +149,7 @@ fn clause_of_nodes(rt: HostRuntime) -> Result<(), Fail> {
     expect(&rt, "a copy", is_copied(rt.alloc())?);
     expect(&rt, "a unit", is_unit(rt.alloc())?);
     expect(&rt, "what it has", is_read(&gate_or_input(rt.alloc())?));
-    expect(&rt, "hints", are_hints(step_of_named(rt.alloc())?.hints));
+    expect(&rt, "hints", are_hints(hints_of_named(rt.alloc())?));
     Ok(())
 }
 

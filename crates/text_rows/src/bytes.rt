@@ -90,5 +90,5 @@ fn headers(rt: HostRuntime) {
     let is_read = header(&mut scan, b'i').is_ok();
     check(&rt, "M is I and A", is_read && scan.at() == 14);
     let header = header(&mut Scan::new(b"aig 4 2 0 1 1\n6\n"), b'i');
-    check(&rt, "M is above", header == Err(AigerErr::BadHeader));
+    check(&rt, "M is above", header.err() == Some(AigerErr::BadHeader));
 }
