@@ -11,8 +11,8 @@ use lits::{Clause, Lit, Literal, Named, Step};
 use std::alloc::{AllocError, Global};
 use unit_prop::{Closure, close_under};
 
-/// The first of the log's clauses that isn't new over the cone and the clauses before it, or before which unit
-/// propagation decides the literal, if there is one.
+/// The first of the log's clauses that isn't new over the cone and the clauses before it, or before which
+/// unit propagation decides the literal, if there is one.
 ///
 /// A log without this could be padded with clauses that unit propagation has already, and its length would
 /// say nothing of the work that was done.

@@ -106,7 +106,7 @@ impl Book {
     }
 }
 
-/// What becomes of an entry that is judged so: it is refused, or settled at a place, or neither where it is good.
+/// What becomes of an entry that is judged so: it is refused, settled at a place, or neither if it is good.
 fn verdict(judgement: Result<Judgement, AllocError>) -> Result<Option<u64>, Refused>
     ensures { result ≡ verdict_of judgement }
 {

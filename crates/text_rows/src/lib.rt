@@ -4,9 +4,10 @@
 //! The tests of a crate stand here and not in it, since a crate with tests is proved twice. Modules: `bytes`
 //! is of `byte_scan`, `ascii` of `aiger_ascii`, `binary` of `aiger_binary`, `forms` of `aiger_file`,
 //! `formulas` of `dimacs_text`, `proof_lines` of `lrat_text`, `proof_checks` of `lrat_checker`, `desks` of
-//! `desk_port`, `real_desks` of `os_desk`, `proof_runs` of `lrat_run`, `ends` of `endings`, `words` of `command_line`, `workloads` of
-//! `workload_gen`; `texts` has the texts of the faults of all, `circuits` what the readers of circuits are
-//! compared by, and `checks` what ends each comparison. Begin to read at `bytes.rt`.
+//! `desk_port`, `real_desks` of `os_desk`, `proof_runs` of `lrat_run`, `ends` of `endings`, `words` of
+//! `command_line`, `workloads` of `workload_gen`; `texts` has the texts of the faults of all, `circuits`
+//! what the readers of circuits are compared by, and `checks` what ends each comparison. Begin to read at
+//! `bytes.rt`.
 #![tactic(auto)]
 
 #[cfg(test)]
