@@ -29,7 +29,7 @@ use Rattle.lemma_book.specs.Book.{IsLegal}
 use Rattle.lemma_book.specs.Cone.{IsCone}
 use Rattle.lemma_book.specs.Good.{NoNode, NoStep, node_clause, out_clause, IsStepAt, IsNewAt, IsUndecidedAt, OfCone, IsGood}
 use Rattle.lemma_book.specs.Fault.{IsFreeBefore, FailsAt, IsFault, IsSettled, IsJudgement, IsRefusal, Takes}
-use Rattle.lemma_book.specs.Judging.{IsFirstBad, IsFirstPlace, IsFresh, verdict_of}
+use Rattle.lemma_book.specs.Judging.{IsFirstBad, IsFirstPlace, IsFresh, standing_of}
 use Rattle.lemma_book.proofs.ConeLemmas.{cone-one}
 use Rattle.lemma_book.proofs.MergedNodes.{placed-there}
 use Rattle.lemma_book.proofs.ThereLemmas.{is_some-variable}
@@ -148,24 +148,24 @@ given-back net old e (Err x) back = (back.0, subst (IsRefusal net old e) (sym ba
 
 -- what an entry's judgement comes to
 module _ (net : AigPair) (book : Entries) (e : Entry) where
-  pub verdict-good : (r : Result Judgement AllocError) → IfOk r (IsJudgement net book e) → verdict_of r ≡ Ok None → IsGood net book e
-  verdict-good (Ok judged.Good) is told = is
-  verdict-good (Ok (judged.Settled i)) is told = cc
-  verdict-good (Ok judged.NotApart) is told = cc
-  verdict-good (Ok (judged.Bad f)) is told = cc
-  verdict-good (Err x) is told = cc
+  pub standing-good : (r : Result Judgement AllocError) → IfOk r (IsJudgement net book e) → standing_of r ≡ Ok None → IsGood net book e
+  standing-good (Ok judged.Good) is told = is
+  standing-good (Ok (judged.Settled i)) is told = cc
+  standing-good (Ok judged.NotApart) is told = cc
+  standing-good (Ok (judged.Bad f)) is told = cc
+  standing-good (Err x) is told = cc
 
-  pub verdict-settled : (r : Result Judgement AllocError) (place : ℕ) → IfOk r (IsJudgement net book e) → verdict_of r ≡ Ok (Some place)
+  pub standing-settled : (r : Result Judgement AllocError) (place : ℕ) → IfOk r (IsJudgement net book e) → standing_of r ≡ Ok (Some place)
       → IsSettled net book e place
-  verdict-settled (Ok judged.Good) place is told = cc
-  verdict-settled (Ok (judged.Settled i)) place is told = let same : i ≡ place = cc in subst (IsSettled net book e) same is
-  verdict-settled (Ok judged.NotApart) place is told = cc
-  verdict-settled (Ok (judged.Bad f)) place is told = cc
-  verdict-settled (Err x) place is told = cc
+  standing-settled (Ok judged.Good) place is told = cc
+  standing-settled (Ok (judged.Settled i)) place is told = let same : i ≡ place = cc in subst (IsSettled net book e) same is
+  standing-settled (Ok judged.NotApart) place is told = cc
+  standing-settled (Ok (judged.Bad f)) place is told = cc
+  standing-settled (Err x) place is told = cc
 
-  pub verdict-refused : (r : Result Judgement AllocError) (x : Refused) → IfOk r (IsJudgement net book e) → verdict_of r ≡ Err x → IsRefusal net book e x
-  verdict-refused (Ok judged.Good) x is told = cc
-  verdict-refused (Ok (judged.Settled i)) x is told = cc
-  verdict-refused (Ok judged.NotApart) x is told = let same : refused.NotApart ≡ x = cc in subst (IsRefusal net book e) same is
-  verdict-refused (Ok (judged.Bad f)) x is told = let same : refused.Bad f ≡ x = cc in subst (IsRefusal net book e) same is
-  verdict-refused (Err y) x is told = let same : NoMemory ≡ x = cc in subst (IsRefusal net book e) same tt
+  pub standing-refused : (r : Result Judgement AllocError) (x : Refused) → IfOk r (IsJudgement net book e) → standing_of r ≡ Err x → IsRefusal net book e x
+  standing-refused (Ok judged.Good) x is told = cc
+  standing-refused (Ok (judged.Settled i)) x is told = cc
+  standing-refused (Ok judged.NotApart) x is told = let same : refused.NotApart ≡ x = cc in subst (IsRefusal net book e) same is
+  standing-refused (Ok (judged.Bad f)) x is told = let same : refused.Bad f ≡ x = cc in subst (IsRefusal net book e) same is
+  standing-refused (Err y) x is told = let same : NoMemory ≡ x = cc in subst (IsRefusal net book e) same tt

@@ -33,20 +33,20 @@ abbrev pub IsFirstPlace : (ℕ → Type 0) → Option ℕ → Type 0
 IsFirstPlace P None = (k : ℕ) → P k
 IsFirstPlace P (Some n) = ((k : ℕ) → k < n → P k) × (¬ P n)
 
--- the fault is the error's, of the hint at that place; want of memory is none
+-- the fault is the error's, of the hint at that place; want of memory has no fault
 abbrev pub IsFaultOf : ℕ → StepErr → Option BadStep → Type 0
 IsFaultOf place (Bad why) fault = fault ≡ Some (record { hint = place; why = why })
 IsFaultOf place NoMemory fault = ⊥
 
--- the log's clause at place k is new, and before it unit propagation doesn't decide the literal, if there is one
+-- the log's clause at place k, if it is there, is new, and before it unit propagation doesn't refute the literal, if one is given
 pub record IsFresh (cone : List Named) (lit : Option Lit) (log : List Step) (k : ℕ) : Type 0 where
   pub new : IsNewAt cone log k
   pub undecided : (s : Step) → slice_get log k ≡ Some s → IfSome lit (λ l. IsOpen same_lit opposite (clauses_of cone (take k log)) (l ∷ []))
 
--- what becomes of an entry that is judged so: it is refused, or settled at a place, or neither where it is good
-abbrev pub verdict_of : Result Judgement AllocError → Result (Option ℕ) Refused
-verdict_of (Ok judged.Good) = Ok None
-verdict_of (Ok (judged.Settled place)) = Ok (Some place)
-verdict_of (Ok judged.NotApart) = Err refused.NotApart
-verdict_of (Ok (judged.Bad fault)) = Err (refused.Bad fault)
-verdict_of (Err e) = Err refused.NoMemory
+-- how an entry stands that is judged so: it is refused, or settled at a place, or neither where it is good
+abbrev pub standing_of : Result Judgement AllocError → Result (Option ℕ) Refused
+standing_of (Ok judged.Good) = Ok None
+standing_of (Ok (judged.Settled place)) = Ok (Some place)
+standing_of (Ok judged.NotApart) = Err refused.NotApart
+standing_of (Ok (judged.Bad fault)) = Err (refused.Bad fault)
+standing_of (Err e) = Err refused.NoMemory

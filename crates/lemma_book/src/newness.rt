@@ -12,7 +12,7 @@ use std::alloc::{AllocError, Global};
 use unit_prop::{Closure, close_under};
 
 /// The first of the log's clauses that isn't new over the cone and the clauses before it, or before which
-/// unit propagation decides the literal, if there is one.
+/// unit propagation refutes the literal, if one is given.
 ///
 /// A log without this could be padded with clauses that unit propagation has already, and its length would
 /// say nothing of the work that was done.
@@ -53,7 +53,7 @@ fn add_copy(clauses: &mut Vec<Clause<Lit>>, clause: &Clause<Lit>) -> Result<(), 
     Ok(())
 }
 
-/// Whether the clause is new over the others, and these don't decide the literal, if there is one.
+/// Whether the clause is new over the others, and these don't refute the literal, if one is given.
 fn is_fresh(
     alloc: Global,
     clauses: &[Clause<Lit>],

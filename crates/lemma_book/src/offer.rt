@@ -2,7 +2,7 @@ ghost use Rattle.std.specs.Prelude.{◌≡◌, ◌≤◌, None, length, IfOk, If
 ghost use Rattle.lemma_book.specs.Entry.{first_entries, settled_at, with_last};
 ghost use Rattle.lemma_book.specs.Good.{IsGood};
 ghost use Rattle.lemma_book.specs.Fault.{IsJudgement, IsRefusal, Takes};
-ghost use Rattle.lemma_book.specs.Judging.{verdict_of};
+ghost use Rattle.lemma_book.specs.Judging.{standing_of};
 ghost use Rattle.lemma_book.specs.Book.{IsLegal, answer_to, book_after, IsFrom};
 
 use crate::book::Book;
@@ -46,7 +46,7 @@ impl Book {
         ensures unchanged { OnErr result (self.new ≡ self.old) }
         ensures stays_legal { IsLegal net.now self.new }
     {
-        match verdict(self.judge(alloc, net, &entry)) {
+        match standing(self.judge(alloc, net, &entry)) {
             Ok(None) => self.take(alloc, entry),
             Ok(Some(place)) => Ok(Offered::Already(place)),
             Err(refused) => Err((entry, refused)),
@@ -106,9 +106,9 @@ impl Book {
     }
 }
 
-/// What becomes of an entry that is judged so: it is refused, settled at a place, or neither if it is good.
-fn verdict(judgement: Result<Judgement, AllocError>) -> Result<Option<u64>, Refused>
-    ensures { result ≡ verdict_of judgement }
+/// How an entry stands that is judged so: it is refused, settled at a place, or neither where it is good.
+fn standing(judgement: Result<Judgement, AllocError>) -> Result<Option<u64>, Refused>
+    ensures { result ≡ standing_of judgement }
 {
     match judgement {
         Ok(Judgement::Good) => Ok(None),

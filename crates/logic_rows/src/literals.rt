@@ -123,25 +123,28 @@ const NAME: Ref = Ref::Axiom(Node::Gate(Side::B, 3), 1);
 
 const HINTS: [Ref; 2] = [NAME, Ref::Own(0)];
 
-/// The hints of a step: the name of a clause, and an own step.
-fn hints_of_named(alloc: Global) -> Result<Listed<Ref>, Fail> {
+/// A step of a named clause, whose first hint is that name.
+fn step_of_named(alloc: Global) -> Result<Step, Fail> {
     let named = Named {
         clause: gate_or_input(alloc)?,
         by: NAME,
     };
-    let step = Step {
-        clause: gate_or_input(alloc)?,
-        hints: Listed::of(Vec::from_slice(alloc, &[named.by, Ref::Own(0)])?),
-    };
-    Ok(Listed::of(Vec::from_slice(alloc, step.hints.as_slice())?))
+    let hints = Vec::from_slice(alloc, &[named.by, Ref::Own(0)])?;
+    Ok(Step {
+        clause: named.clause,
+        hints: Listed::of(hints),
+    })
 }
 
-/// Whether these are the two hints, also as a vector.
-fn are_hints(hints: Listed<Ref>) -> bool {
-    hints.as_slice() == HINTS.as_slice()
-        && hints.len() == 2
-        && !hints.is_empty()
-        && hints.into_vec().len() == 2
+/// Whether the step has the two hints.
+fn has_hints(step: &Step) -> bool {
+    step.hints.as_slice() == HINTS.as_slice() && step.hints.len() == 2 && !step.hints.is_empty()
+}
+
+/// How many they are as a vector.
+fn many_hints(alloc: Global) -> Result<usize, AllocError> {
+    let hints = Listed::of(Vec::from_slice(alloc, &HINTS)?);
+    Ok(hints.into_vec().len())
 }
 
 #[test]
@@ -149,7 +152,8 @@ fn clause_of_nodes(rt: HostRuntime) -> Result<(), Fail> {
     expect(&rt, "a copy", is_copied(rt.alloc())?);
     expect(&rt, "a unit", is_unit(rt.alloc())?);
     expect(&rt, "what it has", is_read(&gate_or_input(rt.alloc())?));
-    expect(&rt, "hints", are_hints(hints_of_named(rt.alloc())?));
+    expect(&rt, "hints", has_hints(&step_of_named(rt.alloc())?));
+    expect(&rt, "as a vector", many_hints(rt.alloc())? == 2);
     Ok(())
 }
 

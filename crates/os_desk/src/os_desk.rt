@@ -1,7 +1,7 @@
 //! Real files, standard output and standard error.
 ghost use Rattle.std.specs.Prelude.{◌≡◌, ◌≤◌, IfErr, IfOk, IfSome, IsSome, None, OnOk, length};
 ghost use Rattle.std.specs.Io.KnownBytes.{Appends};
-ghost use Rattle.desk_port.specs.Desk.{NoCountFalls, Reads, Rose, Says, Starts, Warns, Writes};
+ghost use Rattle.desk_port.specs.Desk.{Closes, NoCountFalls, Reads, Rose, Says, Starts, Warns, Writes};
 ghost use Rattle.desk_port.specs.MemDesk.{next_count};
 
 use crate::streams::{put_all, read_within};
@@ -115,7 +115,13 @@ impl<R: Files, O: Write, E: Write> Desk for OsDesk<R, O, E> {
     }
 
     // std closes a file where it is dropped, and tells no error.
-    fn close(&mut self) -> Result<(), PutErr> {
+    fn close(&mut self) -> Result<(), PutErr>
+        requires { IsSome (state_of self.old).started }
+        ensures answer { Closes (state_of self.old) (state_of self.new) result }
+        ensures counts { NoCountFalls (state_of self.old) (state_of self.new) }
+        ensures one { IfErr result (λ e. e ≡ PutErr.Failed → (state_of self.new).write_faults
+            ≡ next_count (state_of self.old).write_faults) }
+    {
         self.started = None;
         Ok(())
     }

@@ -27,12 +27,12 @@ fn put_twice<D: Desk>(desk: &mut D) -> Result<(), PutErr>
     desk.close()
 }
 
-/// A file and the most that is read of it, and what that comes to.
-static READS: [(&str, u64, Result<(), ReadErr>); 4] = [
-    ("pieces.txt", 3, Ok(())),
-    ("pieces.txt", u64::MAX, Ok(())),
-    ("pieces.txt", 2, Err(ReadErr::TooLong)),
-    ("missing.txt", 3, Err(ReadErr::Failed)),
+/// What is read, a file and the most that is read of it, and what that comes to.
+static READS: [(&str, &str, u64, Result<(), ReadErr>); 4] = [
+    ("as long as may be", "pieces.txt", 3, Ok(())),
+    ("without a limit", "pieces.txt", u64::MAX, Ok(())),
+    ("too long", "pieces.txt", 2, Err(ReadErr::TooLong)),
+    ("missing", "missing.txt", 3, Err(ReadErr::Failed)),
 ];
 
 /// Whether the file reads so: with the bytes "abc", or not at all.
@@ -55,8 +55,8 @@ fn real_files(rt: HostRuntime) -> Result<(), Fail> {
     put_twice(&mut desk)?;
     let no_folder = desk.start("missing/pieces.txt");
     check(&rt, "no such folder", no_folder == Err(PutErr::Failed));
-    for (name, limit, want) in &READS {
-        check(&rt, name, reads(rt.alloc(), &mut desk, name, *limit, *want));
+    for (what, name, limit, want) in &READS {
+        check(&rt, what, reads(rt.alloc(), &mut desk, name, *limit, *want));
     }
     fs::remove_file(&rt, "pieces.txt")?;
     Ok(())
@@ -92,6 +92,6 @@ fn shut_outputs(rt: HostRuntime) {
     for is_closed in [true, false] {
         let (out, err) = (Shut(is_closed), Shut(is_closed));
         let is_so = is_shut(&mut OsDesk::new(rt.alloc(), &rt, out, err));
-        check(&rt, "shut", is_so);
+        check(&rt, if is_closed { "closed" } else { "full" }, is_so);
     }
 }

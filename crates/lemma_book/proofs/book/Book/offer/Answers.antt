@@ -1,16 +1,16 @@
 -- A good entry is settled by none, and a legal book stays legal with it.
 use Rattle.std.proofs.Common.{ℕ, Option, Ok, ap, refl, sym, ◌∙◌}
 use Rattle.lemma_book.specs.Good.{Already}
-use Rattle.lemma_book.proofs.Judged.{legal-taken, last-taken, given-back, verdict-good, verdict-settled, verdict-refused}
+use Rattle.lemma_book.proofs.Judged.{legal-taken, last-taken, given-back, standing-good, standing-settled, standing-refused}
 use Rattle.lemma_book.proofs.book.Book.offer.Goals as goal
 
 pub take-requires : goal.take-requires
 take-requires c =
-    (verdict-good c.args.net.now c.args.self.now c.args.entry c.judge.result c.judge.ensures (sym c.verdict.ensures ∙ c.in-Ok-None.is ∙ ap (λ (o : Option ℕ). Ok o) c.in-Ok-None.field-0-is)) Already
+    (standing-good c.args.net.now c.args.self.now c.args.entry c.judge.result c.judge.ensures (sym c.standing.ensures ∙ c.in-Ok-None.is ∙ ap (λ (o : Option ℕ). Ok o) c.in-Ok-None.field-0-is)) Already
 
 pub returns-in-Ok-None : goal.returns-in-Ok-None
 returns-in-Ok-None c =
-    let good = (verdict-good c.args.net.now c.args.self.now c.args.entry c.judge.result c.judge.ensures (sym c.verdict.ensures ∙ c.in-Ok-None.is ∙ ap (λ (o : Option ℕ). Ok o) c.in-Ok-None.field-0-is)) in
+    let good = (standing-good c.args.net.now c.args.self.now c.args.entry c.judge.result c.judge.ensures (sym c.standing.ensures ∙ c.in-Ok-None.is ∙ ap (λ (o : Option ℕ). Ok o) c.in-Ok-None.field-0-is)) in
     record {
       taken = last-taken c.args.net.now c.args.self.now c.take.new.self c.args.entry c.take.result good c.take.ensures.taken;
       refused = given-back c.args.net.now c.args.self.now c.args.entry c.take.result c.take.ensures.refused;
@@ -22,8 +22,8 @@ returns-in-Ok-None c =
 pub returns-in-Ok-Some : goal.returns-in-Ok-Some
 returns-in-Ok-Some c = record {
   taken = (
-    verdict-settled c.args.net.now c.args.self.now c.args.entry c.judge.result c.in-Ok-Some.place c.judge.ensures
-        (sym c.verdict.ensures ∙ c.in-Ok-Some.is ∙ ap (λ (o : Option ℕ). Ok o) c.in-Ok-Some.field-0-is),
+    standing-settled c.args.net.now c.args.self.now c.args.entry c.judge.result c.in-Ok-Some.place c.judge.ensures
+        (sym c.standing.ensures ∙ c.in-Ok-Some.is ∙ ap (λ (o : Option ℕ). Ok o) c.in-Ok-Some.field-0-is),
     refl,
   );
   refused = tt;
@@ -34,7 +34,7 @@ returns-in-Ok-Some c = record {
 pub returns-in-Err : goal.returns-in-Err
 returns-in-Err c = record {
   taken = tt;
-  refused = (refl, verdict-refused c.args.net.now c.args.self.now c.args.entry c.judge.result c.in-Err.refused c.judge.ensures (sym c.verdict.ensures ∙ c.in-Err.is));
+  refused = (refl, standing-refused c.args.net.now c.args.self.now c.args.entry c.judge.result c.in-Err.refused c.judge.ensures (sym c.standing.ensures ∙ c.in-Err.is));
   unchanged = refl;
   stays_legal = c.requires.legal;
 }
