@@ -4,9 +4,10 @@
 Usage: wrong_bodies.py [--seed N] [--all | CRATE ..]
 
 `wrong_bodies/CRATE/NAME.edit` is written like the must-fail edits of that crate, of which the gate tries those that tell most. Here
-they take the place of these in a copy of the repository, where `rt ci` runs over the crate: of what the gate has proved on this
-machine nothing is proved again, so an edit costs its own check, and on a new machine all below the crate is proved first. With no
-CRATE it is one that the seed draws. Prints what each edit came to; status 1 where one isn't refused.
+they take the place of these in a copy of the repository, where `rt ci` runs over the crate: where the toolchain keeps what the gate has
+proved on this machine nothing is proved again, so an edit costs its own check, else all below the crate is proved first. Where `rt ci`
+takes no crate's name, `rt must-fail` does. With no CRATE it is one that the seed draws. Prints what each edit came to; status 1 where one
+isn't refused.
 """
 import argparse
 import random
@@ -22,6 +23,8 @@ from house import TOP
 
 EDITS = Path(__file__).resolve().parent / "wrong_bodies"
 TRIED = re.compile(r"must-fail ([a-z_]+/[a-z_]+)\.edit: (.*)")
+# The status of `rt` at words that it doesn't know, and where a run stopped.
+NO_SUCH_WORDS = 2
 
 
 def copied(room, crates):
@@ -50,6 +53,8 @@ def main():
         copied(room, crates)
         piped = {"stdin": subprocess.DEVNULL, "stdout": subprocess.PIPE, "stderr": subprocess.STDOUT, "text": True}
         run = subprocess.run(["rt", "ci", *crates], cwd=room, check=False, **piped)
+        if run.returncode == NO_SUCH_WORDS and not TRIED.search(run.stdout):
+            run = subprocess.run(["rt", "must-fail", *crates], cwd=room, check=False, **piped)
     tried = TRIED.findall(run.stdout)
     for edit, came_to in tried:
         print(f"{edit}: {came_to}")
