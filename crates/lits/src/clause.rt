@@ -1,11 +1,9 @@
 ghost use Rattle.std.specs.Prelude.{◌≡◌, true, false, IfOk, IfErr, OnOk};
 ghost use Rattle.std.specs.List.{list_any};
-ghost use Rattle.lits.specs.Chains.{IsReady};
 ghost use Rattle.lits.specs.Clause.{has, firsts, has_pair, IsClause, Adds};
 
-use crate::chains::Chains;
 use crate::literal::Literal;
-use smallvec::SmallVec;
+use crate::literal_set::LiteralSet;
 use std::alloc::{AllocError, AllocFailed, Global};
 use std::marker::Model;
 
@@ -40,10 +38,8 @@ impl<T: Drop> From<AllocFailed<T>> for ClauseErr {
 }
 
 /// A clause: a disjunction of literals without repeats and without a complementary pair.
-///
-/// Up to three literals stand in the value itself, since most clauses of a circuit have no more.
 pub struct Clause<L: Literal> {
-    lits: SmallVec<L, 3>,
+    lits: Vec<L>,
 }
 
 // Written out, so that a drop is one call and not one for each field at each exit of a function.
@@ -72,12 +68,13 @@ impl<L: Literal> Clause<L> {
         ensures tautology { IfErr result
             (λ e. e ≡ ClauseErr.Tautology → has_pair L.PartialEq.eq L.Literal.opposite lits.now ≡ true) }
     {
-        let mut kept = SmallVec::new(alloc);
-        let mut chains = Chains::new(alloc);
+        let mut kept = LiteralSet::new(alloc);
         for lit in lits {
-            add(&mut kept, &mut chains, *lit)?;
+            add(&mut kept, *lit)?;
         }
-        Ok(Clause { lits: kept })
+        Ok(Clause {
+            lits: kept.into_vec(),
+        })
     }
 
     /// The clause of literals that make one.
@@ -86,7 +83,7 @@ impl<L: Literal> Clause<L> {
         ensures { IfOk result (λ c. c ≡ lits.now) }
     {
         Ok(Clause {
-            lits: SmallVec::from_slice(alloc, lits)?,
+            lits: Vec::from_slice(alloc, lits)?,
         })
     }
 
@@ -121,20 +118,13 @@ impl<L: Literal> Clause<L> {
 }
 
 /// Puts a literal last, unless it is there already.
-fn add<L: Literal>(kept: &mut SmallVec<L, 3>, chains: &mut Chains, lit: L) -> Result<(), ClauseErr>
-    requires { IsReady L.Literal.code chains.old.heads.items chains.old.links.items kept.old.items }
-    ensures ok { OnOk result (Adds L.PartialEq.eq L.Literal.opposite kept.old.items lit kept.new.items) }
-    ensures ready { OnOk result
-        (IsReady L.Literal.code chains.new.heads.items chains.new.links.items kept.new.items) }
+fn add<L: Literal>(kept: &mut LiteralSet<L>, lit: L) -> Result<(), ClauseErr>
+    ensures ok { OnOk result (Adds L.PartialEq.eq L.Literal.opposite kept.old lit kept.new) }
     ensures pair { IfErr result
-        (λ e. e ≡ ClauseErr.Tautology → has L.PartialEq.eq kept.old.items (L.Literal.opposite lit) ≡ true) }
+        (λ e. e ≡ ClauseErr.Tautology → has L.PartialEq.eq kept.old (L.Literal.opposite lit) ≡ true) }
 {
-    if chains.has(kept.as_slice(), lit.not()) {
+    if kept.has(lit.not()) {
         return Err(ClauseErr::Tautology);
     }
-    if !chains.has(kept.as_slice(), lit) {
-        chains.expect(*kept.allocator(), kept.as_slice(), lit)?;
-        kept.push(lit)?;
-    }
-    Ok(())
+    Ok(kept.add(lit)?)
 }

@@ -17,25 +17,22 @@ pub returns-in_err-add-clause-tautology : goal.returns-in_err-add-clause-tautolo
 returns-in_err-add-clause-tautology g c =
     let laws = is_literal g.met.L.Eq.laws g.met.L.Literal.exact g.met.L.Literal.twice in
     let p = err_from_is_err_and c.from_residual.result c.from_residual.ensures.1 in
-    rw (p.1, p.2) (λ t. pair-next laws _ _ _ _ (omega arith) c.lit-item.is c.loop-lit.invariant.is_kept (c.in_err-add.ensures.pair t))
+    rw (p.1, p.2) (λ t. pair-next laws _ _ _ _ (omega arith) c.lit-item.is c.loop-lit.invariant (c.in_err-add.ensures.pair t))
 
 pub loop-lit-preserved : goal.loop-lit-preserved
 loop-lit-preserved g c =
     let laws = is_literal g.met.L.Eq.laws g.met.L.Literal.exact g.met.L.Literal.twice in
-    record {
-      is_kept = kept-next laws _ _ _ _ _ (omega arith) c.lit-item.is c.loop-lit.invariant.is_kept c.in_ok-add.ensures.ok;
-      ready = c.in_ok-add.ensures.ready;
-    }
+    kept-next laws _ _ _ _ _ (omega arith) c.lit-item.is c.loop-lit.invariant c.in_ok-add.ensures.ok
 
 pub invariant_of-result : goal.invariant_of-result
-invariant_of-result g c = c.loop-lit.invariant.is_kept.clause
+invariant_of-result g c = rw c.into_vec.ensures c.loop-lit.invariant.clause
 
 pub returns-clause-kept : goal.returns-clause-kept
 returns-clause-kept g c =
     let all = take_all c.loop-lit.lit-index c.args.lits.now c.loop-lit-test.false in
-    c.loop-lit.invariant.is_kept.first ∙ ap (firsts g.L.PartialEq.eq) all
+    c.into_vec.ensures ∙ c.loop-lit.invariant.first ∙ ap (firsts g.L.PartialEq.eq) all
 
 pub returns-clause-clause : goal.returns-clause-clause
 returns-clause-clause g c =
     let all = take_all c.loop-lit.lit-index c.args.lits.now c.loop-lit-test.false in
-    sym (ap (has_pair g.L.PartialEq.eq g.L.Literal.opposite) all) ∙ c.loop-lit.invariant.is_kept.apart
+    sym (ap (has_pair g.L.PartialEq.eq g.L.Literal.opposite) all) ∙ c.loop-lit.invariant.apart
