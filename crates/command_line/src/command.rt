@@ -10,18 +10,22 @@ use clap::{Arg, Command};
 use std::alloc::{AllocError, Global};
 
 /// The program's command, with all that the table has.
+///
+/// What may fail comes first, here and below: a command of `clap` has some sixty parts, which would be given up
+/// one by one at each exit.
 pub(crate) fn cec_command<'a>(alloc: Global) -> Result<Command<'a>, AllocError>
     ensures { IfOk result (λ c. app_of c ≡ cec_app) }
 {
-    let mut cec = Command::new(alloc, "cec")
+    let mut commands = Vec::new(alloc);
+    for row in &COMMANDS {
+        commands.push(command_of(alloc, row)?)?;
+    }
+    Command::new(alloc, "cec")
         .about(PROGRAM_HELP)
         .after_help(PROGRAM_NOTES)
         .subcommand_required(true)
-        .disable_help_subcommand(true);
-    for row in &COMMANDS {
-        cec = cec.subcommand(command_of(alloc, row)?)?;
-    }
-    Ok(cec)
+        .disable_help_subcommand(true)
+        .subcommands(commands)
 }
 
 /// The command of a row, for `clap`.
@@ -29,13 +33,14 @@ fn command_of<'a>(alloc: Global, row: &CommandRow) -> Result<Command<'a>, AllocE
     ensures app { IfOk result (λ c. app_of c ≡ leaf_in row.now) }
     ensures local { IfOk result (λ c. (fields_of c).has_globals ≡ false) }
 {
-    let mut command = Command::new(alloc, row.name)
-        .about(row.help)
-        .after_help(row.notes);
+    let mut arguments = Vec::new(alloc);
     for argument in row.arguments {
-        command = command.arg(argument_of(alloc, argument))?;
+        arguments.push(argument_of(alloc, argument))?;
     }
-    Ok(command)
+    Command::new(alloc, row.name)
+        .about(row.help)
+        .after_help(row.notes)
+        .args(arguments)
 }
 
 /// The argument or option of a row, for `clap`. The range of a number is `clap`'s to judge, so that a number

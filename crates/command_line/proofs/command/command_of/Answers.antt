@@ -1,12 +1,32 @@
-use Rattle.std.proofs.Common.{◌≡◌, ◌∙◌, false, rules}
-use Rattle.command_line.proofs.TableLemmas.{next_argument}
+use Rattle.std.proofs.Common.{◌≡◌, false, rules, []}
+use Rattle.std.proofs.lemmas.List.{take_all}
+use Rattle.std.proofs.lemmas.Result.{IfOk-weaker}
+use Rattle.clap.specs.Words.{app_of}
+use Rattle.clap.specs.declared.builder.command.Command.TheViews.{out-Command as fields_of}
+use Rattle.command_line.specs.Commands.{command}
+use Rattle.command_line.specs.Table.{leaf}
+use Rattle.command_line.proofs.TableLemmas.{next_argument, with_arguments}
 use Rattle.command_line.proofs.command.command_of.Goals as goal
+
+pub loop-argument-init : goal.loop-argument-init
+loop-argument-init c = rw c.new-arguments.ensures.items tt
 
 pub loop-argument-preserved : goal.loop-argument-preserved
 loop-argument-preserved c =
-    let local : c.argument_of.result.global ≡ false = c.argument_of.ensures.local in
-    record {
-      app = c.in_ok-command.ensures.shape local
-          ∙ next_argument _ _ _ _ _ _ c.loop-argument-test.true c.loop-argument.invariant.app c.argument_of.ensures.rule;
-      local = search rules;
-    }
+    rw c.in_ok-push.ensures.items
+    (next_argument c.args.row.now.arguments.now c.loop-argument.argument-index _ c.loop-argument.arguments.items c.argument_of.result c.loop-argument-test.true c.loop-argument.invariant c.argument_of.ensures.rule c.argument_of.ensures.local)
+
+pub returns-clause-app : goal.returns-clause-app
+returns-clause-app c =
+    let all = take_all c.loop-argument.argument-index c.args.row.now.arguments.now c.loop-argument-test.false in
+    let app : app_of c.after_help.result ≡ leaf (command c.args.row.now.name.now []) = search rules in
+    let local : (fields_of c.after_help.result).has_globals ≡ false = search rules in
+    IfOk-weaker c.args-2.result _ _
+    (λ made turn. (with_arguments _ _ _ [] _ made (rw all at c.loop-argument.invariant) app local turn).0) c.args-2.ensures
+
+pub returns-clause-local : goal.returns-clause-local
+returns-clause-local c =
+    let app : app_of c.after_help.result ≡ leaf (command c.args.row.now.name.now []) = search rules in
+    let local : (fields_of c.after_help.result).has_globals ≡ false = search rules in
+    IfOk-weaker c.args-2.result _ _
+    (λ made turn. (with_arguments _ _ _ [] _ made c.loop-argument.invariant app local turn).1) c.args-2.ensures
