@@ -105,20 +105,6 @@ impl Engine {
     /// Adds a clause and does what it asks for. Tells its number where it is a conflict.
     pub(crate) fn put(&mut self, lits: &[u32], name: Name) -> Result<u32, AllocError> {
         let clause = self.clauses.push(lits, name)?;
-        self.watch(clause)
-    }
-
-    /// Watches the clause that was put last by the two of its codes that aren't false for longest, and does
-    /// what it asks for. Tells its number where it is a conflict.
-    pub(crate) fn watch(&mut self, clause: u32) -> Result<u32, AllocError> {
-        self.watches.grow_clauses()?;
-        self.clauses.bring(&self.trail, clause, 0);
-        self.clauses.bring(&self.trail, clause, 1);
-        if self.clauses.len(clause) > 1 {
-            let watch = clause.wrapping_add(1).wrapping_mul(2);
-            self.watches.push(self.clauses.lit(clause, 0), watch);
-            self.watches.push(self.clauses.lit(clause, 1), watch | 1);
-        }
-        Ok(self.trail.settle(&self.clauses, clause))
+        self.watches.watch(&mut self.clauses, &mut self.trail, clause)
     }
 }

@@ -1,6 +1,8 @@
+use crate::clauses::Clauses;
 use crate::engine::Engine;
 use crate::lessons::Hints;
 use crate::table::NONE;
+use crate::trail::Trail;
 use netlist::Net;
 use std::alloc::AllocError;
 
@@ -67,11 +69,13 @@ impl Engine {
     fn meet(&mut self, conflict: u32) -> Result<Option<Outcome>, AllocError> {
         let (level, many, second) = self.trail.levels(self.clauses.get(conflict));
         if level <= 1 {
-            return Ok(Some(Outcome::Refuted(self.refutation(conflict)?)));
+            let hints =
+                self.lessons.refutation(&self.clauses, &self.trail, self.assumed, conflict)?;
+            return Ok(Some(Outcome::Refuted(hints)));
         }
         self.trail.cut(level);
         if many == 1 {
-            self.force(conflict, level, second);
+            self.trail.force(&self.clauses, conflict, level, second);
             return Ok(None);
         }
         if self.left.conflicts == 0 {
@@ -81,16 +85,18 @@ impl Engine {
         self.learn(conflict)?;
         Ok(None)
     }
+}
 
+impl Trail {
     /// Goes back to the second highest level of a false clause, and makes the code true that stood higher.
-    fn force(&mut self, clause: u32, level: u32, second: u32) {
+    fn force(&mut self, clauses: &Clauses, clause: u32, level: u32, second: u32) {
         let mut forced = NONE;
-        for code in self.clauses.get(clause) {
-            if self.trail.level_of(*code / 2) == level {
+        for code in clauses.get(clause) {
+            if self.level_of(*code / 2) == level {
                 forced = *code;
             }
         }
-        self.trail.cut(second);
-        self.trail.assign(forced, clause);
+        self.cut(second);
+        self.assign(forced, clause);
     }
 }
