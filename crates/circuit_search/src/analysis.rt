@@ -14,7 +14,8 @@ impl Engine {
         let number = self.clauses.push(&self.lessons.lits, name)?;
         let (_, _, second) = self.trail.levels(self.clauses.get(number));
         self.trail.cut(second);
-        self.watches.watch(&mut self.clauses, &mut self.trail, number)?;
+        self.watches
+            .watch(&mut self.clauses, &mut self.trail, number)?;
         self.lessons.push(number, hints)
     }
 }

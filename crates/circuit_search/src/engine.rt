@@ -86,8 +86,8 @@ impl Engine {
         self.lessons.clear();
         self.left = caps;
         let constant = self.code(0)?;
-        let _loaded = self.variables.is_loaded(constant / 2);
-        self.put(&[constant], Name::Axiom(constant / 2, 0))?;
+        let _loaded = self.variables.is_loaded(0);
+        self.put(&[constant], Name::Axiom(0, 0))?;
         Ok(())
     }
 
@@ -105,6 +105,7 @@ impl Engine {
     /// Adds a clause and does what it asks for. Tells its number where it is a conflict.
     pub(crate) fn put(&mut self, lits: &[u32], name: Name) -> Result<u32, AllocError> {
         let clause = self.clauses.push(lits, name)?;
-        self.watches.watch(&mut self.clauses, &mut self.trail, clause)
+        self.watches
+            .watch(&mut self.clauses, &mut self.trail, clause)
     }
 }

@@ -25,7 +25,9 @@ impl Engine {
             if late != NONE {
                 return Ok(late);
             }
-            let conflict = self.watches.visit_all(&mut self.clauses, &mut self.trail, code ^ 1);
+            let conflict = self
+                .watches
+                .visit_all(&mut self.clauses, &mut self.trail, code ^ 1);
             if conflict != NONE {
                 return Ok(conflict);
             }

@@ -16,7 +16,7 @@ use std::alloc::{AllocError, Global};
 #[derive(Clone, Copy)]
 pub(crate) enum Found {
     /// They have one value: the first clauses refute that only the first code is true, the other ones that
-    /// only the second.
+    /// only the second. The lessons that these lead to are numbered.
     Equal(Hints, Hints),
     /// They differ on the inputs that the trail has.
     Apart,
@@ -38,7 +38,11 @@ impl Engine {
         let positive = Lit { node, neg: false };
         self.shown = 0;
         match self.compare(net, positive, lit, caps)? {
-            Found::Equal(there, back) => self.merge(alloc, net, node, lit, there, back),
+            Found::Equal(there, back) => {
+                let steps = self.merge_steps(alloc, net, positive, lit, there, back)?;
+                let steps = Listed::of(steps);
+                Ok(Some(Entry::Merge { node, lit, steps }))
+            }
             Found::Apart => {
                 let input = self.input(alloc, net)?;
                 Ok(Some(Entry::Apart { node, lit, input }))
@@ -100,7 +104,10 @@ impl Engine {
     fn ask_both(&mut self, net: &Net, first: u32, second: u32) -> Result<Found, AllocError> {
         match self.ask(net, first, second ^ 1)? {
             Outcome::Refuted(there) => match self.ask(net, first ^ 1, second)? {
-                Outcome::Refuted(back) => Ok(Found::Equal(there, back)),
+                Outcome::Refuted(back) => {
+                    self.lessons.reach(&self.clauses, there, back);
+                    Ok(Found::Equal(there, back))
+                }
                 Outcome::Possible => Ok(Found::Apart),
                 Outcome::Open => Ok(Found::Open),
             },
@@ -109,27 +116,9 @@ impl Engine {
         }
     }
 
-    /// The merge of a pair of which both implications are refuted otherwise.
-    fn merge(
-        &mut self,
-        alloc: Global,
-        net: &Net,
-        node: Node,
-        lit: Lit,
-        there: Hints,
-        back: Hints,
-    ) -> Result<Option<Entry>, AllocError>
-        ensures { IfOk result (λ o. IfSome o (SettlesPair (record { node = node; lit = lit }))) }
-    {
-        let positive = Lit { node, neg: false };
-        let steps = self.merge_steps(alloc, net, positive, lit, there, back)?;
-        let steps = Listed::of(steps);
-        Ok(Some(Entry::Merge { node, lit, steps }))
-    }
-
     /// The steps that show two literals equal; the last two say it.
     pub(crate) fn merge_steps(
-        &mut self,
+        &self,
         alloc: Global,
         net: &Net,
         first: Lit,
@@ -137,7 +126,7 @@ impl Engine {
         there: Hints,
         back: Hints,
     ) -> Result<Vec<Step>, AllocError> {
-        let mut steps = self.steps(alloc, net, there, back)?;
+        let mut steps = self.steps(alloc, net)?;
         self.add_step(alloc, net, &[first.not(), second], &[], there, &mut steps)?;
         self.add_step(alloc, net, &[first, second.not()], &[], back, &mut steps)?;
         Ok(steps)
@@ -146,7 +135,7 @@ impl Engine {
     /// The entry of an output of which both cases are refuted: first that the second literal alone is true,
     /// and then that the first is.
     fn out(
-        &mut self,
+        &self,
         alloc: Global,
         net: &Net,
         output: u32,
@@ -156,7 +145,7 @@ impl Engine {
     ) -> Result<Option<Entry>, AllocError>
         ensures { IfOk result (λ o. IfSome o (SettlesOutput output)) }
     {
-        let mut steps = self.steps(alloc, net, back, there)?;
+        let mut steps = self.steps(alloc, net)?;
         let xor = Node::Xor(output);
         self.add_cases(alloc, net, xor, first, (back, there), &mut steps)?;
         let steps = Listed::of(self.equalities.proof(alloc, &steps)?);
@@ -185,12 +174,7 @@ impl Engine {
     }
 
     /// The entry of an output that is one literal in both circuits.
-    fn out_of_one(
-        &mut self,
-        alloc: Global,
-        net: &Net,
-        output: u32,
-    ) -> Result<Option<Entry>, AllocError>
+    fn out_of_one(&self, alloc: Global, net: &Net, output: u32) -> Result<Option<Entry>, AllocError>
         ensures { IfOk result (λ o. IfSome o (SettlesOutput output)) }
     {
         let xor = Node::Xor(output);

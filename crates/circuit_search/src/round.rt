@@ -69,8 +69,9 @@ impl Engine {
     fn meet(&mut self, conflict: u32) -> Result<Option<Outcome>, AllocError> {
         let (level, many, second) = self.trail.levels(self.clauses.get(conflict));
         if level <= 1 {
-            let hints =
-                self.lessons.refutation(&self.clauses, &self.trail, self.assumed, conflict)?;
+            let hints = self
+                .lessons
+                .refutation(&self.clauses, &self.trail, self.assumed, conflict)?;
             return Ok(Some(Outcome::Refuted(hints)));
         }
         self.trail.cut(level);

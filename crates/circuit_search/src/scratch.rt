@@ -75,88 +75,20 @@ impl Scratch {
         let inputs = positions
             .saturating_sub(count(net.all_fanins().len()))
             .saturating_sub(1);
-        let mut scratch = Scratch {
+        Ok(Scratch {
             inputs,
-            words: Vec::new(alloc),
+            words: draw(alloc, inputs, seed, words)?,
             row: vec![in alloc; 0; positions as usize]?,
-            asked: Vec::new(alloc),
             found: vec![in alloc; 0; positions as usize]?,
+            asked: Vec::new(alloc),
             noted: 0,
-        };
-        scratch.draw(seed, words)?;
-        Ok(scratch)
-    }
-
-    /// Draws the patterns.
-    fn draw(&mut self, seed: u64, words: u32) -> Result<(), AllocError> {
-        let mut generator = Lcg128Xsl64::seed_from_u64(seed);
-        for _ in 0..u64::from(self.inputs).saturating_mul(u64::from(words)) {
-            let _drawn = generator.next_word();
-        }
-        for word in 0..DRAWN {
-            self.draw_word(&mut generator, word)?;
-        }
-        Ok(())
-    }
-
-    /// Draws a word of each input, in the way that its number asks for.
-    fn draw_word(&mut self, generator: &mut Lcg128Xsl64, word: u32) -> Result<(), AllocError> {
-        if word < EVEN {
-            return self.draw_rare(generator, 0, 0);
-        }
-        let rare = word - EVEN;
-        if rare < 2 * RARE {
-            return self.draw_rare(generator, rare / 2, turn(rare % 2 == 1));
-        }
-        let like = rare - 2 * RARE;
-        self.draw_like(generator, like / 2, like as usize % 2 + 1)
-    }
-
-    /// Draws a word of each input, of which a bit differs from this one once in 2, 4, 8 and so on.
-    fn draw_rare(
-        &mut self,
-        generator: &mut Lcg128Xsl64,
-        often: u32,
-        usual: u64,
-    ) -> Result<(), AllocError> {
-        for _ in 0..self.inputs {
-            self.words.push(rare(generator, often) ^ usual)?;
-        }
-        Ok(())
-    }
-
-    /// Draws a word of each input that seldom differs from that of the input so many places before.
-    fn draw_like(
-        &mut self,
-        generator: &mut Lcg128Xsl64,
-        often: u32,
-        back: usize,
-    ) -> Result<(), AllocError> {
-        let first = self.words.len();
-        for _ in 0..self.inputs {
-            let drawn = generator.next_word();
-            let place = self.words.len();
-            let word = if place >= first.saturating_add(back) {
-                let fresh = rare(generator, often.saturating_add(1));
-                let before = word_at(&self.words, place.saturating_sub(back));
-                (before & !fresh) | (drawn & fresh)
-            } else {
-                drawn
-            };
-            self.words.push(word)?;
-        }
-        Ok(())
+        })
     }
 
     /// Takes the pairs of a round, and looks for those that the patterns tell apart.
     pub(crate) fn sift(&mut self, net: &Net, tasks: &[Task]) -> Result<(), AllocError> {
         self.forget();
-        for task in tasks {
-            let pair = (net.position(task.node), lit_code(net, task.lit));
-            if let (Some(node), Some(target)) = pair {
-                self.asked.push(Asked { node, target })?;
-            }
-        }
+        list_pairs(&mut self.asked, net, tasks)?;
         for word in 0..DRAWN {
             self.look(net, word);
         }
@@ -273,6 +205,86 @@ impl Scratch {
         let word = word_at(&self.words, self.place(pattern / 64, input));
         (word >> (pattern % 64)) & 1 == 1
     }
+}
+
+/// Draws the inputs' words, of so many inputs, behind the first words of the seed.
+fn draw(alloc: Global, inputs: u32, seed: u64, first: u32) -> Result<Vec<u64>, AllocError> {
+    let mut generator = Lcg128Xsl64::seed_from_u64(seed);
+    for _ in 0..u64::from(inputs).saturating_mul(u64::from(first)) {
+        let _drawn = generator.next_word();
+    }
+    let mut words = Vec::new(alloc);
+    for word in 0..DRAWN {
+        draw_word(&mut words, inputs, &mut generator, word)?;
+    }
+    Ok(words)
+}
+
+/// Draws a word of each input, in the way that its number asks for.
+fn draw_word(
+    words: &mut Vec<u64>,
+    inputs: u32,
+    generator: &mut Lcg128Xsl64,
+    word: u32,
+) -> Result<(), AllocError> {
+    if word < EVEN {
+        return draw_rare(words, inputs, generator, 0, 0);
+    }
+    let rare = word - EVEN;
+    if rare < 2 * RARE {
+        return draw_rare(words, inputs, generator, rare / 2, turn(rare % 2 == 1));
+    }
+    let like = rare - 2 * RARE;
+    draw_like(words, inputs, generator, like / 2, like as usize % 2 + 1)
+}
+
+/// Draws a word of each input, of which a bit differs from this one once in 2, 4, 8 and so on.
+fn draw_rare(
+    words: &mut Vec<u64>,
+    inputs: u32,
+    generator: &mut Lcg128Xsl64,
+    often: u32,
+    usual: u64,
+) -> Result<(), AllocError> {
+    for _ in 0..inputs {
+        words.push(rare(generator, often) ^ usual)?;
+    }
+    Ok(())
+}
+
+/// Draws a word of each input that seldom differs from that of the input so many places before.
+fn draw_like(
+    words: &mut Vec<u64>,
+    inputs: u32,
+    generator: &mut Lcg128Xsl64,
+    often: u32,
+    back: usize,
+) -> Result<(), AllocError> {
+    let first = words.len();
+    for _ in 0..inputs {
+        let drawn = generator.next_word();
+        let place = words.len();
+        let word = if place >= first.saturating_add(back) {
+            let fresh = rare(generator, often.saturating_add(1));
+            let before = word_at(words, place.saturating_sub(back));
+            (before & !fresh) | (drawn & fresh)
+        } else {
+            drawn
+        };
+        words.push(word)?;
+    }
+    Ok(())
+}
+
+/// Lists the pairs of a round that are in the net.
+fn list_pairs(asked: &mut Vec<Asked>, net: &Net, tasks: &[Task]) -> Result<(), AllocError> {
+    for task in tasks {
+        let pair = (net.position(task.node), lit_code(net, task.lit));
+        if let (Some(node), Some(target)) = pair {
+            asked.push(Asked { node, target })?;
+        }
+    }
+    Ok(())
 }
 
 /// A word in which a bit is set once in 2, 4, 8 and so on.
