@@ -1,26 +1,28 @@
 use crate::clauses::{Clauses, Name};
-use crate::engine::Engine;
 use crate::lessons::{Hints, Lessons};
 use crate::table::NONE;
 use crate::trail::{FALSE, Trail};
+use crate::watches::Watches;
 use std::alloc::AllocError;
 
-impl Engine {
+impl Lessons {
     /// Learns from a clause that is false at the last level: keeps the clause that is learned, goes back to
     /// where it forces a code, and makes that true.
-    pub(crate) fn learn(&mut self, conflict: u32) -> Result<(), AllocError> {
-        let hints = self.lessons.analyze(&self.clauses, &self.trail, conflict)?;
-        let name = Name::Lesson(self.lessons.len());
-        let number = self.clauses.push(&self.lessons.lits, name)?;
-        let (_, _, second) = self.trail.levels(self.clauses.get(number));
-        self.trail.cut(second);
-        self.watches
-            .watch(&mut self.clauses, &mut self.trail, number)?;
-        self.lessons.push(number, hints)
+    pub(crate) fn learn(
+        &mut self,
+        clauses: &mut Clauses,
+        trail: &mut Trail,
+        watches: &mut Watches,
+        conflict: u32,
+    ) -> Result<(), AllocError> {
+        let hints = self.analyze(clauses, trail, conflict)?;
+        let number = clauses.push(&self.lits, Name::Lesson(self.len()))?;
+        let levels = trail.levels(clauses.get(number));
+        trail.cut(levels.second);
+        watches.watch(clauses, trail, number)?;
+        self.push(number, hints)
     }
-}
 
-impl Lessons {
     /// Finds the clause of the first unique implication point of a conflict at the last level, by the reasons
     /// between it and the conflict (Marques-Silva and Sakallah 1996). Gives these.
     fn analyze(
@@ -31,7 +33,7 @@ impl Lessons {
     ) -> Result<Hints, AllocError> {
         let level = trail.level();
         self.restart();
-        let mut many = self.follow(clauses, trail, conflict, level)?;
+        let mut many = self.follow(clauses, trail, conflict, level, 0)?;
         for place in (0..trail.len()).rev() {
             let code = trail.lit(place);
             if self.unmark(code / 2) {
@@ -58,20 +60,20 @@ impl Lessons {
             self.lits.push(code ^ 1)?;
             return Ok(rest);
         }
-        let reason = trail.reason(code / 2);
-        Ok(rest.saturating_add(self.follow(clauses, trail, reason, level)?))
+        self.follow(clauses, trail, trail.reason(code / 2), level, rest)
     }
 
-    /// Takes a clause as a hint, and marks what makes its codes false. Tells how many codes of the level are
-    /// new.
+    /// Takes a clause as a hint, and marks what makes its codes false. Adds to the codes of the level, of which
+    /// there were so many, those that are new.
     fn follow(
         &mut self,
         clauses: &Clauses,
         trail: &Trail,
         clause: u32,
         level: u32,
+        before: u32,
     ) -> Result<u32, AllocError> {
-        let mut many: u32 = 0;
+        let mut many = before;
         self.trace.push(clause)?;
         for place in 0..clauses.len(clause) {
             let code = clauses.lit(clause, place);
@@ -92,11 +94,11 @@ impl Lessons {
         conflict: u32,
     ) -> Result<Hints, AllocError> {
         self.restart();
-        self.follow(clauses, trail, conflict, NONE)?;
+        self.follow(clauses, trail, conflict, NONE, 0)?;
         for place in (0..trail.len()).rev() {
             let var = trail.lit(place) / 2;
             if self.unmark(var) && var != assumed.0 && var != assumed.1 {
-                self.follow(clauses, trail, trail.reason(var), NONE)?;
+                self.follow(clauses, trail, trail.reason(var), NONE, 0)?;
             }
         }
         self.keep_trace()

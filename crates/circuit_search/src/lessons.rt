@@ -136,7 +136,7 @@ impl Lessons {
                 self.reach_from(clauses, lesson.hints);
             }
         }
-        self.number_reached();
+        number_needed(&mut self.lessons);
     }
 
     /// Marks the lessons among the hints.
@@ -155,15 +155,15 @@ impl Lessons {
             self.lessons[number].order = 1;
         }
     }
+}
 
-    /// Numbers the lessons that were marked.
-    fn number_reached(&mut self) {
-        let mut number: u32 = 0;
-        for lesson in self.lessons.iter_mut() {
-            if lesson.order > 0 {
-                number = number.saturating_add(1);
-                lesson.order = number;
-            }
+/// Numbers the lessons that were marked.
+fn number_needed(lessons: &mut [Lesson]) {
+    let mut number: u32 = 0;
+    for lesson in lessons.iter_mut() {
+        if lesson.order > 0 {
+            number = number.saturating_add(1);
+            lesson.order = number;
         }
     }
 }

@@ -16,7 +16,7 @@ use std::alloc::{AllocError, Global};
 #[derive(Clone, Copy)]
 pub(crate) enum Found {
     /// They have one value: the first clauses refute that only the first code is true, the other ones that
-    /// only the second. The lessons that these lead to are numbered.
+    /// only the second.
     Equal(Hints, Hints),
     /// They differ on the inputs that the trail has.
     Apart,
@@ -104,10 +104,7 @@ impl Engine {
     fn ask_both(&mut self, net: &Net, first: u32, second: u32) -> Result<Found, AllocError> {
         match self.ask(net, first, second ^ 1)? {
             Outcome::Refuted(there) => match self.ask(net, first ^ 1, second)? {
-                Outcome::Refuted(back) => {
-                    self.lessons.reach(&self.clauses, there, back);
-                    Ok(Found::Equal(there, back))
-                }
+                Outcome::Refuted(back) => Ok(Found::Equal(there, back)),
                 Outcome::Possible => Ok(Found::Apart),
                 Outcome::Open => Ok(Found::Open),
             },
@@ -118,7 +115,7 @@ impl Engine {
 
     /// The steps that show two literals equal; the last two say it.
     pub(crate) fn merge_steps(
-        &self,
+        &mut self,
         alloc: Global,
         net: &Net,
         first: Lit,
@@ -126,7 +123,7 @@ impl Engine {
         there: Hints,
         back: Hints,
     ) -> Result<Vec<Step>, AllocError> {
-        let mut steps = self.steps(alloc, net)?;
+        let mut steps = self.steps(alloc, net, there, back)?;
         self.add_step(alloc, net, &[first.not(), second], &[], there, &mut steps)?;
         self.add_step(alloc, net, &[first, second.not()], &[], back, &mut steps)?;
         Ok(steps)
@@ -135,7 +132,7 @@ impl Engine {
     /// The entry of an output of which both cases are refuted: first that the second literal alone is true,
     /// and then that the first is.
     fn out(
-        &self,
+        &mut self,
         alloc: Global,
         net: &Net,
         output: u32,
@@ -145,7 +142,7 @@ impl Engine {
     ) -> Result<Option<Entry>, AllocError>
         ensures { IfOk result (λ o. IfSome o (SettlesOutput output)) }
     {
-        let mut steps = self.steps(alloc, net)?;
+        let mut steps = self.steps(alloc, net, back, there)?;
         let xor = Node::Xor(output);
         self.add_cases(alloc, net, xor, first, (back, there), &mut steps)?;
         let steps = Listed::of(self.equalities.proof(alloc, &steps)?);

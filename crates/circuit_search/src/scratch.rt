@@ -137,32 +137,13 @@ impl Scratch {
         for word in 0..DRAWN {
             self.simulate(net, word);
             for output in 0..net.outputs() {
-                if let Some(bit) = self.first_apart(net, output) {
+                if let Some(bit) = first_apart(&self.row, net, output) {
                     let pattern = word.saturating_mul(64).saturating_add(bit);
                     return Ok(Some(self.input(alloc, pattern)?));
                 }
             }
         }
         Ok(None)
-    }
-
-    /// The first pattern of the simulated word on which an output differs.
-    fn first_apart(&self, net: &Net, output: u32) -> Option<u32> {
-        let first = self.output_word(net, Side::A, output)?;
-        let second = self.output_word(net, Side::B, output)?;
-        let apart = first ^ second;
-        if apart != 0 {
-            Some(apart.trailing_zeros())
-        } else {
-            None
-        }
-    }
-
-    /// The values of an output of one side on the simulated word.
-    fn output_word(&self, net: &Net, side: Side, output: u32) -> Option<u64> {
-        let lit = net.output(side, output)?;
-        let position = net.position(lit.node)?;
-        Some(word_at(&self.row, position as usize) ^ turn(lit.neg))
     }
 
     /// The inputs' truth values in a pattern.
@@ -305,6 +286,25 @@ fn simulate_gates(row: &mut [u64], net: &Net, first: usize) {
         put_word(row, position, left & right);
         position = position.saturating_add(1);
     }
+}
+
+/// The first pattern of the simulated word on which an output differs.
+fn first_apart(row: &[u64], net: &Net, output: u32) -> Option<u32> {
+    let first = output_word(row, net, Side::A, output)?;
+    let second = output_word(row, net, Side::B, output)?;
+    let apart = first ^ second;
+    if apart != 0 {
+        Some(apart.trailing_zeros())
+    } else {
+        None
+    }
+}
+
+/// The values of an output of one side on the simulated word.
+fn output_word(row: &[u64], net: &Net, side: Side, output: u32) -> Option<u64> {
+    let lit = net.output(side, output)?;
+    let position = net.position(lit.node)?;
+    Some(word_at(row, position as usize) ^ turn(lit.neg))
 }
 
 /// Forgets which patterns tell these pairs apart.

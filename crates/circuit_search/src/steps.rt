@@ -6,8 +6,15 @@ use netlist::Net;
 use std::alloc::{AllocError, Global};
 
 impl Engine {
-    /// The steps of the lessons that the entry needs.
-    pub(crate) fn steps(&self, alloc: Global, net: &Net) -> Result<Vec<Step>, AllocError> {
+    /// The steps of the lessons that two lists of hints lead to.
+    pub(crate) fn steps(
+        &mut self,
+        alloc: Global,
+        net: &Net,
+        first: Hints,
+        second: Hints,
+    ) -> Result<Vec<Step>, AllocError> {
+        self.lessons.reach(&self.clauses, first, second);
         let mut steps = Vec::new(alloc);
         for number in 0..self.lessons.len() {
             let lesson = self.lessons.get(number);

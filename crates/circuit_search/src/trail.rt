@@ -24,6 +24,18 @@ struct Start {
     justified: u32,
 }
 
+/// The levels on which the codes of a false clause stand.
+#[derive(Clone, Copy)]
+pub(crate) struct Levels {
+    pub(crate) highest: u32,
+    /// How many codes stand on the highest level.
+    pub(crate) many: u32,
+    /// The last of these.
+    pub(crate) last: u32,
+    /// The second highest level.
+    pub(crate) second: u32,
+}
+
 /// The values that were assumed, chosen or forced, in order.
 #[derive(Drop)]
 pub(crate) struct Trail {
@@ -109,11 +121,11 @@ impl Trail {
         }
     }
 
-    /// The highest level of a false clause's codes, how many of them stand there, and the second highest
-    /// level.
-    pub(crate) fn levels(&self, clause: &[u32]) -> (u32, u32, u32) {
+    /// The levels of a false clause's codes.
+    pub(crate) fn levels(&self, clause: &[u32]) -> Levels {
         let mut highest = 0;
         let mut many: u32 = 0;
+        let mut last = NONE;
         let mut second = 0;
         for code in clause {
             let level = self.level_of(*code / 2);
@@ -121,13 +133,20 @@ impl Trail {
                 second = highest;
                 highest = level;
                 many = 1;
+                last = *code;
             } else if level == highest {
                 many = many.saturating_add(1);
+                last = *code;
             } else if level > second {
                 second = level;
             }
         }
-        (highest, many, second)
+        Levels {
+            highest,
+            many,
+            last,
+            second,
+        }
     }
 
     /// The level that was begun last.
