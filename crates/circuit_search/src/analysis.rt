@@ -53,14 +53,14 @@ impl Lessons {
         level: u32,
         many: u32,
     ) -> Result<u32, AllocError> {
-        let here = trail.level_of(code / 2);
-        let is_last = here == level;
+        let cause = trail.cause(code / 2);
+        let is_last = cause.level == level;
         let rest = many.saturating_sub(u32::from(is_last));
-        if here > 0 && (!is_last || many <= 1) {
+        if cause.level > 0 && (!is_last || many <= 1) {
             self.lits.push(code ^ 1)?;
             return Ok(rest);
         }
-        self.follow(clauses, trail, trail.reason(code / 2), level, rest)
+        self.follow(clauses, trail, cause.reason, level, rest)
     }
 
     /// Takes a clause as a hint, and marks what makes its codes false. Adds to the codes of the level, of which
@@ -78,7 +78,7 @@ impl Lessons {
         for place in 0..clauses.len(clause) {
             let code = clauses.lit(clause, place);
             let is_new = trail.value(code) == FALSE && self.mark(code / 2);
-            if is_new && trail.level_of(code / 2) == level {
+            if is_new && trail.cause(code / 2).level == level {
                 many = many.saturating_add(1);
             }
         }
@@ -98,7 +98,7 @@ impl Lessons {
         for place in (0..trail.len()).rev() {
             let var = trail.lit(place) / 2;
             if self.unmark(var) && var != assumed.0 && var != assumed.1 {
-                self.follow(clauses, trail, trail.reason(var), NONE, 0)?;
+                self.follow(clauses, trail, trail.cause(var).reason, NONE, 0)?;
             }
         }
         self.keep_trace()

@@ -164,13 +164,8 @@ impl Scratch {
 
     /// Gives each position its values on one word of patterns.
     fn simulate(&mut self, net: &Net, word: u32) {
-        put_word(&mut self.row, 0, u64::MAX);
-        for input in 0..self.inputs {
-            let value = word_at(&self.words, self.place(word, input));
-            put_word(&mut self.row, input as usize + 1, value);
-        }
-        let first_gate = self.inputs as usize + 1;
-        simulate_gates(&mut self.row, net, first_gate);
+        let first = self.place(word, 0);
+        simulate(&mut self.row, net, &self.words, first, self.inputs);
     }
 
     /// The pattern that tells the pair of a position apart.
@@ -277,9 +272,13 @@ fn rare(generator: &mut Lcg128Xsl64, often: u32) -> u64 {
     word
 }
 
-/// Gives each gate its values, of which the first stands at this position.
-fn simulate_gates(row: &mut [u64], net: &Net, first: usize) {
-    let mut position = first;
+/// Gives each position its values, where the words of so many inputs stand from this place on.
+fn simulate(row: &mut [u64], net: &Net, words: &[u64], first: usize, inputs: u32) {
+    put_word(row, 0, u64::MAX);
+    for input in 0..inputs as usize {
+        put_word(row, input + 1, word_at(words, first.saturating_add(input)));
+    }
+    let mut position = inputs as usize + 1;
     for fanins in net.all_fanins() {
         let left = word_at(row, fanins.left.position as usize) ^ turn(fanins.left.neg);
         let right = word_at(row, fanins.right.position as usize) ^ turn(fanins.right.neg);

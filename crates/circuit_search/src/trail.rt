@@ -11,10 +11,10 @@ pub(crate) const FALSE: u32 = 2;
 
 /// Why a variable has its value.
 #[derive(Clone, Copy)]
-struct Cause {
-    level: u32,
+pub(crate) struct Cause {
+    pub(crate) level: u32,
     /// The clause that forced it; `NONE` where it was chosen.
-    reason: u32,
+    pub(crate) reason: u32,
 }
 
 /// Where a level began, and up to where all gates were justified then.
@@ -96,26 +96,21 @@ impl Trail {
         at(&self.values, code)
     }
 
-    /// The level of a variable that has a value.
-    pub(crate) fn level_of(&self, var: u32) -> u32 {
+    /// Why a variable has its value, if it has one.
+    pub(crate) fn cause(&self, var: u32) -> Cause {
         match self.causes.get(var as usize) {
-            Some(cause) => cause.level,
-            None => 0,
-        }
-    }
-
-    /// The clause that forced a variable.
-    pub(crate) fn reason(&self, var: u32) -> u32 {
-        match self.causes.get(var as usize) {
-            Some(cause) => cause.reason,
-            None => 0,
+            Some(cause) => *cause,
+            None => Cause {
+                level: 0,
+                reason: 0,
+            },
         }
     }
 
     /// The level from which on a code is false.
     pub(crate) fn false_from(&self, code: u32) -> u32 {
         if self.value(code) == FALSE {
-            self.level_of(code / 2)
+            self.cause(code / 2).level
         } else {
             NONE
         }
@@ -128,7 +123,7 @@ impl Trail {
         let mut last = NONE;
         let mut second = 0;
         for code in clause {
-            let level = self.level_of(*code / 2);
+            let level = self.cause(*code / 2).level;
             if level > highest {
                 second = highest;
                 highest = level;
