@@ -11,6 +11,7 @@ use netlist::Net;
 use std::alloc::{AllocError, Global};
 
 /// The memory of a search, which is kept from query to query.
+#[derive(Drop)]
 pub(crate) struct Engine {
     pub(crate) merges: Merges,
     pub(crate) equalities: Equalities,
@@ -27,25 +28,6 @@ pub(crate) struct Engine {
     pub(crate) left: Caps,
     /// Whether equalities were searched for.
     pub(crate) is_equated: bool,
-}
-
-// Written out, so that a drop is one call and not one for each field at each exit of a function.
-impl Drop for Engine {
-    fn drop(self) {
-        let Engine {
-            merges: _,
-            equalities: _,
-            shown: _,
-            variables: _,
-            clauses: _,
-            watches: _,
-            trail: _,
-            lessons: _,
-            assumed: _,
-            left: _,
-            is_equated: _,
-        } = self;
-    }
 }
 
 impl Engine {

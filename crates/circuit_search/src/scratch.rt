@@ -35,6 +35,7 @@ struct Asked {
 ///
 /// The pool keeps the few patterns that are needed, while these may be many: each word is simulated by
 /// itself, so that no node has more than one.
+#[derive(Drop)]
 pub(crate) struct Scratch {
     inputs: u32,
     /// The inputs' words: word w of input i stands at w times the inputs and i.
@@ -47,20 +48,6 @@ pub(crate) struct Scratch {
     found: Vec<u32>,
     /// How many counterexamples the round had.
     noted: u32,
-}
-
-// Written out, so that a drop is one call and not one for each field at each exit of a function.
-impl Drop for Scratch {
-    fn drop(self) {
-        let Scratch {
-            inputs: _,
-            words: _,
-            row: _,
-            asked: _,
-            found: _,
-            noted: _,
-        } = self;
-    }
 }
 
 impl Scratch {
