@@ -24,7 +24,7 @@ impl Lessons {
     }
 
     /// Finds the clause of the first unique implication point of a conflict at the last level, by the reasons
-    /// between it and the conflict (Marques-Silva and Sakallah 1996). Gives these.
+    /// between it and the conflict (Marques-Silva and Sakallah 1996). Gives the clauses that show it.
     fn analyze(
         &mut self,
         clauses: &Clauses,
