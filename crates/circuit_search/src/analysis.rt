@@ -1,78 +1,106 @@
-use crate::clauses::Name;
-use crate::engine::Engine;
-use crate::lessons::Hints;
+use crate::clauses::{Clauses, Name};
+use crate::lessons::{Hints, Lessons};
 use crate::table::NONE;
-use crate::trail::FALSE;
+use crate::trail::{FALSE, Trail};
+use crate::watches::Watches;
 use std::alloc::AllocError;
 
-impl Engine {
-    /// Learns from a clause that is false at the last level: the clause of the first unique implication
-    /// point, by the reasons between it and the conflict (Marques-Silva and Sakallah 1996).
-    pub(crate) fn learn(&mut self, conflict: u32) -> Result<(), AllocError> {
-        let level = self.trail.level();
-        self.lessons.restart();
-        let mut many = self.trace(conflict, level)?;
-        for place in (0..self.trail.len()).rev() {
-            let code = self.trail.lit(place);
-            if self.lessons.unmark(code / 2) {
-                many = self.pass(code, level, many)?;
+impl Lessons {
+    /// Learns from a clause that is false at the last level: keeps the clause that is learned, goes back to
+    /// where it forces a code, and makes that true.
+    pub(crate) fn learn(
+        &mut self,
+        clauses: &mut Clauses,
+        trail: &mut Trail,
+        watches: &mut Watches,
+        conflict: u32,
+    ) -> Result<(), AllocError> {
+        let hints = self.analyze(clauses, trail, conflict)?;
+        let number = clauses.push(&self.lits, Name::Lesson(self.len()))?;
+        let levels = trail.levels(clauses.get(number));
+        trail.cut(levels.second);
+        watches.watch(clauses, trail, number)?;
+        self.push(number, hints)
+    }
+
+    /// Finds the clause of the first unique implication point of a conflict at the last level, by the reasons
+    /// between it and the conflict (Marques-Silva and Sakallah 1996). Gives the clauses that show it.
+    fn analyze(
+        &mut self,
+        clauses: &Clauses,
+        trail: &Trail,
+        conflict: u32,
+    ) -> Result<Hints, AllocError> {
+        let level = trail.level();
+        self.restart();
+        let mut many = self.follow(clauses, trail, conflict, level, 0)?;
+        for place in (0..trail.len()).rev() {
+            let code = trail.lit(place);
+            if self.unmark(code / 2) {
+                many = self.pass(clauses, trail, code, level, many)?;
             }
         }
-        self.take_lesson()
+        self.keep_trace()
     }
 
     /// Passes a code that a conflict comes from: it stays in the clause that is learned, or its reason takes
     /// its place. `many` is how many such codes of the last level haven't been passed yet.
-    fn pass(&mut self, code: u32, level: u32, many: u32) -> Result<u32, AllocError> {
-        let here = self.trail.level_of(code / 2);
-        let is_last = here == level;
+    fn pass(
+        &mut self,
+        clauses: &Clauses,
+        trail: &Trail,
+        code: u32,
+        level: u32,
+        many: u32,
+    ) -> Result<u32, AllocError> {
+        let cause = trail.cause(code / 2);
+        let is_last = cause.level == level;
         let rest = many.saturating_sub(u32::from(is_last));
-        if here > 0 && (!is_last || many <= 1) {
-            self.lessons.lits.push(code ^ 1)?;
+        if cause.level > 0 && (!is_last || many <= 1) {
+            self.lits.push(code ^ 1)?;
             return Ok(rest);
         }
-        let reason = self.trail.reason(code / 2);
-        Ok(rest.saturating_add(self.trace(reason, level)?))
+        self.follow(clauses, trail, cause.reason, level, rest)
     }
 
-    /// Takes a clause as a hint, and marks what makes its codes false. Tells how many codes of the level are
-    /// new.
-    fn trace(&mut self, clause: u32, level: u32) -> Result<u32, AllocError> {
-        let mut many: u32 = 0;
-        self.lessons.trace.push(clause)?;
-        for place in 0..self.clauses.len(clause) {
-            let code = self.clauses.lit(clause, place);
-            let is_new = self.trail.value(code) == FALSE && self.lessons.mark(code / 2);
-            if is_new && self.trail.level_of(code / 2) == level {
+    /// Takes a clause as a hint, and marks what makes its codes false. Adds to the codes of the level, of which
+    /// there were so many, those that are new.
+    fn follow(
+        &mut self,
+        clauses: &Clauses,
+        trail: &Trail,
+        clause: u32,
+        level: u32,
+        before: u32,
+    ) -> Result<u32, AllocError> {
+        let mut many = before;
+        self.trace.push(clause)?;
+        for place in 0..clauses.len(clause) {
+            let code = clauses.lit(clause, place);
+            let is_new = trail.value(code) == FALSE && self.mark(code / 2);
+            if is_new && trail.cause(code / 2).level == level {
                 many = many.saturating_add(1);
             }
         }
         Ok(many)
     }
 
-    /// Keeps the clause that was learned, goes back to where it forces a code, and makes that true.
-    fn take_lesson(&mut self) -> Result<(), AllocError> {
-        let hints = self.lessons.keep_trace()?;
-        let name = Name::Lesson(self.lessons.len());
-        let number = self.clauses.push(&self.lessons.lits, name)?;
-        let (_, _, second) = self.trail.levels(self.clauses.get(number));
-        self.trail.cut(second);
-        self.watch(number)?;
-        self.lessons.push(number, hints)
-    }
-
-    /// The clauses by which a false clause refutes what is assumed.
-    pub(crate) fn refutation(&mut self, conflict: u32) -> Result<Hints, AllocError> {
-        self.lessons.restart();
-        self.trace(conflict, NONE)?;
-        for place in (0..self.trail.len()).rev() {
-            let var = self.trail.lit(place) / 2;
-            let is_traced = self.lessons.unmark(var);
-            if is_traced && var != self.assumed.0 && var != self.assumed.1 {
-                let reason = self.trail.reason(var);
-                self.trace(reason, NONE)?;
+    /// The clauses by which a false clause refutes what is assumed of two variables.
+    pub(crate) fn refutation(
+        &mut self,
+        clauses: &Clauses,
+        trail: &Trail,
+        assumed: (u32, u32),
+        conflict: u32,
+    ) -> Result<Hints, AllocError> {
+        self.restart();
+        self.follow(clauses, trail, conflict, NONE, 0)?;
+        for place in (0..trail.len()).rev() {
+            let var = trail.lit(place) / 2;
+            if self.unmark(var) && var != assumed.0 && var != assumed.1 {
+                self.follow(clauses, trail, trail.cause(var).reason, NONE, 0)?;
             }
         }
-        self.lessons.keep_trace()
+        self.keep_trace()
     }
 }

@@ -8,7 +8,7 @@ impl Trail {
     pub(crate) fn assume(&mut self, first: u32, second: u32) -> Result<u32, AllocError> {
         for code in self.lits() {
             if *code == first ^ 1 || *code == second ^ 1 {
-                return Ok(self.reason(*code / 2));
+                return Ok(self.cause(*code / 2).reason);
             }
         }
         self.begin()?;

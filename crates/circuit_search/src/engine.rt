@@ -11,6 +11,7 @@ use netlist::Net;
 use std::alloc::{AllocError, Global};
 
 /// The memory of a search, which is kept from query to query.
+#[derive(Drop)]
 pub(crate) struct Engine {
     pub(crate) merges: Merges,
     pub(crate) equalities: Equalities,
@@ -27,25 +28,6 @@ pub(crate) struct Engine {
     pub(crate) left: Caps,
     /// Whether equalities were searched for.
     pub(crate) is_equated: bool,
-}
-
-// Written out, so that a drop is one call and not one for each field at each exit of a function.
-impl Drop for Engine {
-    fn drop(self) {
-        let Engine {
-            merges: _,
-            equalities: _,
-            shown: _,
-            variables: _,
-            clauses: _,
-            watches: _,
-            trail: _,
-            lessons: _,
-            assumed: _,
-            left: _,
-            is_equated: _,
-        } = self;
-    }
 }
 
 impl Engine {
@@ -86,8 +68,8 @@ impl Engine {
         self.lessons.clear();
         self.left = caps;
         let constant = self.code(0)?;
-        let _loaded = self.variables.is_loaded(constant / 2);
-        self.put(&[constant], Name::Axiom(constant / 2, 0))?;
+        let _loaded = self.variables.is_loaded(0);
+        self.put(&[constant], Name::Axiom(0, 0))?;
         Ok(())
     }
 
@@ -105,20 +87,7 @@ impl Engine {
     /// Adds a clause and does what it asks for. Tells its number where it is a conflict.
     pub(crate) fn put(&mut self, lits: &[u32], name: Name) -> Result<u32, AllocError> {
         let clause = self.clauses.push(lits, name)?;
-        self.watch(clause)
-    }
-
-    /// Watches the clause that was put last by the two of its codes that aren't false for longest, and does
-    /// what it asks for. Tells its number where it is a conflict.
-    pub(crate) fn watch(&mut self, clause: u32) -> Result<u32, AllocError> {
-        self.watches.grow_clauses()?;
-        self.clauses.bring(&self.trail, clause, 0);
-        self.clauses.bring(&self.trail, clause, 1);
-        if self.clauses.len(clause) > 1 {
-            let watch = clause.wrapping_add(1).wrapping_mul(2);
-            self.watches.push(self.clauses.lit(clause, 0), watch);
-            self.watches.push(self.clauses.lit(clause, 1), watch | 1);
-        }
-        Ok(self.trail.settle(&self.clauses, clause))
+        self.watches
+            .watch(&mut self.clauses, &mut self.trail, clause)
     }
 }

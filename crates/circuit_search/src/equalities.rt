@@ -63,89 +63,82 @@ impl Equalities {
     /// The steps of a proof, behind the steps of the equalities that they lead to.
     pub(crate) fn proof(&self, alloc: Global, steps: &[Step]) -> Result<Vec<Step>, AllocError> {
         let mut numbers = vec![in alloc; 0; self.steps.len()]?;
-        let many = self.number(&mut numbers, steps);
-        self.numbered(alloc, steps, &numbers, many)
+        let many = number(&mut numbers, &self.steps, steps);
+        numbered(alloc, &self.steps, steps, &numbers, many)
     }
+}
 
-    /// The steps that have a number, of which there are so many, and behind them those of a proof.
-    fn numbered(
-        &self,
-        alloc: Global,
-        steps: &[Step],
-        numbers: &[u32],
-        many: u32,
-    ) -> Result<Vec<Step>, AllocError> {
-        let mut proof = Vec::new(alloc);
-        for place in 0..self.len() {
-            if at(numbers, place) > 0 {
-                if let Some(step) = self.steps.get(place as usize) {
-                    self.push_renamed(alloc, step, numbers, many, &mut proof)?;
-                }
+/// Numbers the steps of the equalities, from 1, that a proof leads to, and tells how many these are.
+fn number(numbers: &mut [u32], known: &[Step], proof: &[Step]) -> u32 {
+    for step in proof {
+        mark_hints(numbers, step);
+    }
+    for place in (0..count(known.len())).rev() {
+        if at(numbers, place) > 0 {
+            if let Some(step) = known.get(place as usize) {
+                mark_hints(numbers, step);
             }
         }
-        for step in steps {
-            self.push_renamed(alloc, step, numbers, many, &mut proof)?;
-        }
-        Ok(proof)
     }
+    number_marked(numbers)
+}
 
-    /// Numbers the steps, from 1, that a proof leads to, and tells how many these are.
-    fn number(&self, numbers: &mut [u32], proof: &[Step]) -> u32 {
-        for step in proof {
-            mark_hints(numbers, step);
-        }
-        for place in (0..self.len()).rev() {
-            if at(numbers, place) > 0 {
-                if let Some(step) = self.steps.get(place as usize) {
-                    mark_hints(numbers, step);
-                }
+/// The steps of the equalities that have a number, of which there are so many, and behind them those of a
+/// proof.
+fn numbered(
+    alloc: Global,
+    known: &[Step],
+    steps: &[Step],
+    numbers: &[u32],
+    many: u32,
+) -> Result<Vec<Step>, AllocError> {
+    let mut proof = Vec::new(alloc);
+    for place in 0..count(known.len()) {
+        if at(numbers, place) > 0 {
+            if let Some(step) = known.get(place as usize) {
+                push_renamed(alloc, step, numbers, many, &mut proof)?;
             }
         }
-        number_marked(numbers)
     }
+    for step in steps {
+        push_renamed(alloc, step, numbers, many, &mut proof)?;
+    }
+    Ok(proof)
+}
 
-    /// Puts the step last, with the names that its hints have in a proof, which has so many steps of
-    /// equalities.
-    fn push_renamed(
-        &self,
-        alloc: Global,
-        step: &Step,
-        numbers: &[u32],
-        many: u32,
-        proof: &mut Vec<Step>,
-    ) -> Result<(), AllocError> {
-        let hints = Listed::of(self.names(alloc, step.hints.as_slice(), numbers, many)?);
-        let clause = step.clause.copy()?;
-        proof.push(Step { clause, hints })?;
-        Ok(())
-    }
+/// Puts the step last, with the names that its hints have in a proof, which has so many steps of equalities.
+fn push_renamed(
+    alloc: Global,
+    step: &Step,
+    numbers: &[u32],
+    many: u32,
+    proof: &mut Vec<Step>,
+) -> Result<(), AllocError> {
+    let hints = Listed::of(names(alloc, step.hints.as_slice(), numbers, many)?);
+    let clause = step.clause.copy()?;
+    proof.push(Step { clause, hints })?;
+    Ok(())
+}
 
-    /// What the hints are called in a proof.
-    fn names(
-        &self,
-        alloc: Global,
-        hints: &[Ref],
-        numbers: &[u32],
-        many: u32,
-    ) -> Result<Vec<Ref>, AllocError> {
-        let mut names = Vec::with_capacity(alloc, hints.len())?;
-        for hint in hints {
-            names.push(self.name(*hint, numbers, many))?;
-        }
-        Ok(names)
+/// What the hints are called in a proof.
+fn names(alloc: Global, hints: &[Ref], numbers: &[u32], many: u32) -> Result<Vec<Ref>, AllocError> {
+    let mut names = Vec::with_capacity(alloc, hints.len())?;
+    for hint in hints {
+        names.push(name(*hint, numbers, many))?;
     }
+    Ok(names)
+}
 
-    /// What a hint is called in a proof.
-    fn name(&self, hint: Ref, numbers: &[u32], many: u32) -> Ref {
-        let Ref::Own(place) = hint else {
-            return hint;
-        };
-        let len = u64::from(self.len());
-        if place >= len {
-            return Ref::Own((place - len).saturating_add(u64::from(many)));
-        }
-        Ref::Own(u64::from(at(numbers, place as u32).saturating_sub(1)))
+/// What a hint is called in a proof: a step of the equalities by its number, and one of the query behind them.
+fn name(hint: Ref, numbers: &[u32], many: u32) -> Ref {
+    let Ref::Own(place) = hint else {
+        return hint;
+    };
+    let len = u64::from(count(numbers.len()));
+    if place >= len {
+        return Ref::Own((place - len).saturating_add(u64::from(many)));
     }
+    Ref::Own(u64::from(at(numbers, place as u32).saturating_sub(1)))
 }
 
 /// Numbers what is marked, from 1, and tells how many these are.

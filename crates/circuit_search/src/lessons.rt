@@ -1,5 +1,5 @@
 use crate::clauses::{Clauses, Name};
-use crate::table::{at, count, has, mark, part};
+use crate::table::{at, count, mark, part};
 use std::alloc::{AllocError, Global};
 
 /// Where hints stand.
@@ -63,18 +63,12 @@ impl Lessons {
 
     /// Marks a variable; false where it was marked before.
     pub(crate) fn mark(&mut self, var: u32) -> bool {
-        let is_new = !has(&self.marked, var);
-        mark(&mut self.marked, var, true);
-        is_new
+        !mark(&mut self.marked, var, true)
     }
 
     /// Takes the mark of a variable away; false where it had none.
     pub(crate) fn unmark(&mut self, var: u32) -> bool {
-        let was = has(&self.marked, var);
-        if was {
-            mark(&mut self.marked, var, false);
-        }
-        was
+        mark(&mut self.marked, var, false)
     }
 
     /// Forgets the clause that was learned last, but not its lesson.
@@ -136,7 +130,7 @@ impl Lessons {
                 self.reach_from(clauses, lesson.hints);
             }
         }
-        self.number_reached();
+        number_needed(&mut self.lessons);
     }
 
     /// Marks the lessons among the hints.
@@ -155,15 +149,15 @@ impl Lessons {
             self.lessons[number].order = 1;
         }
     }
+}
 
-    /// Numbers the lessons that were marked.
-    fn number_reached(&mut self) {
-        let mut number: u32 = 0;
-        for lesson in self.lessons.iter_mut() {
-            if lesson.order > 0 {
-                number = number.saturating_add(1);
-                lesson.order = number;
-            }
+/// Numbers the lessons that were marked.
+fn number_needed(lessons: &mut [Lesson]) {
+    let mut number: u32 = 0;
+    for lesson in lessons.iter_mut() {
+        if lesson.order > 0 {
+            number = number.saturating_add(1);
+            lesson.order = number;
         }
     }
 }

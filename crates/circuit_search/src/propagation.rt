@@ -1,6 +1,8 @@
+use crate::clauses::Clauses;
 use crate::engine::Engine;
 use crate::table::NONE;
-use crate::trail::{FALSE, FREE, TRUE};
+use crate::trail::{FALSE, FREE, TRUE, Trail};
+use crate::watches::Watches;
 use netlist::Net;
 use std::alloc::AllocError;
 
@@ -23,24 +25,28 @@ impl Engine {
             if late != NONE {
                 return Ok(late);
             }
-            let conflict = self.visit_all(code ^ 1);
+            let conflict = self
+                .watches
+                .visit_all(&mut self.clauses, &mut self.trail, code ^ 1);
             if conflict != NONE {
                 return Ok(conflict);
             }
         }
         Ok(NONE)
     }
+}
 
-    /// Visits the watches of a code that is false now.
-    fn visit_all(&mut self, code: u32) -> u32 {
+impl Watches {
+    /// Visits the watches of a code that is false now. Tells the number of a clause that is false.
+    fn visit_all(&mut self, clauses: &mut Clauses, trail: &mut Trail, code: u32) -> u32 {
         let mut before = 0;
-        let mut watch = self.watches.first(code);
+        let mut watch = self.first(code);
         for _ in 0..u64::MAX {
             if watch == 0 {
                 return NONE;
             }
-            let next = self.watches.next(watch);
-            match self.visit(code, before, watch) {
+            let next = self.next(watch);
+            match self.visit(clauses, trail, code, before, watch) {
                 Visit::Stays => before = watch,
                 Visit::Moves => {}
                 Visit::Conflict(clause) => return clause,
@@ -52,25 +58,32 @@ impl Engine {
 
     /// Visits one watch: it moves to a code that isn't false, or the clause's other watched code has to be
     /// true.
-    fn visit(&mut self, code: u32, before: u32, watch: u32) -> Visit {
+    fn visit(
+        &mut self,
+        clauses: &mut Clauses,
+        trail: &mut Trail,
+        code: u32,
+        before: u32,
+        watch: u32,
+    ) -> Visit {
         let clause = (watch / 2).wrapping_sub(1);
         let side = watch & 1;
-        let other = self.clauses.lit(clause, side ^ 1);
-        let value = self.trail.value(other);
+        let other = clauses.lit(clause, side ^ 1);
+        let value = trail.value(other);
         if value == TRUE {
             return Visit::Stays;
         }
-        for place in 2..self.clauses.len(clause) {
-            let found = self.clauses.lit(clause, place);
-            if self.trail.value(found) != FALSE {
-                self.clauses.swap(clause, side, place);
-                self.watches.take(code, before, watch);
-                self.watches.push(found, watch);
+        for place in 2..clauses.len(clause) {
+            let found = clauses.lit(clause, place);
+            if trail.value(found) != FALSE {
+                clauses.swap(clause, side, place);
+                self.take(code, before, watch);
+                self.push(found, watch);
                 return Visit::Moves;
             }
         }
         if value == FREE {
-            self.trail.assign(other, clause);
+            trail.assign(other, clause);
             return Visit::Stays;
         }
         Visit::Conflict(clause)

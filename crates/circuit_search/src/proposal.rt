@@ -38,7 +38,11 @@ impl Engine {
         let positive = Lit { node, neg: false };
         self.shown = 0;
         match self.compare(net, positive, lit, caps)? {
-            Found::Equal(there, back) => self.merge(alloc, net, node, lit, there, back),
+            Found::Equal(there, back) => {
+                let steps = self.merge_steps(alloc, net, positive, lit, there, back)?;
+                let steps = Listed::of(steps);
+                Ok(Some(Entry::Merge { node, lit, steps }))
+            }
             Found::Apart => {
                 let input = self.input(alloc, net)?;
                 Ok(Some(Entry::Apart { node, lit, input }))
@@ -109,24 +113,6 @@ impl Engine {
         }
     }
 
-    /// The merge of a pair of which both implications are refuted otherwise.
-    fn merge(
-        &mut self,
-        alloc: Global,
-        net: &Net,
-        node: Node,
-        lit: Lit,
-        there: Hints,
-        back: Hints,
-    ) -> Result<Option<Entry>, AllocError>
-        ensures { IfOk result (λ o. IfSome o (SettlesPair (record { node = node; lit = lit }))) }
-    {
-        let positive = Lit { node, neg: false };
-        let steps = self.merge_steps(alloc, net, positive, lit, there, back)?;
-        let steps = Listed::of(steps);
-        Ok(Some(Entry::Merge { node, lit, steps }))
-    }
-
     /// The steps that show two literals equal; the last two say it.
     pub(crate) fn merge_steps(
         &mut self,
@@ -185,12 +171,7 @@ impl Engine {
     }
 
     /// The entry of an output that is one literal in both circuits.
-    fn out_of_one(
-        &mut self,
-        alloc: Global,
-        net: &Net,
-        output: u32,
-    ) -> Result<Option<Entry>, AllocError>
+    fn out_of_one(&self, alloc: Global, net: &Net, output: u32) -> Result<Option<Entry>, AllocError>
         ensures { IfOk result (λ o. IfSome o (SettlesOutput output)) }
     {
         let xor = Node::Xor(output);

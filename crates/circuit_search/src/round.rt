@@ -65,32 +65,29 @@ impl Engine {
     /// Answers a conflict of what is assumed, and learns from any other. A clause that came late may have one
     /// code alone at its highest level: then it should have forced that code earlier, and does so now.
     fn meet(&mut self, conflict: u32) -> Result<Option<Outcome>, AllocError> {
-        let (level, many, second) = self.trail.levels(self.clauses.get(conflict));
-        if level <= 1 {
-            return Ok(Some(Outcome::Refuted(self.refutation(conflict)?)));
+        let levels = self.trail.levels(self.clauses.get(conflict));
+        if levels.highest <= 1 {
+            let hints = self
+                .lessons
+                .refutation(&self.clauses, &self.trail, self.assumed, conflict)?;
+            return Ok(Some(Outcome::Refuted(hints)));
         }
-        self.trail.cut(level);
-        if many == 1 {
-            self.force(conflict, level, second);
+        if levels.many == 1 {
+            self.trail.cut(levels.second);
+            self.trail.assign(levels.last, conflict);
             return Ok(None);
         }
+        self.trail.cut(levels.highest);
         if self.left.conflicts == 0 {
             return Ok(Some(Outcome::Open));
         }
         self.left.conflicts -= 1;
-        self.learn(conflict)?;
+        self.lessons.learn(
+            &mut self.clauses,
+            &mut self.trail,
+            &mut self.watches,
+            conflict,
+        )?;
         Ok(None)
-    }
-
-    /// Goes back to the second highest level of a false clause, and makes the code true that stood higher.
-    fn force(&mut self, clause: u32, level: u32, second: u32) {
-        let mut forced = NONE;
-        for code in self.clauses.get(clause) {
-            if self.trail.level_of(*code / 2) == level {
-                forced = *code;
-            }
-        }
-        self.trail.cut(second);
-        self.trail.assign(forced, clause);
     }
 }

@@ -35,6 +35,7 @@ struct Asked {
 ///
 /// The pool keeps the few patterns that are needed, while these may be many: each word is simulated by
 /// itself, so that no node has more than one.
+#[derive(Drop)]
 pub(crate) struct Scratch {
     inputs: u32,
     /// The inputs' words: word w of input i stands at w times the inputs and i.
@@ -49,20 +50,6 @@ pub(crate) struct Scratch {
     noted: u32,
 }
 
-// Written out, so that a drop is one call and not one for each field at each exit of a function.
-impl Drop for Scratch {
-    fn drop(self) {
-        let Scratch {
-            inputs: _,
-            words: _,
-            row: _,
-            asked: _,
-            found: _,
-            noted: _,
-        } = self;
-    }
-}
-
 impl Scratch {
     /// The patterns that the seed draws behind its first words.
     pub(crate) fn of(
@@ -75,88 +62,20 @@ impl Scratch {
         let inputs = positions
             .saturating_sub(count(net.all_fanins().len()))
             .saturating_sub(1);
-        let mut scratch = Scratch {
+        Ok(Scratch {
             inputs,
-            words: Vec::new(alloc),
+            words: draw(alloc, inputs, seed, words)?,
             row: vec![in alloc; 0; positions as usize]?,
-            asked: Vec::new(alloc),
             found: vec![in alloc; 0; positions as usize]?,
+            asked: Vec::new(alloc),
             noted: 0,
-        };
-        scratch.draw(seed, words)?;
-        Ok(scratch)
-    }
-
-    /// Draws the patterns.
-    fn draw(&mut self, seed: u64, words: u32) -> Result<(), AllocError> {
-        let mut generator = Lcg128Xsl64::seed_from_u64(seed);
-        for _ in 0..u64::from(self.inputs).saturating_mul(u64::from(words)) {
-            let _drawn = generator.next_word();
-        }
-        for word in 0..DRAWN {
-            self.draw_word(&mut generator, word)?;
-        }
-        Ok(())
-    }
-
-    /// Draws a word of each input, in the way that its number asks for.
-    fn draw_word(&mut self, generator: &mut Lcg128Xsl64, word: u32) -> Result<(), AllocError> {
-        if word < EVEN {
-            return self.draw_rare(generator, 0, 0);
-        }
-        let rare = word - EVEN;
-        if rare < 2 * RARE {
-            return self.draw_rare(generator, rare / 2, turn(rare % 2 == 1));
-        }
-        let like = rare - 2 * RARE;
-        self.draw_like(generator, like / 2, like as usize % 2 + 1)
-    }
-
-    /// Draws a word of each input, of which a bit differs from this one once in 2, 4, 8 and so on.
-    fn draw_rare(
-        &mut self,
-        generator: &mut Lcg128Xsl64,
-        often: u32,
-        usual: u64,
-    ) -> Result<(), AllocError> {
-        for _ in 0..self.inputs {
-            self.words.push(rare(generator, often) ^ usual)?;
-        }
-        Ok(())
-    }
-
-    /// Draws a word of each input that seldom differs from that of the input so many places before.
-    fn draw_like(
-        &mut self,
-        generator: &mut Lcg128Xsl64,
-        often: u32,
-        back: usize,
-    ) -> Result<(), AllocError> {
-        let first = self.words.len();
-        for _ in 0..self.inputs {
-            let drawn = generator.next_word();
-            let place = self.words.len();
-            let word = if place >= first.saturating_add(back) {
-                let fresh = rare(generator, often.saturating_add(1));
-                let before = word_at(&self.words, place.saturating_sub(back));
-                (before & !fresh) | (drawn & fresh)
-            } else {
-                drawn
-            };
-            self.words.push(word)?;
-        }
-        Ok(())
+        })
     }
 
     /// Takes the pairs of a round, and looks for those that the patterns tell apart.
     pub(crate) fn sift(&mut self, net: &Net, tasks: &[Task]) -> Result<(), AllocError> {
         self.forget();
-        for task in tasks {
-            let pair = (net.position(task.node), lit_code(net, task.lit));
-            if let (Some(node), Some(target)) = pair {
-                self.asked.push(Asked { node, target })?;
-            }
-        }
+        list_pairs(&mut self.asked, net, tasks)?;
         for word in 0..DRAWN {
             self.look(net, word);
         }
@@ -205,32 +124,13 @@ impl Scratch {
         for word in 0..DRAWN {
             self.simulate(net, word);
             for output in 0..net.outputs() {
-                if let Some(bit) = self.first_apart(net, output) {
+                if let Some(bit) = first_apart(&self.row, net, output) {
                     let pattern = word.saturating_mul(64).saturating_add(bit);
                     return Ok(Some(self.input(alloc, pattern)?));
                 }
             }
         }
         Ok(None)
-    }
-
-    /// The first pattern of the simulated word on which an output differs.
-    fn first_apart(&self, net: &Net, output: u32) -> Option<u32> {
-        let first = self.output_word(net, Side::A, output)?;
-        let second = self.output_word(net, Side::B, output)?;
-        let apart = first ^ second;
-        if apart != 0 {
-            Some(apart.trailing_zeros())
-        } else {
-            None
-        }
-    }
-
-    /// The values of an output of one side on the simulated word.
-    fn output_word(&self, net: &Net, side: Side, output: u32) -> Option<u64> {
-        let lit = net.output(side, output)?;
-        let position = net.position(lit.node)?;
-        Some(word_at(&self.row, position as usize) ^ turn(lit.neg))
     }
 
     /// The inputs' truth values in a pattern.
@@ -251,13 +151,8 @@ impl Scratch {
 
     /// Gives each position its values on one word of patterns.
     fn simulate(&mut self, net: &Net, word: u32) {
-        put_word(&mut self.row, 0, u64::MAX);
-        for input in 0..self.inputs {
-            let value = word_at(&self.words, self.place(word, input));
-            put_word(&mut self.row, input as usize + 1, value);
-        }
-        let first_gate = self.inputs as usize + 1;
-        simulate_gates(&mut self.row, net, first_gate);
+        let first = self.place(word, 0);
+        simulate(&mut self.row, net, &self.words, first, self.inputs);
     }
 
     /// The pattern that tells the pair of a position apart.
@@ -275,6 +170,86 @@ impl Scratch {
     }
 }
 
+/// Draws the inputs' words, of so many inputs, behind the first words of the seed.
+fn draw(alloc: Global, inputs: u32, seed: u64, first: u32) -> Result<Vec<u64>, AllocError> {
+    let mut generator = Lcg128Xsl64::seed_from_u64(seed);
+    for _ in 0..u64::from(inputs).saturating_mul(u64::from(first)) {
+        let _drawn = generator.next_word();
+    }
+    let mut words = Vec::new(alloc);
+    for word in 0..DRAWN {
+        draw_word(&mut words, inputs, &mut generator, word)?;
+    }
+    Ok(words)
+}
+
+/// Draws a word of each input, in the way that its number asks for.
+fn draw_word(
+    words: &mut Vec<u64>,
+    inputs: u32,
+    generator: &mut Lcg128Xsl64,
+    word: u32,
+) -> Result<(), AllocError> {
+    if word < EVEN {
+        return draw_rare(words, inputs, generator, 0, 0);
+    }
+    let rare = word - EVEN;
+    if rare < 2 * RARE {
+        return draw_rare(words, inputs, generator, rare / 2, turn(rare % 2 == 1));
+    }
+    let like = rare - 2 * RARE;
+    draw_like(words, inputs, generator, like / 2, like as usize % 2 + 1)
+}
+
+/// Draws a word of each input, of which a bit differs from this one once in 2, 4, 8 and so on.
+fn draw_rare(
+    words: &mut Vec<u64>,
+    inputs: u32,
+    generator: &mut Lcg128Xsl64,
+    often: u32,
+    usual: u64,
+) -> Result<(), AllocError> {
+    for _ in 0..inputs {
+        words.push(rare(generator, often) ^ usual)?;
+    }
+    Ok(())
+}
+
+/// Draws a word of each input that seldom differs from that of the input so many places before.
+fn draw_like(
+    words: &mut Vec<u64>,
+    inputs: u32,
+    generator: &mut Lcg128Xsl64,
+    often: u32,
+    back: usize,
+) -> Result<(), AllocError> {
+    let first = words.len();
+    for _ in 0..inputs {
+        let drawn = generator.next_word();
+        let place = words.len();
+        let word = if place >= first.saturating_add(back) {
+            let fresh = rare(generator, often.saturating_add(1));
+            let before = word_at(words, place.saturating_sub(back));
+            (before & !fresh) | (drawn & fresh)
+        } else {
+            drawn
+        };
+        words.push(word)?;
+    }
+    Ok(())
+}
+
+/// Lists the pairs of a round that are in the net.
+fn list_pairs(asked: &mut Vec<Asked>, net: &Net, tasks: &[Task]) -> Result<(), AllocError> {
+    for task in tasks {
+        let pair = (net.position(task.node), lit_code(net, task.lit));
+        if let (Some(node), Some(target)) = pair {
+            asked.push(Asked { node, target })?;
+        }
+    }
+    Ok(())
+}
+
 /// A word in which a bit is set once in 2, 4, 8 and so on.
 fn rare(generator: &mut Lcg128Xsl64, often: u32) -> u64 {
     let mut word = generator.next_word();
@@ -284,15 +259,38 @@ fn rare(generator: &mut Lcg128Xsl64, often: u32) -> u64 {
     word
 }
 
-/// Gives each gate its values, of which the first stands at this position.
-fn simulate_gates(row: &mut [u64], net: &Net, first: usize) {
-    let mut position = first;
+/// Gives each position its values, where the words of so many inputs stand from this place on.
+fn simulate(row: &mut [u64], net: &Net, words: &[u64], first: usize, inputs: u32) {
+    put_word(row, 0, u64::MAX);
+    for input in 0..inputs as usize {
+        put_word(row, input + 1, word_at(words, first.saturating_add(input)));
+    }
+    let mut position = inputs as usize + 1;
     for fanins in net.all_fanins() {
         let left = word_at(row, fanins.left.position as usize) ^ turn(fanins.left.neg);
         let right = word_at(row, fanins.right.position as usize) ^ turn(fanins.right.neg);
         put_word(row, position, left & right);
         position = position.saturating_add(1);
     }
+}
+
+/// The first pattern of the simulated word on which an output differs.
+fn first_apart(row: &[u64], net: &Net, output: u32) -> Option<u32> {
+    let first = output_word(row, net, Side::A, output)?;
+    let second = output_word(row, net, Side::B, output)?;
+    let apart = first ^ second;
+    if apart != 0 {
+        Some(apart.trailing_zeros())
+    } else {
+        None
+    }
+}
+
+/// The values of an output of one side on the simulated word.
+fn output_word(row: &[u64], net: &Net, side: Side, output: u32) -> Option<u64> {
+    let lit = net.output(side, output)?;
+    let position = net.position(lit.node)?;
+    Some(word_at(row, position as usize) ^ turn(lit.neg))
 }
 
 /// Forgets which patterns tell these pairs apart.

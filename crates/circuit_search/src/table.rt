@@ -21,22 +21,16 @@ pub(crate) fn put(table: &mut [u32], place: u32, number: u32) {
     }
 }
 
-/// Whether the mark at a place is set.
+/// Sets the mark at a place, or takes it away. Tells whether it was set.
 #[inline(always)]
-pub(crate) fn has(marks: &[bool], place: u32) -> bool {
-    match marks.get(place as usize) {
-        Some(mark) => *mark,
-        None => false,
-    }
-}
-
-/// Sets the mark at a place, or takes it away.
-#[inline(always)]
-pub(crate) fn mark(marks: &mut [bool], place: u32, value: bool) {
+pub(crate) fn mark(marks: &mut [bool], place: u32, value: bool) -> bool {
     let place = place as usize;
-    if place < marks.len() {
-        marks[place] = value;
+    if place >= marks.len() {
+        return false;
     }
+    let was = marks[place];
+    marks[place] = value;
+    was
 }
 
 /// How many elements a table has.

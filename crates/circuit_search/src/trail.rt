@@ -11,10 +11,10 @@ pub(crate) const FALSE: u32 = 2;
 
 /// Why a variable has its value.
 #[derive(Clone, Copy)]
-struct Cause {
-    level: u32,
+pub(crate) struct Cause {
+    pub(crate) level: u32,
     /// The clause that forced it; `NONE` where it was chosen.
-    reason: u32,
+    pub(crate) reason: u32,
 }
 
 /// Where a level began, and up to where all gates were justified then.
@@ -22,6 +22,18 @@ struct Cause {
 struct Start {
     lits: u32,
     justified: u32,
+}
+
+/// The levels on which the codes of a false clause stand.
+#[derive(Clone, Copy)]
+pub(crate) struct Levels {
+    pub(crate) highest: u32,
+    /// How many codes stand on the highest level.
+    pub(crate) many: u32,
+    /// The last of these.
+    pub(crate) last: u32,
+    /// The second highest level.
+    pub(crate) second: u32,
 }
 
 /// The values that were assumed, chosen or forced, in order.
@@ -84,50 +96,52 @@ impl Trail {
         at(&self.values, code)
     }
 
-    /// The level of a variable that has a value.
-    pub(crate) fn level_of(&self, var: u32) -> u32 {
+    /// Why a variable has its value, if it has one.
+    pub(crate) fn cause(&self, var: u32) -> Cause {
         match self.causes.get(var as usize) {
-            Some(cause) => cause.level,
-            None => 0,
-        }
-    }
-
-    /// The clause that forced a variable.
-    pub(crate) fn reason(&self, var: u32) -> u32 {
-        match self.causes.get(var as usize) {
-            Some(cause) => cause.reason,
-            None => 0,
+            Some(cause) => *cause,
+            None => Cause {
+                level: 0,
+                reason: 0,
+            },
         }
     }
 
     /// The level from which on a code is false.
     pub(crate) fn false_from(&self, code: u32) -> u32 {
         if self.value(code) == FALSE {
-            self.level_of(code / 2)
+            self.cause(code / 2).level
         } else {
             NONE
         }
     }
 
-    /// The highest level of a false clause's codes, how many of them stand there, and the second highest
-    /// level.
-    pub(crate) fn levels(&self, clause: &[u32]) -> (u32, u32, u32) {
+    /// The levels of a false clause's codes.
+    pub(crate) fn levels(&self, clause: &[u32]) -> Levels {
         let mut highest = 0;
         let mut many: u32 = 0;
+        let mut last = NONE;
         let mut second = 0;
         for code in clause {
-            let level = self.level_of(*code / 2);
+            let level = self.cause(*code / 2).level;
             if level > highest {
                 second = highest;
                 highest = level;
                 many = 1;
+                last = *code;
             } else if level == highest {
                 many = many.saturating_add(1);
+                last = *code;
             } else if level > second {
                 second = level;
             }
         }
-        (highest, many, second)
+        Levels {
+            highest,
+            many,
+            last,
+            second,
+        }
     }
 
     /// The level that was begun last.

@@ -1,4 +1,6 @@
+use crate::clauses::Clauses;
 use crate::table::{at, put};
+use crate::trail::Trail;
 use std::alloc::{AllocError, Global};
 
 /// Which clauses watch each code, as chains that run through the clauses themselves, so that a watch that
@@ -32,8 +34,27 @@ impl Watches {
         self.heads.extend_from_slice(&[0, 0])
     }
 
+    /// Watches the clause that was put last by the two of its codes that aren't false for longest, and does
+    /// what it asks for. Tells its number where it is a conflict.
+    pub(crate) fn watch(
+        &mut self,
+        clauses: &mut Clauses,
+        trail: &mut Trail,
+        clause: u32,
+    ) -> Result<u32, AllocError> {
+        self.grow_clauses()?;
+        clauses.bring(trail, clause, 0);
+        clauses.bring(trail, clause, 1);
+        if clauses.len(clause) > 1 {
+            let watch = clause.wrapping_add(1).wrapping_mul(2);
+            self.push(clauses.lit(clause, 0), watch);
+            self.push(clauses.lit(clause, 1), watch | 1);
+        }
+        Ok(trail.settle(clauses, clause))
+    }
+
     /// Makes room for one more clause.
-    pub(crate) fn grow_clauses(&mut self) -> Result<(), AllocError> {
+    fn grow_clauses(&mut self) -> Result<(), AllocError> {
         if self.links.is_empty() {
             self.links.extend_from_slice(&[0, 0])?;
         }
