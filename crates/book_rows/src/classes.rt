@@ -76,14 +76,23 @@ const FIRST: Lit = Lit {
     neg: false,
 };
 
+/// Who leads the class of the gate, which is there.
+fn leader_of(rt: &impl Abort, net: &Net, sigs: &Sigs, book: &Book, gate: Node) -> Lit
+    requires sigs { length sigs.now.rows ≡ length (nodes_of net.now) }
+    requires legal { IsLegal net.now book.now }
+{
+    assert!(rt; net.position(gate).is_some());
+    leader(net, sigs, book, gate)
+}
+
 fn check_leaders(rt: &impl Abort, net: &Net, sigs: &Sigs, book: &Book)
     requires sigs { length sigs.now.rows ≡ length (nodes_of net.now) }
     requires legal { IsLegal net.now book.now }
 {
-    assert!(rt; net.position(A5).is_some());
-    assert!(rt; net.position(B5).is_some());
-    expect(rt, "B's gate", leader(net, sigs, book, B5) == PAIR.lit);
-    expect(rt, "A's gate", leader(net, sigs, book, A5) == FIRST);
+    let of_b = leader_of(rt, net, sigs, book, B5);
+    expect(rt, "B's gate", of_b == PAIR.lit);
+    let of_a = leader_of(rt, net, sigs, book, A5);
+    expect(rt, "A's gate", of_a == FIRST);
 }
 
 /// Who leads where the book is empty.

@@ -18,10 +18,9 @@ fn halves(text: &str) -> (&str, &str) {
 pub(crate) fn entry(rt: &impl Abort, alloc: Global, line: &str) -> Entry {
     let (head, body) = line.split_once(':').expect(rt, line);
     let (kind, about) = halves(head);
-    if kind.starts_with("out") {
-        of_output(rt, alloc, kind, halves(about), body)
-    } else {
-        of_pair(rt, alloc, kind, halves(about), body)
+    match kind {
+        "merge" | "apart" | "spent" => of_pair(rt, alloc, kind, halves(about), body),
+        _ => of_output(rt, alloc, kind, halves(about), body),
     }
 }
 
@@ -130,6 +129,11 @@ pub(crate) fn lit(rt: &impl Abort, word: &str) -> Lit {
     }
 }
 
+/// Fails the test for a word that can't be read.
+fn refuse(rt: &impl Abort, why: &str) -> ! {
+    rt.panic(why)
+}
+
 fn node(rt: &impl Abort, word: &[u8]) -> Node {
     match word {
         [b't'] => Node::Const,
@@ -137,7 +141,7 @@ fn node(rt: &impl Abort, word: &[u8]) -> Node {
         [b'a', k] => Node::Gate(Side::A, u32::from(digit(*k))),
         [b'b', k] => Node::Gate(Side::B, u32::from(digit(*k))),
         [b'd', k] => Node::Xor(u32::from(digit(*k))),
-        _ => panic!(rt; "no node"),
+        _ => refuse(rt, "no node"),
     }
 }
 
@@ -146,7 +150,7 @@ fn name(rt: &impl Abort, word: &[u8]) -> Ref {
         [b's', k] => Ref::Own(u64::from(digit(*k))),
         [b'e', i, b'.', k] => Ref::Entry(u64::from(digit(*i)), digit(*k)),
         [of_node @ .., b'.', k] => Ref::Axiom(node(rt, of_node), digit(*k)),
-        _ => panic!(rt; "no hint"),
+        _ => refuse(rt, "no hint"),
     }
 }
 

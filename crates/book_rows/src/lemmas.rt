@@ -42,6 +42,10 @@ fn check_answer(rt: &impl Abort, alloc: Global, net: &Net, book: &mut Book, row:
     expect_text(rt, row.0, answer.as_str(), row.1);
 }
 
+fn is_note(line: &str) -> bool {
+    line.is_empty() || line.starts_with('#')
+}
+
 /// Offers the entries to one book, in order: each line has one and behind an arrow the answer to it, but for
 /// notes behind `#`.
 fn offer_lines(rt: &impl Abort, alloc: Global, net: &Net, book: &mut Book, text: &str)
@@ -51,7 +55,7 @@ fn offer_lines(rt: &impl Abort, alloc: Global, net: &Net, book: &mut Book, text:
     for line in text.split('\n') {
         match line.split_once(" => ") {
             Some(row) => check_answer(rt, alloc, net, book, row),
-            None => expect(rt, line, line.is_empty() || line.starts_with('#')),
+            None => expect(rt, line, is_note(line)),
         }
     }
 }

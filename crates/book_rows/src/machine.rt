@@ -1,13 +1,14 @@
-ghost use Rattle.std.specs.Prelude.{◌≡◌, [], ◌∷◌, IfOk};
+ghost use Rattle.std.specs.Prelude.{◌≡◌, [], ◌∷◌};
 ghost use Rattle.std.specs.Bool.{OnTrue};
 ghost use Rattle.lemma_book.specs.Book.{IsLegal};
 ghost use Rattle.lemma_book.specs.Good.{IsGood};
+ghost use Rattle.lemma_book.specs.Machine.{opened};
 
 use crate::entries;
 use crate::pairs::{Case, check, expect, swapped_ands};
 use lemma_book::{Book, Entry, Judgement, Offered};
 use netlist::Net;
-use std::alloc::{AllocError, Global};
+use std::alloc::Global;
 use std::process::Abort;
 use sweep_core::{Event, Reply, State};
 
@@ -32,26 +33,34 @@ fn good_merge(rt: &impl Abort, alloc: Global, net: &Net, book: &Book) -> Entry
 }
 
 /// A number is drawn, the entry offered, the book looked at, and a number drawn once more.
-fn events(alloc: Global, entry: Entry) -> Result<Vec<Event>, AllocError>
-    ensures { IfOk result (λ v. v.items
-        ≡ Event.Draw 0 ∷ Event.Offer 0 entry ∷ Event.Refresh 1 ∷ Event.Draw 1 ∷ []) }
+fn events(rt: &impl Abort, alloc: Global, entry: Entry) -> Vec<Event>
+    ensures { result.items ≡ Event.Draw 0 ∷ Event.Offer 0 entry ∷ Event.Refresh 1 ∷ Event.Draw 1 ∷ [] }
 {
     let mut events = Vec::new(alloc);
-    events.push(Event::Draw(0))?;
-    events.push(Event::Offer(0, entry))?;
-    events.push(Event::Refresh(1))?;
-    events.push(Event::Draw(1))?;
-    Ok(events)
+    events.push(Event::Draw(0)).expect(rt, "memory");
+    events.push(Event::Offer(0, entry)).expect(rt, "memory");
+    events.push(Event::Refresh(1)).expect(rt, "memory");
+    events.push(Event::Draw(1)).expect(rt, "memory");
+    events
 }
 
-/// What the core of one task and two workers answers to the events about the entry.
-fn replies_to(alloc: Global, net: &Net, book: Book, entry: Entry) -> Result<Vec<Reply>, AllocError>
+/// A core of one task and two workers.
+fn core(rt: &impl Abort, alloc: Global, book: Book) -> State
+    ensures { result ≡ record { tasks = 1; machine = opened book 2 } }
+{
+    State::new(alloc, book, 1, 2).expect(rt, "memory")
+}
+
+/// What the core answers to the events about the entry.
+fn replies_to(rt: &impl Abort, alloc: Global, net: &Net, book: Book, entry: Entry) -> Vec<Reply>
     requires empty { book ≡ record { sweep_budget = 1; out_budget = 1; entries = [] } }
     requires legal { IsLegal net.now book }
     requires good { IsGood net.now book entry }
 {
-    let mut state = State::new(alloc, book, 1, 2)?;
-    state.run(alloc, net, events(alloc, entry)?)
+    let events = events(rt, alloc, entry);
+    core(rt, alloc, book)
+        .run(alloc, net, events)
+        .expect(rt, "memory")
 }
 
 const REPLIES: [Reply; 4] = [
@@ -68,7 +77,7 @@ impl Case for Replies {
     fn check<A: Abort>(&self, rt: &A, alloc: Global, net: &Net) {
         let book = Book::new(alloc, 1, 1);
         let entry = good_merge(rt, alloc, net, &book);
-        let replies = replies_to(alloc, net, book, entry).expect(rt, "memory");
+        let replies = replies_to(rt, alloc, net, book, entry);
         expect(rt, "the replies", replies.as_slice() == REPLIES.as_slice());
     }
 }

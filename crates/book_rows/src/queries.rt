@@ -132,14 +132,27 @@ fn answer(rt: &impl Abort, alloc: Global, net: &Net, asked: &Asked) -> Entry {
 /// The answer in words.
 fn words_of(entry: &Entry) -> &'static str {
     match entry {
-        Entry::Merge { node, lit, .. } if *node == LAST_GATES.node && *lit == LAST_GATES.lit => {
-            "the last gates are merged"
-        }
+        Entry::Merge { node, lit, .. } => words_of_merge(*node, *lit),
         Entry::Apart { input, .. } if matches!(input.as_slice(), [true, false]) => "apart by 10",
-        Entry::Out { output: 0, steps } if are_steps(steps.as_slice()) => "equal by two steps",
-        Entry::Out { output: 0, .. } => "equal",
+        Entry::Out { output: 0, steps } => words_of_steps(steps.as_slice()),
         Entry::OutSpent { seen: 0, log, .. } if log.len() == 1 => "a log of one clause",
         _ => "another answer",
+    }
+}
+
+fn words_of_merge(node: Node, lit: Lit) -> &'static str {
+    if node == LAST_GATES.node && lit == LAST_GATES.lit {
+        "the last gates are merged"
+    } else {
+        "another merge"
+    }
+}
+
+fn words_of_steps(steps: &[Step]) -> &'static str {
+    if are_steps(steps) {
+        "equal by two steps"
+    } else {
+        "equal"
     }
 }
 

@@ -40,16 +40,9 @@ fn session_of(rt: &impl Abort, alloc: Global, pair: Pair, options: Options) -> S
     Session::open(alloc, a, b, options).expect(rt, "a session")
 }
 
-/// Checks the session, and whether it has this verdict and its budget.
-fn is_checked(
-    rt: &impl Abort,
-    alloc: Global,
-    session: &mut Session,
-    sweep_budget: u64,
-    expected: &str,
-) -> bool {
-    let verdict = session.check(alloc).expect(rt, "memory");
-    words_of(&verdict) == expected && session.book().sweep_budget() == sweep_budget
+/// The session's verdict.
+fn verdict_of(rt: &impl Abort, alloc: Global, session: &mut Session) -> &'static str {
+    words_of(&session.check(alloc).expect(rt, "memory"))
 }
 
 const LAST_OF_A: Lit = Lit {
@@ -64,17 +57,33 @@ const LAST_OF_B: Lit = Lit {
 
 /// What the book says of the last gates of two XORs, or else first and of output 0.
 fn words_of_book(book: &Book) -> &'static str {
-    match (book.entry(0), book.about(0)) {
-        _ if book.root(LAST_OF_B) == LAST_OF_A => "the last gates are merged",
-        (Some(Entry::Merge { .. }), Some(Entry::Out { .. })) if book.len() == 2 => "merged, equal",
-        (Some(Entry::Spent { .. }), Some(Entry::Out { .. })) => "given up, equal",
-        (_, Some(Entry::OutApart { .. })) if book.len() == 1 => "apart",
-        (_, Some(Entry::OutSpent { log, .. })) if log.len() == 1 => "a log of one clause",
+    if book.root(LAST_OF_B) == LAST_OF_A {
+        return "the last gates are merged";
+    }
+    match book.about(0) {
+        Some(Entry::Out { .. }) => words_of_first(book),
+        Some(Entry::OutApart { .. }) if book.len() == 1 => "apart",
+        Some(Entry::OutSpent { log, .. }) if log.len() == 1 => "a log of one clause",
         _ => "another book",
     }
 }
 
-/// Checks the session, and compares the verdict and what the book has.
+/// What a book of an output that is equal says first.
+fn words_of_first(book: &Book) -> &'static str {
+    match book.entry(0) {
+        Some(Entry::Merge { .. }) if book.len() == 2 => "merged, equal",
+        Some(Entry::Spent { .. }) => "given up, equal",
+        _ => "another book",
+    }
+}
+
+/// Compares what a book of this budget says.
+fn check_book(rt: &impl Abort, book: &Book, sweep_budget: u64, expected: &str) {
+    expect(rt, "the budget", book.sweep_budget() == sweep_budget);
+    expect(rt, expected, words_of_book(book) == expected);
+}
+
+/// Compares the session's verdict and what its book says.
 fn check_session(
     rt: &impl Abort,
     alloc: Global,
@@ -82,10 +91,9 @@ fn check_session(
     sweep_budget: u64,
     expected: (&str, &str),
 ) {
-    let is_checked = is_checked(rt, alloc, session, sweep_budget, expected.0);
-    expect(rt, expected.0, is_checked);
-    let says = words_of_book(&session.take_book(alloc)) == expected.1;
-    expect(rt, expected.1, says);
+    let verdict = verdict_of(rt, alloc, session);
+    expect(rt, expected.0, verdict == expected.0);
+    check_book(rt, &session.take_book(alloc), sweep_budget, expected.1);
     expect(rt, "no entry is left", session.book().len() == 0);
 }
 
