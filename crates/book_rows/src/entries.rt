@@ -61,11 +61,12 @@ fn of_output(rt: &impl Abort, alloc: Global, kind: &str, about: (&str, &str), bo
             output,
             input: input(rt, alloc, body),
         },
-        _ => Entry::OutSpent {
+        "outspent" => Entry::OutSpent {
             output,
             seen: u64::from(number(about.1)),
             log: steps(rt, alloc, body),
         },
+        _ => refuse(rt, "no kind of entry"),
     }
 }
 

@@ -83,7 +83,7 @@ fn check_book(rt: &impl Abort, book: &Book, sweep_budget: u64, expected: &str) {
     expect(rt, expected, words_of_book(book) == expected);
 }
 
-/// Compares the session's verdict and what its book says.
+/// Compares the session's verdict, and what its book says, before and after it is taken.
 fn check_session(
     rt: &impl Abort,
     alloc: Global,
@@ -93,6 +93,7 @@ fn check_session(
 ) {
     let verdict = verdict_of(rt, alloc, session);
     expect(rt, expected.0, verdict == expected.0);
+    check_book(rt, session.book(), sweep_budget, expected.1);
     check_book(rt, &session.take_book(alloc), sweep_budget, expected.1);
     expect(rt, "no entry is left", session.book().len() == 0);
 }
