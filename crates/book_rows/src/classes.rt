@@ -1,8 +1,8 @@
-ghost use Rattle.std.specs.Prelude.{◌≡◌, IfOk, length};
+ghost use Rattle.std.specs.Prelude.{◌≡◌, length};
 ghost use Rattle.netlist.specs.Net.{nodes_of};
 ghost use Rattle.lemma_book.specs.Book.{IsLegal};
 
-use crate::lemmas::{Row, book_of};
+use crate::lemmas::book_of;
 use crate::pairs::{Case, check, expect, net_of, two_xors};
 use lemma_book::{Book, Task};
 use lits::{Lit, Node, Side};
@@ -10,52 +10,42 @@ use netlist::Net;
 use sig_classes::{leader, tasks};
 use std::alloc::Global;
 use std::process::Abort;
-use std::test::Fail;
 use word_sim::{Pool, Sigs, signatures};
 use worked_circuits::{and, two_input_circuit};
 
 /// A seeded pool and all four inputs.
-fn pool(alloc: Global) -> Result<Pool, Fail>
-    ensures { IfOk result (λ p. p.inputs ≡ 2) }
+fn pool(rt: &impl Abort, alloc: Global) -> Pool
+    ensures { result.inputs ≡ 2 }
 {
-    let mut pool = Pool::seeded(alloc, 1, 1, 2)?;
-    pool.add(&[false, false])?;
-    pool.add(&[false, true])?;
-    pool.add(&[true, false])?;
-    pool.add(&[true, true])?;
-    Ok(pool)
+    let mut pool = Pool::seeded(alloc, 1, 1, 2).expect(rt, "memory");
+    pool.add(&[false, false]).expect(rt, "memory");
+    pool.add(&[false, true]).expect(rt, "memory");
+    pool.add(&[true, false]).expect(rt, "memory");
+    pool.add(&[true, true]).expect(rt, "memory");
+    pool
 }
 
 /// The rows on the pool.
-fn rows(rt: &impl Abort, alloc: Global, net: &Net) -> Result<Sigs, Fail>
-    ensures { IfOk result (λ s. length s.rows ≡ length (nodes_of net.now)) }
+fn rows(rt: &impl Abort, alloc: Global, net: &Net) -> Sigs
+    ensures { length result.rows ≡ length (nodes_of net.now) }
 {
-    let pool = pool(alloc)?;
     assert!(rt; net.circuit(Side::A).inputs().len() == 2);
-    Ok(signatures(alloc, net, &pool)?)
+    signatures(alloc, net, &pool(rt, alloc)).expect(rt, "memory")
 }
 
 /// Whether this is what is to be asked over the book.
-fn are_tasks(
-    rt: &impl Abort,
-    alloc: Global,
-    net: &Net,
-    book: &Book,
-    expected: &[Task],
-) -> Result<bool, Fail> {
-    let sigs = rows(rt, alloc, net)?;
-    let found = tasks(alloc, net, &sigs, book)?;
-    Ok(found.as_slice() == expected)
+fn are_tasks(rt: &impl Abort, alloc: Global, net: &Net, book: &Book, expected: &[Task]) -> bool {
+    let found = tasks(alloc, net, &rows(rt, alloc, net), book).expect(rt, "memory");
+    found.as_slice() == expected
 }
 
-/// What is to be asked once these entries were offered to an empty book.
-struct Tasks(&'static [Row<'static>], &'static [Task]);
+/// What is to be asked once the entries of these lines were offered to an empty book.
+struct Tasks(&'static str, &'static [Task]);
 
 impl Case for Tasks {
-    fn check<A: Abort>(&self, rt: &A, alloc: Global, net: &Net) -> Result<(), Fail> {
-        let book = book_of(rt, alloc, net, 1, self.0)?;
-        expect(rt, "the tasks", are_tasks(rt, alloc, net, &book, self.1)?);
-        Ok(())
+    fn check<A: Abort>(&self, rt: &A, alloc: Global, net: &Net) {
+        let book = book_of(rt, alloc, net, 1, self.0);
+        expect(rt, "the tasks", are_tasks(rt, alloc, net, &book, self.1));
     }
 }
 
@@ -72,15 +62,12 @@ const PAIR: Task = Task {
     },
 };
 
-static OF_XORS: Tasks = Tasks(&[], &[PAIR]);
+static OF_XORS: Tasks = Tasks("", &[PAIR]);
 
 /// What a query with a budget of one clause learned of the pair: where both gates are true, so is x. A pair
 /// whose budget was spent is no task again.
 static SPENT: Tasks = Tasks(
-    &[(
-        "spent b5 -a5 0: -b5 -a5 i0 by b5.1 b4.2 a5.1 a4.2",
-        "Ok(At(0))",
-    )],
+    "spent b5 -a5 0: -b5 -a5 i0 by b5.1 b4.2 a5.1 a4.2 => Ok(At(0))",
     &[],
 );
 
@@ -89,42 +76,51 @@ const FIRST: Lit = Lit {
     neg: false,
 };
 
+/// Who leads the class of the gate, which is there.
+fn leader_of(rt: &impl Abort, net: &Net, sigs: &Sigs, book: &Book, gate: Node) -> Lit
+    requires sigs { length sigs.now.rows ≡ length (nodes_of net.now) }
+    requires legal { IsLegal net.now book.now }
+{
+    assert!(rt; net.position(gate).is_some());
+    leader(net, sigs, book, gate)
+}
+
 fn check_leaders(rt: &impl Abort, net: &Net, sigs: &Sigs, book: &Book)
     requires sigs { length sigs.now.rows ≡ length (nodes_of net.now) }
     requires legal { IsLegal net.now book.now }
 {
-    assert!(rt; net.position(A5).is_some());
-    assert!(rt; net.position(B5).is_some());
-    expect(rt, "B's gate", leader(net, sigs, book, B5) == PAIR.lit);
-    expect(rt, "A's gate", leader(net, sigs, book, A5) == FIRST);
+    let of_b = leader_of(rt, net, sigs, book, B5);
+    expect(rt, "B's gate", of_b == PAIR.lit);
+    let of_a = leader_of(rt, net, sigs, book, A5);
+    expect(rt, "A's gate", of_a == FIRST);
 }
 
 /// Who leads where the book is empty.
 struct FirstOfClass;
 
 impl Case for FirstOfClass {
-    fn check<A: Abort>(&self, rt: &A, alloc: Global, net: &Net) -> Result<(), Fail> {
-        check_leaders(rt, net, &rows(rt, alloc, net)?, &Book::new(alloc, 1, 1));
-        Ok(())
+    fn check<A: Abort>(&self, rt: &A, alloc: Global, net: &Net) {
+        check_leaders(rt, net, &rows(rt, alloc, net), &Book::new(alloc, 1, 1));
     }
 }
 
 /// A gate of a class is led by the first of the class, as it is or as its complement; who is first
 /// leads itself.
 #[test]
-fn leaders(rt: HostRuntime) -> Result<(), Fail> {
-    check(&rt, rt.alloc(), two_xors(rt.alloc()), &FirstOfClass)
+fn leaders(rt: HostRuntime) {
+    let alloc = rt.alloc();
+    check(&rt, alloc, two_xors(&rt, alloc), &FirstOfClass);
 }
 
 /// A gate that is an input, its negation, and false.
-fn complements(alloc: Global) -> Result<Net, Fail> {
+fn complements(rt: &impl Abort, alloc: Global) -> Net {
     let a = two_input_circuit(alloc, &[and(3, 4, 4), and(4, 2, 3)], 6);
-    net_of(alloc, a, two_input_circuit(alloc, &[and(3, 5, 1)], 6))
+    net_of(rt, alloc, a, two_input_circuit(alloc, &[and(3, 5, 1)], 6))
 }
 
 /// Gates that are an input, its negation and false: their classes begin with the input and with the constant.
 static OF_COMPLEMENTS: Tasks = Tasks(
-    &[],
+    "",
     &[
         Task {
             node: Node::Gate(Side::A, 3),
@@ -151,8 +147,9 @@ static OF_COMPLEMENTS: Tasks = Tasks(
 );
 
 #[test]
-fn tasks_of_classes(rt: HostRuntime) -> Result<(), Fail> {
-    check(&rt, rt.alloc(), two_xors(rt.alloc()), &OF_XORS)?;
-    check(&rt, rt.alloc(), two_xors(rt.alloc()), &SPENT)?;
-    check(&rt, rt.alloc(), complements(rt.alloc()), &OF_COMPLEMENTS)
+fn tasks_of_classes(rt: HostRuntime) {
+    let alloc = rt.alloc();
+    check(&rt, alloc, two_xors(&rt, alloc), &OF_XORS);
+    check(&rt, alloc, two_xors(&rt, alloc), &SPENT);
+    check(&rt, alloc, complements(&rt, alloc), &OF_COMPLEMENTS);
 }

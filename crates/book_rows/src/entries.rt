@@ -6,179 +6,152 @@
 
 use lemma_book::Entry;
 use lits::{Clause, Listed, Lit, Node, Ref, Side, Step};
-use std::alloc::{AllocError, Global};
-use std::test::Fail;
+use std::alloc::Global;
+use std::process::Abort;
 
-/// Merges b3 to a3, two ANDs of the same inputs.
-pub(crate) const MERGE: &str = "merge b3 a3: -b3 a3 by b3.0 b3.1 a3.2; b3 -a3 by a3.0 a3.1 b3.2";
-
-/// Shows, after that merge, that the outputs, which are these gates, are equal.
-pub(crate) const OUT: &str = "out 0: -d0 a3 by d0.0 e0.0; -d0 by s0 d0.1 e0.1";
-
-fn words(alloc: Global, text: &str) -> Result<Vec<&str>, AllocError> {
-    let mut words = Vec::new(alloc);
-    for word in text.split_whitespace() {
-        words.push(word)?;
-    }
-    Ok(words)
+/// The text before and behind the first blank, of which the second is empty where there is none.
+fn halves(text: &str) -> (&str, &str) {
+    text.split_once(' ').unwrap_or((text, ""))
 }
 
 /// The entry of a line.
-pub(crate) fn entry(alloc: Global, line: &str) -> Result<Entry, Fail> {
-    let Some((head, body)) = line.split_once(':') else {
-        return Err("a colon is missing".into());
-    };
-    of_words(alloc, words(alloc, head)?.as_slice(), body)
-}
-
-/// The entry of the words before the colon and the text behind it.
-fn of_words(alloc: Global, words: &[&str], body: &str) -> Result<Entry, Fail> {
-    match words {
-        ["outspent", output, seen] => of_output(alloc, "outspent", output, seen, body),
-        [kind, output] => of_output(alloc, kind, output, "", body),
-        [kind, node, target] => of_pair(alloc, kind, (node, target), "", body),
-        [kind, node, target, seen] => of_pair(alloc, kind, (node, target), seen, body),
-        _ => Err("another number of words".into()),
+pub(crate) fn entry(rt: &impl Abort, alloc: Global, line: &str) -> Entry {
+    let (head, body) = line.split_once(':').expect(rt, line);
+    let (kind, about) = halves(head);
+    match kind {
+        "merge" | "apart" | "spent" => of_pair(rt, alloc, kind, halves(about), body),
+        _ => of_output(rt, alloc, kind, halves(about), body),
     }
 }
 
-/// An entry about a node and a literal.
-fn of_pair(
-    alloc: Global,
-    kind: &str,
-    pair: (&str, &str),
-    seen: &str,
-    body: &str,
-) -> Result<Entry, Fail> {
-    let node = lit(pair.0)?.node;
-    let lit = lit(pair.1)?;
-    Ok(match kind {
+/// An entry about a node and, in what follows it, a literal.
+fn of_pair(rt: &impl Abort, alloc: Global, kind: &str, about: (&str, &str), body: &str) -> Entry {
+    let node = lit(rt, about.0).node;
+    let (target, seen) = halves(about.1);
+    let lit = lit(rt, target);
+    match kind {
         "merge" => Entry::Merge {
             node,
             lit,
-            steps: steps(alloc, body)?,
+            steps: steps(rt, alloc, body),
         },
         "apart" => Entry::Apart {
             node,
             lit,
-            input: input(alloc, body)?,
+            input: input(rt, alloc, body),
         },
         _ => Entry::Spent {
             node,
             lit,
             seen: u64::from(number(seen)),
-            log: steps(alloc, body)?,
+            log: steps(rt, alloc, body),
         },
-    })
+    }
 }
 
-/// An entry about an output.
-fn of_output(
-    alloc: Global,
-    kind: &str,
-    output: &str,
-    seen: &str,
-    body: &str,
-) -> Result<Entry, Fail> {
-    let output = u32::from(number(output));
-    Ok(match kind {
+/// An entry about an output, by its number, and how many entries were seen.
+fn of_output(rt: &impl Abort, alloc: Global, kind: &str, about: (&str, &str), body: &str) -> Entry {
+    let output = u32::from(number(about.0));
+    match kind {
         "out" => Entry::Out {
             output,
-            steps: steps(alloc, body)?,
+            steps: steps(rt, alloc, body),
         },
         "outapart" => Entry::OutApart {
             output,
-            input: input(alloc, body)?,
+            input: input(rt, alloc, body),
         },
-        _ => Entry::OutSpent {
+        "outspent" => Entry::OutSpent {
             output,
-            seen: u64::from(number(seen)),
-            log: steps(alloc, body)?,
+            seen: u64::from(number(about.1)),
+            log: steps(rt, alloc, body),
         },
-    })
+        _ => refuse(rt, "no kind of entry"),
+    }
 }
 
-fn input(alloc: Global, text: &str) -> Result<Listed<bool>, AllocError> {
+fn input(rt: &impl Abort, alloc: Global, text: &str) -> Listed<bool> {
     let mut values = Vec::new(alloc);
     for byte in text.as_bytes() {
         match byte {
             b' ' => {}
-            _ => values.push(*byte == b'1')?,
+            _ => values.push(*byte == b'1').expect(rt, "memory"),
         }
     }
-    Ok(Listed::of(values))
+    Listed::of(values)
 }
 
-fn steps(alloc: Global, text: &str) -> Result<Listed<Step>, Fail> {
+fn steps(rt: &impl Abort, alloc: Global, text: &str) -> Listed<Step> {
     let mut steps = Vec::new(alloc);
     for part in text.split(';') {
         if let Some((clause, hints)) = part.split_once(" by") {
-            steps.push(step(alloc, clause, hints)?)?;
+            steps
+                .push(step(rt, alloc, clause, hints))
+                .expect(rt, "memory");
         }
     }
-    Ok(Listed::of(steps))
+    Listed::of(steps)
 }
 
-fn step(alloc: Global, clause: &str, hints: &str) -> Result<Step, Fail> {
-    Ok(Step {
-        clause: of_clause(alloc, clause)?,
-        hints: of_hints(alloc, hints)?,
-    })
+fn step(rt: &impl Abort, alloc: Global, clause: &str, hints: &str) -> Step {
+    Step {
+        clause: of_clause(rt, alloc, clause),
+        hints: of_hints(rt, alloc, hints),
+    }
 }
 
-fn of_clause(alloc: Global, text: &str) -> Result<Clause<Lit>, Fail> {
+fn of_clause(rt: &impl Abort, alloc: Global, text: &str) -> Clause<Lit> {
     let mut lits = Vec::new(alloc);
     for word in text.split_whitespace() {
-        lits.push(lit(word)?)?;
+        lits.push(lit(rt, word)).expect(rt, "memory");
     }
-    Ok(Clause::of(alloc, lits.as_slice())?)
+    Clause::of(alloc, lits.as_slice()).expect(rt, "memory")
 }
 
-fn of_hints(alloc: Global, text: &str) -> Result<Listed<Ref>, Fail> {
+fn of_hints(rt: &impl Abort, alloc: Global, text: &str) -> Listed<Ref> {
     let mut names = Vec::new(alloc);
     for word in text.split_whitespace() {
-        names.push(name(word)?)?;
+        names.push(name(rt, word.as_bytes())).expect(rt, "memory");
     }
-    Ok(Listed::of(names))
+    Listed::of(names)
 }
 
 /// The literal of a word.
-pub(crate) fn lit(word: &str) -> Result<Lit, Fail> {
-    match word.strip_prefix('-') {
-        Some(node_word) => Ok(Lit {
-            node: node(node_word)?,
+pub(crate) fn lit(rt: &impl Abort, word: &str) -> Lit {
+    match word.as_bytes() {
+        [b'-', of_node @ ..] => Lit {
+            node: node(rt, of_node),
             neg: true,
-        }),
-        None => Ok(Lit {
-            node: node(word)?,
+        },
+        of_node => Lit {
+            node: node(rt, of_node),
             neg: false,
-        }),
+        },
     }
 }
 
-fn node(word: &str) -> Result<Node, Fail> {
-    match word.as_bytes() {
-        [b't'] => Ok(Node::Const),
-        [b'i', k] => Ok(Node::Input(u32::from(digit(*k)))),
-        [b'a', k] => Ok(Node::Gate(Side::A, u32::from(digit(*k)))),
-        [b'b', k] => Ok(Node::Gate(Side::B, u32::from(digit(*k)))),
-        [b'd', k] => Ok(Node::Xor(u32::from(digit(*k)))),
-        _ => Err("no node".into()),
+/// Fails the test for a word that can't be read.
+fn refuse(rt: &impl Abort, why: &str) -> ! {
+    rt.panic(why)
+}
+
+fn node(rt: &impl Abort, word: &[u8]) -> Node {
+    match word {
+        [b't'] => Node::Const,
+        [b'i', k] => Node::Input(u32::from(digit(*k))),
+        [b'a', k] => Node::Gate(Side::A, u32::from(digit(*k))),
+        [b'b', k] => Node::Gate(Side::B, u32::from(digit(*k))),
+        [b'd', k] => Node::Xor(u32::from(digit(*k))),
+        _ => refuse(rt, "no node"),
     }
 }
 
-fn name(word: &str) -> Result<Ref, Fail> {
-    match word.as_bytes() {
-        [b's', k] => Ok(Ref::Own(u64::from(digit(*k)))),
-        [b'e', i, b'.', k] => Ok(Ref::Entry(u64::from(digit(*i)), digit(*k))),
-        _ => of_axiom(word),
-    }
-}
-
-fn of_axiom(word: &str) -> Result<Ref, Fail> {
-    match word.split_once('.') {
-        Some((node_word, k)) => Ok(Ref::Axiom(node(node_word)?, number(k))),
-        None => Err("no hint".into()),
+fn name(rt: &impl Abort, word: &[u8]) -> Ref {
+    match word {
+        [b's', k] => Ref::Own(u64::from(digit(*k))),
+        [b'e', i, b'.', k] => Ref::Entry(u64::from(digit(*i)), digit(*k)),
+        [of_node @ .., b'.', k] => Ref::Axiom(node(rt, of_node), digit(*k)),
+        _ => refuse(rt, "no hint"),
     }
 }
 

@@ -1,106 +1,75 @@
-ghost use Rattle.std.specs.Prelude.{◌≤◌, [], ◌∷◌, IfOk};
+ghost use Rattle.std.specs.Prelude.{◌≤◌, [], ◌∷◌};
 ghost use Rattle.lemma_book.specs.Book.{IsLegal};
 ghost use Rattle.lemma_book.specs.Cone.{AreThere};
 ghost use Rattle.std.specs.Bool.{OnTrue};
 
-use crate::entries::{self, MERGE};
-use crate::pairs::{Case, check, expect, swapped_ands, two_xors};
+use crate::entries;
+use crate::pairs::{Case, check, expect, expect_text, swapped_ands, two_xors};
 use lemma_book::{Book, Entry, Offered, Refused};
 use lits::{Lit, Named, Node, Ref, Side};
 use netlist::Net;
 use std::alloc::Global;
 use std::process::Abort;
-use std::test::Fail;
 
-/// An entry, as `entries` reads it, and the answer to it.
-pub(crate) type Row<'a> = (&'a str, &'a str);
+/// Merges b3 to a3, two ANDs of the same inputs, as the first entry of a book.
+pub(crate) const MERGED: &str =
+    "merge b3 a3: -b3 a3 by b3.0 b3.1 a3.2; b3 -a3 by a3.0 a3.1 b3.2 => Ok(At(0))";
 
 /// What the book answers to the entry.
 fn answer(
+    rt: &impl Abort,
     alloc: Global,
     net: &Net,
     book: &mut Book,
     text: &str,
-) -> Result<Result<Offered, Refused>, Fail>
+) -> Result<Offered, Refused>
     requires { IsLegal net.now book.old }
     ensures { IsLegal net.now book.new }
 {
-    let entry = entries::entry(alloc, text)?;
-    Ok(match book.offer(alloc, net, entry) {
+    match book.offer(alloc, net, entries::entry(rt, alloc, text)) {
         Ok(offered) => Ok(offered),
         Err((_entry, refused)) => Err(refused),
-    })
+    }
 }
 
-fn check_answer(
-    rt: &impl Abort,
-    alloc: Global,
-    row: Row<'_>,
-    answer: Result<Offered, Refused>,
-) -> Result<(), Fail> {
-    let (text, expected) = row;
-    let answer = format!(in alloc; "{answer:?}")?;
-    assert!(rt; answer.as_str() == expected, "{text}: {answer}");
-    Ok(())
-}
-
-/// Offers the entries to one book, in order.
-fn offer_all(
-    rt: &impl Abort,
-    alloc: Global,
-    net: &Net,
-    book: &mut Book,
-    rows: &[Row<'_>],
-) -> Result<(), Fail>
+/// Offers the entry, and compares the answer.
+fn check_answer(rt: &impl Abort, alloc: Global, net: &Net, book: &mut Book, row: (&str, &str))
     requires { IsLegal net.now book.old }
     ensures { IsLegal net.now book.new }
 {
-    for row in rows {
-        let answer = answer(alloc, net, book, row.0)?;
-        check_answer(rt, alloc, *row, answer)?;
-    }
-    Ok(())
+    let answer = answer(rt, alloc, net, book, row.0);
+    let answer = format!(in alloc; "{answer:?}").expect(rt, "memory");
+    expect_text(rt, row.0, answer.as_str(), row.1);
 }
 
-/// The book to which these entries were offered, with so many clauses for each query of an output, and one
-/// for each of a pair.
-pub(crate) fn book_of(
-    rt: &impl Abort,
-    alloc: Global,
-    net: &Net,
-    budget: u64,
-    rows: &[Row<'_>],
-) -> Result<Book, Fail>
-    requires some { 1 ≤ budget }
-    requires range { budget ≤ 1000000000 }
-    ensures { IfOk result (IsLegal net.now) }
-{
-    let mut book = Book::new(alloc, 1, budget);
-    offer_all(rt, alloc, net, &mut book, rows)?;
-    Ok(book)
+fn is_note(line: &str) -> bool {
+    line.is_empty() || line.starts_with('#')
 }
 
 /// Offers the entries to one book, in order: each line has one and behind an arrow the answer to it, but for
 /// notes behind `#`.
-fn offer_lines(
-    rt: &impl Abort,
-    alloc: Global,
-    net: &Net,
-    book: &mut Book,
-    text: &str,
-) -> Result<(), Fail>
+fn offer_lines(rt: &impl Abort, alloc: Global, net: &Net, book: &mut Book, text: &str)
     requires { IsLegal net.now book.old }
+    ensures { IsLegal net.now book.new }
 {
     for line in text.split('\n') {
         match line.split_once(" => ") {
-            Some(row) => {
-                let answer = answer(alloc, net, book, row.0)?;
-                check_answer(rt, alloc, row, answer)?;
-            }
-            None => expect(rt, line, line.is_empty() || line.starts_with('#')),
+            Some(row) => check_answer(rt, alloc, net, book, row),
+            None => expect(rt, line, is_note(line)),
         }
     }
-    Ok(())
+}
+
+/// The book to which the entries of these lines were offered, with so many clauses for each query of an
+/// output, and one for each of a pair.
+pub(crate) fn book_of(rt: &impl Abort, alloc: Global, net: &Net, budget: u64, text: &str) -> Book
+    requires some { 1 ≤ budget }
+    requires range { budget ≤ 1000000000 }
+    ensures { IsLegal net.now result }
+{
+    let mut book = Book::new(alloc, 1, budget);
+    offer_lines(rt, alloc, net, &mut book, text);
+    book
 }
 
 /// Entries by lines that are offered to an empty book over a net, with one clause for each query or, where
@@ -111,12 +80,11 @@ type Offering = (bool, &'static str);
 struct Offerings(&'static [Offering]);
 
 impl Case for Offerings {
-    fn check<A: Abort>(&self, rt: &A, alloc: Global, net: &Net) -> Result<(), Fail> {
+    fn check<A: Abort>(&self, rt: &A, alloc: Global, net: &Net) {
         for (are_long, text) in self.0 {
             let budget = if *are_long { 2 } else { 1 };
-            offer_lines(rt, alloc, net, &mut Book::new(alloc, budget, budget), text)?;
+            offer_lines(rt, alloc, net, &mut Book::new(alloc, budget, budget), text);
         }
-        Ok(())
     }
 }
 
@@ -253,8 +221,9 @@ static OF_ANDS: Offerings = Offerings(&[
 ]);
 
 #[test]
-fn offers(rt: HostRuntime) -> Result<(), Fail> {
-    check(&rt, rt.alloc(), swapped_ands(rt.alloc()), &OF_ANDS)
+fn offers(rt: HostRuntime) {
+    let alloc = rt.alloc();
+    check(&rt, alloc, swapped_ands(&rt, alloc), &OF_ANDS);
 }
 
 /// Logs of one clause.
@@ -290,8 +259,9 @@ merge b5 -a5: -b5 -a5 i0 by b5.1 b4.2 a5.1 a4.2; b5 a5 -i0 by b4.0 b5.2 b3.1 a3.
 static OF_XORS: Offerings = Offerings(&[(false, LOGS), (true, LONGER_LOGS)]);
 
 #[test]
-fn logs_of_queries(rt: HostRuntime) -> Result<(), Fail> {
-    check(&rt, rt.alloc(), two_xors(rt.alloc()), &OF_XORS)
+fn logs_of_queries(rt: HostRuntime) {
+    let alloc = rt.alloc();
+    check(&rt, alloc, two_xors(&rt, alloc), &OF_XORS);
 }
 
 const A3: Node = Node::Gate(Side::A, 3);
@@ -322,34 +292,27 @@ const NAMES_IN_CONE: [Ref; 5] = [
     Ref::Entry(0, 1),
 ];
 
-fn names_of(alloc: Global, clauses: &[Named]) -> Result<Vec<Ref>, Fail> {
+fn names_of(rt: &impl Abort, alloc: Global, clauses: &[Named]) -> Vec<Ref> {
     let mut names = Vec::new(alloc);
     for named in clauses {
-        names.push(named.by)?;
+        names.push(named.by).expect(rt, "memory");
     }
-    Ok(names)
+    names
 }
 
-fn names_in_cone(alloc: Global, net: &Net, book: &Book) -> Result<Vec<Ref>, Fail>
+fn has_cone(rt: &impl Abort, alloc: Global, net: &Net, book: &Book) -> bool
     requires { IsLegal net.now book.now }
 {
-    if !is_there(net, B3) {
-        return Err("no such node".into());
-    }
-    let cone = book.cone(alloc, net, 1, &[B3])?;
-    names_of(alloc, cone.as_slice())
-}
-
-fn has_names(alloc: Global, net: &Net, book: &Book) -> Result<bool, Fail>
-    requires { IsLegal net.now book.now }
-{
-    Ok(names_in_cone(alloc, net, book)?.as_slice() == NAMES_IN_CONE.as_slice())
+    assert!(rt; is_there(net, B3));
+    let cone = book.cone(alloc, net, 1, &[B3]).expect(rt, "memory");
+    names_of(rt, alloc, cone.as_slice()).as_slice() == NAMES_IN_CONE.as_slice()
 }
 
 const PATH: [u64; 1] = [0];
 
-fn has_root(alloc: Global, book: &Book) -> Result<bool, Fail> {
-    Ok(book.root(B3) == TARGET && book.path(alloc, B3)?.as_slice() == PATH.as_slice())
+fn has_root(rt: &impl Abort, alloc: Global, book: &Book) -> bool {
+    let path = book.path(alloc, B3).expect(rt, "memory");
+    book.root(B3) == TARGET && path.as_slice() == PATH.as_slice()
 }
 
 /// Whether the copy has the one entry, its root, and the numbers of clauses.
@@ -361,11 +324,9 @@ fn is_copy(copy: &Book) -> bool {
         && matches!(copy.entry(0), Some(Entry::Merge { .. }))
 }
 
-fn is_copied(alloc: Global, book: &Book) -> Result<bool, Fail> {
-    Ok(is_copy(&book.copy(alloc)?))
+fn is_copied(rt: &impl Abort, alloc: Global, book: &Book) -> bool {
+    is_copy(&book.copy(alloc).expect(rt, "memory"))
 }
-
-static MERGED: [Row<'static>; 1] = [(MERGE, "Ok(At(0))")];
 
 /// What is read of a book with the one entry that merges the swapped ANDs, and two clauses for outputs: the
 /// cone of the merged gate, which has its merge's clauses and those of the gate that it stands for, and none
@@ -373,16 +334,16 @@ static MERGED: [Row<'static>; 1] = [(MERGE, "Ok(At(0))")];
 struct Readers;
 
 impl Case for Readers {
-    fn check<A: Abort>(&self, rt: &A, alloc: Global, net: &Net) -> Result<(), Fail> {
-        let book = book_of(rt, alloc, net, 2, &MERGED)?;
-        expect(rt, "the cone", has_names(alloc, net, &book)?);
-        expect(rt, "root and path", has_root(alloc, &book)?);
-        expect(rt, "a copy", is_copied(alloc, &book)?);
-        Ok(())
+    fn check<A: Abort>(&self, rt: &A, alloc: Global, net: &Net) {
+        let book = book_of(rt, alloc, net, 2, MERGED);
+        expect(rt, "the cone", has_cone(rt, alloc, net, &book));
+        expect(rt, "root and path", has_root(rt, alloc, &book));
+        expect(rt, "a copy", is_copied(rt, alloc, &book));
     }
 }
 
 #[test]
-fn book_readers(rt: HostRuntime) -> Result<(), Fail> {
-    check(&rt, rt.alloc(), swapped_ands(rt.alloc()), &Readers)
+fn book_readers(rt: HostRuntime) {
+    let alloc = rt.alloc();
+    check(&rt, alloc, swapped_ands(&rt, alloc), &Readers);
 }

@@ -1,15 +1,15 @@
-ghost use Rattle.std.specs.Prelude.{◌≡◌, [], ◌∷◌, IfOk};
+ghost use Rattle.std.specs.Prelude.{◌≡◌, [], ◌∷◌};
 ghost use Rattle.std.specs.Bool.{OnTrue};
 ghost use Rattle.lemma_book.specs.Book.{IsLegal};
 ghost use Rattle.lemma_book.specs.Good.{IsGood};
+ghost use Rattle.lemma_book.specs.Machine.{opened};
 
-use crate::entries::{self, MERGE};
+use crate::entries;
 use crate::pairs::{Case, check, expect, swapped_ands};
 use lemma_book::{Book, Entry, Judgement, Offered};
 use netlist::Net;
-use std::alloc::{AllocError, Global};
+use std::alloc::Global;
 use std::process::Abort;
-use std::test::Fail;
 use sweep_core::{Event, Reply, State};
 
 fn is_good(alloc: Global, net: &Net, book: &Book, entry: &Entry) -> bool
@@ -19,41 +19,48 @@ fn is_good(alloc: Global, net: &Net, book: &Book, entry: &Entry) -> bool
     matches!(book.judge(alloc, net, entry), Ok(Judgement::Good),)
 }
 
+/// Merges b3 to a3, two ANDs of the same inputs.
+const MERGE: &str = "merge b3 a3: -b3 a3 by b3.0 b3.1 a3.2; b3 -a3 by a3.0 a3.1 b3.2";
+
 /// The entry that merges one gate to the other, once it is known to be good over the book.
-fn good_merge(alloc: Global, net: &Net, book: &Book) -> Result<Entry, Fail>
+fn good_merge(rt: &impl Abort, alloc: Global, net: &Net, book: &Book) -> Entry
     requires { IsLegal net.now book.now }
-    ensures { IfOk result (IsGood net.now book.now) }
+    ensures { IsGood net.now book.now result }
 {
-    let entry = entries::entry(alloc, MERGE)?;
-    if is_good(alloc, net, book, &entry) {
-        Ok(entry)
-    } else {
-        Err("a good entry".into())
-    }
+    let entry = entries::entry(rt, alloc, MERGE);
+    assert!(rt; is_good(alloc, net, book, &entry));
+    entry
 }
 
 /// A number is drawn, the entry offered, the book looked at, and a number drawn once more.
-fn events(alloc: Global, entry: Entry) -> Result<Vec<Event>, AllocError>
-    ensures { IfOk result (λ v. v.items
-        ≡ Event.Draw 0 ∷ Event.Offer 0 entry ∷ Event.Refresh 1 ∷ Event.Draw 1 ∷ []) }
+fn events(rt: &impl Abort, alloc: Global, entry: Entry) -> Vec<Event>
+    ensures { result.items ≡ Event.Draw 0 ∷ Event.Offer 0 entry ∷ Event.Refresh 1 ∷ Event.Draw 1 ∷ [] }
 {
-    let events = vec![in alloc;
-        Event::Draw(0),
-        Event::Offer(0, entry),
-        Event::Refresh(1),
-        Event::Draw(1),
-    ]?;
-    Ok(events)
+    let mut events = Vec::new(alloc);
+    events.push(Event::Draw(0)).expect(rt, "memory");
+    events.push(Event::Offer(0, entry)).expect(rt, "memory");
+    events.push(Event::Refresh(1)).expect(rt, "memory");
+    events.push(Event::Draw(1)).expect(rt, "memory");
+    events
 }
 
-/// What the core of one task and two workers answers to the events about the entry.
-fn replies_to(alloc: Global, net: &Net, book: Book, entry: Entry) -> Result<Vec<Reply>, AllocError>
+/// A core of one task and two workers.
+fn core(rt: &impl Abort, alloc: Global, book: Book) -> State
+    ensures { result ≡ record { tasks = 1; machine = opened book 2 } }
+{
+    State::new(alloc, book, 1, 2).expect(rt, "memory")
+}
+
+/// What the core answers to the events about the entry.
+fn replies_to(rt: &impl Abort, alloc: Global, net: &Net, book: Book, entry: Entry) -> Vec<Reply>
     requires empty { book ≡ record { sweep_budget = 1; out_budget = 1; entries = [] } }
     requires legal { IsLegal net.now book }
     requires good { IsGood net.now book entry }
 {
-    let mut state = State::new(alloc, book, 1, 2)?;
-    state.run(alloc, net, events(alloc, entry)?)
+    let events = events(rt, alloc, entry);
+    core(rt, alloc, book)
+        .run(alloc, net, events)
+        .expect(rt, "memory")
 }
 
 const REPLIES: [Reply; 4] = [
@@ -67,16 +74,16 @@ const REPLIES: [Reply; 4] = [
 struct Replies;
 
 impl Case for Replies {
-    fn check<A: Abort>(&self, rt: &A, alloc: Global, net: &Net) -> Result<(), Fail> {
+    fn check<A: Abort>(&self, rt: &A, alloc: Global, net: &Net) {
         let book = Book::new(alloc, 1, 1);
-        let entry = good_merge(alloc, net, &book)?;
-        let replies = replies_to(alloc, net, book, entry)?;
+        let entry = good_merge(rt, alloc, net, &book);
+        let replies = replies_to(rt, alloc, net, book, entry);
         expect(rt, "the replies", replies.as_slice() == REPLIES.as_slice());
-        Ok(())
     }
 }
 
 #[test]
-fn core_events(rt: HostRuntime) -> Result<(), Fail> {
-    check(&rt, rt.alloc(), swapped_ands(rt.alloc()), &Replies)
+fn core_events(rt: HostRuntime) {
+    let alloc = rt.alloc();
+    check(&rt, alloc, swapped_ands(&rt, alloc), &Replies);
 }

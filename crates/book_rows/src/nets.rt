@@ -1,147 +1,137 @@
 ghost use Rattle.std.specs.Prelude.{◌≡◌};
 ghost use Rattle.worked_circuits.specs.Worked.{one_gate};
 
-use crate::pairs::{self, Case, check, expect, swapped_ands};
+use crate::pairs::{self, Case, check, expect, expect_text, swapped_ands};
 use lits::{Clause, Dim, Lit, Node, Side};
-use netlist::{And, Circuit, Definition, Fanins, Net, Placed, Unlike, VariableTable, laws};
+use netlist::{Circuit, Definition, Fanins, Net, Placed, Unlike, VariableTable, laws};
 use std::alloc::{AllocError, Global};
 use std::process::Abort;
-use std::test::Fail;
-use worked_circuits::{circuit, one_gate};
+use worked_circuits::{and, circuit, one_gate};
 
 /// Puts the clause last as a line of a DIMACS file.
-fn push_line(text: &mut String, clause: &Clause<Dim>) -> Result<(), AllocError> {
+fn push_line(rt: &impl Abort, text: &mut String, clause: &Clause<Dim>) {
     for dim in clause.lits() {
-        text.push_str(if dim.is_negated() { "-" } else { "" })?;
-        write!(text, "{} ", dim.var())?;
+        let sign = if dim.is_negated() { "-" } else { "" };
+        write!(text, "{sign}{} ", dim.var()).expect(rt, "memory");
     }
-    text.push_str("0\n")
+    text.push_str("0\n").expect(rt, "memory");
 }
 
 /// The clauses as lines of a DIMACS file.
-fn lines(alloc: Global, clauses: &[Clause<Dim>]) -> Result<String, AllocError> {
+fn lines(rt: &impl Abort, alloc: Global, clauses: &[Clause<Dim>]) -> String {
     let mut text = String::new(alloc);
     for clause in clauses {
-        push_line(&mut text, clause)?;
+        push_line(rt, &mut text, clause);
     }
-    Ok(text)
+    text
 }
 
 /// The miter's clauses as lines of a DIMACS file.
-fn miter_of(alloc: Global, net: &Net) -> Result<String, AllocError> {
+fn miter_of(rt: &impl Abort, alloc: Global, net: &Net) -> String {
     laws::satisfiable_if_different(net);
     laws::unsatisfiable_if_equal(net);
-    lines(alloc, net.miter(alloc)?.as_slice())
+    let clauses = net.miter(alloc).expect(rt, "memory");
+    lines(rt, alloc, clauses.as_slice())
 }
 
-/// Checks that the clauses of the circuits' miter are these lines of a DIMACS file.
-fn is_miter(
-    rt: &impl Abort,
-    alloc: Global,
-    a: Result<Circuit, AllocError>,
-    b: Result<Circuit, AllocError>,
-    expected: &str,
-) -> Result<(), Fail> {
-    let text = miter_of(alloc, &pairs::net_of(alloc, a, b)?)?;
-    assert!(rt; text.as_str() == expected, "{text}");
-    Ok(())
+/// The clauses of a miter, as lines of a DIMACS file.
+struct Miter(&'static str);
+
+impl Case for Miter {
+    fn check<A: Abort>(&self, rt: &A, alloc: Global, net: &Net) {
+        let text = miter_of(rt, alloc, net);
+        expect_text(rt, "the miter", text.as_str(), self.0);
+    }
 }
 
-#[test]
-fn swapped_and(rt: HostRuntime) -> Result<(), Fail> {
-    let alloc = rt.alloc();
-    let expected = "1 0\n-4 2 0\n-4 3 0\n4 -2 -3 0\n-5 3 0\n-5 2 0\n5 -3 -2 0\n-6 4 5 0\n\
-        -6 -4 -5 0\n6 -4 5 0\n6 4 -5 0\n6 0\n";
-    is_miter(
-        &rt,
-        alloc,
-        one_gate(alloc, 2, 4),
-        one_gate(alloc, 4, 2),
-        expected,
-    )
-}
+static SWAPPED_AND: Miter = Miter(
+    "1 0\n-4 2 0\n-4 3 0\n4 -2 -3 0\n-5 3 0\n-5 2 0\n5 -3 -2 0\n-6 4 5 0\n\
+        -6 -4 -5 0\n6 -4 5 0\n6 4 -5 0\n6 0\n",
+);
 
 #[test]
-fn and_against_false(rt: HostRuntime) -> Result<(), Fail> {
+fn swapped_and(rt: HostRuntime) {
     let alloc = rt.alloc();
-    let expected =
-        "1 0\n-4 2 0\n-4 3 0\n4 -2 -3 0\n-5 4 -1 0\n-5 -4 1 0\n5 -4 -1 0\n5 4 1 0\n5 0\n";
-    is_miter(
-        &rt,
-        alloc,
-        one_gate(alloc, 2, 4),
-        circuit(alloc, &[1, 2], &[], &[0]),
-        expected,
-    )
+    check(&rt, alloc, swapped_ands(&rt, alloc), &SWAPPED_AND);
 }
 
-#[test]
-fn empty_circuits(rt: HostRuntime) -> Result<(), Fail> {
-    let alloc = rt.alloc();
-    let expected = "1 0\n0\n";
-    is_miter(
-        &rt,
-        alloc,
-        circuit(alloc, &[], &[], &[]),
-        circuit(alloc, &[], &[], &[]),
-        expected,
-    )
-}
+static AND_AGAINST_FALSE: Miter = Miter(
+    "1 0\n-4 2 0\n-4 3 0\n4 -2 -3 0\n-5 4 -1 0\n-5 -4 1 0\n5 -4 -1 0\n5 4 1 0\n5 0\n",
+);
 
 #[test]
-fn constants_differ(rt: HostRuntime) -> Result<(), Fail> {
+fn and_against_false(rt: HostRuntime) {
     let alloc = rt.alloc();
-    let expected = "1 0\n2 1 0\n2 -1 0\n2 0\n";
-    is_miter(
-        &rt,
-        alloc,
-        circuit(alloc, &[], &[], &[0]),
-        circuit(alloc, &[], &[], &[1]),
-        expected,
-    )
+    let a = one_gate(alloc, 2, 4);
+    let net = pairs::net_of(&rt, alloc, a, circuit(alloc, &[1, 2], &[], &[0]));
+    check(&rt, alloc, net, &AND_AGAINST_FALSE);
 }
 
+static EMPTY_CIRCUITS: Miter = Miter("1 0\n0\n");
+
 #[test]
-fn merged_to_input_and_false(rt: HostRuntime) -> Result<(), Fail> {
+fn empty_circuits(rt: HostRuntime) {
     let alloc = rt.alloc();
-    let twice = And {
-        var: 2,
-        left: 2,
-        right: 2,
-    };
-    let never = And {
-        var: 3,
-        left: 2,
-        right: 3,
-    };
-    let expected = "1 0\n-3 2 0\n-3 2 0\n3 -2 0\n-4 2 0\n-4 -2 0\n-5 3 2 0\n-5 -3 -2 0\n\
-        5 -3 2 0\n5 3 -2 0\n-6 4 -1 0\n-6 -4 1 0\n6 -4 -1 0\n6 4 1 0\n5 6 0\n";
-    let a = circuit(alloc, &[1], &[twice, never], &[4, 6]);
-    is_miter(&rt, alloc, a, circuit(alloc, &[1], &[], &[2, 0]), expected)
+    let a = circuit(alloc, &[], &[], &[]);
+    let net = pairs::net_of(&rt, alloc, a, circuit(alloc, &[], &[], &[]));
+    check(&rt, alloc, net, &EMPTY_CIRCUITS);
+}
+
+static CONSTANTS_DIFFER: Miter = Miter("1 0\n2 1 0\n2 -1 0\n2 0\n");
+
+#[test]
+fn constants_differ(rt: HostRuntime) {
+    let alloc = rt.alloc();
+    let a = circuit(alloc, &[], &[], &[0]);
+    let net = pairs::net_of(&rt, alloc, a, circuit(alloc, &[], &[], &[1]));
+    check(&rt, alloc, net, &CONSTANTS_DIFFER);
+}
+
+static MERGED_TO_INPUT_AND_FALSE: Miter = Miter(
+    "1 0\n-3 2 0\n-3 2 0\n3 -2 0\n-4 2 0\n-4 -2 0\n-5 3 2 0\n-5 -3 -2 0\n\
+        5 -3 2 0\n5 3 -2 0\n-6 4 -1 0\n-6 -4 1 0\n6 -4 -1 0\n6 4 1 0\n5 6 0\n",
+);
+
+#[test]
+fn merged_to_input_and_false(rt: HostRuntime) {
+    let alloc = rt.alloc();
+    let a = circuit(alloc, &[1], &[and(2, 2, 2), and(3, 2, 3)], &[4, 6]);
+    let net = pairs::net_of(&rt, alloc, a, circuit(alloc, &[1], &[], &[2, 0]));
+    check(&rt, alloc, net, &MERGED_TO_INPUT_AND_FALSE);
 }
 
 /// What a call on a net gives.
 enum Fact {
-    Position(Node, Option<u32>),
-    /// The number of the node's axiom among the miter's clauses.
-    ClauseNumber(Node, u8, Option<u32>),
+    /// Of a node.
+    Node(Node, OfNode),
+    /// Of a side.
+    Side(Side, OfSide),
     /// The DIMACS number of a literal.
     Number(Lit, i32),
-    /// The node's first axiom begins with the literal.
-    AxiomBegins(Node, Lit),
-    Definition(Node, Option<Definition>),
-    /// How many axioms the node has.
-    Axioms(Node, usize),
     /// How many positions, variables, clauses and outputs there are.
     Sizes(u32, u32, u32, u32),
-    /// Whether a side has the AIGER literal.
-    Literal(Side, u32, bool),
-    /// Whether a side has the output.
-    Output(Side, u32, bool),
-    /// A side's inputs, outputs, and how many gates it has.
-    Circuit(Side, &'static [u32], &'static [u32], usize),
     Fanins(u32, Option<Fanins>),
     AllFanins(&'static [Fanins]),
+}
+
+enum OfNode {
+    Position(Option<u32>),
+    /// The number of an axiom among the miter's clauses.
+    ClauseNumber(u8, Option<u32>),
+    /// The first axiom begins with the literal.
+    AxiomBegins(Lit),
+    Definition(Option<Definition>),
+    /// How many axioms there are.
+    Axioms(usize),
+}
+
+enum OfSide {
+    /// Whether there is the AIGER literal.
+    Literal(u32, bool),
+    /// Whether there is the output.
+    Output(u32, bool),
+    /// The inputs, the outputs, and how many gates there are.
+    Circuit(&'static [u32], &'static [u32], usize),
 }
 
 fn axiom_begins(net: &Net, node: Node, lit: Lit) -> bool {
@@ -165,21 +155,33 @@ fn has_sizes(net: &Net, sizes: [u32; 4]) -> bool {
         ]
 }
 
+fn is_so_of_node(net: &Net, node: Node, fact: &OfNode) -> bool {
+    match fact {
+        OfNode::Position(position) => net.position(node) == *position,
+        OfNode::ClauseNumber(k, number) => net.clause_number(node, *k) == *number,
+        OfNode::AxiomBegins(lit) => axiom_begins(net, node, *lit),
+        OfNode::Definition(definition) => net.definition(node) == *definition,
+        OfNode::Axioms(count) => net.axioms(node).as_slice().len() == *count,
+    }
+}
+
+fn is_so_of_side(net: &Net, side: Side, fact: &OfSide) -> bool {
+    match fact {
+        OfSide::Literal(aiger, is_there) => net.lit(side, *aiger).is_some() == *is_there,
+        OfSide::Output(output, is_there) => net.output(side, *output).is_some() == *is_there,
+        OfSide::Circuit(inputs, outputs, gates) => {
+            is_circuit(net.circuit(side), inputs, outputs, *gates)
+        }
+    }
+}
+
 fn is_so(net: &Net, fact: &Fact) -> bool {
     match fact {
-        Fact::Position(node, position) => net.position(*node) == *position,
-        Fact::ClauseNumber(node, k, number) => net.clause_number(*node, *k) == *number,
+        Fact::Node(node, fact) => is_so_of_node(net, *node, fact),
+        Fact::Side(side, fact) => is_so_of_side(net, *side, fact),
         Fact::Number(lit, number) => net.cnf_number(*lit) == Dim::of(*number),
-        Fact::AxiomBegins(node, lit) => axiom_begins(net, *node, *lit),
-        Fact::Definition(node, definition) => net.definition(*node) == *definition,
-        Fact::Axioms(node, count) => net.axioms(*node).as_slice().len() == *count,
         Fact::Sizes(positions, variables, clauses, outputs) => {
             has_sizes(net, [*positions, *variables, *clauses, *outputs])
-        }
-        Fact::Literal(side, aiger, is_there) => net.lit(*side, *aiger).is_some() == *is_there,
-        Fact::Output(side, output, is_there) => net.output(*side, *output).is_some() == *is_there,
-        Fact::Circuit(side, inputs, outputs, gates) => {
-            is_circuit(net.circuit(*side), inputs, outputs, *gates)
         }
         Fact::Fanins(k, fanins) => net.fanins(*k) == *fanins,
         Fact::AllFanins(fanins) => net.all_fanins() == *fanins,
@@ -190,20 +192,24 @@ fn is_so(net: &Net, fact: &Fact) -> bool {
 struct Facts(&'static [(&'static str, Fact)]);
 
 impl Case for Facts {
-    fn check<A: Abort>(&self, rt: &A, alloc: Global, net: &Net) -> Result<(), Fail> {
+    fn check<A: Abort>(&self, rt: &A, alloc: Global, net: &Net) {
         for (name, fact) in self.0 {
             expect(rt, name, is_so(net, fact));
         }
-        expect(rt, "a copy", is_copy(net, &net.copy(alloc)?));
-        Ok(())
+        let copy = net.copy(alloc).expect(rt, "memory");
+        expect(rt, "a copy", is_copy(net, &copy));
     }
 }
 
 /// Whether the copy has the gates and the numbers of the net.
 fn is_copy(net: &Net, copy: &Net) -> bool {
-    copy.circuit(Side::A).gates() == net.circuit(Side::A).gates()
-        && copy.circuit(Side::B).gates() == net.circuit(Side::B).gates()
+    has_gates(copy, net, Side::A)
+        && has_gates(copy, net, Side::B)
         && copy.clause_number(GATE, 2) == Some(7)
+}
+
+fn has_gates(copy: &Net, net: &Net, side: Side) -> bool {
+    copy.circuit(side).gates() == net.circuit(side).gates()
 }
 
 const GATE: Node = Node::Gate(Side::B, 3);
@@ -226,42 +232,74 @@ const DEFINITION: Definition = Definition {
 };
 
 static OF_ANDS: Facts = Facts(&[
-    ("net_of", Fact::Position(GATE, Some(4))),
-    ("net_of", Fact::Position(Node::Gate(Side::B, 2), None)),
-    ("net_of", Fact::Position(Node::Input(1), Some(2))),
-    ("net_of", Fact::Position(Node::Xor(0), None)),
-    ("miter_of_n1", Fact::ClauseNumber(GATE, 2, Some(7))),
-    ("miter_of_n1", Fact::ClauseNumber(GATE, 3, None)),
-    ("miter_of_n1", Fact::ClauseNumber(Node::Xor(0), 0, Some(8))),
+    ("net_of", Fact::Node(GATE, OfNode::Position(Some(4)))),
+    (
+        "net_of",
+        Fact::Node(Node::Gate(Side::B, 2), OfNode::Position(None)),
+    ),
+    (
+        "net_of",
+        Fact::Node(Node::Input(1), OfNode::Position(Some(2))),
+    ),
+    ("net_of", Fact::Node(Node::Xor(0), OfNode::Position(None))),
+    (
+        "miter_of_n1",
+        Fact::Node(GATE, OfNode::ClauseNumber(2, Some(7))),
+    ),
+    (
+        "miter_of_n1",
+        Fact::Node(GATE, OfNode::ClauseNumber(3, None)),
+    ),
+    (
+        "miter_of_n1",
+        Fact::Node(Node::Xor(0), OfNode::ClauseNumber(0, Some(8))),
+    ),
     ("miter_of_n1", Fact::Number(NOT_GATE, -5)),
-    ("miter_of_n1", Fact::AxiomBegins(GATE, NOT_GATE)),
-    ("a gate", Fact::Definition(GATE, Some(DEFINITION))),
-    ("no gate", Fact::Definition(Node::Const, None)),
-    ("axioms of the constant", Fact::Axioms(Node::Const, 1)),
-    ("axioms of an input", Fact::Axioms(Node::Input(0), 0)),
-    ("axioms of a gate", Fact::Axioms(GATE, 3)),
-    ("axioms of an XOR", Fact::Axioms(Node::Xor(0), 4)),
+    (
+        "miter_of_n1",
+        Fact::Node(GATE, OfNode::AxiomBegins(NOT_GATE)),
+    ),
+    (
+        "a gate",
+        Fact::Node(GATE, OfNode::Definition(Some(DEFINITION))),
+    ),
+    ("no gate", Fact::Node(Node::Const, OfNode::Definition(None))),
+    (
+        "axioms of the constant",
+        Fact::Node(Node::Const, OfNode::Axioms(1)),
+    ),
+    (
+        "axioms of an input",
+        Fact::Node(Node::Input(0), OfNode::Axioms(0)),
+    ),
+    ("axioms of a gate", Fact::Node(GATE, OfNode::Axioms(3))),
+    (
+        "axioms of an XOR",
+        Fact::Node(Node::Xor(0), OfNode::Axioms(4)),
+    ),
     ("sizes", Fact::Sizes(5, 6, 12, 1)),
-    ("a literal", Fact::Literal(Side::B, 7, true)),
-    ("no literal", Fact::Literal(Side::B, 8, false)),
-    ("an output", Fact::Output(Side::A, 0, true)),
-    ("no output", Fact::Output(Side::A, 1, false)),
-    ("a side", Fact::Circuit(Side::B, &[1, 2], &[6], 1)),
+    ("a literal", Fact::Side(Side::B, OfSide::Literal(7, true))),
+    ("no literal", Fact::Side(Side::B, OfSide::Literal(8, false))),
+    ("an output", Fact::Side(Side::A, OfSide::Output(0, true))),
+    ("no output", Fact::Side(Side::A, OfSide::Output(1, false))),
+    (
+        "a side",
+        Fact::Side(Side::B, OfSide::Circuit(&[1, 2], &[6], 1)),
+    ),
 ]);
 
 #[test]
-fn net_of(rt: HostRuntime) -> Result<(), Fail> {
-    check(&rt, rt.alloc(), swapped_ands(rt.alloc()), &OF_ANDS)
+fn net_of(rt: HostRuntime) {
+    let alloc = rt.alloc();
+    check(&rt, alloc, swapped_ands(&rt, alloc), &OF_ANDS);
 }
 
 /// The AND of the inputs, and one over a constant and a complement.
-fn one_and_another(alloc: Global) -> Result<Net, Fail> {
-    pairs::net_of(alloc, one_gate(alloc, 2, 4), one_gate(alloc, 1, 5))
-}
-
 #[test]
-fn fanins_by_position(rt: HostRuntime) -> Result<(), Fail> {
-    check(&rt, rt.alloc(), one_and_another(rt.alloc()), &FANINS)
+fn fanins_by_position(rt: HostRuntime) {
+    let alloc = rt.alloc();
+    let net = pairs::net_of(&rt, alloc, one_gate(alloc, 2, 4), one_gate(alloc, 1, 5));
+    check(&rt, alloc, net, &FANINS);
 }
 
 const OF_INPUTS: Fanins = Fanins {
@@ -302,13 +340,11 @@ fn check_places(rt: &impl Abort, table: &VariableTable) {
 }
 
 #[test]
-fn table_of_variables(rt: HostRuntime) -> Result<(), Fail> {
-    let alloc = rt.alloc();
-    let mut table = VariableTable::new(alloc);
-    table.add(5)?;
-    table.add(2)?;
+fn table_of_variables(rt: HostRuntime) {
+    let mut table = VariableTable::new(rt.alloc());
+    table.add(5).expect(&rt, "memory");
+    table.add(2).expect(&rt, "memory");
     check_places(&rt, &table);
-    Ok(())
 }
 
 /// Whether the gate, its negation, the second input and true have their values, where the inputs are these.
@@ -323,35 +359,38 @@ fn has_values(circuit: &Circuit, x: bool, y: bool, value: bool) -> bool
 
 /// The negation of the first input, and the second.
 #[test]
-fn values(rt: HostRuntime) -> Result<(), Fail> {
-    let circuit = one_gate(rt.alloc(), 3, 4)?;
+fn values(rt: HostRuntime) {
+    let circuit = one_gate(rt.alloc(), 3, 4).expect(&rt, "memory");
     expect(&rt, "00", has_values(&circuit, false, false, false));
     expect(&rt, "01", has_values(&circuit, false, true, true));
     expect(&rt, "10", has_values(&circuit, true, false, false));
     expect(&rt, "11", has_values(&circuit, true, true, false));
-    Ok(())
 }
 
-/// Why the circuits are no net.
-fn refusal(
+/// Whether the circuits are no net, for this cause.
+fn is_refused(
+    rt: &impl Abort,
     alloc: Global,
     a: Result<Circuit, AllocError>,
     b: Result<Circuit, AllocError>,
-) -> Result<Option<Unlike>, AllocError> {
-    Ok(match Net::of(alloc, a?, b?) {
-        Ok(_) => None,
-        Err(unlike) => Some(unlike),
-    })
+    unlike: Unlike,
+) -> bool {
+    let a = a.expect(rt, "memory");
+    match Net::of(alloc, a, b.expect(rt, "memory")) {
+        Ok(_) => false,
+        Err(found) => found == unlike,
+    }
 }
 
 #[test]
-fn unlike_circuits(rt: HostRuntime) -> Result<(), Fail> {
+fn unlike_circuits(rt: HostRuntime) {
     let alloc = rt.alloc();
     let more_inputs = circuit(alloc, &[1, 2, 3], &[], &[]);
-    let refused = refusal(alloc, one_gate(alloc, 2, 4), more_inputs)?;
-    expect(&rt, "more inputs", refused == Some(Unlike::Inputs(2, 3)));
+    let one = one_gate(alloc, 2, 4);
+    let is_so = is_refused(&rt, alloc, one, more_inputs, Unlike::Inputs(2, 3));
+    expect(&rt, "more inputs", is_so);
     let no_outputs = circuit(alloc, &[1, 2], &[], &[]);
-    let refused = refusal(alloc, one_gate(alloc, 2, 4), no_outputs)?;
-    expect(&rt, "no outputs", refused == Some(Unlike::Outputs(1, 0)));
-    Ok(())
+    let one = one_gate(alloc, 2, 4);
+    let is_so = is_refused(&rt, alloc, one, no_outputs, Unlike::Outputs(1, 0));
+    expect(&rt, "no outputs", is_so);
 }

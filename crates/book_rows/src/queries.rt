@@ -4,17 +4,15 @@ ghost use Rattle.lemma_book.specs.Book.{IsLegal};
 ghost use Rattle.lemma_book.specs.Good.{IsEarlier};
 ghost use Rattle.cone_query.specs.Query.{IsGate};
 
-use crate::entries::MERGE;
-use crate::lemmas::{Row, book_of};
+use crate::lemmas::{MERGED, book_of};
 use crate::pairs::{Case, check, expect, swapped_ands, two_xors};
 use cone_query::{output, pair};
 use lemma_book::{Book, Entry, Task};
 use lits::{Lit, Node, Ref, Side, Step};
 use netlist::Net;
 use solver_plain::PlainSolver;
-use std::alloc::{AllocError, Global};
+use std::alloc::Global;
 use std::process::Abort;
-use std::test::Fail;
 
 /// Whether the literal's node is earlier than the task's.
 fn is_earlier(net: &Net, task: &Task) -> bool
@@ -27,33 +25,21 @@ fn is_earlier(net: &Net, task: &Task) -> bool
 }
 
 /// The answer about a pair over an empty book.
-fn answer_of_pair(
-    rt: &impl Abort,
-    alloc: Global,
-    net: &Net,
-    task: &Task,
-    budget: u64,
-) -> Result<Entry, AllocError>
+fn answer_of_pair(rt: &impl Abort, alloc: Global, net: &Net, task: &Task, budget: u64) -> Entry
     requires gate { IsGate task.now.node }
     requires budget { (1 ≤ budget) × (budget ≤ 1000000000) }
 {
     assert!(rt; is_earlier(net, task));
     let seen = Book::new(alloc, budget, 1);
-    pair(alloc, net, &seen, task, &mut PlainSolver::new(alloc))
+    pair(alloc, net, &seen, task, &mut PlainSolver::new(alloc)).expect(rt, "memory")
 }
 
 /// The answer about output 0.
-fn answer_of_output(
-    rt: &impl Abort,
-    alloc: Global,
-    net: &Net,
-    seen: &Book,
-) -> Result<Entry, AllocError>
+fn answer_of_output(rt: &impl Abort, alloc: Global, net: &Net, seen: &Book) -> Entry
     requires { IsLegal net.now seen.now }
 {
-    assert!(rt; net.outputs() > 0);
-    assert!(rt; seen.about(0).is_none());
-    output(alloc, net, seen, 0, &mut PlainSolver::new(alloc))
+    assert!(rt; net.outputs() > 0 && seen.about(0).is_none());
+    output(alloc, net, seen, 0, &mut PlainSolver::new(alloc)).expect(rt, "memory")
 }
 
 const LAST_GATES: Task = Task {
@@ -73,28 +59,15 @@ const AND_AND_INPUT: Task = Task {
 };
 
 /// The answer about output 0 over an empty book, with so many clauses for an output.
-fn answer_within(
-    rt: &impl Abort,
-    alloc: Global,
-    net: &Net,
-    budget: u64,
-) -> Result<Entry, AllocError>
+fn answer_within(rt: &impl Abort, alloc: Global, net: &Net, budget: u64) -> Entry
     requires { (1 ≤ budget) × (budget ≤ 1000000000) }
 {
     answer_of_output(rt, alloc, net, &Book::new(alloc, 1, budget))
 }
 
-/// The answer, which fails the test for want of memory alone.
-fn unless_full(answer: Result<Entry, AllocError>) -> Result<Entry, Fail> {
-    Ok(answer?)
-}
-
-static MERGED: [Row<'static>; 1] = [(MERGE, "Ok(At(0))")];
-
 /// The answer about the swapped ANDs over the book of their merge.
-fn answer_of_merged(rt: &impl Abort, alloc: Global, net: &Net) -> Result<Entry, Fail> {
-    let seen = book_of(rt, alloc, net, 1, &MERGED)?;
-    unless_full(answer_of_output(rt, alloc, net, &seen))
+fn answer_of_merged(rt: &impl Abort, alloc: Global, net: &Net) -> Entry {
+    answer_of_output(rt, alloc, net, &book_of(rt, alloc, net, 1, MERGED))
 }
 
 fn is_step(step: &Step, lits: &[Lit], hints: &[Ref]) -> bool {
@@ -146,12 +119,12 @@ enum Asked {
     Merged,
 }
 
-fn answer(rt: &impl Abort, alloc: Global, net: &Net, asked: &Asked) -> Result<Entry, Fail> {
+fn answer(rt: &impl Abort, alloc: Global, net: &Net, asked: &Asked) -> Entry {
     match asked {
-        Asked::LastGates => unless_full(answer_of_pair(rt, alloc, net, &LAST_GATES, 100_000)),
-        Asked::AndAndInput => unless_full(answer_of_pair(rt, alloc, net, &AND_AND_INPUT, 1000)),
-        Asked::Output => unless_full(answer_within(rt, alloc, net, 100_000)),
-        Asked::OutputWithinOne => unless_full(answer_within(rt, alloc, net, 1)),
+        Asked::LastGates => answer_of_pair(rt, alloc, net, &LAST_GATES, 100_000),
+        Asked::AndAndInput => answer_of_pair(rt, alloc, net, &AND_AND_INPUT, 1000),
+        Asked::Output => answer_within(rt, alloc, net, 100_000),
+        Asked::OutputWithinOne => answer_within(rt, alloc, net, 1),
         Asked::Merged => answer_of_merged(rt, alloc, net),
     }
 }
@@ -159,14 +132,27 @@ fn answer(rt: &impl Abort, alloc: Global, net: &Net, asked: &Asked) -> Result<En
 /// The answer in words.
 fn words_of(entry: &Entry) -> &'static str {
     match entry {
-        Entry::Merge { node, lit, .. } if *node == LAST_GATES.node && *lit == LAST_GATES.lit => {
-            "the last gates are merged"
-        }
+        Entry::Merge { node, lit, .. } => words_of_merge(*node, *lit),
         Entry::Apart { input, .. } if matches!(input.as_slice(), [true, false]) => "apart by 10",
-        Entry::Out { output: 0, steps } if are_steps(steps.as_slice()) => "equal by two steps",
-        Entry::Out { output: 0, .. } => "equal",
+        Entry::Out { output: 0, steps } => words_of_steps(steps.as_slice()),
         Entry::OutSpent { seen: 0, log, .. } if log.len() == 1 => "a log of one clause",
         _ => "another answer",
+    }
+}
+
+fn words_of_merge(node: Node, lit: Lit) -> &'static str {
+    if node == LAST_GATES.node && lit == LAST_GATES.lit {
+        "the last gates are merged"
+    } else {
+        "another merge"
+    }
+}
+
+fn words_of_steps(steps: &[Step]) -> &'static str {
+    if are_steps(steps) {
+        "equal by two steps"
+    } else {
+        "equal"
     }
 }
 
@@ -177,20 +163,20 @@ type Question = (Asked, &'static str);
 struct Questions(&'static [Question]);
 
 impl Case for Questions {
-    fn check<A: Abort>(&self, rt: &A, alloc: Global, net: &Net) -> Result<(), Fail> {
+    fn check<A: Abort>(&self, rt: &A, alloc: Global, net: &Net) {
         for (asked, expected) in self.0 {
-            let entry = answer(rt, alloc, net, asked)?;
+            let entry = answer(rt, alloc, net, asked);
             expect(rt, expected, words_of(&entry) == *expected);
         }
-        Ok(())
     }
 }
 
 static OF_PAIR: Questions = Questions(&[(Asked::LastGates, "the last gates are merged")]);
 
 #[test]
-fn pair_merge(rt: HostRuntime) -> Result<(), Fail> {
-    check(&rt, rt.alloc(), two_xors(rt.alloc()), &OF_PAIR)
+fn pair_merge(rt: HostRuntime) {
+    let alloc = rt.alloc();
+    check(&rt, alloc, two_xors(&rt, alloc), &OF_PAIR);
 }
 
 static OF_OUTPUT: Questions = Questions(&[
@@ -200,8 +186,9 @@ static OF_OUTPUT: Questions = Questions(&[
 ]);
 
 #[test]
-fn output_query(rt: HostRuntime) -> Result<(), Fail> {
-    check(&rt, rt.alloc(), two_xors(rt.alloc()), &OF_OUTPUT)
+fn output_query(rt: HostRuntime) {
+    let alloc = rt.alloc();
+    check(&rt, alloc, two_xors(&rt, alloc), &OF_OUTPUT);
 }
 
 static OF_ANDS: Questions = Questions(&[
@@ -212,6 +199,7 @@ static OF_ANDS: Questions = Questions(&[
 ]);
 
 #[test]
-fn pair_apart(rt: HostRuntime) -> Result<(), Fail> {
-    check(&rt, rt.alloc(), swapped_ands(rt.alloc()), &OF_ANDS)
+fn pair_apart(rt: HostRuntime) {
+    let alloc = rt.alloc();
+    check(&rt, alloc, swapped_ands(&rt, alloc), &OF_ANDS);
 }

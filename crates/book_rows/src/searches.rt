@@ -3,32 +3,32 @@ use circuit_search::{Caps, Search};
 use lemma_book::{Book, Entry, Task};
 use lits::{Lit, Node, Side};
 use netlist::Net;
-use std::alloc::{AllocError, Global};
+use std::alloc::Global;
 use std::process::Abort;
-use std::test::Fail;
 use worked_circuits::{and, one_gate, two_input_circuit};
 
 /// Whether the inputs are equal, on both sides: in A neither is true without the other, in B it isn't so
 /// that one alone is true (gate 5 has one of them, and not both).
-fn equal(alloc: Global) -> Result<Net, Fail> {
+fn equal(rt: &impl Abort, alloc: Global) -> Net {
     let a = two_input_circuit(alloc, &[and(3, 2, 5), and(4, 3, 4), and(5, 7, 9)], 10);
     let b = two_input_circuit(alloc, &[and(3, 3, 5), and(4, 2, 4), and(5, 7, 9)], 11);
-    net_of(alloc, a, b)
+    net_of(rt, alloc, a, b)
 }
 
 /// The AND of the inputs, and the first input without the second.
-fn different(alloc: Global) -> Result<Net, Fail> {
-    net_of(alloc, one_gate(alloc, 2, 4), one_gate(alloc, 5, 2))
+fn different(rt: &impl Abort, alloc: Global) -> Net {
+    net_of(rt, alloc, one_gate(alloc, 2, 4), one_gate(alloc, 5, 2))
 }
 
 /// What was found, and how much was dropped.
 fn words_of(found: &Option<Entry>, dropped: u64) -> &'static str {
-    match (found, dropped) {
-        (Some(Entry::Merge { .. }), 0) => "merge",
-        (Some(Entry::Apart { .. }), 0) => "apart",
-        (Some(Entry::Out { .. }), 0) => "out",
-        (None, 0) => "none",
-        _ => "another, or dropped",
+    match found {
+        _ if dropped > 0 => "dropped",
+        Some(Entry::Merge { .. }) => "merge",
+        Some(Entry::Apart { .. }) => "apart",
+        Some(Entry::Out { .. }) => "out",
+        Some(_) => "another",
+        None => "none",
     }
 }
 
@@ -44,18 +44,19 @@ enum Asked {
 
 /// What the search finds of a pair over an empty book.
 fn found_of_pair(
+    rt: &impl Abort,
     alloc: Global,
     net: &Net,
     search: &mut Search,
     task: &Task,
     decisions: u64,
-) -> Result<&'static str, AllocError> {
+) -> &'static str {
     let caps = Caps {
         conflicts: 10,
         decisions,
     };
-    let found = search.pair(alloc, net, &Book::new(alloc, 10, 10), task, caps)?;
-    Ok(words_of(&found, search.dropped()))
+    let found = search.pair(alloc, net, &Book::new(alloc, 10, 10), task, caps);
+    words_of(&found.expect(rt, "memory"), search.dropped())
 }
 
 const CAPS: Caps = Caps {
@@ -64,25 +65,22 @@ const CAPS: Caps = Caps {
 };
 
 /// What the search finds of output 0 over an empty book.
-fn found_of_output(
-    alloc: Global,
-    net: &Net,
-    search: &mut Search,
-) -> Result<&'static str, AllocError> {
-    let found = search.output(alloc, net, &Book::new(alloc, 10, 10), 0, CAPS)?;
-    Ok(words_of(&found, search.dropped()))
+fn found_of_output(rt: &impl Abort, alloc: Global, net: &Net, search: &mut Search) -> &'static str {
+    let found = search.output(alloc, net, &Book::new(alloc, 10, 10), 0, CAPS);
+    words_of(&found.expect(rt, "memory"), search.dropped())
 }
 
 /// Whether a pattern shows the outputs to differ, and on what.
 fn found_of_patterns(
+    rt: &impl Abort,
     alloc: Global,
     net: &Net,
     search: &mut Search,
-) -> Result<&'static str, AllocError> {
-    Ok(match search.difference(alloc, net)? {
+) -> &'static str {
+    match search.difference(alloc, net).expect(rt, "memory") {
         Some(input) => where_first_is_true(input.as_slice()),
         None => "none",
-    })
+    }
 }
 
 fn where_first_is_true(input: &[bool]) -> &'static str {
@@ -93,11 +91,12 @@ fn where_first_is_true(input: &[bool]) -> &'static str {
 }
 
 fn found(
+    rt: &impl Abort,
     alloc: Global,
     net: &Net,
     search: &mut Search,
     asked: &Asked,
-) -> Result<&'static str, AllocError> {
+) -> &'static str {
     match asked {
         Asked::Pair(var, neg, decisions) => {
             let node = Node::Gate(Side::A, *var);
@@ -105,16 +104,17 @@ fn found(
                 node: Node::Gate(Side::B, *var),
                 lit: Lit { node, neg: *neg },
             };
-            found_of_pair(alloc, net, search, &task, *decisions)
+            found_of_pair(rt, alloc, net, search, &task, *decisions)
         }
-        Asked::Output => found_of_output(alloc, net, search),
-        Asked::Difference => found_of_patterns(alloc, net, search),
+        Asked::Output => found_of_output(rt, alloc, net, search),
+        Asked::Difference => found_of_patterns(rt, alloc, net, search),
     }
 }
 
 /// What a new search finds.
-fn found_by_new(alloc: Global, net: &Net, asked: &Asked) -> Result<&'static str, AllocError> {
-    found(alloc, net, &mut Search::new(alloc, net, 1, 1)?, asked)
+fn found_by_new(rt: &impl Abort, alloc: Global, net: &Net, asked: &Asked) -> &'static str {
+    let mut search = Search::new(alloc, net, 1, 1).expect(rt, "memory");
+    found(rt, alloc, net, &mut search, asked)
 }
 
 /// What a search is asked, and what it finds.
@@ -124,11 +124,11 @@ type Row = (Asked, &'static str);
 struct Searches(&'static [Row]);
 
 impl Case for Searches {
-    fn check<A: Abort>(&self, rt: &A, alloc: Global, net: &Net) -> Result<(), Fail> {
+    fn check<A: Abort>(&self, rt: &A, alloc: Global, net: &Net) {
         for (asked, expected) in self.0 {
-            expect(rt, expected, found_by_new(alloc, net, asked)? == *expected);
+            let is_found = found_by_new(rt, alloc, net, asked) == *expected;
+            expect(rt, expected, is_found);
         }
-        Ok(())
     }
 }
 
@@ -148,7 +148,8 @@ static DIFFERENT: Searches = Searches(&[
 ]);
 
 #[test]
-fn what_searches_find(rt: HostRuntime) -> Result<(), Fail> {
-    check(&rt, rt.alloc(), equal(rt.alloc()), &EQUAL)?;
-    check(&rt, rt.alloc(), different(rt.alloc()), &DIFFERENT)
+fn what_searches_find(rt: HostRuntime) {
+    let alloc = rt.alloc();
+    check(&rt, alloc, equal(&rt, alloc), &EQUAL);
+    check(&rt, alloc, different(&rt, alloc), &DIFFERENT);
 }

@@ -7,7 +7,6 @@ use lits::{Lit, Node, Side};
 use netlist::{Circuit, Unlike};
 use std::alloc::{AllocError, Global};
 use std::process::Abort;
-use std::test::Fail;
 use worked_circuits::{circuit, one_gate, swapped_ands, two_xors};
 
 /// The numbers that the program goes by where it isn't told others.
@@ -34,25 +33,16 @@ fn words_of(verdict: &Verdict) -> &'static str {
 type Pair = Result<(Circuit, Circuit), AllocError>;
 
 /// A session of circuits that are alike.
-fn session_of(alloc: Global, pair: Pair, options: Options) -> Result<Session, Fail>
+fn session_of(rt: &impl Abort, alloc: Global, pair: Pair, options: Options) -> Session
     requires { AreInRange options }
 {
-    let (a, b) = pair?;
-    match Session::open(alloc, a, b, options) {
-        Ok(session) => Ok(session),
-        Err(_) => Err("a session".into()),
-    }
+    let (a, b) = pair.expect(rt, "memory");
+    Session::open(alloc, a, b, options).expect(rt, "a session")
 }
 
-/// Checks the session, and whether it has this verdict and its budget.
-fn is_checked(
-    alloc: Global,
-    session: &mut Session,
-    sweep_budget: u64,
-    expected: &str,
-) -> Result<bool, AllocError> {
-    let verdict = session.check(alloc)?;
-    Ok(words_of(&verdict) == expected && session.book().sweep_budget() == sweep_budget)
+/// The session's verdict.
+fn verdict_of(rt: &impl Abort, alloc: Global, session: &mut Session) -> &'static str {
+    words_of(&session.check(alloc).expect(rt, "memory"))
 }
 
 const LAST_OF_A: Lit = Lit {
@@ -67,53 +57,62 @@ const LAST_OF_B: Lit = Lit {
 
 /// What the book says of the last gates of two XORs, or else first and of output 0.
 fn words_of_book(book: &Book) -> &'static str {
-    match (book.entry(0), book.about(0)) {
-        _ if book.root(LAST_OF_B) == LAST_OF_A => "the last gates are merged",
-        (Some(Entry::Merge { .. }), Some(Entry::Out { .. })) if book.len() == 2 => "merged, equal",
-        (Some(Entry::Spent { .. }), Some(Entry::Out { .. })) => "given up, equal",
-        (_, Some(Entry::OutApart { .. })) if book.len() == 1 => "apart",
-        (_, Some(Entry::OutSpent { log, .. })) if log.len() == 1 => "a log of one clause",
+    if book.root(LAST_OF_B) == LAST_OF_A {
+        return "the last gates are merged";
+    }
+    match book.about(0) {
+        Some(Entry::Out { .. }) => words_of_first(book),
+        Some(Entry::OutApart { .. }) if book.len() == 1 => "apart",
+        Some(Entry::OutSpent { log, .. }) if log.len() == 1 => "a log of one clause",
         _ => "another book",
     }
 }
 
-/// Checks the session, and compares the verdict and what the book has.
+/// What a book of an output that is equal says first.
+fn words_of_first(book: &Book) -> &'static str {
+    match book.entry(0) {
+        Some(Entry::Merge { .. }) if book.len() == 2 => "merged, equal",
+        Some(Entry::Spent { .. }) => "given up, equal",
+        _ => "another book",
+    }
+}
+
+/// Compares what a book of this budget says.
+fn check_book(rt: &impl Abort, book: &Book, sweep_budget: u64, expected: &str) {
+    expect(rt, "the budget", book.sweep_budget() == sweep_budget);
+    expect(rt, expected, words_of_book(book) == expected);
+}
+
+/// Compares the session's verdict, and what its book says, before and after it is taken.
 fn check_session(
     rt: &impl Abort,
     alloc: Global,
     session: &mut Session,
     sweep_budget: u64,
     expected: (&str, &str),
-) -> Result<(), Fail> {
-    let is_checked = is_checked(alloc, session, sweep_budget, expected.0)?;
-    expect(rt, expected.0, is_checked);
-    let says = words_of_book(&session.take_book(alloc)) == expected.1;
-    expect(rt, expected.1, says);
+) {
+    let verdict = verdict_of(rt, alloc, session);
+    expect(rt, expected.0, verdict == expected.0);
+    check_book(rt, session.book(), sweep_budget, expected.1);
+    check_book(rt, &session.take_book(alloc), sweep_budget, expected.1);
     expect(rt, "no entry is left", session.book().len() == 0);
-    Ok(())
 }
 
 /// The same of a session of the circuits.
-fn check_pair(
-    rt: &impl Abort,
-    alloc: Global,
-    pair: Pair,
-    options: Options,
-    expected: (&str, &str),
-) -> Result<(), Fail>
+fn check_pair(rt: &impl Abort, alloc: Global, pair: Pair, options: Options, expected: (&str, &str))
     requires { AreInRange options }
 {
-    let mut session = session_of(alloc, pair, options)?;
-    check_session(rt, alloc, &mut session, options.sweep_budget, expected)
+    let mut session = session_of(rt, alloc, pair, options);
+    check_session(rt, alloc, &mut session, options.sweep_budget, expected);
 }
 
-/// Why no session is opened for the circuits.
-fn refusal(alloc: Global, pair: Pair) -> Result<Option<Unlike>, AllocError> {
-    let (a, b) = pair?;
-    Ok(match Session::open(alloc, a, b, DEFAULTS) {
-        Ok(_) => None,
-        Err(unlike) => Some(unlike),
-    })
+/// Whether no session is opened for the circuits, for this cause.
+fn is_refused(rt: &impl Abort, alloc: Global, pair: Pair, unlike: Unlike) -> bool {
+    let (a, b) = pair.expect(rt, "memory");
+    match Session::open(alloc, a, b, DEFAULTS) {
+        Ok(_) => false,
+        Err(found) => found == unlike,
+    }
 }
 
 /// An AND of two inputs, and a circuit of three.
@@ -144,28 +143,28 @@ const ONE_CLAUSE: Options = Options {
 };
 
 #[test]
-fn unlike_equal_and_different_circuits(rt: HostRuntime) -> Result<(), Fail> {
+fn unlike_equal_and_different_circuits(rt: HostRuntime) {
     let alloc = rt.alloc();
-    let refused = refusal(alloc, with_more_inputs(alloc))?;
-    expect(&rt, "more inputs", refused == Some(Unlike::Inputs(2, 3)));
+    let is_so = is_refused(&rt, alloc, with_more_inputs(alloc), Unlike::Inputs(2, 3));
+    expect(&rt, "more inputs", is_so);
     // The structural pass merges the one gate, and the output needs no search.
     let expected = ("equivalent", "merged, equal");
-    check_pair(&rt, alloc, swapped_ands(alloc), DEFAULTS, expected)?;
+    check_pair(&rt, alloc, swapped_ands(alloc), DEFAULTS, expected);
     // A pattern tells the output apart, and only x = y = 1 can.
     let expected = ("different at 0 on 11", "apart");
-    check_pair(&rt, alloc, and_and_false(alloc), DEFAULTS, expected)
+    check_pair(&rt, alloc, and_and_false(alloc), DEFAULTS, expected);
 }
 
 #[test]
-fn two_xors_within_budgets(rt: HostRuntime) -> Result<(), Fail> {
+fn two_xors_within_budgets(rt: HostRuntime) {
     let alloc = rt.alloc();
     // No gate is a twin of another; a round merges the last one to the complement of A's.
     let expected = ("equivalent", "the last gates are merged");
-    check_pair(&rt, alloc, two_xors(alloc), DEFAULTS, expected)?;
+    check_pair(&rt, alloc, two_xors(alloc), DEFAULTS, expected);
     // A pair whose budget of one clause is spent leaves the output to its own query, which has enough.
     let expected = ("equivalent", "given up, equal");
-    check_pair(&rt, alloc, two_xors(alloc), ENOUGH_FOR_OUTPUTS, expected)?;
+    check_pair(&rt, alloc, two_xors(alloc), ENOUGH_FOR_OUTPUTS, expected);
     // With a budget of one clause for the output too it stays open.
     let expected = ("undecided at 0", "a log of one clause");
-    check_pair(&rt, alloc, two_xors(alloc), ONE_CLAUSE, expected)
+    check_pair(&rt, alloc, two_xors(alloc), ONE_CLAUSE, expected);
 }

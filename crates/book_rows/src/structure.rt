@@ -2,9 +2,8 @@ use crate::entries::lit;
 use crate::pairs::{Case, check, expect, net_of, swapped_ands, two_xors};
 use lemma_book::{Book, Entry};
 use netlist::Net;
-use std::alloc::{AllocError, Global};
+use std::alloc::Global;
 use std::process::Abort;
-use std::test::Fail;
 use strash_pass::run;
 use worked_circuits::{and, circuit, two_input_circuit};
 
@@ -12,16 +11,16 @@ use worked_circuits::{and, circuit, two_input_circuit};
 type Row<'a> = (&'a str, &'a str);
 
 /// The book after the pass, which merges so many gates.
-fn passed(rt: &impl Abort, alloc: Global, net: &Net, merges: u64) -> Result<Book, AllocError> {
+fn passed(rt: &impl Abort, alloc: Global, net: &Net, merges: u64) -> Book {
     let mut book = Book::new(alloc, 100, 100_000);
-    let count = run(alloc, net, &mut book)?;
+    let count = run(alloc, net, &mut book).expect(rt, "memory");
     expect(rt, "the count", count == merges);
     expect(rt, "the merges", book.len() == merges);
-    Ok(book)
+    book
 }
 
-fn has_root(book: &Book, row: &Row<'_>) -> Result<bool, Fail> {
-    Ok(book.root(lit(row.0)?) == lit(row.1)?)
+fn has_root(rt: &impl Abort, book: &Book, row: &Row<'_>) -> bool {
+    book.root(lit(rt, row.0)) == lit(rt, row.1)
 }
 
 /// Whether the book is empty, or its first entry is a merge of two steps.
@@ -37,13 +36,12 @@ fn begins_with_two_steps(book: &Book) -> bool {
 struct Roots(u64, &'static [Row<'static>]);
 
 impl Case for Roots {
-    fn check<A: Abort>(&self, rt: &A, alloc: Global, net: &Net) -> Result<(), Fail> {
-        let book = passed(rt, alloc, net, self.0)?;
+    fn check<A: Abort>(&self, rt: &A, alloc: Global, net: &Net) {
+        let book = passed(rt, alloc, net, self.0);
         expect(rt, "two steps", begins_with_two_steps(&book));
         for row in self.1 {
-            expect(rt, row.0, has_root(&book, row)?);
+            expect(rt, row.0, has_root(rt, &book, row));
         }
-        Ok(())
     }
 }
 
@@ -53,18 +51,19 @@ static OF_ANDS: Roots = Roots(1, &[("b3", "a3")]);
 static OF_XORS: Roots = Roots(0, &[("b5", "b5")]);
 
 #[test]
-fn strash(rt: HostRuntime) -> Result<(), Fail> {
-    check(&rt, rt.alloc(), swapped_ands(rt.alloc()), &OF_ANDS)?;
-    check(&rt, rt.alloc(), two_xors(rt.alloc()), &OF_XORS)
+fn strash(rt: HostRuntime) {
+    let alloc = rt.alloc();
+    check(&rt, alloc, swapped_ands(&rt, alloc), &OF_ANDS);
+    check(&rt, alloc, two_xors(&rt, alloc), &OF_XORS);
 }
 
 /// In A an AND of one literal twice, of a literal and its negation, of an input and true; in B one of true
 /// and an input, of false and an input, of an input and false.
-fn folds(alloc: Global) -> Result<Net, Fail> {
+fn folds(rt: &impl Abort, alloc: Global) -> Net {
     let gates = [and(2, 2, 2), and(3, 2, 3), and(4, 1, 2)];
     let a = circuit(alloc, &[1], &gates, &[4, 6]);
     let gates = [and(2, 3, 1), and(3, 0, 2), and(4, 2, 0)];
-    net_of(alloc, a, circuit(alloc, &[1], &gates, &[5, 6]))
+    net_of(rt, alloc, a, circuit(alloc, &[1], &gates, &[5, 6]))
 }
 
 /// Gates that merge are merged to what they fold to.
@@ -81,13 +80,10 @@ static OF_FOLDS: Roots = Roots(
 );
 
 /// Gates 4 are twins, over gates 3 that are twins too.
-fn two_levels(alloc: Global) -> Result<Net, Fail> {
+fn two_levels(rt: &impl Abort, alloc: Global) -> Net {
     let a = two_input_circuit(alloc, &[and(3, 2, 4), and(4, 7, 2)], 8);
-    net_of(
-        alloc,
-        a,
-        two_input_circuit(alloc, &[and(3, 4, 2), and(4, 2, 7)], 8),
-    )
+    let b = two_input_circuit(alloc, &[and(3, 4, 2), and(4, 2, 7)], 8);
+    net_of(rt, alloc, a, b)
 }
 
 /// A gate whose fanins are merged is seen by their roots: B's second gate is a twin of A's by way of
@@ -95,7 +91,8 @@ fn two_levels(alloc: Global) -> Result<Net, Fail> {
 static OF_LEVELS: Roots = Roots(2, &[("-b4", "-a4")]);
 
 #[test]
-fn folds_and_twins_by_their_roots(rt: HostRuntime) -> Result<(), Fail> {
-    check(&rt, rt.alloc(), folds(rt.alloc()), &OF_FOLDS)?;
-    check(&rt, rt.alloc(), two_levels(rt.alloc()), &OF_LEVELS)
+fn folds_and_twins_by_their_roots(rt: HostRuntime) {
+    let alloc = rt.alloc();
+    check(&rt, alloc, folds(&rt, alloc), &OF_FOLDS);
+    check(&rt, alloc, two_levels(&rt, alloc), &OF_LEVELS);
 }

@@ -49,13 +49,13 @@ row net tasks s o e good = (
 )
 
 pub run-requires-clause-events : goal.run-requires-clause-events
-run-requires-clause-events c =
+run-requires-clause-events g c =
     let net = c.args.net.now in
     let entry = c.args.entry in
     let good = subst (λ (book : Entries). IsGood net book entry) c.requires.empty c.requires.good in
-    let start_is = c.in_ok-state.ensures
+    let start_is = c.core.ensures
     ∙ ap (λ (book : Entries). record { tasks = 1; machine = opened book 2 }) c.requires.empty in
-    subst (λ (events : List Event). MayRun net events c.in_ok-state.state)
-    (sym c.in_ok-events.ensures)
+    subst (λ (events : List Event). MayRun net events c.core.result)
+    (sym c.events-events.ensures)
     (subst (MayRun net (Draw 0 ∷ Offer 0 entry ∷ Refresh 1 ∷ Draw 1 ∷ [])) (sym start_is)
     (row net 1 1 1 entry good))
