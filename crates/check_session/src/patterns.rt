@@ -44,19 +44,23 @@ fn first_apart(net: &Net, sigs: &Sigs, output: u32) -> Option<u64>
 {
     let (first, first_neg) = row_of(net, sigs, Side::A, output)?;
     let (second, second_neg) = row_of(net, sigs, Side::B, output)?;
-    let turned = if first_neg != second_neg { u64::MAX } else { 0 };
-    for (word, bits) in first.iter().enumerate() {
-        let other = second.get(word)?;
-        let apart = bits ^ other ^ turned;
+    let place = first_bit_apart(first, second, first_neg != second_neg)?;
+    if place < sigs.patterns() {
+        Some(place)
+    } else {
+        None
+    }
+}
+
+/// The number of the first bit in which two rows differ, one of which is turned first where they are those of
+/// opposite signs.
+fn first_bit_apart(first: &[u64], second: &[u64], are_opposite: bool) -> Option<u64> {
+    let turned = if are_opposite { u64::MAX } else { 0 };
+    for word in 0..first.len().min(second.len()) {
+        let apart = first[word] ^ second[word] ^ turned;
         if apart != 0 {
-            let place = (word as u64)
-                .checked_mul(64)?
-                .checked_add(u64::from(apart.trailing_zeros()))?;
-            return if place < sigs.patterns() {
-                Some(place)
-            } else {
-                None
-            };
+            let bit = u64::from(apart.trailing_zeros());
+            return Some((word as u64).saturating_mul(64).saturating_add(bit));
         }
     }
     None
