@@ -1,8 +1,10 @@
-use crate::checks::check;
+use crate::checks::{check, is_told};
 use crate::circuits::{check_fault, is_and};
+use crate::tables::{Table, check_rows};
 use aiger_ascii::read;
-use byte_scan::{AigerErr, NUMBER_LIMIT};
+use byte_scan::AigerErr;
 use netlist::Circuit;
+use std::alloc::Global;
 use std::test::*;
 
 const AND: &[u8] = b"aag 3 2 0 1 1\n2\n4\n6\n6 2 4\n";
@@ -12,6 +14,12 @@ fn one_gate(rt: HostRuntime) {
     check(&rt, "an AND", is_and(read(rt.alloc(), AND), 2, 4));
     let cut = &AND[..25];
     check(&rt, "no last LF", is_and(read(rt.alloc(), cut), 2, 4));
+}
+
+#[test]
+fn names_of_any_bytes(rt: HostRuntime) {
+    let circuit = read(rt.alloc(), b"aag 1 1 0 1 0\n2\n2\no0 \xff\r\nc");
+    check(&rt, "a name and no UTF-8", circuit.is_ok());
 }
 
 #[test]
@@ -27,120 +35,84 @@ fn cut_at_each_byte(rt: HostRuntime) {
     }
 }
 
-/// A text, and its fault unless it is read.
-static TEXTS: [(&[u8], Option<AigerErr>); 53] = [
-    (b"aag 0 0 0 0 0\nc", None),
-    (b"aag 1 1 0 0 0\n2\nc\nx\ni9 9\n", None),
+/// A text, and its fault, or that it is read.
+const TEXTS: &str = concat!(
+    "aag 0 0 0 0 0\nc => read;",
+    "aag 1 1 0 0 0\n2\nc\nx\ni9 9\n => read;",
     // a comment without a line feed
-    (b"aag 3 2 0 1 1\n2\n4\n6\n6 2 4\ncABC", None),
+    "aag 3 2 0 1 1\n2\n4\n6\n6 2 4\ncABC => read;",
     // symbols, also twice, and a comment behind one
-    (b"aag 3 2 0 1 1\n2\n4\n6\n6 2 4\ni0 x\ni1 y\no0 z\n", None),
-    (b"aag 1 1 0 0 0\n2\ni0 x\ni0 y z\ni00 ", None),
-    (b"aag 1 1 0 1 0\n2\n2\no0 \xff\r\nc", None),
+    "aag 3 2 0 1 1\n2\n4\n6\n6 2 4\ni0 x\ni1 y\no0 z\n => read;",
+    "aag 1 1 0 0 0\n2\ni0 x\ni0 y z\ni00  => read;",
     // constant outputs
-    (b"aag 0 0 0 1 0\n0\n", None),
-    (b"aag 0 0 0 1 0\n1", None),
+    "aag 0 0 0 1 0\n0\n => read;",
+    "aag 0 0 0 1 0\n1 => read;",
     // the empty circuit, and the greatest count
-    (b"aag 0 0 0 0 0\n", None),
-    (b"aag 16777216 0 0 0 0\n", None),
+    "aag 0 0 0 0 0\n => read;",
+    "aag 16777216 0 0 0 0\n => read;",
     // leading zeros, and all nine numbers
-    (b"aag 03 2 0 1 1\n02\n4\n06\n6 2 0004\n", None),
-    (b"aag 1 1 0 1 0 0 0 0 0\n2\n3\n", None),
+    "aag 03 2 0 1 1\n02\n4\n06\n6 2 0004\n => read;",
+    "aag 1 1 0 1 0 0 0 0 0\n2\n3\n => read;",
     // the header, and numbers of lines
-    (b"aig 3 2 0 1 1\n6\n\x02\x02", Some(AigerErr::BadHeader)),
-    (b"aag 1 0 1 0 0\n2 3\n", Some(AigerErr::HasLatches(1))),
-    (
-        b"aag 1 1 0 0 0 0 1\n2\n2\n",
-        Some(AigerErr::HasProperty(b'C')),
-    ),
-    (
-        b"aag 16777217 0 0 0 0\n",
-        Some(AigerErr::TooLarge(16777217)),
-    ),
-    (
-        b"aag 1000000000000000000000 0 0 0 0\n",
-        Some(AigerErr::TooLarge(NUMBER_LIMIT)),
-    ),
-    (
-        b"aag 16777216 16777216 0 0 0\n",
-        Some(AigerErr::Truncated(28)),
-    ),
-    (b"aag 1 1 0 0 0\nx\n", Some(AigerErr::BadNumber(14))),
-    (b"aag 1 1 0 0 0\n\n", Some(AigerErr::BadNumber(14))),
-    (b"aag 1 1 0 0 0\n2 \n", Some(AigerErr::BadNumber(15))),
-    (b"aag 1 1 0 0 0\n2\r\n", Some(AigerErr::BadNumber(15))),
-    (b"aag 1 1 0 0 0\n-2\n", Some(AigerErr::BadNumber(14))),
-    (b"aag 2 1 0 0 1\n2\n4  2 2\n", Some(AigerErr::BadNumber(18))),
-    (b"aag 2 1 0 0 1\n2\n4 2\n", Some(AigerErr::BadNumber(19))),
-    (
-        b"aag 2 1 0 0 1\n2\n4 2 2 2\n",
-        Some(AigerErr::BadNumber(21)),
-    ),
-    (b"aag 2 1 0 0 1\n2\n4 2 ", Some(AigerErr::Truncated(20))),
-    (b"aag 2 1 0 0 1\n2\n4 2", Some(AigerErr::Truncated(19))),
+    "aig 3 2 0 1 1\n6\n\x02\x02 => bad header;",
+    "aag 1 0 1 0 0\n2 3\n => 1 latches;",
+    "aag 1 1 0 0 0 0 1\n2\n2\n => section C is not supported;",
+    "aag 16777217 0 0 0 0\n => 16777217 is above 16777216;",
+    "aag 1000000000000000000000 0 0 0 0\n => 1000000000000000000 is above 16777216;",
+    "aag 16777216 16777216 0 0 0\n => ends too early at byte 28;",
+    "aag 1 1 0 0 0\nx\n => bad number at byte 14;",
+    "aag 1 1 0 0 0\n\n => bad number at byte 14;",
+    "aag 1 1 0 0 0\n2 \n => bad number at byte 15;",
+    "aag 1 1 0 0 0\n2\r\n => bad number at byte 15;",
+    "aag 1 1 0 0 0\n-2\n => bad number at byte 14;",
+    "aag 2 1 0 0 1\n2\n4  2 2\n => bad number at byte 18;",
+    "aag 2 1 0 0 1\n2\n4 2\n => bad number at byte 19;",
+    "aag 2 1 0 0 1\n2\n4 2 2 2\n => bad number at byte 21;",
+    "aag 2 1 0 0 1\n2\n4 2  => ends too early at byte 20;",
+    "aag 2 1 0 0 1\n2\n4 2 => ends too early at byte 19;",
     // literals, line by line, from the left
-    (b"aag 1 1 0 0 0\n3\n", Some(AigerErr::BadLiteral(3))),
-    (b"aag 1 1 0 0 0\n0\n", Some(AigerErr::BadLiteral(0))),
-    (b"aag 1 1 0 0 0\n4\n", Some(AigerErr::BadLiteral(4))),
-    (b"aag 1 1 0 1 0\n2\n4\n", Some(AigerErr::BadLiteral(4))),
-    (
-        b"aag 1 1 0 0 0\n18446744073709551618\n",
-        Some(AigerErr::BadLiteral(NUMBER_LIMIT)),
-    ),
-    (b"aag 3 2 0 0 0\n2\n2\n", Some(AigerErr::DefinedTwice(2))),
-    (
-        b"aag 2 1 0 0 1\n2\n2 9 9\n",
-        Some(AigerErr::DefinedTwice(2)),
-    ),
-    (b"aag 2 1 0 0 1\n2\n4 6 7\n", Some(AigerErr::BadLiteral(6))),
-    (b"aag 3 2 0 0 0\n3\nx\n", Some(AigerErr::BadLiteral(3))),
+    "aag 1 1 0 0 0\n3\n => bad literal 3;",
+    "aag 1 1 0 0 0\n0\n => bad literal 0;",
+    "aag 1 1 0 0 0\n4\n => bad literal 4;",
+    "aag 1 1 0 1 0\n2\n4\n => bad literal 4;",
+    "aag 1 1 0 0 0\n18446744073709551618\n => bad literal 1000000000000000000;",
+    "aag 3 2 0 0 0\n2\n2\n => literal 2 is defined twice;",
+    "aag 2 1 0 0 1\n2\n2 9 9\n => literal 2 is defined twice;",
+    "aag 2 1 0 0 1\n2\n4 6 7\n => bad literal 6;",
+    "aag 3 2 0 0 0\n3\nx\n => bad literal 3;",
     // after the last gate
-    (b"aag 3 2 0 1 0\n2\n4\n6\n", Some(AigerErr::Undefined(6))),
-    (b"aag 3 2 0 1 0\n2\n4\n7\nx", Some(AigerErr::Undefined(7))),
-    (
-        b"aag 4 2 0 1 1\n2\n4\n9\n6 8 2\n",
-        Some(AigerErr::Undefined(9)),
-    ),
-    (
-        b"aag 4 2 0 0 1\n2\n4\n6 8 9\n",
-        Some(AigerErr::Undefined(8)),
-    ),
-    (
-        b"aag 4 2 0 1 2\n2\n4\n8\n6 8 2\n8 6 4\n",
-        Some(AigerErr::Cycle(6)),
-    ),
-    (b"aag 2 1 0 0 1\n2\n4 5 2\nx", Some(AigerErr::Cycle(4))),
+    "aag 3 2 0 1 0\n2\n4\n6\n => literal 6 is undefined;",
+    "aag 3 2 0 1 0\n2\n4\n7\nx => literal 7 is undefined;",
+    "aag 4 2 0 1 1\n2\n4\n9\n6 8 2\n => literal 9 is undefined;",
+    "aag 4 2 0 0 1\n2\n4\n6 8 9\n => literal 8 is undefined;",
+    "aag 4 2 0 1 2\n2\n4\n8\n6 8 2\n8 6 4\n => literal 6 is on or above a cycle;",
+    "aag 2 1 0 0 1\n2\n4 5 2\nx => literal 4 is on or above a cycle;",
     // above a cycle, and before it in the file
-    (
-        b"aag 4 1 0 0 3\n2\n4 2 2\n6 8 2\n8 9 2\n",
-        Some(AigerErr::Cycle(6)),
-    ),
+    "aag 4 1 0 0 3\n2\n4 2 2\n6 8 2\n8 9 2\n => literal 6 is on or above a cycle;",
     // lines behind the gates
-    (b"aag 1 1 0 0 0\n2\ni1 x\n", Some(AigerErr::BadSymbol(16))),
-    (b"aag 1 1 0 0 0\n2\no0 x\n", Some(AigerErr::BadSymbol(16))),
-    (
-        b"aag 1 1 0 1 0\n2\n2\ni0 x\no1 x\n",
-        Some(AigerErr::BadSymbol(23)),
-    ),
-    (b"aag 1 1 0 0 0\n2\ni0\n", Some(AigerErr::BadSymbol(16))),
-    (b"aag 1 1 0 0 0\n2\ni x\n", Some(AigerErr::BadSymbol(16))),
-    (b"aag 1 1 0 0 0\n2\nl0 x\n", Some(AigerErr::BadSymbol(16))),
-    (
-        b"aag 1 1 0 0 0\n2\ni99999999999999999999 x\n",
-        Some(AigerErr::BadSymbol(16)),
-    ),
-    (b"aag 1 1 0 0 0\n2\n\n", Some(AigerErr::BadSymbol(16))),
-    (
-        b"aag 1 1 0 0 0\n2\ni0 x\n i0 y\n",
-        Some(AigerErr::BadSymbol(21)),
-    ),
-];
+    "aag 1 1 0 0 0\n2\ni1 x\n => bad symbol line at byte 16;",
+    "aag 1 1 0 0 0\n2\no0 x\n => bad symbol line at byte 16;",
+    "aag 1 1 0 1 0\n2\n2\ni0 x\no1 x\n => bad symbol line at byte 23;",
+    "aag 1 1 0 0 0\n2\ni0\n => bad symbol line at byte 16;",
+    "aag 1 1 0 0 0\n2\ni x\n => bad symbol line at byte 16;",
+    "aag 1 1 0 0 0\n2\nl0 x\n => bad symbol line at byte 16;",
+    "aag 1 1 0 0 0\n2\ni99999999999999999999 x\n => bad symbol line at byte 16;",
+    "aag 1 1 0 0 0\n2\n\n => bad symbol line at byte 16;",
+    "aag 1 1 0 0 0\n2\ni0 x\n i0 y\n => bad symbol line at byte 21",
+);
+
+/// What comes of such a text.
+struct Texts;
+
+impl Table for Texts {
+    fn is_met(alloc: Global, file: &str, words: &str) -> bool {
+        is_told(alloc, read(alloc, file.as_bytes()).err(), words)
+    }
+}
 
 #[test]
 fn accepted_and_faulty_texts(rt: HostRuntime) {
-    for (bytes, want) in &TEXTS {
-        check_fault(&rt, bytes, read(rt.alloc(), bytes).err(), *want);
-    }
+    check_rows::<Texts>(&rt, rt.alloc(), TEXTS);
 }
 
 /// Whether a circuit was read whose gates have these variables, in this order.

@@ -1,7 +1,8 @@
-use crate::checks::check;
+use crate::checks::{check, check_bytes, is_told};
+use crate::tables::{Table, check_rows};
 use Call::{Byte, Line, Number};
 use byte_scan::*;
-use std::process::Abort;
+use std::alloc::Global;
 use std::test::*;
 
 /// A call of a scan, and what it should answer.
@@ -14,13 +15,12 @@ enum Call {
 /// What stands next, the call that reads it, and the place behind it.
 type Row = (&'static str, Call, u64);
 
-fn check_call(rt: &impl Abort, scan: &mut Scan<'_>, (name, call, at): &Row) {
-    let is_answer = match call {
+fn is_answer(scan: &mut Scan<'_>, call: &Call) -> bool {
+    match call {
         Number(want) => scan.number() == *want,
         Byte(want) => scan.byte() == *want,
         Line(want) => scan.line() == *want,
-    };
-    check(rt, name, is_answer && scan.at() == *at);
+    }
 }
 
 static CALLS: [Row; 10] = [
@@ -44,8 +44,9 @@ static CALLS: [Row; 10] = [
 fn bytes_numbers_and_lines(rt: HostRuntime) {
     let mut scan = Scan::new(b"007 x\n\n99999999999999999999\nlast");
     check(&rt, "the start", scan.at() == 0);
-    for row in &CALLS {
-        check_call(&rt, &mut scan, row);
+    for (name, call, at) in &CALLS {
+        let is_answer = is_answer(&mut scan, call);
+        check(&rt, name, is_answer && scan.at() == *at);
     }
 }
 
@@ -55,40 +56,66 @@ fn numbers(bytes: &[u8]) -> Result<[u32; 5], AigerErr> {
     Ok([header.m, header.i, header.l, header.o, header.a])
 }
 
-static HEADERS: [(&[u8], Result<[u32; 5], AigerErr>); 19] = [
-    (b"aag 3 2 0 1 1\n2\n", Ok([3, 2, 0, 1, 1])),
-    (b"aag 3 2 0 1 1", Ok([3, 2, 0, 1, 1])),
-    (b"aag 3 02 0 1 000001 0 0 0 0\n", Ok([3, 2, 0, 1, 1])),
-    (b"aag 16777216 0 0 0 0\n", Ok([16777216, 0, 0, 0, 0])),
-    (b"", Err(AigerErr::BadHeader)),
-    (b"aag 3 2 0 1 ", Err(AigerErr::BadHeader)),
-    (b"aag 3 2 0 1\n", Err(AigerErr::BadHeader)),
-    (b"aag 3 2 0 1 1 0 0 0 0 0\n", Err(AigerErr::BadHeader)),
-    (b"aag 3  2 0 1 1\n", Err(AigerErr::BadHeader)),
-    (b"aag 3 2 0 1 1 \n", Err(AigerErr::BadHeader)),
-    (b"aag 3 2 0 1 1\r\n", Err(AigerErr::BadHeader)),
-    (b"aig 3 2 0 1 1\n", Err(AigerErr::BadHeader)),
-    (b"aag 2 2 0 1 1\n", Err(AigerErr::BadHeader)),
-    (b"aag 16777217 0 0 0 0\n", Err(AigerErr::TooLarge(16777217))),
-    (
-        b"aag 1000000000000000000000 0 0 0 0\n",
-        Err(AigerErr::TooLarge(1_000_000_000_000_000_000)),
-    ),
-    (b"aag 1 0 1 0 16777217\n", Err(AigerErr::TooLarge(16777217))),
-    (b"aag 1 0 1 0 0 0 1\n", Err(AigerErr::HasLatches(1))),
-    (b"aag 1 1 0 0 0 0 1 1\n", Err(AigerErr::HasProperty(b'C'))),
-    (b"aag 1 1 0 0 9 0 0 0 1\n", Err(AigerErr::HasProperty(b'F'))),
+static HEADERS: [(&[u8], [u32; 5]); 4] = [
+    (b"aag 3 2 0 1 1\n2\n", [3, 2, 0, 1, 1]),
+    (b"aag 3 2 0 1 1", [3, 2, 0, 1, 1]),
+    (b"aag 3 02 0 1 000001 0 0 0 0\n", [3, 2, 0, 1, 1]),
+    (b"aag 16777216 0 0 0 0\n", [16777216, 0, 0, 0, 0]),
 ];
+
+/// A header, and its fault.
+const BAD_HEADERS: &str = concat!(
+    " => bad header;",
+    "aag 3 2 0 1  => bad header;",
+    "aag 3 2 0 1\n => bad header;",
+    "aag 3 2 0 1 1 0 0 0 0 0\n => bad header;",
+    "aag 3  2 0 1 1\n => bad header;",
+    "aag 3 2 0 1 1 \n => bad header;",
+    "aag 3 2 0 1 1\r\n => bad header;",
+    "aig 3 2 0 1 1\n => bad header;",
+    "aag 2 2 0 1 1\n => bad header;",
+    "aag 16777217 0 0 0 0\n => 16777217 is above 16777216;",
+    "aag 1000000000000000000000 0 0 0 0\n => 1000000000000000000 is above 16777216;",
+    "aag 1 0 1 0 16777217\n => 16777217 is above 16777216;",
+    "aag 1 0 1 0 0 0 1\n => 1 latches;",
+    "aag 1 1 0 0 0 0 1 1\n => section C is not supported;",
+    "aag 1 1 0 0 9 0 0 0 1\n => section F is not supported",
+);
+
+/// Whether the header is read as these numbers.
+fn has_numbers(bytes: &[u8], want: &[u32; 5]) -> bool {
+    match numbers(bytes) {
+        Ok(numbers) => numbers == *want,
+        Err(_) => false,
+    }
+}
+
+/// The fault of such a header.
+struct BadHeaders;
+
+impl Table for BadHeaders {
+    fn is_met(alloc: Global, file: &str, words: &str) -> bool {
+        is_told(alloc, numbers(file.as_bytes()).err(), words)
+    }
+}
 
 #[test]
 fn headers(rt: HostRuntime) {
     for (bytes, want) in &HEADERS {
-        assert!(rt; numbers(bytes) == *want, "at {bytes:?}");
+        check_bytes(&rt, bytes, has_numbers(bytes, want));
     }
-    // a binary file's
-    let mut scan = Scan::new(b"aig 3 2 0 1 1\n6\n");
-    let is_read = header(&mut scan, b'i').is_ok();
-    check(&rt, "M is I and A", is_read && scan.at() == 14);
+    check_rows::<BadHeaders>(&rt, rt.alloc(), BAD_HEADERS);
+}
+
+/// Whether a header of the binary form is read up to this place.
+fn ends_at(bytes: &[u8], at: u64) -> bool {
+    let mut scan = Scan::new(bytes);
+    header(&mut scan, b'i').is_ok() && scan.at() == at
+}
+
+#[test]
+fn headers_of_the_binary_form(rt: HostRuntime) {
+    check(&rt, "M is I and A", ends_at(b"aig 3 2 0 1 1\n6\n", 14));
     let header = header(&mut Scan::new(b"aig 4 2 0 1 1\n6\n"), b'i');
     check(&rt, "M is above", header.err() == Some(AigerErr::BadHeader));
 }

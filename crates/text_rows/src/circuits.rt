@@ -1,4 +1,5 @@
 //! What the readers of circuits are compared by.
+use crate::checks::check_bytes;
 use byte_scan::AigerErr;
 use netlist::{And, Circuit};
 use std::process::Abort;
@@ -10,7 +11,7 @@ pub(crate) fn check_fault(
     found: Option<AigerErr>,
     want: Option<AigerErr>,
 ) {
-    assert!(rt; found == want, "at {bytes:?}");
+    check_bytes(rt, bytes, found == want);
 }
 
 /// Whether a circuit was read with this gate alone.
@@ -21,21 +22,23 @@ pub(crate) fn has_gate(found: &Result<Circuit, AigerErr>, gate: And) -> bool {
     }
 }
 
-/// Whether a circuit of two inputs was read whose one output is the AND of them, with its fanins in this
-/// order.
-pub(crate) fn is_and(found: Result<Circuit, AigerErr>, left: u32, right: u32) -> bool {
+/// Whether a circuit was read with two inputs, and with its first gate as its one output.
+fn has_ends(found: &Result<Circuit, AigerErr>) -> bool {
     match found {
         Ok(circuit) => {
-            circuit.inputs() == [1, 2].as_slice()
-                && circuit.gates()
-                    == [And {
-                        var: 3,
-                        left,
-                        right,
-                    }]
-                    .as_slice()
-                && circuit.outputs() == [6].as_slice()
+            circuit.inputs() == [1, 2].as_slice() && circuit.outputs() == [6].as_slice()
         }
         Err(_) => false,
     }
+}
+
+/// Whether a circuit of two inputs was read whose one output is the AND of them, with its fanins in this
+/// order.
+pub(crate) fn is_and(found: Result<Circuit, AigerErr>, left: u32, right: u32) -> bool {
+    let gate = And {
+        var: 3,
+        left,
+        right,
+    };
+    has_gate(&found, gate) && has_ends(&found)
 }

@@ -5,7 +5,7 @@ use desk_port::{Desk, MemDesk, PutErr};
 use endings::{Content, READ_LIMIT, Status, Stop, end, read_file, say, warn, write_file};
 use std::alloc::{AllocError, Global};
 use std::process::Abort;
-use std::test::Fail;
+use std::test::*;
 
 /// Whether a command ends with this code, and warns of this line.
 fn ends(
@@ -22,26 +22,39 @@ fn ends(
 }
 
 /// Ends a command on a desk that fails nowhere, and on one where the warning fails: the status stays.
-fn check_end(rt: &impl Abort, alloc: Global, stop: &Stop, code: u8, line: &str) {
+fn check_end(rt: &impl Abort, alloc: Global, stop: Result<Stop, AllocError>, code: u8, line: &str) {
+    let Ok(stop) = stop else {
+        return check(rt, line, false);
+    };
     let desk = desk_with(alloc, &[], &[]);
-    check(rt, line, ends(alloc, desk, stop, code, line));
+    check(rt, line, ends(alloc, desk, &stop, code, line));
     let desk = desk_with(alloc, &[], &[0]);
-    check(rt, line, ends(alloc, desk, stop, code, ""));
+    check(rt, line, ends(alloc, desk, &stop, code, ""));
+}
+
+fn bad_file(alloc: Global) -> Result<Stop, AllocError> {
+    Ok(Stop::BadFile(0, String::from_str(alloc, "bad header")?))
+}
+
+fn not_alike(alloc: Global) -> Result<Stop, AllocError> {
+    let why = String::from_str(alloc, "inputs 2 and 3 differ")?;
+    Ok(Stop::NotAlike(why))
 }
 
 #[test]
-fn lines_and_statuses(rt: HostRuntime) -> Result<(), Fail> {
+fn lines_and_statuses(rt: HostRuntime) {
     let alloc = rt.alloc();
-    check_end(&rt, alloc, &Stop::CannotRead(1), 5, "cec: B: cannot read\n");
+    let cannot_read = Ok(Stop::CannotRead(1));
+    check_end(&rt, alloc, cannot_read, 5, "cec: B: cannot read\n");
     let long = "cec: A: longer than 1073741824 bytes\n";
-    check_end(&rt, alloc, &Stop::TooLong(0), 4, long);
-    check_end(&rt, alloc, &Stop::CannotWrite, 6, "cec: cannot write\n");
-    check_end(&rt, alloc, &Stop::OutOfMemory, 7, "cec: out of memory\n");
-    let stop = Stop::BadFile(0, String::from_str(alloc, "bad header")?);
-    check_end(&rt, alloc, &stop, 4, "cec: A: bad header\n");
-    let stop = Stop::NotAlike(String::from_str(alloc, "inputs 2 and 3 differ")?);
-    check_end(&rt, alloc, &stop, 4, "cec: inputs 2 and 3 differ\n");
-    Ok(())
+    check_end(&rt, alloc, Ok(Stop::TooLong(0)), 4, long);
+    let cannot_write = Ok(Stop::CannotWrite);
+    check_end(&rt, alloc, cannot_write, 6, "cec: cannot write\n");
+    let no_memory = Ok(Stop::OutOfMemory);
+    check_end(&rt, alloc, no_memory, 7, "cec: out of memory\n");
+    check_end(&rt, alloc, bad_file(alloc), 4, "cec: A: bad header\n");
+    let differ = "cec: inputs 2 and 3 differ\n";
+    check_end(&rt, alloc, not_alike(alloc), 4, differ);
 }
 
 struct Letters;
@@ -91,19 +104,22 @@ fn files_at_failing_calls(rt: HostRuntime) {
     }
 }
 
-/// Whether a word is said, a missing file can't be read, and a warning ends with its status.
-fn says_reads_and_warns(alloc: Global, desk: &mut MemDesk) -> bool {
-    say(desk, b"VERIFIED\n").is_ok()
-        && desk.said() == b"VERIFIED\n".as_slice()
-        && matches!(read_file(alloc, desk, "A", 0), Err(Stop::CannotRead(0)))
+fn says(desk: &mut MemDesk) -> bool {
+    say(desk, b"VERIFIED\n").is_ok() && desk.said() == b"VERIFIED\n".as_slice()
+}
+
+/// Whether a missing file can't be read, and a warning ends with its status.
+fn reads_and_warns(alloc: Global, desk: &mut MemDesk) -> bool {
+    matches!(read_file(alloc, desk, "A", 0), Err(Stop::CannotRead(0)))
         && warn(desk, "no\n", Status::BadUsage) == Status::BadUsage
 }
 
 #[test]
-fn said_and_read(rt: HostRuntime) -> Result<(), Fail> {
-    let mut desk = desk_with(rt.alloc(), &[], &[])?;
-    let is_so = says_reads_and_warns(rt.alloc(), &mut desk);
+fn said_and_read(rt: HostRuntime) {
+    let is_so = match desk_with(rt.alloc(), &[], &[]) {
+        Ok(mut desk) => says(&mut desk) && reads_and_warns(rt.alloc(), &mut desk),
+        Err(AllocError) => false,
+    };
     check(&rt, "a word, a missing file, a warning", is_so);
     check(&rt, "greatest length of a file", READ_LIMIT == 1 << 30);
-    Ok(())
 }

@@ -1,21 +1,21 @@
 ghost use Rattle.std.specs.Prelude.{◌≡◌, None};
 ghost use Rattle.desk_port.specs.MemDesk.{state_of};
 
-use crate::checks::check;
+use crate::checks::{check, check_bytes, is_told};
 use crate::desks::desk_with;
+use crate::tables::{Table, check_rows};
 use desk_port::{Desk, MemDesk, PutErr};
-use dimacs_text::{CnfErr, print, read};
+use dimacs_text::{print, read};
 use lits::{Clause, ClauseErr, Dim, Listed};
-use std::alloc::Global;
-use std::process::Abort;
-use std::test::Fail;
+use std::alloc::{AllocError, Global};
+use std::test::*;
 
-fn clauses_of(alloc: Global, clauses: &[&[Dim]]) -> Result<Vec<Clause<Dim>>, ClauseErr> {
-    let mut made = Vec::new(alloc);
-    for clause in clauses {
-        made.push(Clause::of(alloc, clause)?)?;
-    }
-    Ok(made)
+/// A clause of one literal, and the empty one.
+fn two_clauses(alloc: Global) -> Result<Vec<Clause<Dim>>, ClauseErr> {
+    let mut clauses = Vec::new(alloc);
+    clauses.push(Clause::of(alloc, &[Dim::new(1, false)])?)?;
+    clauses.push(Clause::of(alloc, &[])?)?;
+    Ok(clauses)
 }
 
 /// Prints the formula of these clauses, over one variable, to a file.
@@ -27,15 +27,23 @@ fn put_formula(alloc: Global, desk: &mut MemDesk, clauses: &[Clause<Dim>]) -> Re
     desk.close()
 }
 
+/// Whether the formula of these clauses is printed so.
+fn is_printed(alloc: Global, desk: &mut MemDesk, text: &[u8]) -> bool
+    requires { (state_of desk.old).started ≡ None }
+{
+    let Ok(clauses) = two_clauses(alloc) else {
+        return false;
+    };
+    put_formula(alloc, desk, clauses.as_slice()).is_ok() && desk.file("cnf") == Some(text)
+}
+
 #[test]
-fn dimacs_print(rt: HostRuntime) -> Result<(), Fail> {
-    let alloc = rt.alloc();
-    let mut desk = desk_with(alloc, &[], &[])?;
-    let clauses = clauses_of(alloc, &[&[Dim::new(1, false)], &[]])?;
-    let is_put = put_formula(alloc, &mut desk, clauses.as_slice()).is_ok();
-    let text = b"p cnf 1 2\n1 0\n0\n".as_slice();
-    check(&rt, "its text", is_put && desk.file("cnf") == Some(text));
-    Ok(())
+fn dimacs_print(rt: HostRuntime) {
+    let is_printed = match desk_with(rt.alloc(), &[], &[]) {
+        Ok(mut desk) => is_printed(rt.alloc(), &mut desk, b"p cnf 1 2\n1 0\n0\n"),
+        Err(AllocError) => false,
+    };
+    check(&rt, "its text", is_printed);
 }
 
 /// Whether the clause has these numbers, in this order.
@@ -132,75 +140,76 @@ static FORMULAS: [(&[u8], u32, &[&[i32]]); 8] = [
 ];
 
 /// A text, and its first fault.
-static FAULTS: [(&[u8], CnfErr); 46] = [
+const FAULTS: &str = concat!(
     // worked
-    (b"p cnf 1 1\n2 0\n", CnfErr::Var(2)),
-    (b"p cnf 1 2\n1 0\n", CnfErr::Count(2, 1)),
-    (b"p cnf 1 1\n1", CnfErr::Truncated(11)),
+    "p cnf 1 1\n2 0\n => variable of 2 is too large;",
+    "p cnf 1 2\n1 0\n => 2 clauses announced, 1 found;",
+    "p cnf 1 1\n1 => ends too early at byte 11;",
     // headers
-    (b"", CnfErr::BadHeader),
-    (b"c only a comment\n", CnfErr::BadHeader),
-    (b"p", CnfErr::BadHeader),
-    (b"p cnf\n", CnfErr::BadHeader),
-    (b"p cnf 1\n", CnfErr::BadHeader),
-    (b"p cnf 1\nc 1\n", CnfErr::BadHeader),
-    (b"p cnf 2147483648 0\n", CnfErr::BadHeader),
-    (b"p cnf 0 2147483648\n", CnfErr::BadHeader),
-    (b"p cnf 100000000000000000000 0\n", CnfErr::BadHeader),
-    (b"p cnf -1 0\n", CnfErr::BadHeader),
-    (b"p cnf +1 0\n", CnfErr::BadHeader),
-    (b"p cnf 1 -0\n", CnfErr::BadHeader),
-    (b"p cnf 1 x\n", CnfErr::BadHeader),
-    (b"p dnf 1 0\n", CnfErr::BadHeader),
-    (b"pcnf 1 0\n", CnfErr::BadHeader),
-    (b"1 0\np cnf 1 1\n", CnfErr::BadHeader),
+    " => bad header;",
+    "c only a comment\n => bad header;",
+    "p => bad header;",
+    "p cnf\n => bad header;",
+    "p cnf 1\n => bad header;",
+    "p cnf 1\nc 1\n => bad header;",
+    "p cnf 2147483648 0\n => bad header;",
+    "p cnf 0 2147483648\n => bad header;",
+    "p cnf 100000000000000000000 0\n => bad header;",
+    "p cnf -1 0\n => bad header;",
+    "p cnf +1 0\n => bad header;",
+    "p cnf 1 -0\n => bad header;",
+    "p cnf 1 x\n => bad header;",
+    "p dnf 1 0\n => bad header;",
+    "pcnf 1 0\n => bad header;",
+    "1 0\np cnf 1 1\n => bad header;",
     // This `cnf` begins a comment.
-    (b"p\ncnf 1 0\n", CnfErr::BadHeader),
+    "p\ncnf 1 0\n => bad header;",
     // numbers
-    (b"p cnf 1 1\n-0 0\n", CnfErr::BadNumber(10)),
-    (b"p cnf 1 1\n1 -00\n", CnfErr::BadNumber(12)),
-    (b"p cnf 1 1\n1 +1 0\n", CnfErr::BadNumber(12)),
-    (b"p cnf 1 1\n1\n- 1 0\n", CnfErr::BadNumber(12)),
-    (b"p cnf 1 1\n--1 0\n", CnfErr::BadNumber(10)),
-    (b"p cnf 1 1\n1-1 0\n", CnfErr::BadNumber(10)),
-    (b"p cnf 1 1\n1 0x\n", CnfErr::BadNumber(12)),
-    (b"p cnf 1 1\n1 0\n%\n0\n", CnfErr::BadNumber(14)),
-    (b"p cnf 1 1 1\x0b0\n", CnfErr::BadNumber(10)),
-    (b"c\np cnf 1 1\r\n\t 1 0 x", CnfErr::BadNumber(19)),
+    "p cnf 1 1\n-0 0\n => bad number at byte 10;",
+    "p cnf 1 1\n1 -00\n => bad number at byte 12;",
+    "p cnf 1 1\n1 +1 0\n => bad number at byte 12;",
+    "p cnf 1 1\n1\n- 1 0\n => bad number at byte 12;",
+    "p cnf 1 1\n--1 0\n => bad number at byte 10;",
+    "p cnf 1 1\n1-1 0\n => bad number at byte 10;",
+    "p cnf 1 1\n1 0x\n => bad number at byte 12;",
+    "p cnf 1 1\n1 0\n%\n0\n => bad number at byte 14;",
+    "p cnf 1 1 1\x0b0\n => bad number at byte 10;",
+    "c\np cnf 1 1\r\n\t 1 0 x => bad number at byte 19;",
     // Only at the front of a line does `c` begin a comment.
-    (b"p cnf 1 1\n1 c 0\n", CnfErr::BadNumber(12)),
-    (b"p cnf 1 1\n1\n c\n0\n", CnfErr::BadNumber(13)),
+    "p cnf 1 1\n1 c 0\n => bad number at byte 12;",
+    "p cnf 1 1\n1\n c\n0\n => bad number at byte 13;",
     // what is found later
-    (b"p cnf 0 1\n1 0\n", CnfErr::Var(1)),
-    (b"p cnf 3 1\n3 -4 0\n", CnfErr::Var(4)),
-    (
-        b"p cnf 2147483647 1\n2147483648 0\n",
-        CnfErr::Var(2_147_483_648),
-    ),
-    (
-        b"p cnf 3 1\n-99999999999999999999 0\n",
-        CnfErr::Var(1_000_000_000_000_000_000),
-    ),
-    (b"p cnf 1 1\n1 0 1\n", CnfErr::Truncated(16)),
-    (b"p cnf 1 1\n1\nc 0\n", CnfErr::Truncated(16)),
-    (b"p cnf 1 0\n1 0\n", CnfErr::Count(0, 1)),
-    (b"p cnf 1 1 ", CnfErr::Count(1, 0)),
-    (b"p cnf 1 3\n1 0 0\n", CnfErr::Count(3, 2)),
+    "p cnf 0 1\n1 0\n => variable of 1 is too large;",
+    "p cnf 3 1\n3 -4 0\n => variable of 4 is too large;",
+    "p cnf 2147483647 1\n2147483648 0\n => variable of 2147483648 is too large;",
+    "p cnf 3 1\n-99999999999999999999 0\n => variable of 1000000000000000000 is too large;",
+    "p cnf 1 1\n1 0 1\n => ends too early at byte 16;",
+    "p cnf 1 1\n1\nc 0\n => ends too early at byte 16;",
+    "p cnf 1 0\n1 0\n => 0 clauses announced, 1 found;",
+    "p cnf 1 1  => 1 clauses announced, 0 found;",
+    "p cnf 1 3\n1 0 0\n => 3 clauses announced, 2 found;",
     // The first word that is wrong counts, then the end, and then the number of clauses.
-    (b"p cnf 1 9\n2 x\n", CnfErr::Var(2)),
-    (b"p cnf 1 9\nx 2\n", CnfErr::BadNumber(10)),
-    (b"p cnf 1 9\n1 0 1 x", CnfErr::BadNumber(16)),
-    (b"p cnf 1 9\n1 0 1", CnfErr::Truncated(15)),
-    (b"p cnf 1 0\n1 0 2 0\n", CnfErr::Var(2)),
-];
+    "p cnf 1 9\n2 x\n => variable of 2 is too large;",
+    "p cnf 1 9\nx 2\n => bad number at byte 10;",
+    "p cnf 1 9\n1 0 1 x => bad number at byte 16;",
+    "p cnf 1 9\n1 0 1 => ends too early at byte 15;",
+    "p cnf 1 0\n1 0 2 0\n => variable of 2 is too large",
+);
+
+/// The fault of such a text.
+struct Faults;
+
+impl Table for Faults {
+    fn is_met(alloc: Global, file: &str, words: &str) -> bool {
+        is_told(alloc, read(alloc, file.as_bytes()).err(), words)
+    }
+}
 
 #[test]
 fn dimacs_read(rt: HostRuntime) {
     for (text, variables, clauses) in &FORMULAS {
         let is_read = is_read(rt.alloc(), text, *variables, clauses);
-        assert!(rt; is_read, "at {text:?}");
+        check_bytes(&rt, text, is_read);
     }
-    for (text, fault) in &FAULTS {
-        assert!(rt; read(rt.alloc(), text).err() == Some(*fault), "at {text:?}");
-    }
+    check_rows::<Faults>(&rt, rt.alloc(), FAULTS);
 }

@@ -6,7 +6,8 @@
 //! `formulas` of `dimacs_text`, `proof_lines` of `lrat_text`, `proof_checks` of `lrat_checker`, `desks` of
 //! `desk_port`, `real_desks` of `os_desk`, `proof_runs` of `lrat_run`, `ends` of `endings`, `words` of
 //! `command_line`, `workloads` of `workload_gen`; `texts` has the texts of the faults of all, `circuits`
-//! what the readers of circuits are compared by, and `checks` what ends each comparison. Begin to read at
+//! what the readers of circuits are compared by, `tables` the tables that are texts, and `checks` what ends
+//! each comparison. Begin to read at
 //! `bytes.rt`.
 #![tactic(auto)]
 
@@ -36,6 +37,8 @@ mod proof_lines;
 mod proof_runs;
 #[cfg(test)]
 mod real_desks;
+#[cfg(test)]
+mod tables;
 #[cfg(test)]
 mod texts;
 #[cfg(test)]

@@ -1,9 +1,11 @@
+use crate::checks::check as expect;
 use Want::{Bad, NoEmpty, Refuted};
 use dimacs_text::Cnf;
 use lits::{Dim, Listed};
 use lrat_checker::{Verdict, check};
 use lrat_text::{Line, LratStep};
 use std::alloc::{AllocError, Global};
+use std::slice;
 use std::test::*;
 use unit_prop::{BadStep, Why};
 
@@ -135,7 +137,7 @@ static CHECKS: [Row; 26] = [
 fn lrat_check(rt: HostRuntime) {
     for (formula, proof, want) in &CHECKS {
         let found = verdict(rt.alloc(), formula, proof);
-        assert!(rt; found == Some(verdict_of(want)), "{proof}");
+        expect(&rt, proof, found == Some(verdict_of(want)));
     }
 }
 
@@ -148,22 +150,37 @@ fn wide(alloc: Global) -> Result<Listed<Dim>, AllocError> {
     Ok(Listed::of(dims))
 }
 
-/// What the checker says of a line that adds this clause to a formula that has it.
-fn wide_verdict(alloc: Global) -> Result<Verdict, AllocError> {
+/// A formula of that clause alone.
+fn wide_formula(alloc: Global) -> Result<Cnf, AllocError> {
+    Ok(Cnf {
+        variables: 1_000_000,
+        clauses: Listed::of(vec![in alloc; wide(alloc)?]?),
+    })
+}
+
+/// A line that adds it again.
+fn wide_line(alloc: Global) -> Result<Line, AllocError> {
     let step = LratStep::Add {
         id: 9,
         clause: wide(alloc)?,
-        hints: Listed::of(vec![in alloc; 1]?),
+        hints: Listed::of(Vec::from_slice(alloc, &[1])?),
     };
-    let cnf = Cnf {
-        variables: 1_000_000,
-        clauses: Listed::of(vec![in alloc; wide(alloc)?]?),
-    };
-    check(alloc, &cnf, &[Line { at: 1, step }])
+    Ok(Line { at: 1, step })
+}
+
+/// What the checker says of the line, for this formula.
+fn verdict_of_wide_line(alloc: Global, formula: &Cnf) -> Result<Verdict, AllocError> {
+    let line = wide_line(alloc)?;
+    check(alloc, formula, slice::from_ref(&line))
+}
+
+fn wide_verdict(alloc: Global) -> Result<Verdict, AllocError> {
+    verdict_of_wide_line(alloc, &wide_formula(alloc)?)
 }
 
 // Each of them is looked up at once: the clause that is added is the formula's own.
 #[test]
 fn a_clause_of_a_million_literals(rt: HostRuntime) {
-    assert!(rt; wide_verdict(rt.alloc()) == Ok(Verdict::NoEmpty));
+    let is_so = wide_verdict(rt.alloc()) == Ok(Verdict::NoEmpty);
+    expect(&rt, "no line adds the empty clause", is_so);
 }

@@ -1,9 +1,10 @@
-use crate::checks::check;
+use crate::checks::{check, check_bytes, is_bytes, is_told};
+use crate::tables::{Table, check_rows};
 use lits::{Dim, Listed};
 use lrat_text::{Line, LratErr, LratStep, push_line, read};
 use std::alloc::{AllocError, Global};
 use std::process::Abort;
-use std::test::Fail;
+use std::test::*;
 
 fn addition(alloc: Global, id: u64, clause: &[Dim], hints: &[u64]) -> Result<LratStep, AllocError> {
     Ok(LratStep::Add {
@@ -41,10 +42,7 @@ fn have_numbers(lines: &[Line], at: &[u64]) -> bool {
 
 /// Whether the steps are written as this text.
 fn are_written(alloc: Global, lines: &[Line], text: &[u8]) -> bool {
-    match written(alloc, lines) {
-        Ok(written) => written.as_slice() == text,
-        Err(AllocError) => false,
-    }
+    is_bytes(written(alloc, lines), text)
 }
 
 /// Reads a text for a formula of so many clauses, and compares its steps with the text that they are written
@@ -56,37 +54,57 @@ fn check_read(rt: &impl Abort, alloc: Global, clauses: u64, text: &[u8], again: 
         }
         Err(_) => false,
     };
-    assert!(rt; is_read, "at {text:?}");
+    check_bytes(rt, text, is_read);
+}
+
+/// Appends the line of a step, if memory was there for it.
+fn push_step(
+    text: &mut Vec<u8>,
+    last: u64,
+    step: Result<LratStep, AllocError>,
+) -> Result<(), AllocError> {
+    push_line(text, last, &step?)
+}
+
+/// The line of a step that follows from the formula's second clause.
+fn one_line(alloc: Global) -> Result<Vec<u8>, AllocError> {
+    let mut text = Vec::new(alloc);
+    push_step(&mut text, 0, addition(alloc, 3, &[], &[2]))?;
+    Ok(text)
 }
 
 #[test]
-fn lrat_line(rt: HostRuntime) -> Result<(), Fail> {
+fn lrat_line(rt: HostRuntime) {
     let line = b"3 0 2 0\n";
-    let step = addition(rt.alloc(), 3, &[], &[2])?;
-    let is_written = are_written(rt.alloc(), &[Line { at: 1, step }], line);
-    check(&rt, "written", is_written);
+    check(&rt, "written", is_bytes(one_line(rt.alloc()), line));
     check_read(&rt, rt.alloc(), 2, line, line, &[1]);
     let fault = read(rt.alloc(), line, 3).err();
     check(&rt, "of three clauses", fault == Some(LratErr::Order(1)));
-    Ok(())
 }
 
-/// Appends an addition with numbers as large as they may be, and a deletion.
-fn push_steps(text: &mut Vec<u8>, alloc: Global) -> Result<(), AllocError> {
+/// An addition with numbers as large as they may be.
+fn large_addition(alloc: Global) -> Result<LratStep, AllocError> {
     let clause = [Dim::new(2_147_483_647, true), Dim::new(1, false)];
-    let id = 999_999_999_999_999_999;
-    push_line(text, 5, &addition(alloc, id, &clause, &[7, 12])?)?;
+    addition(alloc, 999_999_999_999_999_999, &clause, &[7, 12])
+}
+
+fn deletion(alloc: Global) -> Result<LratStep, AllocError> {
     let ids = Listed::of(Vec::from_slice(alloc, &[3, 99])?);
-    push_line(text, 13, &LratStep::Del { ids })
+    Ok(LratStep::Del { ids })
+}
+
+/// Both behind a word.
+fn both_lines(alloc: Global) -> Result<Vec<u8>, AllocError> {
+    let mut text = Vec::from_slice(alloc, b"kept ")?;
+    push_step(&mut text, 5, large_addition(alloc))?;
+    push_step(&mut text, 13, deletion(alloc))?;
+    Ok(text)
 }
 
 #[test]
-fn written_steps(rt: HostRuntime) -> Result<(), Fail> {
-    let mut text = Vec::from_slice(rt.alloc(), b"kept ")?;
-    push_steps(&mut text, rt.alloc())?;
+fn written_steps(rt: HostRuntime) {
     let want = b"kept 999999999999999999 -2147483647 1 0 7 12 0\n13 d 3 99 0\n";
-    check(&rt, "both", text.as_slice() == want.as_slice());
-    Ok(())
+    check(&rt, "both", is_bytes(both_lines(rt.alloc()), want));
 }
 
 /// A text, the text that its steps are written by, and the numbers of its lines.
@@ -112,44 +130,53 @@ static READ_TEXTS: [(&[u8], &[u8], &[u64]); 4] = [
 ];
 
 /// A text, and its first fault.
-static FAULTS: [(&[u8], LratErr); 32] = [
+const FAULTS: &str = concat!(
     // words that are no numbers
-    (b"13 -0 0 1 0\n", LratErr::BadNumber(1)),
-    (b"13 1 0 1 0\n\nx 0 1 0\n", LratErr::BadNumber(3)),
-    (b"13 1 0 1 0\r\n", LratErr::BadNumber(1)),
-    (b"13\t0 1 0\n", LratErr::BadNumber(1)),
-    (b"13 + 0 1 0\n", LratErr::BadNumber(1)),
-    (b"13 1 0 - 0\n", LratErr::BadNumber(1)),
-    (b"13 1d 0 1 0\n", LratErr::BadNumber(1)),
-    (b"d 13 0\n", LratErr::BadNumber(1)),
-    (b"13 1 d 0\n", LratErr::BadNumber(1)),
-    (b"x d 1 0\n", LratErr::BadNumber(1)),
-    (b"-00 d 1 0\n", LratErr::BadNumber(1)),
+    "13 -0 0 1 0\n => line 1: bad number;",
+    "13 1 0 1 0\n\nx 0 1 0\n => line 3: bad number;",
+    "13 1 0 1 0\r\n => line 1: bad number;",
+    "13\t0 1 0\n => line 1: bad number;",
+    "13 + 0 1 0\n => line 1: bad number;",
+    "13 1 0 - 0\n => line 1: bad number;",
+    "13 1d 0 1 0\n => line 1: bad number;",
+    "d 13 0\n => line 1: bad number;",
+    "13 1 d 0\n => line 1: bad number;",
+    "x d 1 0\n => line 1: bad number;",
+    "-00 d 1 0\n => line 1: bad number;",
     // numbers out of place
-    (b"0 1 0 1 0\n", LratErr::BadNumber(1)),
-    (b"-13 1 0 1 0\n", LratErr::BadNumber(1)),
-    (b"1000000000000000000 1 0 1 0\n", LratErr::BadNumber(1)),
-    (b"13 2147483648 0 1 0\n", LratErr::BadNumber(1)),
-    (b"13 -2147483648 0 1 0\n", LratErr::BadNumber(1)),
-    (b"13 1 0 1000000000000000000 0\n", LratErr::BadNumber(1)),
-    (b"13 1 0 -1000000000000000000 0\n", LratErr::BadNumber(1)),
-    (b"13 1 0 1 0 0\n", LratErr::BadNumber(1)),
-    (b"13 d -1 0\n", LratErr::BadNumber(1)),
-    (b"13 d 1000000000000000000 0\n", LratErr::BadNumber(1)),
-    (b"13 d 1 0 2\n", LratErr::BadNumber(1)),
+    "0 1 0 1 0\n => line 1: bad number;",
+    "-13 1 0 1 0\n => line 1: bad number;",
+    "1000000000000000000 1 0 1 0\n => line 1: bad number;",
+    "13 2147483648 0 1 0\n => line 1: bad number;",
+    "13 -2147483648 0 1 0\n => line 1: bad number;",
+    "13 1 0 1000000000000000000 0\n => line 1: bad number;",
+    "13 1 0 -1000000000000000000 0\n => line 1: bad number;",
+    "13 1 0 1 0 0\n => line 1: bad number;",
+    "13 d -1 0\n => line 1: bad number;",
+    "13 d 1000000000000000000 0\n => line 1: bad number;",
+    "13 d 1 0 2\n => line 1: bad number;",
     // whole lines
     // A missing 0 is judged before the id and the hints.
-    (b"13\n", LratErr::Truncated(1)),
-    (b"12 1\n", LratErr::Truncated(1)),
-    (b"12 1 0 -1", LratErr::Truncated(1)),
-    (b"13 d 1\n", LratErr::Truncated(1)),
-    (b"13 d", LratErr::Truncated(1)),
-    (b"12 1 0 -1 0\n", LratErr::Order(1)),
-    (b"13 1 0 1 0\n13 2 0 1 0\n", LratErr::Order(2)),
-    (b"14 1 0 1 0\n14 d 14 0\n13 2 0 1 0\n", LratErr::Order(3)),
-    (b"13 -4 5 0 -2 3 7 0\n", LratErr::Rat(1)),
-    (b"13 1 0 1 0\n14 2 0 1 -1 0\n", LratErr::Rat(2)),
-];
+    "13\n => line 1: ends too early;",
+    "12 1\n => line 1: ends too early;",
+    "12 1 0 -1 => line 1: ends too early;",
+    "13 d 1\n => line 1: ends too early;",
+    "13 d => line 1: ends too early;",
+    "12 1 0 -1 0\n => line 1: id out of order;",
+    "13 1 0 1 0\n13 2 0 1 0\n => line 2: id out of order;",
+    "14 1 0 1 0\n14 d 14 0\n13 2 0 1 0\n => line 3: id out of order;",
+    "13 -4 5 0 -2 3 7 0\n => line 1: negative hint;",
+    "13 1 0 1 0\n14 2 0 1 -1 0\n => line 2: negative hint",
+);
+
+/// The fault of such a text, for a formula of 12 clauses.
+struct Faults;
+
+impl Table for Faults {
+    fn is_met(alloc: Global, file: &str, words: &str) -> bool {
+        is_told(alloc, read(alloc, file.as_bytes(), 12).err(), words)
+    }
+}
 
 /// Each for a formula of 12 clauses.
 #[test]
@@ -157,8 +184,5 @@ fn read_texts(rt: HostRuntime) {
     for (text, again, at) in &READ_TEXTS {
         check_read(&rt, rt.alloc(), 12, text, again, at);
     }
-    for (text, fault) in &FAULTS {
-        let found = read(rt.alloc(), text, 12).err();
-        assert!(rt; found == Some(*fault), "at {text:?}");
-    }
+    check_rows::<Faults>(&rt, rt.alloc(), FAULTS);
 }

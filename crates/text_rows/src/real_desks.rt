@@ -8,18 +8,26 @@ use desk_port::{Desk, PutErr, ReadErr};
 use os_desk::OsDesk;
 use std::alloc::Global;
 use std::io::{ErrorKind, Write};
+use std::process::Abort;
 use std::rt::Files;
-use std::test::Fail;
+use std::test::*;
 use std::{fs, io};
 
-/// Writes a file, and a shorter one in its place, in pieces.
-fn put_twice<D: Desk>(desk: &mut D) -> Result<(), PutErr>
+/// Writes a file.
+fn put_old<D: Desk>(desk: &mut D) -> Result<(), PutErr>
     requires { (D.state desk.old).started ≡ None }
     ensures { OnOk result ((D.state desk.new).started ≡ None) }
 {
     desk.start("pieces.txt")?;
     desk.write(b"old and longer")?;
-    desk.close()?;
+    desk.close()
+}
+
+/// Writes a shorter one in its place, in pieces.
+fn put_pieces<D: Desk>(desk: &mut D) -> Result<(), PutErr>
+    requires { (D.state desk.old).started ≡ None }
+    ensures { OnOk result ((D.state desk.new).started ≡ None) }
+{
     desk.start("pieces.txt")?;
     desk.write(b"ab")?;
     desk.write(b"")?;
@@ -28,7 +36,9 @@ fn put_twice<D: Desk>(desk: &mut D) -> Result<(), PutErr>
 }
 
 /// What is read, a file and the most that is read of it, and what that comes to.
-static READS: [(&str, &str, u64, Result<(), ReadErr>); 4] = [
+type Row = (&'static str, &'static str, u64, Result<(), ReadErr>);
+
+static READS: [Row; 4] = [
     ("as long as may be", "pieces.txt", 3, Ok(())),
     ("without a limit", "pieces.txt", u64::MAX, Ok(())),
     ("too long", "pieces.txt", 2, Err(ReadErr::TooLong)),
@@ -36,30 +46,34 @@ static READS: [(&str, &str, u64, Result<(), ReadErr>); 4] = [
 ];
 
 /// Whether the file reads so: with the bytes "abc", or not at all.
-fn reads<D: Desk>(
-    alloc: Global,
-    desk: &mut D,
-    name: &str,
-    limit: u64,
-    want: Result<(), ReadErr>,
-) -> bool {
-    match desk.read(alloc, name, limit) {
+fn reads<D: Desk>(alloc: Global, desk: &mut D, (_, name, limit, want): &Row) -> bool {
+    match desk.read(alloc, name, *limit) {
         Ok(bytes) => want.is_ok() && bytes.as_slice() == b"abc".as_slice(),
-        Err(fault) => want == Err(fault),
+        Err(fault) => *want == Err(fault),
     }
 }
 
-#[test]
-fn real_files(rt: HostRuntime) -> Result<(), Fail> {
-    let mut desk = OsDesk::new(rt.alloc(), &rt, rt.stdout(), rt.stderr());
-    put_twice(&mut desk)?;
+/// Writes the file twice, and reads it.
+fn check_files<D: Desk>(rt: &impl Abort, alloc: Global, desk: &mut D) -> Result<(), PutErr>
+    requires { (D.state desk.old).started ≡ None }
+{
+    put_old(desk)?;
+    put_pieces(desk)?;
     let no_folder = desk.start("missing/pieces.txt");
-    check(&rt, "no such folder", no_folder == Err(PutErr::Failed));
-    for (what, name, limit, want) in &READS {
-        check(&rt, what, reads(rt.alloc(), &mut desk, name, *limit, *want));
+    check(rt, "no such folder", no_folder == Err(PutErr::Failed));
+    for row in &READS {
+        check(rt, row.0, reads(alloc, desk, row));
     }
-    fs::remove_file(&rt, "pieces.txt")?;
     Ok(())
+}
+
+#[test]
+fn real_files(rt: HostRuntime) {
+    let mut desk = OsDesk::new(rt.alloc(), &rt, rt.stdout(), rt.stderr());
+    let is_put = check_files(&rt, rt.alloc(), &mut desk).is_ok();
+    check(&rt, "put", is_put);
+    let is_removed = fs::remove_file(&rt, "pieces.txt").is_ok();
+    check(&rt, "removed", is_removed);
 }
 
 // An output that is closed, or that takes nothing.
@@ -80,8 +94,9 @@ impl Write for Shut {
     }
 }
 
-/// Whether the desk refuses to say and to warn, but for nothing at all.
-fn is_shut<R: Files>(desk: &mut OsDesk<R, Shut, Shut>) -> bool {
+/// Whether a desk over such outputs refuses to say and to warn, but for nothing at all.
+fn is_shut<R: Files + Drop>(alloc: Global, files: R, is_closed: bool) -> bool {
+    let mut desk = OsDesk::new(alloc, files, Shut(is_closed), Shut(is_closed));
     desk.say(b"said") == Err(PutErr::Failed)
         && desk.warn(b"warned") == Err(PutErr::Failed)
         && desk.say(b"").is_ok()
@@ -89,9 +104,6 @@ fn is_shut<R: Files>(desk: &mut OsDesk<R, Shut, Shut>) -> bool {
 
 #[test]
 fn shut_outputs(rt: HostRuntime) {
-    for is_closed in [true, false] {
-        let (out, err) = (Shut(is_closed), Shut(is_closed));
-        let is_so = is_shut(&mut OsDesk::new(rt.alloc(), &rt, out, err));
-        check(&rt, if is_closed { "closed" } else { "full" }, is_so);
-    }
+    check(&rt, "closed", is_shut(rt.alloc(), &rt, true));
+    check(&rt, "full", is_shut(rt.alloc(), &rt, false));
 }

@@ -1,5 +1,6 @@
 use crate::checks::{check, is_text};
-use command_line::{Asked, CheckWords, Refusal, read};
+use crate::tables::{Table, check_rows};
+use command_line::{Asked, CheckWords, LratWords, Refusal, SelfWords, read};
 use std::alloc::{AllocError, Global};
 use std::test::*;
 use workload_gen::Kind;
@@ -126,127 +127,98 @@ static TOLD: [(&str, &str); 10] = [
     ("cec help check", NO_HELP),
 ];
 
-/// Words, and what they are told, by lines: each row of a table costs the prover half a second.
-const TAKEN: &str = "\
-cec check x y => x and y, to nowhere, by 1, 4, 100 and 100000
-cec check x y --out p => x and y, to p, by 1, 4, 100 and 100000
-cec check x y --budget 7 => x and y, to nowhere, by 1, 4, 100 and 7
-cec check x y --budget 7 --out p => x and y, to p, by 1, 4, 100 and 7
-cec check --out p --budget 7 x y => x and y, to p, by 1, 4, 100 and 7
-cec check x --budget=7 y --out=p => x and y, to p, by 1, 4, 100 and 7
-cec check x y --budget 1 => x and y, to nowhere, by 1, 4, 100 and 1
-cec check x y --budget 1000000000 => x and y, to nowhere, by 1, 4, 100 and 1000000000
-cec check x y --budget +007 => x and y, to nowhere, by 1, 4, 100 and 7
-cec check help check => help and check, to nowhere, by 1, 4, 100 and 100000
-cec check -- -x --out => -x and --out, to nowhere, by 1, 4, 100 and 100000
-cec check x y --seed 0 --words 1 --sweep-budget 1 => x and y, to nowhere, by 0, 1, 1 and 100000
-cec check x y --words 64 --seed 18446744073709551615 \
-    => x and y, to nowhere, by 18446744073709551615, 64, 100 and 100000
-cec check x y --sweep-budget 1000000000 => x and y, to nowhere, by 1, 4, 1000000000 and 100000
-cec check x y --seed=7 --budget 8 => x and y, to nowhere, by 7, 4, 100 and 8
-cec check --sweep-budget 5 x --words 6 y --out p => x and y, to p, by 1, 6, 5 and 100000
-cec lrat f p => p of f
-cec self adder 1 => an adder of 1
-cec self parity 4096 => a parity of 4096
-cec self comparator +08 => a comparator of 8
-";
+/// Words, and what they are taken for.
+const TAKEN: &str = concat!(
+    "cec check x y => x and y, to nowhere, by 1, 4, 100 and 100000;",
+    "cec check x y --out p => x and y, to p, by 1, 4, 100 and 100000;",
+    "cec check x y --budget 7 => x and y, to nowhere, by 1, 4, 100 and 7;",
+    "cec check x y --budget 7 --out p => x and y, to p, by 1, 4, 100 and 7;",
+    "cec check --out p --budget 7 x y => x and y, to p, by 1, 4, 100 and 7;",
+    "cec check x --budget=7 y --out=p => x and y, to p, by 1, 4, 100 and 7;",
+    "cec check x y --budget 1 => x and y, to nowhere, by 1, 4, 100 and 1;",
+    "cec check x y --budget 1000000000 => x and y, to nowhere, by 1, 4, 100 and 1000000000;",
+    "cec check x y --budget +007 => x and y, to nowhere, by 1, 4, 100 and 7;",
+    "cec check help check => help and check, to nowhere, by 1, 4, 100 and 100000;",
+    "cec check -- -x --out => -x and --out, to nowhere, by 1, 4, 100 and 100000;",
+    "cec check x y --seed 0 --words 1 --sweep-budget 1 => x and y, to nowhere, by 0, 1, 1 and 100000;",
+    "cec check x y --words 64 --seed 18446744073709551615 => \
+        x and y, to nowhere, by 18446744073709551615, 64, 100 and 100000;",
+    "cec check x y --sweep-budget 1000000000 => x and y, to nowhere, by 1, 4, 1000000000 and 100000;",
+    "cec check x y --seed=7 --budget 8 => x and y, to nowhere, by 7, 4, 100 and 8;",
+    "cec check --sweep-budget 5 x --words 6 y --out p => x and y, to p, by 1, 6, 5 and 100000;",
+    "cec lrat f p => p of f;",
+    "cec self adder 1 => an adder of 1;",
+    "cec self parity 4096 => a parity of 4096;",
+    "cec self comparator +08 => a comparator of 8",
+);
 
 /// Words, and how the text of their refusal begins.
-static REFUSED: [(&str, &str); 21] = [
-    (
-        "cec check x y --budget 0",
-        "invalid value '0' for '--budget <N>': 0 is not in 1..=1000000000\n",
-    ),
-    (
-        "cec check x y --budget 1000000001",
-        "invalid value '1000000001' for '--budget <N>': 1000000001 is not in 1..=1000000000\n",
-    ),
-    (
-        "cec check x y --budget x",
-        "invalid value 'x' for '--budget <N>': invalid digit found in string\n",
-    ),
-    (
-        "cec check x y --budget -1",
-        "unexpected argument '-1' found\n",
-    ),
-    (
-        "cec check x y --budget 7 --budget 7",
-        "the argument '--budget <N>' cannot be used multiple times\n",
-    ),
-    (
-        "cec check x y --out",
-        "a value is required for '--out <PREFIX>' but none was supplied\n",
-    ),
-    (
-        "cec check x",
-        "the following required arguments were not provided:\n  <B>\n",
-    ),
-    (
-        "cec lrat",
-        "the following required arguments were not provided:\n  <CNF>\n  <PROOF>\n",
-    ),
-    ("cec check x y z", "unexpected argument 'z' found\n"),
-    (
-        "cec check x y --words 0",
-        "invalid value '0' for '--words <N>': 0 is not in 1..=64\n",
-    ),
-    (
-        "cec check x y --words 65",
-        "invalid value '65' for '--words <N>': 65 is not in 1..=64\n",
-    ),
-    (
-        "cec check x y --sweep-budget 0",
-        "invalid value '0' for '--sweep-budget <N>': 0 is not in 1..=1000000000\n",
-    ),
-    (
-        "cec check x y --sweep-budget 1000000001",
-        "invalid value '1000000001' for '--sweep-budget <N>': 1000000001 is not in 1..=1000000000\n",
-    ),
-    (
-        "cec check x y --seed 18446744073709551616",
-        "invalid value '18446744073709551616' for '--seed <N>': number too large to fit in target type\n",
-    ),
-    (
-        "cec check x y --seed -1",
-        "unexpected argument '-1' found\n",
-    ),
-    (
-        "cec check x y --workers 4",
-        "unexpected argument '--workers' found\n",
-    ),
-    ("cec --version", "unexpected argument '--version' found\n"),
-    (
-        "cec self adders 4",
-        "invalid value 'adders' for '<KIND>'\n  [possible values: adder, parity, comparator]\n",
-    ),
-    (
-        "cec self adder 0",
-        "invalid value '0' for '<N>': 0 is not in 1..=4096\n",
-    ),
-    (
-        "cec self adder 4097",
-        "invalid value '4097' for '<N>': 4097 is not in 1..=4096\n",
-    ),
-    (
-        "cec self parity",
-        "the following required arguments were not provided:\n  <N>\n",
-    ),
-];
+const REFUSED: &str = concat!(
+    "cec check x y --budget 0 => \
+        invalid value '0' for '--budget <N>': 0 is not in 1..=1000000000\n;",
+    "cec check x y --budget 1000000001 => \
+        invalid value '1000000001' for '--budget <N>': 1000000001 is not in 1..=1000000000\n;",
+    "cec check x y --budget x => \
+        invalid value 'x' for '--budget <N>': invalid digit found in string\n;",
+    "cec check x y --budget -1 => unexpected argument '-1' found\n;",
+    "cec check x y --budget 7 --budget 7 => \
+        the argument '--budget <N>' cannot be used multiple times\n;",
+    "cec check x y --out => a value is required for '--out <PREFIX>' but none was supplied\n;",
+    "cec check x => the following required arguments were not provided:\n  <B>\n;",
+    "cec lrat => the following required arguments were not provided:\n  <CNF>\n  <PROOF>\n;",
+    "cec check x y z => unexpected argument 'z' found\n;",
+    "cec check x y --words 0 => invalid value '0' for '--words <N>': 0 is not in 1..=64\n;",
+    "cec check x y --words 65 => invalid value '65' for '--words <N>': 65 is not in 1..=64\n;",
+    "cec check x y --sweep-budget 0 => \
+        invalid value '0' for '--sweep-budget <N>': 0 is not in 1..=1000000000\n;",
+    "cec check x y --sweep-budget 1000000001 => \
+        invalid value '1000000001' for '--sweep-budget <N>': 1000000001 is not in 1..=1000000000\n;",
+    "cec check x y --seed 18446744073709551616 => \
+        invalid value '18446744073709551616' for '--seed <N>': number too large to fit in target type\n;",
+    "cec check x y --seed -1 => unexpected argument '-1' found\n;",
+    "cec check x y --workers 4 => unexpected argument '--workers' found\n;",
+    "cec --version => unexpected argument '--version' found\n;",
+    "cec self adders 4 => \
+        invalid value 'adders' for '<KIND>'\n  [possible values: adder, parity, comparator]\n;",
+    "cec self adder 0 => invalid value '0' for '<N>': 0 is not in 1..=4096\n;",
+    "cec self adder 4097 => invalid value '4097' for '<N>': 4097 is not in 1..=4096\n;",
+    "cec self parity => the following required arguments were not provided:\n  <N>\n",
+);
+
+fn push_word(words: &mut Vec<String>, alloc: Global, word: &str) -> Result<(), AllocError> {
+    words.push(String::from_str(alloc, word)?)?;
+    Ok(())
+}
 
 fn words_of(alloc: Global, line: &str) -> Result<Vec<String>, AllocError> {
     let mut words = Vec::new(alloc);
     for word in line.split(' ') {
-        words.push(String::from_str(alloc, word)?)?;
+        push_word(&mut words, alloc, word)?;
     }
     Ok(words)
 }
 
-fn told_check(alloc: Global, check: &CheckWords<'_>) -> Result<String, AllocError> {
+/// The files that a check was given, and where its proof goes.
+fn files_of(alloc: Global, check: &CheckWords<'_>) -> Result<String, AllocError> {
     let out = check.out.unwrap_or("nowhere");
+    format!(in alloc; "{} and {}, to {out}", check.a, check.b)
+}
+
+/// The numbers that a check was given.
+fn numbers_of(alloc: Global, check: &CheckWords<'_>) -> Result<String, AllocError> {
     format!(in alloc;
-        "{} and {}, to {out}, by {}, {}, {} and {}",
-        check.a, check.b, check.seed, check.words, check.sweep_budget, check.budget
+        "{}, {}, {} and {}",
+        check.seed, check.words, check.sweep_budget, check.budget
     )
+}
+
+fn is_check(alloc: Global, check: &CheckWords<'_>, meaning: &str) -> bool {
+    match meaning.split_once(", by ") {
+        Some((files, numbers)) => {
+            is_text(files_of(alloc, check), files) && is_text(numbers_of(alloc, check), numbers)
+        }
+        None => false,
+    }
 }
 
 fn name_of(kind: Kind) -> &'static str {
@@ -257,48 +229,86 @@ fn name_of(kind: Kind) -> &'static str {
     }
 }
 
-/// What `read` answered: the request, or the text of the refusal with its kind before it.
-fn told(alloc: Global, answer: &Result<Asked<'_>, Refusal>) -> Result<String, AllocError> {
-    match answer {
-        Ok(Asked::Check(check)) => told_check(alloc, check),
-        Ok(Asked::Lrat(lrat)) => format!(in alloc; "{} of {}", lrat.proof, lrat.cnf),
-        Ok(Asked::SelfCheck(own)) => format!(in alloc; "{} of {}", name_of(own.kind), own.n),
-        Err(Refusal::Help(text)) => format!(in alloc; "help: {text}"),
-        Err(Refusal::Usage(text)) => format!(in alloc; "usage: {text}"),
-        Err(Refusal::NoMemory) => Err(AllocError),
+fn is_lrat(lrat: &LratWords<'_>, meaning: &str) -> bool {
+    match meaning.split_once(" of ") {
+        Some((proof, cnf)) => proof == lrat.proof && cnf == lrat.cnf,
+        None => false,
     }
 }
 
-/// What the words of a line are told.
-fn answer(alloc: Global, line: &str) -> Result<String, AllocError> {
-    told(alloc, &read(alloc, words_of(alloc, line)?.as_slice()))
+fn told_self(alloc: Global, own: &SelfWords) -> Result<String, AllocError> {
+    format!(in alloc; "{} of {}", name_of(own.kind), own.n)
 }
 
-/// Whether the answer is a refusal whose text begins so.
-fn is_refused(told: Result<String, AllocError>, expected: &str) -> bool {
-    let Ok(text) = told else {
-        return false;
-    };
-    match text.as_str().strip_prefix("usage: error: ") {
+/// Whether this is what was asked for.
+fn is_asked(alloc: Global, asked: &Asked<'_>, meaning: &str) -> bool {
+    match asked {
+        Asked::Check(check) => is_check(alloc, check, meaning),
+        Asked::Lrat(lrat) => is_lrat(lrat, meaning),
+        Asked::SelfCheck(own) => is_text(told_self(alloc, own), meaning),
+    }
+}
+
+/// Whether this is the text of the refusal, with its kind before it.
+fn is_refusal(refusal: &Refusal, expected: &str) -> bool {
+    match refusal {
+        Refusal::Help(text) => expected.strip_prefix("help: ") == Some(text.as_str()),
+        Refusal::Usage(text) => expected.strip_prefix("usage: ") == Some(text.as_str()),
+        Refusal::NoMemory => false,
+    }
+}
+
+/// What words are told.
+struct Answered;
+
+impl Table for Answered {
+    fn is_met(alloc: Global, line: &str, expected: &str) -> bool {
+        let Ok(words) = words_of(alloc, line) else {
+            return false;
+        };
+        match read(alloc, words.as_slice()) {
+            Ok(asked) => is_asked(alloc, &asked, expected),
+            Err(refusal) => is_refusal(&refusal, expected),
+        }
+    }
+}
+
+/// Whether an error is told that begins so.
+fn begins(text: &str, expected: &str) -> bool {
+    match text.strip_prefix("error: ") {
         Some(rest) => rest.starts_with(expected),
         None => false,
     }
 }
 
-#[test]
-fn words_of_commands(rt: HostRuntime) {
-    for (line, expected) in &TOLD {
-        check(&rt, line, is_text(answer(rt.alloc(), line), expected));
-    }
-    for row in TAKEN.split('\n') {
-        match row.split_once(" => ") {
-            Some((line, expected)) => {
-                check(&rt, line, is_text(answer(rt.alloc(), line), expected));
-            }
-            None => check(&rt, row, row.is_empty()),
+/// How the error begins that words are told.
+struct Refused;
+
+impl Table for Refused {
+    fn is_met(alloc: Global, line: &str, expected: &str) -> bool {
+        let Ok(words) = words_of(alloc, line) else {
+            return false;
+        };
+        match read(alloc, words.as_slice()) {
+            Err(Refusal::Usage(text)) => begins(text.as_str(), expected),
+            _ => false,
         }
     }
-    for (line, expected) in &REFUSED {
-        check(&rt, line, is_refused(answer(rt.alloc(), line), expected));
+}
+
+#[test]
+fn words_of_commands(rt: HostRuntime) {
+    check_rows::<Answered>(&rt, rt.alloc(), TAKEN);
+}
+
+#[test]
+fn words_without_a_command(rt: HostRuntime) {
+    for (line, expected) in &TOLD {
+        check(&rt, line, Answered::is_met(rt.alloc(), line, expected));
     }
+}
+
+#[test]
+fn words_that_are_refused(rt: HostRuntime) {
+    check_rows::<Refused>(&rt, rt.alloc(), REFUSED);
 }
