@@ -1,13 +1,12 @@
 //! Queries whose answers are checked outside of the solver.
-ghost use Rattle.std.specs.Prelude.{◌≡◌, true, OnOk};
+ghost use Rattle.std.specs.Prelude.{◌≡◌, true, OnSome};
 
 use crate::bases::{is_base, is_over};
-use crate::clauses::expect;
+use crate::clauses::{check, expect};
 use lits::{Clause, Lit, Literal, Named, Ref, Step};
 use std::alloc::Global;
 use std::process::Abort;
-use std::test::Fail;
-use unit_prop::{Closure, Refuted, Refuter, StepCheck, StepErr, close_under};
+use unit_prop::{Closure, Refuted, Refuter, StepCheck, close_under};
 
 /// The clause of the name in base and log.
 fn clause_named<'a>(base: &'a [Named], log: &'a [Step], name: Ref) -> Option<&'a Clause<Lit>> {
@@ -25,6 +24,14 @@ fn clause_named<'a>(base: &'a [Named], log: &'a [Step], name: Ref) -> Option<&'a
     None
 }
 
+/// Takes the clause of the name as the next hint; whether it is one.
+fn is_hint(check: &mut StepCheck<Lit>, base: &[Named], log: &[Step], name: Ref) -> bool {
+    match clause_named(base, log, name) {
+        Some(clause) => check.hint(clause.lits()).is_ok(),
+        None => false,
+    }
+}
+
 /// Whether the hints make the clause a step over base and log.
 fn is_step(
     check: &mut StepCheck<Lit>,
@@ -32,58 +39,80 @@ fn is_step(
     log: &[Step],
     clause: &Clause<Lit>,
     hints: &[Ref],
-) -> Result<bool, StepErr> {
-    check.begin(clause.lits())?;
-    for name in hints {
-        let Some(hint) = clause_named(base, log, *name) else {
-            return Ok(false);
-        };
-        check.hint(hint.lits())?;
+) -> bool {
+    if check.begin(clause.lits()).is_err() {
+        return false;
     }
-    Ok(check.end().is_ok())
+    for name in hints {
+        if !is_hint(check, base, log, *name) {
+            return false;
+        }
+    }
+    check.end().is_ok()
+}
+
+/// The negations of all literals but one.
+fn negations(alloc: Global, lits: &[Lit], but: Lit) -> Option<Vec<Lit>> {
+    let mut negations = Vec::new(alloc);
+    for lit in lits {
+        if *lit != but {
+            negations.push(lit.not()).ok()?;
+        }
+    }
+    Some(negations)
 }
 
 /// Whether the closure of the clauses and of the negations of all literals but one lacks that one and
 /// doesn't clash.
-fn is_open(
-    alloc: Global,
-    clauses: &[Clause<Lit>],
-    clause: &Clause<Lit>,
-    lit: Lit,
-) -> Result<bool, Fail> {
-    let mut given = Vec::new(alloc);
-    for other in clause.lits() {
-        if *other != lit {
-            given.push(other.not())?;
-        }
-    }
-    match close_under(alloc, clauses, given.as_slice())? {
-        Closure::Clash => Ok(false),
-        Closure::Free(found) => Ok(!found.as_slice().contains(&lit)),
+fn is_open(alloc: Global, clauses: &[Clause<Lit>], lits: &[Lit], lit: Lit) -> Option<bool> {
+    let given = negations(alloc, lits, lit)?;
+    match close_under(alloc, clauses, given.as_slice()).ok()? {
+        Closure::Clash => Some(false),
+        Closure::Free(found) => Some(!found.as_slice().contains(&lit)),
     }
 }
 
-/// The clauses of base and log.
-fn clauses_of(alloc: Global, base: &[Named], log: &[Step]) -> Result<Vec<Clause<Lit>>, Fail> {
+/// Whether the clause of the literals is new over the clauses: it is open for one of its literals.
+fn is_new(alloc: Global, clauses: &[Clause<Lit>], lits: &[Lit]) -> Option<bool> {
+    for lit in lits {
+        if is_open(alloc, clauses, lits, *lit)? {
+            return Some(true);
+        }
+    }
+    Some(false)
+}
+
+fn push_copy(clauses: &mut Vec<Clause<Lit>>, clause: &Clause<Lit>) -> Option<()> {
+    clauses.push(clause.copy().ok()?).ok()
+}
+
+/// The clauses of the base.
+fn clauses_of(alloc: Global, base: &[Named]) -> Option<Vec<Clause<Lit>>> {
     let mut clauses = Vec::new(alloc);
     for named in base {
-        clauses.push(named.clause.copy()?)?;
+        push_copy(&mut clauses, &named.clause)?;
     }
-    for step in log {
-        clauses.push(step.clause.copy()?)?;
-    }
-    Ok(clauses)
+    Some(clauses)
 }
 
-/// Whether the clause is new over base and log: it is open for one of its literals.
-fn is_new(alloc: Global, base: &[Named], log: &[Step], clause: &Clause<Lit>) -> Result<bool, Fail> {
-    let clauses = clauses_of(alloc, base, log)?;
-    for lit in clause.lits() {
-        if is_open(alloc, clauses.as_slice(), clause, *lit)? {
-            return Ok(true);
-        }
+/// Checks that each of the log's clauses is new over those of the base and before it.
+fn check_new(rt: &impl Abort, alloc: Global, base: &[Named], log: &[Step]) -> Option<()> {
+    let mut clauses = clauses_of(alloc, base)?;
+    for step in log {
+        let is_new = is_new(alloc, clauses.as_slice(), step.clause.lits());
+        check(rt, "a new clause", is_new);
+        push_copy(&mut clauses, &step.clause)?;
     }
-    Ok(false)
+    Some(())
+}
+
+/// Checks that each step of the log follows by its hints from the base and the steps before it.
+fn check_steps(rt: &impl Abort, check: &mut StepCheck<Lit>, base: &[Named], log: &[Step]) {
+    for (place, step) in log.iter().enumerate() {
+        let hints = step.hints.as_slice();
+        let is_step = is_step(check, base, &log[..place], &step.clause, hints);
+        expect(rt, "a step", is_step);
+    }
 }
 
 /// Whether the base's clauses are true under the model and the target is false.
@@ -103,55 +132,28 @@ fn is_right(
     log: &[Step],
     target: &Clause<Lit>,
     answer: &Refuted,
-) -> Result<bool, StepErr> {
+) -> bool {
     match answer {
         Refuted::Yes(hints) => is_step(check, base, log, target, hints.as_slice()),
-        Refuted::No(model) => Ok(is_model(base, target, model.as_slice())),
-        Refuted::Spent => Ok(true),
+        Refuted::No(model) => is_model(base, target, model.as_slice()),
+        Refuted::Spent => true,
     }
-}
-
-/// Checks a solver's log outside of it: each step follows by its hints, and is new.
-fn check_log(
-    rt: &impl Abort,
-    alloc: Global,
-    check: &mut StepCheck<Lit>,
-    base: &[Named],
-    log: &[Step],
-) -> Result<(), Fail> {
-    for (place, step) in log.iter().enumerate() {
-        let before = &log[..place];
-        let hints = step.hints.as_slice();
-        expect(
-            rt,
-            "a step",
-            is_step(check, base, before, &step.clause, hints)?,
-        );
-        expect(
-            rt,
-            "a new clause",
-            is_new(alloc, base, before, &step.clause)?,
-        );
-    }
-    Ok(())
 }
 
 /// Checks a solver's answer and log outside of it.
-fn check(
+fn check_answer(
     rt: &impl Abort,
     alloc: Global,
     base: &[Named],
     log: &[Step],
     target: &Clause<Lit>,
     answer: &Refuted,
-) -> Result<(), Fail> {
+) -> Option<()> {
     let mut check = StepCheck::new(alloc);
-    expect(
-        rt,
-        "a right answer",
-        is_right(&mut check, base, log, target, answer)?,
-    );
-    check_log(rt, alloc, &mut check, base, log)
+    let is_right = is_right(&mut check, base, log, target, answer);
+    expect(rt, "a right answer", is_right);
+    check_steps(rt, &mut check, base, log);
+    check_new(rt, alloc, base, log)
 }
 
 /// The answer of a solver that has the base, which is checked, and the units that are left.
@@ -162,21 +164,27 @@ pub(crate) fn asked<R: Refuter>(
     base: &[Named],
     target: &Clause<Lit>,
     budget: u64,
-) -> Result<(Refuted, u64), Fail>
+) -> Option<(Refuted, u64)>
     requires ready { R.Refuter.is_ready solver.old ≡ true }
     requires base { R.Refuter.base_of solver.old ≡ base.now }
-    ensures ready { OnOk result (R.Refuter.is_ready solver.new ≡ true) }
-    ensures base { OnOk result (R.Refuter.base_of solver.new ≡ base.now) }
+    ensures ready { OnSome result (R.Refuter.is_ready solver.new ≡ true) }
+    ensures base { OnSome result (R.Refuter.base_of solver.new ≡ base.now) }
 {
-    assert!(rt; is_over(base, target.lits()));
-    assert!(rt; budget >= 1);
+    expect(rt, "literals of the base", is_over(base, target.lits()));
+    expect(rt, "a unit", budget >= 1);
     let mut left = budget;
-    let answer = solver.refute(alloc, target, &mut left)?;
-    check(rt, alloc, base, solver.log(), target, &answer)?;
-    Ok((answer, left))
+    let answer = solver.refute(alloc, target, &mut left).ok()?;
+    check_answer(rt, alloc, base, solver.log(), target, &answer)?;
+    Some((answer, left))
 }
 
-/// The same where the solver takes the base first.
+/// Whether so many units and the clauses learned are as many as there were.
+pub(crate) fn is_paid<R: Refuter>(solver: &R, left: u64, units: u64) -> bool {
+    left.saturating_add(solver.log().len() as u64) == units
+}
+
+/// The same where the solver takes the base first, and forgets what it learned before. Each unit that it
+/// spends is spent for a learned clause.
 pub(crate) fn solved<R: Refuter>(
     rt: &impl Abort,
     alloc: Global,
@@ -184,13 +192,16 @@ pub(crate) fn solved<R: Refuter>(
     base: &[Named],
     target: &Clause<Lit>,
     budget: u64,
-) -> Result<(Refuted, u64), Fail>
-    ensures ready { OnOk result (R.Refuter.is_ready solver.new ≡ true) }
-    ensures base { OnOk result (R.Refuter.base_of solver.new ≡ base.now) }
+) -> Option<(Refuted, u64)>
+    ensures ready { OnSome result (R.Refuter.is_ready solver.new ≡ true) }
+    ensures base { OnSome result (R.Refuter.base_of solver.new ≡ base.now) }
 {
-    assert!(rt; is_base(base));
-    solver.start(alloc, base)?;
-    asked(rt, alloc, solver, base, target, budget)
+    expect(rt, "a base", is_base(base));
+    solver.start(alloc, base).ok()?;
+    expect(rt, "nothing is learned", solver.log().is_empty());
+    let (answer, left) = asked(rt, alloc, solver, base, target, budget)?;
+    expect(rt, "a unit for each clause", is_paid(solver, left, budget));
+    Some((answer, left))
 }
 
 /// Whether the target is implied, or none where the budget was spent.

@@ -1,113 +1,96 @@
-//! Literals and clauses of the worked cases, and how a test says what isn't so.
+//! Literals and clauses of the cases, read from text, and how a test says what isn't so.
+//!
+//! What is read is none where memory runs out, or where a word is no literal.
+ghost use Rattle.std.specs.Prelude.{◌≡◌, true};
+
 use lits::{Clause, Dim, Lit, Literal, Node, Side};
 use std::alloc::Global;
 use std::process::Abort;
-use std::test::Fail;
 
 /// Fails the test, with these words, unless it is so. A call costs the prover a third of an `assert!`.
-pub(crate) fn expect(rt: &impl Abort, what: &str, is_so: bool) {
+pub(crate) fn expect(rt: &impl Abort, what: &str, is_so: bool)
+    ensures { is_so ≡ true }
+{
     assert!(rt; is_so, "{what}");
 }
 
-/// The literals of these numbers.
-pub(crate) fn dims(alloc: Global, numbers: &[i32]) -> Result<Vec<Dim>, Fail> {
-    let mut dims = Vec::new(alloc);
-    for number in numbers {
-        let Some(dim) = Dim::of(*number) else {
-            return Err("a number is no literal".into());
-        };
-        dims.push(dim)?;
-    }
-    Ok(dims)
+/// The same of what may be none, where a case can't be read or tried.
+pub(crate) fn check(rt: &impl Abort, what: &str, is_so: Option<bool>) {
+    expect(rt, what, matches!(is_so, Some(true)));
 }
 
-/// Whether the literals are those of the numbers, in order.
-pub(crate) fn are(alloc: Global, lits: &[Dim], numbers: &[i32]) -> Result<bool, Fail> {
-    let wanted = dims(alloc, numbers)?;
-    Ok(lits == wanted.as_slice())
+/// Fails the test unless its cases were read and tried to their end.
+pub(crate) fn finish(rt: &impl Abort, end: Option<()>) {
+    expect(rt, "all cases are read and tried", end.is_some());
 }
 
-/// The clause of the literals.
-pub(crate) fn clause_of<L: Literal>(alloc: Global, lits: &[L]) -> Result<Clause<L>, Fail> {
-    Ok(Clause::of(alloc, lits)?)
+/// A literal that a word of a text writes.
+pub(crate) trait Word: Literal {
+    fn read(word: &str) -> Option<Self>;
 }
 
-/// The literal of a numbered input, negated where the number is.
-pub(crate) fn input(number: i32) -> Lit {
-    Lit {
-        node: Node::Input(number.unsigned_abs()),
-        neg: number < 0,
+impl Word for Dim {
+    /// As in a DIMACS file.
+    fn read(word: &str) -> Option<Dim> {
+        Dim::of(word.parse().ok()?)
     }
 }
 
-/// The clause of numbered inputs, negated where the number is.
-pub(crate) fn clause(alloc: Global, numbers: &[i32]) -> Result<Clause<Lit>, Fail> {
-    let mut lits = Vec::new(alloc);
-    for number in numbers {
-        lits.push(input(*number))?;
+impl Word for Lit {
+    /// A node's name, with a `-` before it where it is negated.
+    fn read(word: &str) -> Option<Lit> {
+        match word.strip_prefix('-') {
+            Some(name) => Some(plus(node(name)?).not()),
+            None => Some(plus(node(word)?)),
+        }
     }
-    clause_of(alloc, lits.as_slice())
+}
+
+/// The node of a name: the digit of an input, `a3` or `b3` for a gate, `d0` for whether the outputs differ.
+pub(crate) fn node(name: &str) -> Option<Node> {
+    match name.as_bytes() {
+        [b'a', k] => Some(Node::Gate(Side::A, digit(*k))),
+        [b'b', k] => Some(Node::Gate(Side::B, digit(*k))),
+        [b'd', k] => Some(Node::Xor(digit(*k))),
+        [k] => Some(Node::Input(digit(*k))),
+        _ => None,
+    }
+}
+
+/// The value of a digit.
+fn digit(byte: u8) -> u32 {
+    u32::from(byte.saturating_sub(b'0'))
 }
 
 /// The node as a literal.
-pub(crate) fn plus(node: Node) -> Lit {
+fn plus(node: Node) -> Lit {
     Lit { node, neg: false }
 }
 
-pub(crate) const X: Lit = Lit {
-    node: Node::Input(0),
-    neg: false,
-};
+/// The literals of the text's words.
+pub(crate) fn literals<L: Word>(alloc: Global, text: &str) -> Option<Vec<L>> {
+    let mut lits = Vec::new(alloc);
+    for word in text.split_whitespace() {
+        lits.push(L::read(word)?).ok()?;
+    }
+    Some(lits)
+}
 
-pub(crate) const NOT_X: Lit = Lit {
-    node: Node::Input(0),
-    neg: true,
-};
+/// Whether the literals are those of the text, in order.
+pub(crate) fn are<L: Word>(alloc: Global, lits: &[L], text: &str) -> Option<bool> {
+    Some(lits == literals(alloc, text)?.as_slice())
+}
 
-pub(crate) const Y: Lit = Lit {
-    node: Node::Input(1),
-    neg: false,
-};
+/// The clause of the text's literals.
+pub(crate) fn clause<L: Word>(alloc: Global, text: &str) -> Option<Clause<L>> {
+    Clause::of(alloc, literals(alloc, text)?.as_slice()).ok()
+}
 
-pub(crate) const NOT_Y: Lit = Lit {
-    node: Node::Input(1),
-    neg: true,
-};
-
-/// A gate of the first circuit.
-pub(crate) const GATE_A: Node = Node::Gate(Side::A, 3);
-
-pub(crate) const A: Lit = Lit {
-    node: GATE_A,
-    neg: false,
-};
-
-pub(crate) const NOT_A: Lit = Lit {
-    node: GATE_A,
-    neg: true,
-};
-
-/// A gate of the second circuit.
-pub(crate) const GATE_B: Node = Node::Gate(Side::B, 3);
-
-pub(crate) const B: Lit = Lit {
-    node: GATE_B,
-    neg: false,
-};
-
-pub(crate) const NOT_B: Lit = Lit {
-    node: GATE_B,
-    neg: true,
-};
-
-/// That the circuits' first outputs differ.
-pub(crate) const DIFFER: Lit = Lit {
-    node: Node::Xor(0),
-    neg: false,
-};
-
-/// That they are equal.
-pub(crate) const EQUAL: Lit = Lit {
-    node: Node::Xor(0),
-    neg: true,
-};
+/// The clauses of the text, each of which ends in a semicolon.
+pub(crate) fn clauses<L: Word>(alloc: Global, text: &str) -> Option<Vec<Clause<L>>> {
+    let mut clauses = Vec::new(alloc);
+    for part in text.split_terminator(';') {
+        clauses.push(clause(alloc, part)?).ok()?;
+    }
+    Some(clauses)
+}

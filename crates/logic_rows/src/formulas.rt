@@ -1,114 +1,66 @@
-//! Rows of small formulas with their answers.
+//! Small formulas with their answers, as lines of text.
+//!
+//! A line has the clauses of a base, each of which ends in a semicolon, and targets, each behind a bar: its
+//! literals, whether the base implies it, and the units that the plan spends.
 
-/// Clauses, a target, whether they imply it, and the units that the plan spends.
-pub(crate) type Row<'a> = (&'a [&'a [i32]], &'a [i32], bool, u64);
+/// Two gates that are the AND of two inputs, with their fanins swapped, by the names of the gates' clauses.
+pub(crate) const TWIN_GATES: &str = "a3.0: -a3 0; a3.1: -a3 1; a3.2: a3 -0 -1; \
+    b3.0: -b3 1; b3.1: -b3 0; b3.2: b3 -1 -0;";
+
+/// A gate that is the AND of two inputs.
+pub(crate) const ONE_GATE: &str = "-a3 0; -a3 1; a3 -0 -1;";
+
+/// The cone of the one output of two circuits, each an XOR of two inputs by other gates: an AND of the first
+/// input and a literal of the second, one of their negations, and one of both gates' negations.
+pub(crate) const CONE_OF_XOR: &str = "\
+    -a3 0; -a3 -1; a3 -0 1; -a4 -0; -a4 1; a4 0 -1; -a5 -a3; -a5 -a4; a5 a3 a4; \
+    -b3 0; -b3 1; b3 -0 -1; -b4 -0; -b4 -1; b4 0 1; -b5 -b3; -b5 -b4; b5 b3 b4; \
+    -d0 -a5 b5; -d0 a5 -b5; d0 a5 b5; d0 -a5 -b5;";
 
 /// Small bases with their answers, by a brute force over all assignments, and the units spent, by the
-/// plan's definition; both were worked out by a program in another language.
-pub(crate) static ROWS: [Row<'static>; 18] = [
-    (&[], &[], false, 0),
-    (&[&[]], &[], true, 0),
-    (&[&[1], &[-1]], &[], true, 0),
-    (&[&[1]], &[1], true, 0),
-    (&[&[1]], &[-1], false, 0),
-    (&[&[1, 2]], &[1, 2], true, 0),
-    (&[&[1, 2]], &[1], false, 0),
-    (&[&[-1, 2], &[-2, 3], &[-3, 4]], &[-1, 4], true, 0),
-    (&[&[-1, 2], &[-2, 3], &[-3, 4]], &[-4, 1], false, 0),
-    (&[&[1, 2], &[1, 2], &[-1, 2], &[1, -2]], &[1, 2], true, 0),
-    (&[&[1, 2], &[-1, 2], &[1, -2], &[-1, -2]], &[], true, 1),
-    (&[&[1, 2], &[-1, 2], &[1, -2]], &[], false, 1),
-    // Three pigeons in two holes, two in two, and three of which the third may stay out.
-    (
-        &[
-            &[1, 2],
-            &[3, 4],
-            &[5, 6],
-            &[-1, -3],
-            &[-1, -5],
-            &[-3, -5],
-            &[-2, -4],
-            &[-2, -6],
-            &[-4, -6],
-        ],
-        &[],
-        true,
-        1,
-    ),
-    (&[&[1, 2], &[3, 4], &[-1, -3], &[-2, -4]], &[], false, 0),
-    (
-        &[
-            &[1, 2],
-            &[3, 4],
-            &[-1, -3],
-            &[-1, -5],
-            &[-3, -5],
-            &[-2, -4],
-            &[-2, -6],
-            &[-4, -6],
-        ],
-        &[-5, -6],
-        true,
-        0,
-    ),
-    (
-        &[
-            &[1, 2],
-            &[3, 4],
-            &[-1, -3],
-            &[-1, -5],
-            &[-3, -5],
-            &[-2, -4],
-            &[-2, -6],
-            &[-4, -6],
-        ],
-        &[-5],
-        true,
-        0,
-    ),
-    // All clauses of three variables, and all but one.
-    (
-        &[
-            &[1, 2, 3],
-            &[1, 2, -3],
-            &[1, -2, 3],
-            &[1, -2, -3],
-            &[-1, 2, 3],
-            &[-1, 2, -3],
-            &[-1, -2, 3],
-            &[-1, -2, -3],
-        ],
-        &[],
-        true,
-        3,
-    ),
-    (
-        &[
-            &[1, 2, 3],
-            &[1, 2, -3],
-            &[1, -2, 3],
-            &[1, -2, -3],
-            &[-1, 2, 3],
-            &[-1, 2, -3],
-            &[-1, -2, 3],
-        ],
-        &[],
-        false,
-        3,
-    ),
-];
+/// plan's definition; both were worked out by a program in another language. The thirteenth to the sixteenth
+/// are three pigeons in two holes, two in two, and three of which the third may stay out; the last two are all
+/// clauses of three variables, and all but one.
+pub(crate) const SMALL: &str = "\
+| ? no 0
+; | ? yes 0
+1; -1; | ? yes 0
+1; | 1? yes 0
+1; | -1? no 0
+1 2; | 1 2? yes 0
+1 2; | 1? no 0
+-1 2; -2 3; -3 4; | -1 4? yes 0
+-1 2; -2 3; -3 4; | -4 1? no 0
+1 2; 1 2; -1 2; 1 -2; | 1 2? yes 0
+1 2; -1 2; 1 -2; -1 -2; | ? yes 1
+1 2; -1 2; 1 -2; | ? no 1
+1 2; 3 4; 5 6; -1 -3; -1 -5; -3 -5; -2 -4; -2 -6; -4 -6; | ? yes 1
+1 2; 3 4; -1 -3; -2 -4; | ? no 0
+1 2; 3 4; -1 -3; -1 -5; -3 -5; -2 -4; -2 -6; -4 -6; | -5 -6? yes 0
+1 2; 3 4; -1 -3; -1 -5; -3 -5; -2 -4; -2 -6; -4 -6; | -5? yes 0
+1 2 3; 1 2 -3; 1 -2 3; 1 -2 -3; -1 2 3; -1 2 -3; -1 -2 3; -1 -2 -3; | ? yes 3
+1 2 3; 1 2 -3; 1 -2 3; 1 -2 -3; -1 2 3; -1 2 -3; -1 -2 3; | ? no 3
+";
 
-/// The signs of two parities of the same inputs in a clause, and whether it is implied.
-pub(crate) static CHAIN_TARGETS: [(bool, bool, bool); 3] = [
-    (true, false, true),
-    (false, true, true),
-    (false, false, false),
-];
+/// Two chains of XORs over two to five inputs, from either end, which have the same value.
+pub(crate) const CHAINS: &str = "\
+-a1 0 1; -a1 -0 -1; a1 -0 1; a1 0 -1; -b0 0 1; -b0 -0 -1; b0 -0 1; b0 0 -1; \
+    | -a1 b0? yes 1 | a1 -b0? yes 1 | a1 b0? no 0
+-a1 0 1; -a1 -0 -1; a1 -0 1; a1 0 -1; -a2 a1 2; -a2 -a1 -2; a2 -a1 2; a2 a1 -2; \
+    -b1 1 2; -b1 -1 -2; b1 -1 2; b1 1 -2; -b0 0 b1; -b0 -0 -b1; b0 -0 b1; b0 0 -b1; \
+    | -a2 b0? yes 3 | a2 -b0? yes 3 | a2 b0? no 0
+-a1 0 1; -a1 -0 -1; a1 -0 1; a1 0 -1; -a2 a1 2; -a2 -a1 -2; a2 -a1 2; a2 a1 -2; \
+    -a3 a2 3; -a3 -a2 -3; a3 -a2 3; a3 a2 -3; -b2 2 3; -b2 -2 -3; b2 -2 3; b2 2 -3; \
+    -b1 1 b2; -b1 -1 -b2; b1 -1 b2; b1 1 -b2; -b0 0 b1; -b0 -0 -b1; b0 -0 b1; b0 0 -b1; \
+    | -a3 b0? yes 7 | a3 -b0? yes 7 | a3 b0? no 0
+-a1 0 1; -a1 -0 -1; a1 -0 1; a1 0 -1; -a2 a1 2; -a2 -a1 -2; a2 -a1 2; a2 a1 -2; \
+    -a3 a2 3; -a3 -a2 -3; a3 -a2 3; a3 a2 -3; -a4 a3 4; -a4 -a3 -4; a4 -a3 4; a4 a3 -4; \
+    -b3 3 4; -b3 -3 -4; b3 -3 4; b3 3 -4; -b2 2 b3; -b2 -2 -b3; b2 -2 b3; b2 2 -b3; \
+    -b1 1 b2; -b1 -1 -b2; b1 -1 b2; b1 1 -b2; -b0 0 b1; -b0 -0 -b1; b0 -0 b1; b0 0 -b1; \
+    | -a4 b0? yes 15 | a4 -b0? yes 15 | a4 b0? no 0
+";
 
-/// The inputs of two chains of XORs, and the units that the plan spends to show that they are equal.
-pub(crate) static CHAINS: [(u32, u64); 4] = [(2, 1), (3, 3), (4, 7), (5, 15)];
-
-/// Seeds, whether the clauses drawn from each are unsatisfiable, and the units spent, worked out as the rows
+/// Seeds, whether the clauses drawn from each are unsatisfiable, and the units spent, worked out as the lines
 /// above.
 pub(crate) static DRAWN: [(u32, bool, u64); 32] = [
     (1, true, 4),

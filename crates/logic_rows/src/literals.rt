@@ -1,52 +1,41 @@
-use crate::clauses::{B, NOT_B, NOT_X, X, are, clause_of, dims, expect};
+use crate::clauses::{are, check, clause, expect, literals};
 use lits::{
     Clause, ClauseErr, Dim, Listed, Lit, Literal, LiteralSet, Named, Node, Ref, Side, Step,
 };
-use std::alloc::{AllocError, Global};
+use std::alloc::Global;
 use std::process::Abort;
-use std::test::Fail;
 
-/// Whether the clause of the numbers has just the others.
-fn is_clause(alloc: Global, numbers: &[i32], kept: &[i32]) -> Result<bool, Fail> {
-    let lits = dims(alloc, numbers)?;
-    let clause = clause_of(alloc, lits.as_slice())?;
-    are(alloc, clause.lits(), kept)
+/// Whether the clause of the literals has just these, or is a tautology.
+fn keeps(alloc: Global, lits: &[Dim], kept: &str) -> Option<bool> {
+    match Clause::of(alloc, lits) {
+        Ok(clause) => are(alloc, clause.lits(), kept),
+        Err(error) => Some(error == ClauseErr::Tautology && kept == "tautology"),
+    }
 }
 
-/// Whether there is no clause of the numbers, since two of them are opposite.
-fn is_tautology(alloc: Global, numbers: &[i32]) -> Result<bool, Fail> {
-    let lits = dims(alloc, numbers)?;
-    Ok(matches!(
-        Clause::of(alloc, lits.as_slice()),
-        Err(ClauseErr::Tautology)
-    ))
+/// Whether it is as the line says: literals, an arrow, and those of their clause.
+fn is_clause(alloc: Global, line: &str) -> Option<bool> {
+    let (given, kept) = line.split_once(" => ")?;
+    keeps(alloc, literals(alloc, given)?.as_slice(), kept)
 }
 
-/// Eighteen literals that differ, and two of them once more.
-const LONG: [i32; 20] = [
-    1, 2, 3, 4, 5, 6, 7, 8, 9, 10, 11, 12, 13, 14, 15, 16, 17, 18, 9, 1,
-];
-
-/// The same, but the last is the negation of one.
-const LONG_TAUTOLOGY: [i32; 20] = [
-    1, 2, 3, 4, 5, 6, 7, 8, 9, 10, 11, 12, 13, 14, 15, 16, 17, 18, 9, -17,
-];
+/// The long ones have eighteen literals that differ, and two of them once more; in the last one the last is the
+/// negation of one.
+const CLAUSES: &str = "\
+2 2 -3 => 2 -3
+2 -2 => tautology
+1 2 3 4 5 6 7 8 9 10 11 12 13 14 15 16 17 18 9 1 => 1 2 3 4 5 6 7 8 9 10 11 12 13 14 15 16 17 18
+1 2 3 4 5 6 7 8 9 10 11 12 13 14 15 16 17 18 9 -17 => tautology
+";
 
 #[test]
-fn clauses_of_literals(rt: HostRuntime) -> Result<(), Fail> {
-    let alloc = rt.alloc();
-    expect(&rt, "a clause", is_clause(alloc, &[2, 2, -3], &[2, -3])?);
-    expect(&rt, "a tautology", is_tautology(alloc, &[2, -2])?);
-    expect(&rt, "long", is_clause(alloc, &LONG, &LONG[..18])?);
-    expect(
-        &rt,
-        "a long tautology",
-        is_tautology(alloc, &LONG_TAUTOLOGY)?,
-    );
-    Ok(())
+fn clauses_of_literals(rt: HostRuntime) {
+    for line in CLAUSES.lines() {
+        check(&rt, line, is_clause(rt.alloc(), line));
+    }
 }
 
-/// Whether the number's literal is the variable, or its negation.
+/// Whether the number's literal is the variable, or its negation, and is made of them.
 fn is_literal(number: i32, var: u32, neg: bool) -> bool {
     let Some(dim) = Dim::of(number) else {
         return false;
@@ -61,114 +50,122 @@ fn is_literal(number: i32, var: u32, neg: bool) -> bool {
 /// The greatest variable.
 const MOST: u32 = 2_147_483_647;
 
+/// Whether the literals of 1, -1 and the greatest number are those that are made of their variables.
+fn are_made() -> bool {
+    Dim::of(1) == Some(Dim::new(1, false))
+        && Dim::of(-1) == Some(Dim::new(1, true))
+        && Dim::of(i32::MAX) == Some(Dim::new(MOST, false))
+}
+
 #[test]
 fn literals_of_numbers(rt: HostRuntime) {
-    let greatest = i32::MAX;
     expect(&rt, "0", Dim::of(0).is_none());
     expect(&rt, "the least number", Dim::of(i32::MIN).is_none());
     expect(&rt, "1", is_literal(1, 1, false));
     expect(&rt, "-1", is_literal(-1, 1, true));
-    expect(
-        &rt,
-        "the greatest number",
-        is_literal(greatest, MOST, false),
-    );
-    expect(
-        &rt,
-        "1 as it is made",
-        Dim::of(1) == Some(Dim::new(1, false)),
-    );
-    expect(
-        &rt,
-        "-1 as it is made",
-        Dim::of(-1) == Some(Dim::new(1, true)),
-    );
-    expect(
-        &rt,
-        "the greatest as it is made",
-        Dim::of(greatest) == Some(Dim::new(MOST, false)),
-    );
+    expect(&rt, "the greatest", is_literal(i32::MAX, MOST, false));
+    expect(&rt, "as they are made", are_made());
 }
 
-const GATE_OR_INPUT: [Lit; 2] = [NOT_B, X];
+/// The node of a gate.
+const GATE: Node = Node::Gate(Side::B, 3);
 
-const GATE_TWICE: [Lit; 3] = [NOT_B, X, NOT_B];
+const NOT_GATE: Lit = Lit {
+    node: GATE,
+    neg: true,
+};
 
-const UNIT: [Lit; 1] = [NOT_B];
+const X: Lit = Lit {
+    node: Node::Input(0),
+    neg: false,
+};
 
-fn gate_or_input(alloc: Global) -> Result<Clause<Lit>, ClauseErr> {
-    Clause::of(alloc, &GATE_TWICE)
+/// The clause of the negated gate, twice, and the first input.
+fn gate_or_input(alloc: Global) -> Option<Clause<Lit>> {
+    clause(alloc, "-b3 0 -b3")
 }
 
-fn is_copied(alloc: Global) -> Result<bool, ClauseErr> {
-    let copy = gate_or_input(alloc)?.copy()?;
-    Ok(copy.lits() == GATE_OR_INPUT.as_slice())
+fn is_copied(alloc: Global) -> Option<bool> {
+    let copy = gate_or_input(alloc)?.copy().ok()?;
+    are(alloc, copy.lits(), "-b3 0")
 }
 
-fn is_unit(alloc: Global) -> Result<bool, AllocError> {
-    let unit = Clause::from_slice(alloc, &UNIT)?;
-    Ok(unit.lits() == UNIT.as_slice())
+const UNIT: [Lit; 1] = [NOT_GATE];
+
+fn is_unit(alloc: Global) -> Option<bool> {
+    let unit = Clause::from_slice(alloc, &UNIT).ok()?;
+    Some(unit.lits() == UNIT.as_slice())
 }
-
-const TRUE_LITS: [Lit; 2] = [B, X];
-
-const FALSE_LITS: [Lit; 1] = [B];
 
 /// Whether the clause has x, not its negation, and holds by x, not by the gate.
 fn is_read(clause: &Clause<Lit>) -> bool {
-    clause.has(X) && !clause.has(NOT_X) && clause.holds(&TRUE_LITS) && !clause.holds(&FALSE_LITS)
+    clause.has(X)
+        && !clause.has(X.not())
+        && clause.holds(&[NOT_GATE.not(), X])
+        && !clause.holds(&[NOT_GATE.not()])
 }
 
-const NAME: Ref = Ref::Axiom(Node::Gate(Side::B, 3), 1);
+const NAME: Ref = Ref::Axiom(GATE, 1);
 
 const HINTS: [Ref; 2] = [NAME, Ref::Own(0)];
 
 /// A step of a named clause, whose first hint is that name.
-fn step_of_named(alloc: Global) -> Result<Step, Fail> {
-    let named = Named {
-        clause: gate_or_input(alloc)?,
-        by: NAME,
-    };
-    let hints = Vec::from_slice(alloc, &[named.by, Ref::Own(0)])?;
-    Ok(Step {
+fn step_of(alloc: Global, named: Named) -> Option<Step> {
+    let hints = Vec::from_slice(alloc, &[named.by, Ref::Own(0)]).ok()?;
+    Some(Step {
         clause: named.clause,
         hints: Listed::of(hints),
     })
 }
 
-/// Whether the step has the two hints.
-fn has_hints(step: &Step) -> bool {
-    step.hints.as_slice() == HINTS.as_slice() && step.hints.len() == 2 && !step.hints.is_empty()
+/// Whether the hints are these two.
+fn are_both(hints: &Listed<Ref>) -> bool {
+    hints.as_slice() == HINTS.as_slice() && hints.len() == 2 && !hints.is_empty()
 }
 
-/// How many they are as a vector.
-fn many_hints(alloc: Global) -> Result<usize, AllocError> {
-    let hints = Listed::of(Vec::from_slice(alloc, &HINTS)?);
-    Ok(hints.into_vec().len())
+fn has_hints(alloc: Global) -> Option<bool> {
+    let clause = gate_or_input(alloc)?;
+    let step = step_of(alloc, Named { clause, by: NAME })?;
+    Some(are_both(&step.hints))
+}
+
+/// Whether they are as many as a vector.
+fn is_vector(alloc: Global) -> Option<bool> {
+    let hints = Listed::of(Vec::from_slice(alloc, &HINTS).ok()?);
+    Some(hints.into_vec().len() == 2)
 }
 
 #[test]
-fn clause_of_nodes(rt: HostRuntime) -> Result<(), Fail> {
-    expect(&rt, "a copy", is_copied(rt.alloc())?);
-    expect(&rt, "a unit", is_unit(rt.alloc())?);
-    expect(&rt, "what it has", is_read(&gate_or_input(rt.alloc())?));
-    expect(&rt, "hints", has_hints(&step_of_named(rt.alloc())?));
-    expect(&rt, "as a vector", many_hints(rt.alloc())? == 2);
-    Ok(())
+fn clause_of_nodes(rt: HostRuntime) {
+    let alloc = rt.alloc();
+    check(&rt, "a copy", is_copied(alloc));
+    check(&rt, "a unit", is_unit(alloc));
+    check(&rt, "what it has", has_read(alloc));
+    check(&rt, "hints", has_hints(alloc));
+    check(&rt, "as a vector", is_vector(alloc));
 }
 
-const THREE: [i32; 3] = [5, -2, 7];
+fn has_read(alloc: Global) -> Option<bool> {
+    Some(is_read(&gate_or_input(alloc)?))
+}
+
+/// Puts literals that aren't there.
+fn put_all(set: &mut LiteralSet<Dim>, lits: &[Dim]) -> Option<()> {
+    for lit in lits {
+        if set.has(*lit) {
+            return None;
+        }
+        set.push(*lit).ok()?;
+    }
+    Some(())
+}
 
 /// The set of three literals that differ.
-fn set_of_three(alloc: Global) -> Result<LiteralSet<Dim>, Fail> {
+fn set_of_three(alloc: Global) -> Option<LiteralSet<Dim>> {
+    let lits = literals(alloc, "5 -2 7")?;
     let mut set = LiteralSet::new(alloc);
-    for number in &THREE {
-        match Dim::of(*number) {
-            Some(dim) if !set.has(dim) => set.push(dim)?,
-            _ => return Err("no literal, or one that is there already".into()),
-        }
-    }
-    Ok(set)
+    put_all(&mut set, lits.as_slice())?;
+    Some(set)
 }
 
 /// Whether the set has these literals, 7 in the third place, and not their negations.
@@ -181,32 +178,42 @@ fn has_three(set: &LiteralSet<Dim>) -> bool {
         && !set.has(Dim::new(2, false))
 }
 
-/// Adds a literal that is there, which changes nothing, and clears the set; whether it is empty then.
-fn is_cleared(alloc: Global, mut set: LiteralSet<Dim>) -> Result<bool, Fail> {
-    set.add(Dim::new(5, false))?;
-    let is_same = are(alloc, set.lits(), &THREE)?;
+/// Adds a literal that is there, which changes nothing.
+fn is_same(alloc: Global, set: &mut LiteralSet<Dim>) -> Option<bool> {
+    set.add(Dim::new(5, false)).ok()?;
+    are(alloc, set.lits(), "5 -2 7")
+}
+
+/// Clears the set; whether it is empty then.
+fn is_cleared(mut set: LiteralSet<Dim>) -> bool {
     set.clear();
-    Ok(is_same && set.lits().is_empty() && set.into_vec().is_empty())
+    set.lits().is_empty() && set.into_vec().is_empty()
 }
 
-/// Whether the set of the numbers has just the others, in order.
-fn is_set(alloc: Global, numbers: &[i32], kept: &[i32]) -> Result<bool, Fail> {
-    let lits = dims(alloc, numbers)?;
-    are(alloc, LiteralSet::of(alloc, lits.as_slice())?.lits(), kept)
+/// Whether the set of three is what it should be, until it is cleared.
+fn are_three(alloc: Global) -> Option<bool> {
+    let mut set = set_of_three(alloc)?;
+    let is_so = has_three(&set) && is_same(alloc, &mut set)?;
+    Some(is_so && is_cleared(set))
 }
 
-const REPEATED: [i32; 5] = [5, -2, 5, 2, -2];
+/// Whether the set of repeated literals has each once.
+fn is_set(alloc: Global) -> Option<bool> {
+    let lits = literals::<Dim>(alloc, "5 -2 5 2 -2")?;
+    let set = LiteralSet::of(alloc, lits.as_slice()).ok()?;
+    are(alloc, set.lits(), "5 -2 2")
+}
 
 /// Puts 99 literals that differ into the set, of which each third is negated.
-fn fill(set: &mut LiteralSet<Dim>) -> Result<(), Fail> {
+fn fill(set: &mut LiteralSet<Dim>) -> Option<()> {
     set.clear();
     for var in 1..100u32 {
         let lit = Dim::new(var, var % 3 == 0);
         if !set.has(lit) {
-            set.push(lit)?;
+            set.push(lit).ok()?;
         }
     }
-    Ok(())
+    Some(())
 }
 
 /// Whether the set is as it was filled.
@@ -218,20 +225,19 @@ fn is_filled(set: &LiteralSet<Dim>) -> bool {
         && set.place(Dim::new(98, false)) == Some(97)
 }
 
-/// Also once more, after it was cleared.
-fn check_filled(rt: &impl Abort, set: &mut LiteralSet<Dim>) -> Result<(), Fail> {
-    fill(set)?;
-    expect(rt, "filled", is_filled(set));
-    fill(set)?;
-    expect(rt, "filled once more", is_filled(set));
-    Ok(())
+/// Fills the set twice; whether it is as it was filled each time.
+fn is_refilled(alloc: Global) -> Option<bool> {
+    let mut set = LiteralSet::new(alloc);
+    fill(&mut set)?;
+    let is_so = is_filled(&set);
+    fill(&mut set)?;
+    Some(is_so && is_filled(&set))
 }
 
 #[test]
-fn literal_sets(rt: HostRuntime) -> Result<(), Fail> {
+fn literal_sets(rt: HostRuntime) {
     let alloc = rt.alloc();
-    expect(&rt, "repeated", is_set(alloc, &REPEATED, &[5, -2, 2])?);
-    expect(&rt, "three", has_three(&set_of_three(alloc)?));
-    expect(&rt, "cleared", is_cleared(alloc, set_of_three(alloc)?)?);
-    check_filled(&rt, &mut LiteralSet::new(alloc))
+    check(&rt, "repeated", is_set(alloc));
+    check(&rt, "three", are_three(alloc));
+    check(&rt, "filled twice", is_refilled(alloc));
 }

@@ -1,30 +1,15 @@
 //! What the cases make of `PlainSolver`. Each stands for any solver and takes its own, as in
 //! `learning_solver`.
-use crate::clauses::{A, EQUAL, X, Y, expect};
+use crate::clauses::{are, check, finish};
+use crate::formulas::{CHAINS, SMALL};
 use crate::queries::{
-    answer_of_gate, check_chains, check_drawn, check_rows, check_spent, check_start, check_yes,
-    left_of_second_query, model_of,
+    check_drawn, check_lines, check_model, check_queries, check_spent, check_yes,
 };
-use lits::{Lit, Ref, Step};
+use lits::{Ref, Step};
 use solver_plain::PlainSolver;
 use std::alloc::Global;
 use std::process::Abort;
-use std::test::Fail;
 use unit_prop::Refuter;
-
-const MODEL: [Lit; 3] = [A, X, Y];
-
-fn check_model<R: Refuter>(rt: &impl Abort, alloc: Global, mut solver: R) -> Result<(), Fail> {
-    let (answer, left) = answer_of_gate(rt, alloc, &mut solver)?;
-    expect(rt, "the model", model_of(&answer) == MODEL.as_slice());
-    expect(rt, "no unit is spent", left == 100);
-    expect(rt, "nothing is learned", solver.log().is_empty());
-    Ok(())
-}
-
-/// What the plan learns first, by its definition: the gate, x and y decided false, then the first clauses
-/// that do something.
-const FIRST_CLAUSE: [Lit; 4] = [EQUAL, A, X, Y];
 
 const FIRST_HINTS: [Ref; 6] = [
     Ref::Entry(4, 0),
@@ -35,58 +20,62 @@ const FIRST_HINTS: [Ref; 6] = [
     Ref::Entry(18, 0),
 ];
 
-fn has_first_step_alone(log: &[Step]) -> bool {
+/// Whether the log has just what the plan learns first, by its definition: the gate, x and y decided false,
+/// then the first clauses that do something.
+fn has_first_step_alone(alloc: Global, log: &[Step]) -> Option<bool> {
     match log {
-        [step] => {
-            step.clause.lits() == FIRST_CLAUSE.as_slice()
-                && step.hints.as_slice() == FIRST_HINTS.as_slice()
+        [step] if step.hints.as_slice() == FIRST_HINTS.as_slice() => {
+            are(alloc, step.clause.lits(), "-d0 a3 0 1")
         }
-        _ => false,
+        _ => Some(false),
     }
 }
 
-fn check_first<R: Refuter>(rt: &impl Abort, alloc: Global, mut solver: R) -> Result<(), Fail> {
+fn check_first<R: Refuter>(rt: &impl Abort, alloc: Global, solver: Option<R>) -> Option<()> {
+    let mut solver = solver?;
     check_spent(rt, alloc, &mut solver)?;
-    expect(
-        rt,
-        "the first step alone",
-        has_first_step_alone(solver.log()),
-    );
-    Ok(())
-}
-
-/// What was learned stays in the next queries, until the next start.
-fn check_queries<R: Refuter>(rt: &impl Abort, alloc: Global, mut solver: R) -> Result<(), Fail> {
-    let left = left_of_second_query(rt, alloc, &mut solver)?;
-    expect(rt, "two units are spent", left == 99_998);
-    expect(rt, "three clauses are learned", solver.log().len() == 3);
-    check_start(rt, alloc, &mut solver)
+    let is_first = has_first_step_alone(alloc, solver.log());
+    check(rt, "the first step alone", is_first);
+    Some(())
 }
 
 #[test]
-fn refuter_yes(rt: HostRuntime) -> Result<(), Fail> {
-    check_yes(&rt, rt.alloc(), PlainSolver::new(rt.alloc()))
+fn refuter_yes(rt: HostRuntime) {
+    let solver = Some(PlainSolver::new(rt.alloc()));
+    finish(&rt, check_yes(&rt, rt.alloc(), solver));
 }
 
 #[test]
-fn refuter_no(rt: HostRuntime) -> Result<(), Fail> {
-    check_model(&rt, rt.alloc(), PlainSolver::new(rt.alloc()))
+fn refuter_no(rt: HostRuntime) {
+    let solver = Some(PlainSolver::new(rt.alloc()));
+    finish(&rt, check_model(&rt, rt.alloc(), solver, true));
 }
 
 #[test]
-fn refuter_spent(rt: HostRuntime) -> Result<(), Fail> {
-    check_first(&rt, rt.alloc(), PlainSolver::new(rt.alloc()))
+fn refuter_spent(rt: HostRuntime) {
+    let solver = Some(PlainSolver::new(rt.alloc()));
+    finish(&rt, check_first(&rt, rt.alloc(), solver));
 }
 
 #[test]
-fn log_of_queries(rt: HostRuntime) -> Result<(), Fail> {
-    check_queries(&rt, rt.alloc(), PlainSolver::new(rt.alloc()))
+fn log_of_queries(rt: HostRuntime) {
+    let solver = Some(PlainSolver::new(rt.alloc()));
+    finish(&rt, check_queries(&rt, rt.alloc(), solver, true));
 }
 
 #[test]
-fn bases_and_parity_chains(rt: HostRuntime) -> Result<(), Fail> {
+fn bases_and_parity_chains(rt: HostRuntime) {
     let alloc = rt.alloc();
-    check_rows(&rt, alloc, PlainSolver::new(alloc), true)?;
-    check_chains(&rt, alloc, PlainSolver::new(alloc), 100, true)?;
-    check_drawn(&rt, alloc, PlainSolver::new(alloc), true)
+    finish(
+        &rt,
+        check_lines(&rt, alloc, Some(PlainSolver::new(alloc)), SMALL, true),
+    );
+    finish(
+        &rt,
+        check_lines(&rt, alloc, Some(PlainSolver::new(alloc)), CHAINS, true),
+    );
+    finish(
+        &rt,
+        check_drawn(&rt, alloc, Some(PlainSolver::new(alloc)), true),
+    );
 }

@@ -1,19 +1,16 @@
 //! Worked cases and small formulas, for any solver.
 
-use crate::bases::{
-    base_of, cone_of_xor, drawn_base, is_base, one_gate, parity_chains, turned, twin_gates,
-};
-use crate::checks::{asked, solved, verdict};
-use crate::clauses::{A, EQUAL, NOT_A, NOT_B, clause, clause_of, expect};
-use crate::formulas::{CHAIN_TARGETS, CHAINS, DRAWN, ROWS, Row};
+use crate::bases::{base_of, drawn_base};
+use crate::checks::{asked, is_paid, solved, verdict};
+use crate::clauses::{are, check, clause, expect, literals};
+use crate::formulas::{CONE_OF_XOR, DRAWN, ONE_GATE, TWIN_GATES};
 use lits::{Clause, Lit, Named};
 use std::alloc::Global;
 use std::process::Abort;
-use std::test::Fail;
 use unit_prop::{Refuted, Refuter};
 
 /// The query of the target over the base has that verdict; the units that are left.
-fn left_by<R: Refuter>(
+fn left_of<R: Refuter>(
     rt: &impl Abort,
     alloc: Global,
     solver: &mut R,
@@ -21,116 +18,87 @@ fn left_by<R: Refuter>(
     target: &Clause<Lit>,
     budget: u64,
     wanted: Option<bool>,
-) -> Result<u64, Fail> {
+) -> Option<u64> {
     let (answer, left) = solved(rt, alloc, solver, base, target, budget)?;
     expect(rt, "the verdict", verdict(&answer) == wanted);
-    Ok(left)
+    Some(left)
 }
-
-/// The query of the clause of the literals over the base has that verdict; the units that are left.
-fn left_of<R: Refuter>(
-    rt: &impl Abort,
-    alloc: Global,
-    solver: &mut R,
-    base: &[Named],
-    lits: &[Lit],
-    budget: u64,
-    wanted: Option<bool>,
-) -> Result<u64, Fail> {
-    left_by(
-        rt,
-        alloc,
-        solver,
-        base,
-        &clause_of(alloc, lits)?,
-        budget,
-        wanted,
-    )
-}
-
-/// That one twin gate implies the other.
-const IMPLICATION: [Lit; 2] = [NOT_B, A];
-
-/// Twin gates imply one another, which takes no unit and no learned clause.
-pub(crate) fn check_yes<R: Refuter>(
-    rt: &impl Abort,
-    alloc: Global,
-    mut solver: R,
-) -> Result<(), Fail> {
-    let base = twin_gates(alloc)?;
-    let left = left_of(
-        rt,
-        alloc,
-        &mut solver,
-        base.as_slice(),
-        &IMPLICATION,
-        100,
-        Some(true),
-    )?;
-    expect(rt, "no unit is spent", left == 100);
-    expect(rt, "nothing is learned", solver.log().is_empty());
-    Ok(())
-}
-
-/// That the gate is false.
-const NO_GATE: [Lit; 1] = [NOT_A];
 
 /// What the solver answers of a gate that can be true, and the units that are left of 100.
-pub(crate) fn answer_of_gate<R: Refuter>(
+fn answer_of_gate<R: Refuter>(
     rt: &impl Abort,
     alloc: Global,
     solver: &mut R,
-) -> Result<(Refuted, u64), Fail> {
+) -> Option<(Refuted, u64)> {
+    let base = base_of(alloc, ONE_GATE)?;
     solved(
         rt,
         alloc,
         solver,
-        one_gate(alloc)?.as_slice(),
-        &clause_of(alloc, &NO_GATE)?,
+        base.as_slice(),
+        &clause(alloc, "-a3")?,
         100,
     )
 }
 
-/// The model of the answer, or nothing where it has none.
-pub(crate) fn model_of(answer: &Refuted) -> &[Lit] {
+/// Whether these are both inputs and the gate, in any order.
+fn are_all_true(alloc: Global, model: &[Lit]) -> Option<bool> {
+    for lit in literals(alloc, "a3 0 1")?.as_slice() {
+        if !model.contains(lit) {
+            return Some(false);
+        }
+    }
+    Some(model.len() == 3)
+}
+
+/// Whether the answer is the model in which all of them are true, by the plan in its order.
+fn is_model(alloc: Global, answer: &Refuted, by_plan: bool) -> Option<bool> {
     match answer {
-        Refuted::No(model) => model.as_slice(),
-        _ => &[],
+        Refuted::No(model) if by_plan => are(alloc, model.as_slice(), "a3 0 1"),
+        Refuted::No(model) => are_all_true(alloc, model.as_slice()),
+        _ => Some(false),
     }
 }
 
+/// The model of a gate that can be true. The plan spends no unit for it, and learns nothing.
+pub(crate) fn check_model<R: Refuter>(
+    rt: &impl Abort,
+    alloc: Global,
+    solver: Option<R>,
+    by_plan: bool,
+) -> Option<()> {
+    let (answer, left) = answer_of_gate(rt, alloc, &mut solver?)?;
+    check(rt, "the model", is_model(alloc, &answer, by_plan));
+    expect(rt, "no unit is spent", !by_plan || left == 100);
+    Some(())
+}
+
 /// That the outputs of two XORs are equal.
-const EQUAL_OUTPUTS: [Lit; 1] = [EQUAL];
+const EQUAL_OUTPUTS: &str = "-d0";
+
+/// All units are spent, one for each clause that is learned, and with them the query is given up.
+fn check_given_up<R: Refuter>(
+    rt: &impl Abort,
+    alloc: Global,
+    solver: &mut R,
+    base: &[Named],
+    target: &Clause<Lit>,
+    units: u64,
+) -> Option<()> {
+    let left = left_of(rt, alloc, solver, base, target, units, None)?;
+    expect(rt, "all units are spent", left == 0);
+    Some(())
+}
 
 /// A budget of one unit is spent for one clause.
 pub(crate) fn check_spent<R: Refuter>(
     rt: &impl Abort,
     alloc: Global,
     solver: &mut R,
-) -> Result<(), Fail> {
-    let base = cone_of_xor(alloc)?;
-    let left = left_of(rt, alloc, solver, base.as_slice(), &EQUAL_OUTPUTS, 1, None)?;
-    expect(rt, "the unit is spent", left == 0);
-    expect(rt, "one clause is learned", solver.log().len() == 1);
-    Ok(())
-}
-
-/// With units enough the outputs are equal; the units that are left of 100000.
-pub(crate) fn left_of_many<R: Refuter>(
-    rt: &impl Abort,
-    alloc: Global,
-    solver: &mut R,
-) -> Result<u64, Fail> {
-    let base = cone_of_xor(alloc)?;
-    left_of(
-        rt,
-        alloc,
-        solver,
-        base.as_slice(),
-        &EQUAL_OUTPUTS,
-        100_000,
-        Some(true),
-    )
+) -> Option<()> {
+    let base = base_of(alloc, CONE_OF_XOR)?;
+    let target = clause(alloc, EQUAL_OUTPUTS)?;
+    check_given_up(rt, alloc, solver, base.as_slice(), &target, 1)
 }
 
 /// One unit is spent, and then as many as the answer takes; the units that are left of 100000.
@@ -140,155 +108,152 @@ fn left_of_two<R: Refuter>(
     solver: &mut R,
     base: &[Named],
     target: &Clause<Lit>,
-) -> Result<u64, Fail> {
+) -> Option<u64> {
     solved(rt, alloc, solver, base, target, 1)?;
     let (answer, left) = asked(rt, alloc, solver, base, target, 100_000)?;
     expect(rt, "the outputs are equal", verdict(&answer) == Some(true));
-    Ok(left)
+    Some(left)
 }
 
 /// What was learned in a query that was given up stays in the next. The units that are left of 100000.
-pub(crate) fn left_of_second_query<R: Refuter>(
-    rt: &impl Abort,
-    alloc: Global,
-    solver: &mut R,
-) -> Result<u64, Fail> {
-    let base = cone_of_xor(alloc)?;
-    left_of_two(
-        rt,
-        alloc,
-        solver,
-        base.as_slice(),
-        &clause_of(alloc, &EQUAL_OUTPUTS)?,
-    )
+fn left_of_second_query<R: Refuter>(rt: &impl Abort, alloc: Global, solver: &mut R) -> Option<u64> {
+    let base = base_of(alloc, CONE_OF_XOR)?;
+    let target = clause(alloc, EQUAL_OUTPUTS)?;
+    left_of_two(rt, alloc, solver, base.as_slice(), &target)
 }
 
-/// A start forgets what was learned.
-pub(crate) fn check_start<R: Refuter>(
+/// What was learned stays in the next query, until the next start. The plan spends one unit and two more.
+pub(crate) fn check_queries<R: Refuter>(
     rt: &impl Abort,
     alloc: Global,
-    solver: &mut R,
-) -> Result<(), Fail> {
-    let base = cone_of_xor(alloc)?;
-    assert!(rt; is_base(base.as_slice()));
-    solver.start(alloc, base.as_slice())?;
-    expect(rt, "nothing is learned", solver.log().is_empty());
-    Ok(())
-}
-
-/// The target of a row over its base has that verdict; the units that are left.
-fn left_of_row<R: Refuter>(
-    rt: &impl Abort,
-    alloc: Global,
-    solver: &mut R,
-    row: &Row<'_>,
-    budget: u64,
-    wanted: Option<bool>,
-) -> Result<u64, Fail> {
-    let target = clause(alloc, row.1)?;
-    left_by(
-        rt,
-        alloc,
-        solver,
-        base_of(alloc, row.0)?.as_slice(),
-        &target,
-        budget,
-        wanted,
-    )
-}
-
-/// A row has the answer that it says. A solver that goes by the plan takes just the row's units, which are
-/// all spent where there are no more.
-fn check_row<R: Refuter>(
-    rt: &impl Abort,
-    alloc: Global,
-    solver: &mut R,
-    row: &Row<'_>,
+    solver: Option<R>,
     by_plan: bool,
-) -> Result<(), Fail> {
-    let (_, _, implied, units) = *row;
-    let left = left_of_row(rt, alloc, solver, row, 100, Some(implied))?;
-    expect(
-        rt,
-        "the row's units",
-        !by_plan || left.saturating_add(units) == 100,
-    );
-    if by_plan && units >= 1 {
-        let left = left_of_row(rt, alloc, solver, row, units, None)?;
-        expect(rt, "all units are spent", left == 0);
-    }
-    Ok(())
+) -> Option<()> {
+    let mut solver = solver?;
+    let left = left_of_second_query(rt, alloc, &mut solver)?;
+    let is_paid = is_paid(&solver, left, 100_001);
+    expect(rt, "a unit for each clause", is_paid);
+    expect(rt, "three clauses are learned", !by_plan || left == 99_998);
+    check_spent(rt, alloc, &mut solver)
 }
 
-/// Each row of small bases, for a solver that goes by the plan or by its own.
-pub(crate) fn check_rows<R: Refuter>(
-    rt: &impl Abort,
-    alloc: Global,
-    mut solver: R,
-    by_plan: bool,
-) -> Result<(), Fail> {
-    for row in ROWS.as_slice() {
-        check_row(rt, alloc, &mut solver, row, by_plan)?;
-    }
-    Ok(())
-}
-
-/// Two chains of XORs over so many inputs, from either end, have the same value, which takes so many units of
-/// a solver that goes by the plan.
-fn check_targets<R: Refuter>(
+/// Within 100 units the base implies the target, or doesn't, as it is said. A solver that goes by the plan
+/// takes just so many units, which are all spent where there are no more.
+fn check_query<R: Refuter>(
     rt: &impl Abort,
     alloc: Global,
     solver: &mut R,
-    chain: (u32, u64),
-    budget: u64,
+    base: &[Named],
+    target: &Clause<Lit>,
+    (implied, units): (bool, u64),
     by_plan: bool,
-) -> Result<(), Fail> {
-    let (inputs, units) = chain;
-    let (base, first, second) = parity_chains(alloc, inputs)?;
-    for (first_neg, second_neg, implied) in CHAIN_TARGETS.as_slice() {
-        let lits = [turned(first, *first_neg), turned(second, *second_neg)];
-        let wanted = Some(*implied);
-        let left = left_of(rt, alloc, solver, base.as_slice(), &lits, budget, wanted)?;
-        let spent = if *implied { units } else { 0 };
-        expect(
-            rt,
-            "the chain's units",
-            !by_plan || left.saturating_add(spent) == budget,
-        );
+) -> Option<()> {
+    let left = left_of(rt, alloc, solver, base, target, 100, Some(implied))?;
+    if !by_plan {
+        return Some(());
     }
-    Ok(())
+    expect(rt, "the plan's units", left.saturating_add(units) == 100);
+    if units == 0 {
+        return Some(());
+    }
+    check_given_up(rt, alloc, solver, base, target, units)
 }
 
-/// Chains of two to five inputs, each within the budget.
-pub(crate) fn check_chains<R: Refuter>(
+/// The verdict of a case, and its units.
+fn answer_of(text: &str) -> Option<(bool, u64)> {
+    let (word, units) = text.split_once(' ')?;
+    Some((word == "yes", units.parse().ok()?))
+}
+
+/// Tries a target over its base.
+fn check_target<R: Refuter>(
     rt: &impl Abort,
     alloc: Global,
-    mut solver: R,
-    budget: u64,
+    solver: &mut R,
+    base: &[Named],
+    text: &str,
     by_plan: bool,
-) -> Result<(), Fail> {
-    for chain in CHAINS.as_slice() {
-        check_targets(rt, alloc, &mut solver, *chain, budget, by_plan)?;
-    }
-    Ok(())
+) -> Option<()> {
+    let (lits, answer) = text.split_once("? ")?;
+    let target = clause(alloc, lits)?;
+    let answer = answer_of(answer.trim())?;
+    check_query(rt, alloc, solver, base, &target, answer, by_plan)
 }
 
-/// Clauses that are drawn are unsatisfiable or not, as it is said, with the units that a solver takes that
-/// goes by the plan.
+/// Tries the targets, which bars divide, over the base.
+pub(crate) fn check_targets<R: Refuter>(
+    rt: &impl Abort,
+    alloc: Global,
+    solver: &mut R,
+    (base, targets): (&str, &str),
+    by_plan: bool,
+) -> Option<()> {
+    let base = base_of(alloc, base.trim())?;
+    for text in targets.split('|') {
+        check_target(rt, alloc, solver, base.as_slice(), text, by_plan)?;
+    }
+    Some(())
+}
+
+/// Twin gates imply one another, which takes no unit and no learned clause.
+pub(crate) fn check_yes<R: Refuter>(
+    rt: &impl Abort,
+    alloc: Global,
+    solver: Option<R>,
+) -> Option<()> {
+    check_targets(rt, alloc, &mut solver?, (TWIN_GATES, "-b3 a3? yes 0"), true)
+}
+
+/// Tries the targets of a line over its base.
+fn check_line<R: Refuter>(
+    rt: &impl Abort,
+    alloc: Global,
+    solver: &mut R,
+    line: &str,
+    by_plan: bool,
+) -> Option<()> {
+    check_targets(rt, alloc, solver, line.split_once('|')?, by_plan)
+}
+
+/// Tries each line of the cases, for a solver that goes by the plan or by its own.
+pub(crate) fn check_lines<R: Refuter>(
+    rt: &impl Abort,
+    alloc: Global,
+    solver: Option<R>,
+    lines: &str,
+    by_plan: bool,
+) -> Option<()> {
+    let mut solver = solver?;
+    for line in lines.lines() {
+        check_line(rt, alloc, &mut solver, line, by_plan)?;
+    }
+    Some(())
+}
+
+/// Tries the clauses that are drawn from a seed: they are unsatisfiable or not, as it is said.
+fn check_seed<R: Refuter>(
+    rt: &impl Abort,
+    alloc: Global,
+    solver: &mut R,
+    (seed, implied, units): (u32, bool, u64),
+    by_plan: bool,
+) -> Option<()> {
+    let base = drawn_base(alloc, seed)?;
+    let target = clause(alloc, "")?;
+    let answer = (implied, units);
+    check_query(rt, alloc, solver, base.as_slice(), &target, answer, by_plan)
+}
+
+/// Tries all seeds.
 pub(crate) fn check_drawn<R: Refuter>(
     rt: &impl Abort,
     alloc: Global,
-    mut solver: R,
+    solver: Option<R>,
     by_plan: bool,
-) -> Result<(), Fail> {
-    for (seed, implied, units) in DRAWN.as_slice() {
-        let base = drawn_base(alloc, *seed)?;
-        let wanted = Some(*implied);
-        let left = left_of(rt, alloc, &mut solver, base.as_slice(), &[], 100, wanted)?;
-        assert!(rt;
-            !by_plan || left.saturating_add(*units) == 100,
-            "seed {seed}"
-        );
+) -> Option<()> {
+    let mut solver = solver?;
+    for row in &DRAWN {
+        check_seed(rt, alloc, &mut solver, *row, by_plan)?;
     }
-    Ok(())
+    Some(())
 }

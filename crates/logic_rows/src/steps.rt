@@ -1,76 +1,61 @@
-use crate::bases::{is_named, twin_gates};
-use crate::clauses::{
-    A, B, GATE_A, GATE_B, NOT_A, NOT_B, NOT_X, NOT_Y, X, Y, are, clause_of, dims, expect,
-};
-use lits::{Clause, Dim, Lit, Named, Ref};
+ghost use Rattle.unit_prop.specs.HintScan.{IsNamed};
+
+use crate::bases::{axioms, base_of, is_base};
+use crate::clauses::{Word, are, check, clause, clauses, expect, finish, literals};
+use crate::formulas::TWIN_GATES;
+use lits::{Clause, Dim, Lit, Named, Ref, Step};
 use std::alloc::Global;
-use std::test::Fail;
+use std::process::Abort;
 use unit_prop::{BadStep, Clauses, Closure, StepCheck, Why};
 
-fn clauses(alloc: Global, lists: &[&[i32]]) -> Result<Vec<Clause<Dim>>, Fail> {
-    let mut clauses = Vec::new(alloc);
-    for list in lists {
-        let lits = dims(alloc, list)?;
-        clauses.push(clause_of(alloc, lits.as_slice())?)?;
-    }
-    Ok(clauses)
-}
-
-/// Whether the closure has just the literals, or clashes where none are given.
-fn is_closure(alloc: Global, found: &Closure<Dim>, want: Option<&[i32]>) -> Result<bool, Fail> {
-    let Some(numbers) = want else {
-        return Ok(matches!(found, Closure::Clash));
-    };
-    match found {
-        Closure::Clash => Ok(false),
-        Closure::Free(lits) => are(alloc, lits.as_slice(), numbers),
-    }
-}
-
-/// Whether the clauses and the given literals have that closure.
-fn closes_to(
-    alloc: Global,
-    lists: &[&[i32]],
-    given: &[i32],
-    want: Option<&[i32]>,
-) -> Result<bool, Fail> {
+/// What the clauses and the literals that are given close to.
+fn closure(alloc: Global, lists: &str, given: &str) -> Option<Closure<Dim>> {
     let clauses = clauses(alloc, lists)?;
-    let given = dims(alloc, given)?;
-    let found = unit_prop::close_under(alloc, clauses.as_slice(), given.as_slice())?;
-    is_closure(alloc, &found, want)
+    let given = literals(alloc, given)?;
+    unit_prop::close_under(alloc, clauses.as_slice(), given.as_slice()).ok()
 }
 
-/// A name, clauses, literals that are given, and their closure, unless it clashes.
-type Closed<'a> = (&'a str, &'a [&'a [i32]], &'a [i32], Option<&'a [i32]>);
+/// Whether the closure has the literals that are wanted, or clashes.
+fn is_closed<L: Word>(alloc: Global, found: &Closure<L>, wanted: &str) -> Option<bool> {
+    match found {
+        Closure::Clash => Some(wanted == " clash"),
+        Closure::Free(found) => are(alloc, found.as_slice(), wanted),
+    }
+}
 
-static CLOSURES: [Closed<'static>; 6] = [
-    ("a chain", &[&[1, -2], &[2]], &[], Some(&[2, 1])),
-    ("opposite units", &[&[1], &[-1]], &[], None),
-    (
-        "a chain against what is given",
-        &[&[1, -2], &[2]],
-        &[-1],
-        None,
-    ),
-    (
-        "opposite literals are given",
-        &[&[1, -2], &[2]],
-        &[3, -3],
-        None,
-    ),
-    (
-        "a literal is given twice",
-        &[&[-1, -2, 3], &[4, 5]],
-        &[1, 2, 1],
-        Some(&[1, 2, 3]),
-    ),
-    (
-        "nothing is forced",
-        &[&[-1, -2, 3], &[4, 5]],
-        &[],
-        Some(&[]),
-    ),
-];
+/// Whether it is as the line says: clauses, a bar, literals that are given, an arrow, and their closure.
+fn is_closure(alloc: Global, line: &str) -> Option<bool> {
+    let (question, wanted) = line.split_once("=>")?;
+    let (lists, given) = question.split_once('|')?;
+    is_closed(alloc, &closure(alloc, lists, given)?, wanted)
+}
+
+/// Whether gate B, which is given, closes to the other gate and the inputs.
+fn closes_over_nodes(alloc: Global) -> Option<bool> {
+    let clauses = clauses::<Lit>(alloc, "-b3 1; -b3 0; a3 -0 -1;")?;
+    let given = literals(alloc, "b3")?;
+    let found = unit_prop::close_under(alloc, clauses.as_slice(), given.as_slice());
+    is_closed(alloc, &found.ok()?, "b3 1 0 a3")
+}
+
+/// A chain, opposite units, a chain against what is given, opposite literals that are given, one that is given
+/// twice, and a case in which nothing is forced.
+const CLOSURES: &str = "\
+1 -2; 2;| => 2 1
+1; -1;| => clash
+1 -2; 2;| -1 => clash
+1 -2; 2;| 3 -3 => clash
+-1 -2 3; 4 5;| 1 2 1 => 1 2 3
+-1 -2 3; 4 5;| =>
+";
+
+#[test]
+fn close_under(rt: HostRuntime) {
+    for line in CLOSURES.lines() {
+        check(&rt, line, is_closure(rt.alloc(), line));
+    }
+    check(&rt, "over nodes", closes_over_nodes(rt.alloc()));
+}
 
 /// The clauses of a step's hints, by their places from 0.
 #[derive(Drop)]
@@ -89,199 +74,153 @@ impl Clauses<usize, Dim> for Hints<'_> {
     }
 }
 
-/// A name, a step's clause, the clauses that its hints name, the hints, and the fault that is to be told.
-type Judged<'a> = (
-    &'a str,
-    &'a [i32],
-    &'a [&'a [i32]],
-    &'a [usize],
-    Option<BadStep>,
-);
-
-/// Whether the step that adds the clause by the hints has the fault.
-fn has_fault(alloc: Global, check: &mut StepCheck<Dim>, case: &Judged) -> Result<bool, Fail> {
-    let (_, clause, lists, names, want) = *case;
-    let clause = dims(alloc, clause)?;
-    let hints = clauses(alloc, lists)?;
-    let fault = check.fault_of(&Hints(hints.as_slice()), clause.as_slice(), names)?;
-    Ok(fault == want)
-}
-
-/// Clauses from which -5 or 4 follows: 4 and 5 are the AND of 2 and 3.
-const TWIN: &[&[i32]] = &[&[-5, 3], &[4, -2, -3], &[-5, 2]];
-
-/// The same without the last.
-const CUT: &[&[i32]] = &[&[-5, 3], &[4, -2, -3]];
-
-const NOT_FALSE: Option<BadStep> = Some(BadStep {
-    hint: 0,
-    why: Why::NotFalse,
-});
-
-const TAUTOLOGY: Option<BadStep> = Some(BadStep {
-    hint: 0,
-    why: Why::Tautology,
-});
-
-const SATISFIED: Option<BadStep> = Some(BadStep {
-    hint: 2,
-    why: Why::Satisfied,
-});
-
-const TWO_FREE: Option<BadStep> = Some(BadStep {
-    hint: 1,
-    why: Why::TwoFree,
-});
-
-const AFTER_FALSE: Option<BadStep> = Some(BadStep {
-    hint: 2,
-    why: Why::AfterFalse,
-});
-
-const NO_CLAUSE: Option<BadStep> = Some(BadStep {
-    hint: 2,
-    why: Why::NoClause,
-});
-
-static STEPS: [Judged<'static>; 11] = [
-    // Two gates that compute the same: the first step of their proof, the same without its last hint, and
-    // with a literal twice.
-    ("the empty clause", &[], &[&[]], &[0], None),
-    ("twin gates", &[-5, 4], TWIN, &[0, 1, 2], None),
-    ("without the last hint", &[-5, 4], CUT, &[0, 1], NOT_FALSE),
-    ("a literal twice", &[-5, 4, 4], TWIN, &[0, 1, 2], None),
-    // Faults.
-    ("no hint", &[1], &[], &[], NOT_FALSE),
-    ("a tautology", &[1, -1], &[&[]], &[0], TAUTOLOGY),
-    ("a true hint", &[1], &[&[2], &[2, 3]], &[0, 1], SATISFIED),
-    ("a wide hint", &[1], &[&[2, 3]], &[0], TWO_FREE),
-    ("a late hint", &[1], &[&[1], &[2]], &[0, 1], AFTER_FALSE),
-    (
-        "no false hint",
-        &[1],
-        &[&[2, 1], &[-2, 3]],
-        &[0, 1],
-        NOT_FALSE,
-    ),
-    ("no such hint", &[1], &[&[2, 1]], &[0, 1], NO_CLAUSE),
-];
-
-/// Clauses from which gate B implies gate A, both the AND of the first two inputs.
-const IMPLYING: [&[Lit]; 3] = [&[NOT_B, Y], &[NOT_B, X], &[A, NOT_X, NOT_Y]];
-
-/// That gate B implies gate A.
-const IMPLICATION: [Lit; 2] = [NOT_B, A];
-
-/// Adds the clause by the hints.
-fn add(check: &mut StepCheck<Lit>, clause: &[Lit], hints: &[&[Lit]]) -> Result<(), Fail> {
-    check.begin(clause)?;
-    for hint in hints {
-        check.hint(hint)?;
+fn places(alloc: Global, text: &str) -> Option<Vec<usize>> {
+    let mut places = Vec::new(alloc);
+    for word in text.split_whitespace() {
+        places.push(word.parse().ok()?).ok()?;
     }
-    check.end()?;
-    Ok(())
+    Some(places)
 }
 
-#[test]
-fn step_check(rt: HostRuntime) -> Result<(), Fail> {
-    let mut check = StepCheck::new(rt.alloc());
-    for case in &STEPS {
-        expect(&rt, case.0, has_fault(rt.alloc(), &mut check, case)?);
-    }
-    add(&mut StepCheck::new(rt.alloc()), &IMPLICATION, &IMPLYING)
-}
-
-fn implying(alloc: Global) -> Result<Vec<Clause<Lit>>, Fail> {
-    let mut axioms = Vec::new(alloc);
-    for lits in IMPLYING.as_slice() {
-        axioms.push(clause_of(alloc, lits)?)?;
-    }
-    Ok(axioms)
-}
-
-const GIVEN: [Lit; 1] = [B];
-
-const FOUND: [Lit; 4] = [B, Y, X, A];
-
-/// Whether the closure has just the literals.
-fn has_just(found: &Closure<Lit>, lits: &[Lit]) -> bool {
-    match found {
-        Closure::Clash => false,
-        Closure::Free(found) => found.as_slice() == lits,
+fn why(word: &str) -> Option<Why> {
+    match word {
+        "tautology" => Some(Why::Tautology),
+        "no clause" => Some(Why::NoClause),
+        "after false" => Some(Why::AfterFalse),
+        "satisfied" => Some(Why::Satisfied),
+        "two free" => Some(Why::TwoFree),
+        "not false" => Some(Why::NotFalse),
+        _ => None,
     }
 }
 
-/// Whether gate B, which is given, closes to the other gate and the inputs.
-fn closes_over_nodes(alloc: Global) -> Result<bool, Fail> {
-    let axioms = implying(alloc)?;
-    let found = unit_prop::close_under(alloc, axioms.as_slice(), &GIVEN)?;
-    Ok(has_just(&found, &FOUND))
+/// Whether that is the fault, by the place of its hint and why, or there is none.
+fn is_fault(found: Option<BadStep>, text: &str) -> Option<bool> {
+    let Some(bad) = found else {
+        return Some(text == "none");
+    };
+    let (hint, words) = text.split_once(' ')?;
+    Some(bad.hint == hint.parse().ok()? && bad.why == why(words)?)
 }
 
-#[test]
-fn close_under(rt: HostRuntime) -> Result<(), Fail> {
-    for (name, lists, given, want) in &CLOSURES {
-        expect(&rt, name, closes_to(rt.alloc(), lists, given, *want)?);
-    }
-    expect(&rt, "over nodes", closes_over_nodes(rt.alloc())?);
-    Ok(())
-}
-
-/// Whether the scan of the base for the clause of the literals finds these hints, and the step has them.
-fn scans_to(
+/// The fault of the step that adds the clause by the hints of the text, behind the clauses that they name.
+fn fault_by(
     alloc: Global,
-    base: &[Named],
-    lits: &[Lit],
-    want: Option<&[Ref]>,
-) -> Result<bool, Fail> {
-    if !is_named(base) {
-        return Err("a name stands twice".into());
-    }
-    let clause = clause_of(alloc, lits)?;
-    let Some(hints) = unit_prop::scan(alloc, base, &clause)? else {
-        return Ok(want.is_none());
-    };
-    let step = unit_prop::scanned_step(alloc, base, clause.lits())?;
-    let Some(wanted) = want else {
-        return Ok(false);
-    };
-    Ok(hints.as_slice() == wanted && step.hints.as_slice() == wanted && step.clause.lits() == lits)
+    check: &mut StepCheck<Dim>,
+    clause: &[Dim],
+    text: &str,
+) -> Option<Option<BadStep>> {
+    let (lists, hints) = text.split_once('|')?;
+    let lists = clauses(alloc, lists)?;
+    let hints = places(alloc, hints)?;
+    let fault = check.fault_of(&Hints(lists.as_slice()), clause, hints.as_slice());
+    fault.ok()
 }
 
-/// A name, a clause, and the hints that the scan of twin gates finds for it.
-type Scanned<'a> = (&'a str, &'a [Lit], Option<&'a [Ref]>);
+/// The fault of the step of the text, which begins with its clause.
+fn fault_of(alloc: Global, check: &mut StepCheck<Dim>, text: &str) -> Option<Option<BadStep>> {
+    let (clause, hints) = text.split_once('|')?;
+    fault_by(alloc, check, literals(alloc, clause)?.as_slice(), hints)
+}
 
-static SCANS: [Scanned<'static>; 3] = [
-    (
-        "B implies A",
-        &[NOT_B, A],
-        Some(&[
-            Ref::Axiom(GATE_B, 0),
-            Ref::Axiom(GATE_A, 2),
-            Ref::Axiom(GATE_B, 1),
-        ]),
-    ),
-    (
-        "A implies B",
-        &[B, NOT_A],
-        Some(&[
-            Ref::Axiom(GATE_A, 0),
-            Ref::Axiom(GATE_A, 1),
-            Ref::Axiom(GATE_B, 2),
-        ]),
-    ),
-    ("A is false", &[NOT_A], None),
-];
+/// Whether it is as the line says: a step's clause, the clauses that its hints name, the hints, and the fault.
+fn has_fault(alloc: Global, check: &mut StepCheck<Dim>, line: &str) -> Option<bool> {
+    let (step, fault) = line.split_once(" => ")?;
+    is_fault(fault_of(alloc, check, step)?, fault)
+}
+
+/// The empty clause; two gates that compute the same: the first step of their proof, the same without its last
+/// hint, and with a literal twice. Then faults: no hint, a tautology, a true hint, a wide one, a late one, none
+/// that is false, and one that names no clause.
+const STEPS: &str = "\
+|;| 0 => none
+-5 4| -5 3; 4 -2 -3; -5 2;| 0 1 2 => none
+-5 4| -5 3; 4 -2 -3;| 0 1 => 0 not false
+-5 4 4| -5 3; 4 -2 -3; -5 2;| 0 1 2 => none
+1|| => 0 not false
+1 -1|;| 0 => 0 tautology
+1| 2; 2 3;| 0 1 => 2 satisfied
+1| 2 3;| 0 => 1 two free
+1| 1; 2;| 0 1 => 2 after false
+1| 2 1; -2 3;| 0 1 => 0 not false
+1| 2 1;| 0 1 => 2 no clause
+";
+
+/// Whether the clauses are hints that make the literals' clause a step.
+fn is_step(check: &mut StepCheck<Lit>, lits: &[Lit], hints: &[Clause<Lit>]) -> bool {
+    if check.begin(lits).is_err() {
+        return false;
+    }
+    for hint in hints {
+        if check.hint(hint.lits()).is_err() {
+            return false;
+        }
+    }
+    check.end().is_ok()
+}
+
+/// Whether gate B implies gate A, both the AND of the first two inputs, by their clauses.
+fn implies(alloc: Global) -> Option<bool> {
+    let lits = literals(alloc, "-b3 a3")?;
+    let hints = clauses(alloc, "-b3 1; -b3 0; a3 -0 -1;")?;
+    let mut check = StepCheck::new(alloc);
+    Some(is_step(&mut check, lits.as_slice(), hints.as_slice()))
+}
 
 #[test]
-fn hints_of_twin_gates(rt: HostRuntime) -> Result<(), Fail> {
-    let base = twin_gates(rt.alloc())?;
-    for (name, lits, want) in &SCANS {
-        expect(
-            &rt,
-            name,
-            scans_to(rt.alloc(), base.as_slice(), lits, *want)?,
-        );
+fn step_check(rt: HostRuntime) {
+    let mut steps = StepCheck::new(rt.alloc());
+    for line in STEPS.lines() {
+        check(&rt, line, has_fault(rt.alloc(), &mut steps, line));
     }
-    Ok(())
+    check(&rt, "over nodes", implies(rt.alloc()));
+}
+
+/// Whether the step adds the literals' clause by these hints.
+fn has_hints(step: &Step, lits: &[Lit], hints: &[Ref]) -> bool {
+    step.hints.as_slice() == hints && step.clause.lits() == lits
+}
+
+/// Whether the scan of the base finds these hints for the clause, and the step that it shows has them; or it
+/// finds none, and there are none.
+fn finds(alloc: Global, base: &[Named], clause: &Clause<Lit>, hints: &[Ref]) -> Option<bool>
+    requires { IsNamed base.now }
+{
+    match unit_prop::scan(alloc, base, clause).ok()? {
+        Some(found) => {
+            let step = unit_prop::scanned_step(alloc, base, clause.lits()).ok()?;
+            Some(found.as_slice() == hints && has_hints(&step, clause.lits(), hints))
+        }
+        None => Some(hints.is_empty()),
+    }
+}
+
+/// Whether the scan of the base finds the hints that the line has behind an arrow for the clause before it, or
+/// none where there are none.
+fn scans(rt: &impl Abort, alloc: Global, base: &[Named], line: &str) -> Option<bool> {
+    let (lits, hints) = line.split_once("=>")?;
+    let clause = clause(alloc, lits)?;
+    let hints = axioms(alloc, hints)?;
+    expect(rt, "a base", is_base(base));
+    finds(alloc, base, &clause, hints.as_slice())
+}
+
+/// Each gate implies the other; gate A need not be false.
+const SCANS: &str = "\
+-b3 a3 => b3.0 a3.2 b3.1
+b3 -a3 => a3.0 a3.1 b3.2
+-a3 =>
+";
+
+fn scan_all(rt: &impl Abort, alloc: Global) -> Option<()> {
+    let base = base_of(alloc, TWIN_GATES)?;
+    for line in SCANS.lines() {
+        check(rt, line, scans(rt, alloc, base.as_slice(), line));
+    }
+    Some(())
+}
+
+#[test]
+fn hints_of_twin_gates(rt: HostRuntime) {
+    finish(&rt, scan_all(&rt, rt.alloc()));
 }

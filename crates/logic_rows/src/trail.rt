@@ -1,198 +1,211 @@
-//! Walks of `Trail`: each is a list of moves, among them what the trail has to be after those before.
-use crate::clauses::{clause, input};
+//! Walks of `Trail`, as lines of text: what is done to a trail, and what it has to be then.
+use crate::clauses::{Word, check, clause, finish};
+use lits::{Clause, Lit, Literal, Node};
 use std::alloc::Global;
 use std::process::Abort;
-use std::test::Fail;
 use watch_lists::{Put, Trail, flip};
 
-/// A number, the level at which its literal was put, and the clause that forced it.
-type Row = (i32, u64, Option<u64>);
-
-/// What is done to a trail, or what it has to be.
-enum Move {
-    /// Clauses are added while there are no decisions.
-    Add(&'static [&'static [i32]]),
-    /// All is propagated, which negates nothing, and a free literal is decided.
-    Decide(i32),
-    /// Propagation negates nothing.
-    Quiet,
-    /// Propagation negates one of the first two clauses.
-    Clash,
-    /// The levels above this one are given up.
-    Back(u64),
-    /// The literals are these.
-    Has(&'static [Row]),
-    /// There are so many levels, clauses and variables.
-    Counts(u64, u64, usize),
-    /// Gate 3 was decided first, and the codes are right.
-    Codes,
+/// Adds the clause where there are no decisions; whether there are none.
+fn add(trail: &mut Trail, clause: &Clause<Lit>) -> Option<bool> {
+    if trail.level() != 0 {
+        return Some(false);
+    }
+    trail.add(clause).ok()?;
+    Some(true)
 }
 
-fn add_all(alloc: Global, trail: &mut Trail, lists: &[&[i32]]) -> Result<bool, Fail> {
-    for numbers in lists {
-        let clause = clause(alloc, numbers)?;
-        if trail.level() != 0 {
-            return Ok(false);
+/// Adds the text's clauses.
+fn add_all(alloc: Global, trail: &mut Trail, text: &str) -> Option<bool> {
+    for part in text.split_terminator(';') {
+        if !add(trail, &clause(alloc, part)?)? {
+            return Some(false);
         }
-        trail.add(&clause)?;
     }
-    Ok(true)
+    Some(true)
 }
 
-fn decide(trail: &mut Trail, number: i32) -> Result<bool, Fail> {
-    if trail.propagate()?.is_some() {
-        return Ok(false);
+/// Decides the literal, where propagation negates nothing and it is free; whether it is so.
+fn decide(trail: &mut Trail, word: &str) -> Option<bool> {
+    if trail.propagate().ok()?.is_some() {
+        return Some(false);
     }
-    let Some(code) = trail.code(input(number)) else {
-        return Ok(false);
-    };
+    let code = trail.code(Lit::read(word)?)?;
     if !trail.is_free(code) {
-        return Ok(false);
+        return Some(false);
     }
-    trail.decide_code(code)?;
-    Ok(true)
+    trail.decide_code(code).ok()?;
+    Some(true)
 }
 
-/// Whether the trail's literals are those of the rows.
-fn are_put(puts: &[Put], rows: &[Row]) -> bool {
-    for (place, (number, level, by)) in rows.iter().enumerate() {
-        let put = Put {
-            lit: input(*number),
-            level: *level,
-            by: *by,
-        };
-        if puts.get(place) != Some(&put) {
-            return false;
-        }
-    }
-    puts.len() == rows.len()
+/// Gives up the levels above this one.
+fn back(trail: &mut Trail, level: &str) -> Option<bool> {
+    trail.back(level.parse().ok()?);
+    Some(true)
 }
 
-/// Whether the code of gate 3 is that of the first of three literals, true, and in the third clause.
-fn has_codes(trail: &Trail) -> bool {
-    let Some(code) = trail.code(input(3)) else {
-        return false;
-    };
-    if trail.lits().len() != 3 || trail.clauses() != 3 {
-        return false;
+/// A literal that is put, its level, and the clause that forced it or a dash.
+fn put(text: &str) -> Option<Put> {
+    let (lit, reason) = text.trim().split_once(' ')?;
+    let (level, by) = reason.split_once(' ')?;
+    Some(Put {
+        lit: Lit::read(lit)?,
+        level: level.parse().ok()?,
+        by: by.parse().ok(),
+    })
+}
+
+/// Whether the trail's literals are those of the text.
+fn are_put(alloc: Global, puts: &[Put], text: &str) -> Option<bool> {
+    let mut wanted = Vec::new(alloc);
+    for part in text.split_terminator(';') {
+        wanted.push(put(part)?).ok()?;
     }
-    trail.code(input(-3)) == Some(flip(code))
-        && trail.code(input(4)).is_none()
-        && trail.lit(code) == input(3)
-        && trail.is_true(code)
-        && trail.place(code) == Some(0)
+    Some(puts == wanted.as_slice())
+}
+
+/// Whether there are two levels, three clauses and three variables.
+fn has_sizes(trail: &Trail) -> bool {
+    trail.level() == 2 && trail.clauses() == 3 && trail.variables() == 3
+}
+
+const GATE: Lit = Lit {
+    node: Node::Input(3),
+    neg: false,
+};
+
+/// Whether the code is the first of three literals, and in the third clause.
+fn is_first(trail: &Trail, code: u32) -> bool {
+    trail.lits().len() == 3
+        && trail.clauses() == 3
         && trail.code_at(0) == code
         && trail.clause(2).contains(&code)
 }
 
-/// Makes the move; whether it went as it says.
-fn goes(alloc: Global, trail: &mut Trail, step: &Move) -> Result<bool, Fail> {
-    match step {
-        Move::Add(lists) => add_all(alloc, trail, lists),
-        Move::Decide(number) => decide(trail, *number),
-        Move::Quiet => Ok(trail.propagate()?.is_none()),
-        Move::Clash => Ok(matches!(trail.propagate()?, Some(0 | 1))),
-        Move::Back(level) => {
-            trail.back(*level);
-            Ok(true)
-        }
-        Move::Has(rows) => Ok(are_put(trail.lits(), rows)),
-        Move::Counts(levels, clauses, variables) => Ok(
-            trail.level() == *levels
-                && trail.clauses() == *clauses
-                && trail.variables() == *variables,
-        ),
-        Move::Codes => Ok(has_codes(trail)),
+/// Whether gate 3 alone of two gates has a code, which is right, and true in the first place.
+fn has_codes(trail: &Trail) -> bool {
+    let Some(code) = trail.code(GATE) else {
+        return false;
+    };
+    trail.code(GATE.not()) == Some(flip(code))
+        && trail
+            .code(Lit {
+                node: Node::Input(4),
+                neg: false,
+            })
+            .is_none()
+        && trail.lit(code) == GATE
+        && trail.is_true(code)
+        && trail.place(code) == Some(0)
+        && is_first(trail, code)
+}
+
+/// Whether propagation is quiet, or clashes in one of the first two clauses, as it is said.
+fn propagates(trail: &mut Trail, what: &str) -> Option<bool> {
+    match trail.propagate().ok()? {
+        None => Some(what == "quiet"),
+        Some(number) => Some(what == "clash" && number < 2),
     }
 }
 
-/// A name, and the moves that are made on a new trail.
-type Walk = (&'static str, &'static [Move]);
-
-fn make_all(
-    rt: &impl Abort,
-    alloc: Global,
-    trail: &mut Trail,
-    (name, moves): &Walk,
-) -> Result<(), Fail> {
-    for (place, step) in moves.iter().enumerate() {
-        assert!(rt; goes(alloc, trail, step)?, "{name}, move {place}");
+/// Makes the move of the line; whether it went as it says.
+fn goes(alloc: Global, trail: &mut Trail, line: &str) -> Option<bool> {
+    match line.split_once(' ') {
+        Some((word, text)) => goes_by(alloc, trail, word, text),
+        None => goes_alone(trail, line),
     }
-    Ok(())
+}
+
+/// The same of a move with what is behind its word.
+fn goes_by(alloc: Global, trail: &mut Trail, word: &str, text: &str) -> Option<bool> {
+    match word {
+        "new" => begin(alloc, trail),
+        "add" => add_all(alloc, trail, text),
+        "decide" => decide(trail, text),
+        "back" => back(trail, text),
+        "has" => are_put(alloc, trail.lits(), text),
+        _ => None,
+    }
+}
+
+/// The same of a move of one word.
+fn goes_alone(trail: &mut Trail, word: &str) -> Option<bool> {
+    match word {
+        "sizes" => Some(has_sizes(trail)),
+        "codes" => Some(has_codes(trail)),
+        _ => propagates(trail, word),
+    }
+}
+
+/// Begins a walk on a new trail.
+fn begin(alloc: Global, trail: &mut Trail) -> Option<bool> {
+    *trail = Trail::new(alloc).ok()?;
+    Some(true)
+}
+
+/// Makes all moves.
+fn walk(rt: &impl Abort, alloc: Global, trail: Option<Trail>) -> Option<()> {
+    let mut trail = trail?;
+    for line in WALKS.lines() {
+        check(rt, line, goes(alloc, &mut trail, line));
+    }
+    Some(())
 }
 
 #[test]
-fn walks(rt: HostRuntime) -> Result<(), Fail> {
-    for walk in &WALKS {
-        make_all(&rt, rt.alloc(), &mut Trail::new(rt.alloc())?, walk)?;
-    }
-    Ok(())
+fn walks(rt: HostRuntime) {
+    finish(&rt, walk(&rt, rt.alloc(), Trail::new(rt.alloc()).ok()));
 }
 
-/// The clauses of a gate 3 that is the AND of 1 and 2.
-const GATE: Move = Move::Add(&[&[-3, 1, 1], &[-3, 2, 2], &[3, -1, -2]]);
-
-static WALKS: [Walk; 6] = [
-    (
-        "close_under",
-        &[
-            Move::Add(&[&[1, -2, 1], &[2, 2, 2]]),
-            Move::Quiet,
-            Move::Has(&[(2, 0, Some(1)), (1, 0, Some(0))]),
-        ],
-    ),
-    (
-        "close_under clashes",
-        &[Move::Add(&[&[1, 1, 1], &[-1, -1, -1]]), Move::Clash],
-    ),
-    (
-        "levels and reasons, both inputs being decided true",
-        &[
-            GATE,
-            Move::Decide(1),
-            Move::Quiet,
-            Move::Decide(2),
-            Move::Quiet,
-            Move::Has(&[(1, 1, None), (2, 2, None), (3, 2, Some(2))]),
-            Move::Counts(2, 3, 3),
-        ],
-    ),
-    // After a step back other literals are decided, with the watches that the first ones left.
-    (
-        "back to a level",
-        &[
-            GATE,
-            Move::Decide(1),
-            Move::Quiet,
-            Move::Decide(2),
-            Move::Quiet,
-            Move::Back(1),
-            Move::Has(&[(1, 1, None)]),
-            Move::Decide(-3),
-            Move::Quiet,
-            Move::Has(&[(1, 1, None), (-3, 2, None), (-2, 2, Some(2))]),
-            Move::Back(0),
-            Move::Has(&[]),
-        ],
-    ),
-    // Two clauses over three literals whose watched literals become false together: the one that is named is
-    // wholly negated. The clause that is learned of it forces its literal.
-    (
-        "a negated clause",
-        &[
-            Move::Add(&[&[1, 2, 3], &[1, 2, -3]]),
-            Move::Decide(-1),
-            Move::Quiet,
-            Move::Has(&[(-1, 1, None)]),
-            Move::Decide(-2),
-            Move::Clash,
-            Move::Back(1),
-            Move::Back(0),
-            Move::Add(&[&[1, 2, 2]]),
-            Move::Decide(-1),
-            Move::Quiet,
-            Move::Has(&[(-1, 1, None), (2, 1, Some(2))]),
-        ],
-    ),
-    ("codes", &[GATE, Move::Decide(3), Move::Quiet, Move::Codes]),
-];
+/// What a trail has is each literal with its level, and with the clause that forced it.
+///
+/// In the fourth walk other literals are decided after a step back, with the watches that the first ones left.
+/// In the fifth are two clauses over three literals whose watched literals become false together: the one that
+/// is named is wholly negated. The clause that is learned of it forces its literal.
+const WALKS: &str = "\
+new closure
+add 1 -2 1; 2 2 2;
+quiet
+has 2 0 1; 1 0 0;
+new closure that clashes
+add 1 1 1; -1 -1 -1;
+clash
+new gate of both inputs, which are decided
+add -3 1 1; -3 2 2; 3 -1 -2;
+decide 1
+quiet
+decide 2
+quiet
+has 1 1 -; 2 2 -; 3 2 2;
+sizes
+new step back
+add -3 1 1; -3 2 2; 3 -1 -2;
+decide 1
+quiet
+decide 2
+quiet
+back 1
+has 1 1 -;
+decide -3
+quiet
+has 1 1 -; -3 2 -; -2 2 2;
+back 0
+has 
+new negated clause
+add 1 2 3; 1 2 -3;
+decide -1
+quiet
+has -1 1 -;
+decide -2
+clash
+back 1
+back 0
+add 1 2 2;
+decide -1
+quiet
+has -1 1 -; 2 1 2;
+new codes
+add -3 1 1; -3 2 2; 3 -1 -2;
+decide 3
+quiet
+codes
+";
