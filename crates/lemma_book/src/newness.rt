@@ -1,7 +1,6 @@
 ghost use Rattle.std.specs.Prelude.{◌≡◌, [], ◌∷◌, ◌++◌, ◌||◌, IfOk, IfSome, OnOk};
 ghost use Rattle.std.specs.List.{list_all};
 ghost use Rattle.lits.specs.Same.{same_lit, opposite};
-ghost use Rattle.netlist.specs.Miter.{positive};
 ghost use Rattle.unit_prop.specs.Closure.{IsOpen};
 ghost use Rattle.unit_prop.specs.New.{occurs, others_negated, Lacks, IsNew};
 ghost use Rattle.unit_prop.specs.Log.{base_clauses};
