@@ -85,7 +85,8 @@ fn no_kind_text(alloc: Global, word: &str) -> Result<String, AllocError>
     ensures { IfOk result (λ s. string_bytes s ≡ no_kind_text word.now) }
 {
     format!(in alloc;
-        "error: invalid value '{word}' for '<KIND>'\n  [possible values: adder, parity, comparator]\n\nFor more information, try '--help'.\n"
+        "error: invalid value '{word}' for '<KIND>'\n  [possible values: adder, parity, comparator]\n\
+         \nFor more information, try '--help'.\n"
     )
 }
 
