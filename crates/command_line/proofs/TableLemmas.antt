@@ -9,7 +9,7 @@ use Rattle.clap.specs.declared.builder.arg.Arg.{Arg}
 use Rattle.clap.specs.declared.builder.command.Command.{Command}
 use Rattle.clap.specs.declared.builder.command.Command.TheViews.{out-Command as fields_of}
 use Rattle.command_line.specs.Commands.{command, program}
-use Rattle.command_line.specs.Table.{leaf, leaf_in, rule_in, shape_in}
+use Rattle.command_line.specs.Table.{AreCommands, leaf, leaf_in, rule_in, shape_in}
 use Rattle.command_line.specs.declared.table.ArgumentRow.{ArgumentRow}
 use Rattle.command_line.specs.declared.table.CommandRow.{CommandRow}
 
@@ -19,13 +19,6 @@ AreArguments [] [] = Unit {0}
 AreArguments (x ∷ xs) (y ∷ ys) = ((rule_of x ≡ rule_in y) × (x.global ≡ false)) × AreArguments xs ys
 AreArguments [] (y ∷ ys) = ⊥
 AreArguments (x ∷ xs) [] = ⊥
-
--- each command is that of its row, with arguments of its own alone
-abbrev pub AreCommands : List Command → List CommandRow → Type 0
-AreCommands [] [] = Unit {0}
-AreCommands (x ∷ xs) (y ∷ ys) = ((app_of x ≡ leaf_in y) × ((fields_of x).has_globals ≡ false)) × AreCommands xs ys
-AreCommands [] (y ∷ ys) = ⊥
-AreCommands (x ∷ xs) [] = ⊥
 
 -- one argument more
 more_arguments : (xs : List Arg) (ys : List ArgumentRow) (a : Arg) (row : ArgumentRow) → AreArguments xs ys

@@ -1,7 +1,10 @@
 -- What a row of the table means to a parse.
-use Rattle.std.specs.Prelude.{[], map}
+use Rattle.std.specs.Prelude.{◌≡◌, false, List, [], ◌∷◌, map}
 use Rattle.clap.specs.Walk.{Rule, Text}
 use Rattle.clap.specs.Simple.{App, Shape}
+use Rattle.clap.specs.Words.{app_of}
+use Rattle.clap.specs.declared.builder.command.Command.{Command}
+use Rattle.clap.specs.declared.builder.command.Command.TheViews.{out-Command as fields_of}
 use Rattle.command_line.specs.Commands.{command, number_option, number_place, place, text_option}
 use Rattle.command_line.specs.declared.table.ArgumentRow.{ArgumentRow}
 use Rattle.command_line.specs.declared.table.CommandRow.{CommandRow}
@@ -26,3 +29,10 @@ leaf shape = record { top = shape; subs = [] }
 
 abbrev pub leaf_in : CommandRow → App
 leaf_in row = leaf (shape_in row)
+
+-- each command is that of its row, with arguments of its own alone
+abbrev pub AreCommands : List Command → List CommandRow → Type 0
+AreCommands [] [] = Unit {0}
+AreCommands (x ∷ xs) (y ∷ ys) = ((app_of x ≡ leaf_in y) × ((fields_of x).has_globals ≡ false)) × AreCommands xs ys
+AreCommands [] (y ∷ ys) = ⊥
+AreCommands (x ∷ xs) [] = ⊥

@@ -1,8 +1,8 @@
 ghost use Rattle.std.specs.Prelude.{◌≡◌, IfOk, false};
-ghost use Rattle.clap.specs.Words.{app_of, rule_of};
+ghost use Rattle.clap.specs.Words.{app_of, new_app, rule_of};
 ghost use Rattle.clap.specs.declared.builder.command.Command.TheViews.{out-Command as fields_of};
 ghost use Rattle.command_line.specs.Commands.{cec_app};
-ghost use Rattle.command_line.specs.Table.{leaf_in, rule_in};
+ghost use Rattle.command_line.specs.Table.{AreCommands, leaf_in, rule_in};
 
 use crate::table::{ArgumentRow, COMMANDS, CommandRow, PROGRAM_HELP, PROGRAM_NOTES, Takes};
 use clap::builder::ValueParser;
@@ -16,16 +16,22 @@ use std::alloc::{AllocError, Global};
 pub(crate) fn cec_command<'a>(alloc: Global) -> Result<Command<'a>, AllocError>
     ensures { IfOk result (λ c. app_of c ≡ cec_app) }
 {
-    let mut commands = Vec::new(alloc);
-    for row in &COMMANDS {
-        commands.push(command_of(alloc, row)?)?;
-    }
-    Command::new(alloc, "cec")
-        .about(PROGRAM_HELP)
-        .after_help(PROGRAM_NOTES)
+    let commands = commands_of(alloc, &COMMANDS)?;
+    new_command(alloc, "cec", PROGRAM_HELP, PROGRAM_NOTES)
         .subcommand_required(true)
         .disable_help_subcommand(true)
         .subcommands(commands)
+}
+
+/// The commands of the rows, for `clap`.
+fn commands_of<'a>(alloc: Global, rows: &[CommandRow]) -> Result<Vec<Command<'a>>, AllocError>
+    ensures { IfOk result (λ commands. AreCommands commands.items rows.now) }
+{
+    let mut commands = Vec::new(alloc);
+    for row in rows {
+        commands.push(command_of(alloc, row)?)?;
+    }
+    Ok(commands)
 }
 
 /// The command of a row, for `clap`.
@@ -37,10 +43,15 @@ fn command_of<'a>(alloc: Global, row: &CommandRow) -> Result<Command<'a>, AllocE
     for argument in row.arguments {
         arguments.push(argument_of(alloc, argument))?;
     }
-    Command::new(alloc, row.name)
-        .about(row.help)
-        .after_help(row.notes)
-        .args(arguments)
+    new_command(alloc, row.name, row.help, row.notes).args(arguments)
+}
+
+/// A command that has its name and the texts of its help, but no arguments yet.
+fn new_command<'a>(alloc: Global, name: &'a str, help: &'a str, notes: &'a str) -> Command<'a>
+    ensures app { app_of result ≡ new_app name.entry.now }
+    ensures local { (fields_of result).has_globals ≡ false }
+{
+    Command::new(alloc, name).about(help).after_help(notes)
 }
 
 /// The argument or option of a row, for `clap`. The range of a number is `clap`'s to judge, so that a number

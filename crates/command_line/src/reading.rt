@@ -84,15 +84,13 @@ fn no_kind(alloc: Global, word: &str) -> Refusal
 fn no_kind_text(alloc: Global, word: &str) -> Result<String, AllocError>
     ensures { IfOk result (λ s. string_bytes s ≡ no_kind_text word.now) }
 {
-    let mut text = String::from_str(alloc, "error: invalid value '")?;
-    text.push_str(word)?;
-    text.push_str("' for '<KIND>'\n  [possible values: adder, parity, comparator]\n")?;
-    text.push_str("\nFor more information, try '--help'.\n")?;
-    Ok(text)
+    format!(in alloc;
+        "error: invalid value '{word}' for '<KIND>'\n  [possible values: adder, parity, comparator]\n\
+         \nFor more information, try '--help'.\n"
+    )
 }
 
 /// What `clap` reads in the words.
-#[tactic(auto, unfolding(crate::specs::Words::faults))]
 fn matches_of<'a>(alloc: Global, words: &'a [String]) -> Result<ArgMatches<'a>, Error>
     ensures kinds { FailsBy (faults (map string_bytes words.entry.now)) result }
     ensures values { IfOk result (HasMatchesOf cec_app (map string_bytes words.entry.now)) }

@@ -1,10 +1,6 @@
-use Rattle.std.proofs.Common.{◌≡◌, false, rules, []}
+use Rattle.std.proofs.Common.{[]}
 use Rattle.std.proofs.lemmas.List.{take_all}
 use Rattle.std.proofs.lemmas.Result.{IfOk-weaker}
-use Rattle.clap.specs.Words.{app_of}
-use Rattle.clap.specs.declared.builder.command.Command.TheViews.{out-Command as fields_of}
-use Rattle.command_line.specs.Commands.{command}
-use Rattle.command_line.specs.Table.{leaf}
 use Rattle.command_line.proofs.TableLemmas.{next_argument, with_arguments}
 use Rattle.command_line.proofs.command.command_of.Goals as goal
 
@@ -19,14 +15,14 @@ loop-argument-preserved c =
 pub returns-clause-app : goal.returns-clause-app
 returns-clause-app c =
     let all = take_all c.loop-argument.argument-index c.args.row.now.arguments.now c.loop-argument-test.false in
-    let app : app_of c.after_help.result ≡ leaf (command c.args.row.now.name.now []) = search rules in
-    let local : (fields_of c.after_help.result).has_globals ≡ false = search rules in
     IfOk-weaker c.args-2.result _ _
-    (λ made turn. (with_arguments _ _ _ [] _ made (rw all at c.loop-argument.invariant) app local turn).0) c.args-2.ensures
+    (λ made turn.
+    (with_arguments c.args.row.now.name.now c.loop-argument.arguments.items c.args.row.now.arguments.now [] c.new_command.result made
+    (rw all at c.loop-argument.invariant) c.new_command.ensures.app c.new_command.ensures.local turn).0) c.args-2.ensures
 
 pub returns-clause-local : goal.returns-clause-local
 returns-clause-local c =
-    let app : app_of c.after_help.result ≡ leaf (command c.args.row.now.name.now []) = search rules in
-    let local : (fields_of c.after_help.result).has_globals ≡ false = search rules in
     IfOk-weaker c.args-2.result _ _
-    (λ made turn. (with_arguments _ _ _ [] _ made c.loop-argument.invariant app local turn).1) c.args-2.ensures
+    (λ made turn.
+    (with_arguments c.args.row.now.name.now c.loop-argument.arguments.items _ [] c.new_command.result made
+    c.loop-argument.invariant c.new_command.ensures.app c.new_command.ensures.local turn).1) c.args-2.ensures
