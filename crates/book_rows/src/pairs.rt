@@ -1,7 +1,7 @@
 //! The nets that most cases are about, how a case is checked over a net, and how a test says what isn't so.
 //!
-//! Whatever a test can't go on without fails it at once, memory too (`expect(rt, "memory")`): so no test hands
-//! an error up, and the prover goes through no exits on which all values are dropped.
+//! Whatever a test can't go on without fails it at once, memory too (`expect(rt, "memory")`): so no test
+//! hands an error up, and the prover goes through no exits on which all values are dropped.
 
 use netlist::{Circuit, Net};
 use std::alloc::{AllocError, Global};

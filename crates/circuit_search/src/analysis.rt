@@ -63,8 +63,8 @@ impl Lessons {
         self.follow(clauses, trail, cause.reason, level, rest)
     }
 
-    /// Takes a clause as a hint, and marks what makes its codes false. Adds to the codes of the level, of which
-    /// there were so many, those that are new.
+    /// Takes a clause as a hint, and marks what makes its codes false. Adds to the codes of the level, of
+    /// which there were so many, those that are new.
     fn follow(
         &mut self,
         clauses: &Clauses,

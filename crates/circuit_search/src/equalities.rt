@@ -129,7 +129,8 @@ fn names(alloc: Global, hints: &[Ref], numbers: &[u32], many: u32) -> Result<Vec
     Ok(names)
 }
 
-/// What a hint is called in a proof: a step of the equalities by its number, and one of the query behind them.
+/// What a hint is called in a proof: a step of the equalities by its number, and one of the query behind
+/// them.
 fn name(hint: Ref, numbers: &[u32], many: u32) -> Ref {
     let Ref::Own(place) = hint else {
         return hint;

@@ -11,8 +11,8 @@ use std::alloc::{AllocError, Global};
 
 /// The program's command, with all that the table has.
 ///
-/// What may fail comes first, here and below: a command of `clap` has some sixty parts, which would be given up
-/// one by one at each exit.
+/// What may fail comes first, here and below: a command of `clap` has some sixty parts, which would be
+/// given up one by one at each exit.
 pub(crate) fn cec_command<'a>(alloc: Global) -> Result<Command<'a>, AllocError>
     ensures { IfOk result (λ c. app_of c ≡ cec_app) }
 {

@@ -18,9 +18,9 @@ pub(crate) const CONE_OF_XOR: &str = "\
     -d0 -a5 b5; -d0 a5 -b5; d0 a5 b5; d0 -a5 -b5;";
 
 /// Small bases with their answers, by a brute force over all assignments, and the units spent, by the
-/// plan's definition; both were worked out by a program in another language. The thirteenth to the sixteenth
-/// are three pigeons in two holes, two in two, and three of which the third may stay out; the last two are all
-/// clauses of three variables, and all but one.
+/// plan's definition; both were worked out by a program in another language. The thirteenth to the
+/// sixteenth are three pigeons in two holes, two in two, and three of which the third may stay out; the
+/// last two are all clauses of three variables, and all but one.
 pub(crate) const SMALL: &str = "\
 | ? no 0
 ; | ? yes 0

@@ -19,8 +19,8 @@ fn is_clause(alloc: Global, line: &str) -> Option<bool> {
     keeps(alloc, literals(alloc, given)?.as_slice(), kept)
 }
 
-/// The long ones have eighteen literals that differ, and two of them once more; in the last one the last is the
-/// negation of one.
+/// The long ones have eighteen literals that differ, and two of them once more; in the last one the last is
+/// the negation of one.
 const CLAUSES: &str = "\
 2 2 -3 => 2 -3
 2 -2 => tautology

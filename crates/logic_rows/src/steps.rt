@@ -38,8 +38,8 @@ fn closes_over_nodes(alloc: Global) -> Option<bool> {
     is_closed(alloc, &found.ok()?, "b3 1 0 a3")
 }
 
-/// A chain, opposite units, a chain against what is given, opposite literals that are given, one that is given
-/// twice, and a case in which nothing is forced.
+/// A chain, opposite units, a chain against what is given, opposite literals that are given, one that is
+/// given twice, and a case in which nothing is forced.
 const CLOSURES: &str = "\
 1 -2; 2;| => 2 1
 1; -1;| => clash
@@ -123,15 +123,16 @@ fn fault_of(alloc: Global, check: &mut StepCheck<Dim>, text: &str) -> Option<Opt
     fault_by(alloc, check, literals(alloc, clause)?.as_slice(), hints)
 }
 
-/// Whether it is as the line says: a step's clause, the clauses that its hints name, the hints, and the fault.
+/// Whether it is as the line says: a step's clause, the clauses that its hints name, the hints, and the
+/// fault.
 fn has_fault(alloc: Global, check: &mut StepCheck<Dim>, line: &str) -> Option<bool> {
     let (step, fault) = line.split_once(" => ")?;
     is_fault(fault_of(alloc, check, step)?, fault)
 }
 
-/// The empty clause; two gates that compute the same: the first step of their proof, the same without its last
-/// hint, and with a literal twice. Then faults: no hint, a tautology, a true hint, a wide one, a late one, none
-/// that is false, and one that names no clause.
+/// The empty clause; two gates that compute the same: the first step of their proof, the same without its
+/// last hint, and with a literal twice. Then faults: no hint, a tautology, a true hint, a wide one, a late
+/// one, none that is false, and one that names no clause.
 const STEPS: &str = "\
 |;| 0 => none
 -5 4| -5 3; 4 -2 -3; -5 2;| 0 1 2 => none
@@ -195,8 +196,8 @@ fn finds(alloc: Global, base: &[Named], clause: &Clause<Lit>, hints: &[Ref]) -> 
     }
 }
 
-/// Whether the scan of the base finds the hints that the line has behind an arrow for the clause before it, or
-/// none where there are none.
+/// Whether the scan of the base finds the hints that the line has behind an arrow for the clause before it,
+/// or none where there are none.
 fn scans(rt: &impl Abort, alloc: Global, base: &[Named], line: &str) -> Option<bool> {
     let (lits, hints) = line.split_once("=>")?;
     let clause = clause(alloc, lits)?;

@@ -158,9 +158,9 @@ fn walks(rt: HostRuntime) {
 
 /// What a trail has is each literal with its level, and with the clause that forced it.
 ///
-/// In the fourth walk other literals are decided after a step back, with the watches that the first ones left.
-/// In the fifth are two clauses over three literals whose watched literals become false together: the one that
-/// is named is wholly negated. The clause that is learned of it forces its literal.
+/// In the fourth walk other literals are decided after a step back, with the watches that the first ones
+/// left. In the fifth are two clauses over three literals whose watched literals become false together: the
+/// one that is named is wholly negated. The clause that is learned of it forces its literal.
 const WALKS: &str = "\
 new closure
 add 1 -2 1; 2 2 2;
