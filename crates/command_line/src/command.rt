@@ -1,7 +1,7 @@
 ghost use Rattle.std.specs.Prelude.{◌≡◌, IfOk, false, map};
-ghost use Rattle.clap.specs.Words.{app_of, new_app, new_rule, rule_of};
+ghost use Rattle.clap.specs.Words.{app_of, new_app, rule_of};
 ghost use Rattle.clap.specs.declared.builder.command.Command.TheViews.{out-Command as fields_of};
-ghost use Rattle.command_line.specs.Commands.{cec_app, number_option, number_place, place, program, text_option};
+ghost use Rattle.command_line.specs.Commands.{cec_app, program};
 ghost use Rattle.command_line.specs.Table.{AreCommands, leaf_in, rule_in, shape_in};
 
 use crate::table::{ArgumentRow, COMMANDS, CommandRow, PROGRAM_HELP, PROGRAM_NOTES, Takes};
@@ -67,64 +67,22 @@ fn argument_of<'a>(alloc: Global, row: &ArgumentRow) -> Arg<'a>
     ensures rule { rule_of result ≡ rule_in row.now }
     ensures local { result.global ≡ false }
 {
+    let arg = Arg::new(alloc, row.name)
+        .value_name(row.value_name)
+        .help(row.help);
     match row.takes {
-        Takes::Place => place(alloc, row),
-        Takes::Count { least, most } => number_place(alloc, row, least, most),
-        Takes::Text => text_option(alloc, row),
+        Takes::Place => arg.required(true),
+        Takes::Count { least, most } => arg
+            .required(true)
+            .value_parser(ValueParser::Unsigned(least, most)),
+        Takes::Text => arg.long(row.name),
         Takes::Number {
             least,
             most,
             default,
-        } => number_option(alloc, row, least, most, default),
+        } => arg
+            .long(row.name)
+            .value_parser(ValueParser::Unsigned(least, most))
+            .default_value(default),
     }
-}
-
-/// The argument of a row that has no name and has to be there.
-fn place<'a>(alloc: Global, row: &ArgumentRow) -> Arg<'a>
-    ensures rule { rule_of result ≡ place row.now.name.now }
-    ensures local { result.global ≡ false }
-{
-    new_argument(alloc, row).required(true)
-}
-
-/// Such an argument that is a number from `least` to `most`.
-fn number_place<'a>(alloc: Global, row: &ArgumentRow, least: u64, most: u64) -> Arg<'a>
-    ensures rule { rule_of result ≡ number_place row.now.name.now least most }
-    ensures local { result.global ≡ false }
-{
-    place(alloc, row).value_parser(ValueParser::Unsigned(least, most))
-}
-
-/// The option of a row.
-fn text_option<'a>(alloc: Global, row: &ArgumentRow) -> Arg<'a>
-    ensures rule { rule_of result ≡ text_option row.now.name.now }
-    ensures local { result.global ≡ false }
-{
-    new_argument(alloc, row).long(row.name)
-}
-
-/// Such an option with a number from `least` to `most`, which is `default` where it is left out.
-fn number_option<'a>(
-    alloc: Global,
-    row: &ArgumentRow,
-    least: u64,
-    most: u64,
-    default: &'a str,
-) -> Arg<'a>
-    ensures rule { rule_of result ≡ number_option row.now.name.now least most default.entry.now }
-    ensures local { result.global ≡ false }
-{
-    text_option(alloc, row)
-        .value_parser(ValueParser::Unsigned(least, most))
-        .default_value(default)
-}
-
-/// An argument with the name of a row and its texts for help.
-fn new_argument<'a>(alloc: Global, row: &ArgumentRow) -> Arg<'a>
-    ensures rule { rule_of result ≡ record (new_rule row.now.name.now) { value_names = 1 } }
-    ensures local { result.global ≡ false }
-{
-    Arg::new(alloc, row.name)
-        .value_name(row.value_name)
-        .help(row.help)
 }
