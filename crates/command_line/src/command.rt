@@ -10,9 +10,6 @@ use clap::{Arg, Command};
 use std::alloc::{AllocError, Global};
 
 /// The program's command, with all that the table has.
-///
-/// What may fail comes first, here and below: a command of `clap` has some sixty parts, which would be given up
-/// one by one at each exit.
 pub(crate) fn cec_command<'a>(alloc: Global) -> Result<Command<'a>, AllocError>
     ensures { IfOk result (λ c. app_of c ≡ cec_app) }
 {
@@ -20,6 +17,9 @@ pub(crate) fn cec_command<'a>(alloc: Global) -> Result<Command<'a>, AllocError>
 }
 
 /// The program's command, with the commands of the rows.
+///
+/// What may fail comes first, here and below: a command of `clap` has some sixty parts, which would be given up
+/// one by one at each exit.
 fn program_of<'a>(alloc: Global, rows: &[CommandRow]) -> Result<Command<'a>, AllocError>
     ensures { IfOk result (λ c. app_of c ≡ program (map shape_in rows.now)) }
 {
