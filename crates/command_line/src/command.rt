@@ -1,8 +1,8 @@
-ghost use Rattle.std.specs.Prelude.{◌≡◌, IfOk, false};
+ghost use Rattle.std.specs.Prelude.{◌≡◌, IfOk, false, map};
 ghost use Rattle.clap.specs.Words.{app_of, new_app, rule_of};
 ghost use Rattle.clap.specs.declared.builder.command.Command.TheViews.{out-Command as fields_of};
-ghost use Rattle.command_line.specs.Commands.{cec_app};
-ghost use Rattle.command_line.specs.Table.{AreCommands, leaf_in, rule_in};
+ghost use Rattle.command_line.specs.Commands.{cec_app, program};
+ghost use Rattle.command_line.specs.Table.{AreCommands, leaf_in, rule_in, shape_in};
 
 use crate::table::{ArgumentRow, COMMANDS, CommandRow, PROGRAM_HELP, PROGRAM_NOTES, Takes};
 use clap::builder::ValueParser;
@@ -10,13 +10,20 @@ use clap::{Arg, Command};
 use std::alloc::{AllocError, Global};
 
 /// The program's command, with all that the table has.
-///
-/// What may fail comes first, here and below: a command of `clap` has some sixty parts, which would be
-/// given up one by one at each exit.
 pub(crate) fn cec_command<'a>(alloc: Global) -> Result<Command<'a>, AllocError>
     ensures { IfOk result (λ c. app_of c ≡ cec_app) }
 {
-    let commands = commands_of(alloc, &COMMANDS)?;
+    program_of(alloc, &COMMANDS)
+}
+
+/// The program's command, with the commands of the rows.
+///
+/// What may fail comes first, here and below: a command of `clap` has some sixty parts, which would be
+/// given up one by one at each exit.
+fn program_of<'a>(alloc: Global, rows: &[CommandRow]) -> Result<Command<'a>, AllocError>
+    ensures { IfOk result (λ c. app_of c ≡ program (map shape_in rows.now)) }
+{
+    let commands = commands_of(alloc, rows)?;
     new_command(alloc, "cec", PROGRAM_HELP, PROGRAM_NOTES)
         .subcommand_required(true)
         .disable_help_subcommand(true)
