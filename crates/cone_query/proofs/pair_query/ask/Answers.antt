@@ -1,5 +1,5 @@
 -- Each answer settles the pair, or shows the implication and leaves the query standing.
-use Rattle.std.proofs.Common.{List, length, ap, sym, subst, arith}
+use Rattle.std.proofs.Common.{List, length, ap, sym, subst}
 use Rattle.lits.specs.declared.literal.Lit.{Lit}
 use Rattle.lits.specs.declared.step.Step.{Step}
 use Rattle.lemma_book.specs.Cone.{AreThere}
@@ -13,7 +13,7 @@ use Rattle.cone_query.proofs.pair_query.ask.Goals as goal
 
 pub from_slice-requires : goal.from_slice-requires
 from_slice-requires g c =
-    (omega arith, implication-clause c.args.net.now c.args.seen.now c.args.task.now c.requires.pair c.args.implication.now c.requires.implication)
+    implication-clause c.args.net.now c.args.seen.now c.args.task.now c.requires.pair c.args.implication.now c.requires.implication
 
 pub refute-requires-clause-target : goal.refute-requires-clause-target
 refute-requires-clause-target g c =

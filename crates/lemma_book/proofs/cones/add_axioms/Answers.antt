@@ -25,7 +25,7 @@ pub loop-k-init : goal.loop-k-init
 loop-k-init c = sym (append-nil c.args.cone.now.items)
 
 pub from_slice-requires : goal.from_slice-requires
-from_slice-requires c = (omega arith, subst (IsClause same_lit opposite) (sym c.lits.ensures.lits) c.lits.ensures.short.clause)
+from_slice-requires c = subst (IsClause same_lit opposite) (sym c.lits.ensures.lits) c.lits.ensures.short.clause
 
 pub overflow_cast-by : goal.overflow_cast-by
 overflow_cast-by c =

@@ -19,12 +19,10 @@ loop-j-preserved c =
     ∙ rw c.number.ensures (sym (xors_more c.args.pair.now c.loop-j.j))
 
 pub from_slice-requires : goal.from_slice-requires
-from_slice-requires c = (
-  omega arith,
-  subst (λ (ds : List DimacsLiteral). IsClause same_dim opposite_dim ds) (sym (c.as_slice.ensures.value ∙ c.loop-j.invariant))
-      (xors_clause c.args.pair.now c.loop-j.j c.sizes-j-end.ensures.net_is
-      (omega (arith, c.sizes-j-end.ensures.outputs, c.loop-j-test.false))),
-)
+from_slice-requires c =
+    subst (λ (ds : List DimacsLiteral). IsClause same_dim opposite_dim ds) (sym (c.as_slice.ensures.value ∙ c.loop-j.invariant))
+    (xors_clause c.args.pair.now c.loop-j.j c.sizes-j-end.ensures.net_is
+    (omega (arith, c.sizes-j-end.ensures.outputs, c.loop-j-test.false)))
 
 pub returns : goal.returns
 returns c =

@@ -1,4 +1,3 @@
-use Rattle.std.proofs.Common.{arith}
 use Rattle.solver_plain.proofs.SearchLemmas.{sound-negations, clash-not_open, step-reached}
 use Rattle.solver_plain.proofs.search.learned.Goals as goal
 
@@ -12,7 +11,7 @@ unreachable-requires c =
     (rw c.in_ok-set.ensures at (rw c.in_default.is at c.in_ok-hints.ensures))
 
 pub from_slice-requires : goal.from_slice-requires
-from_slice-requires c = (omega arith, c.requires.clause)
+from_slice-requires c = c.requires.clause
 
 pub returns-clause-step : goal.returns-clause-step
 returns-clause-step c =
