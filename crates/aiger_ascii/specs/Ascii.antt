@@ -72,10 +72,6 @@ ascii_in bytes = do
   ended ← tail_of h.0.i h.0.o (lines_ahead body.1)
   Ok circuit
 
--- the bytes spell this circuit
-abbrev pub SpellsAscii : List ℕ → Aig → Type 0
-SpellsAscii bytes c = ascii_in bytes ≡ Ok c
-
 -- ---- what the reader's own functions answer
 
 -- the circuit so far and the place behind what was read, or the first fault unless memory ran out

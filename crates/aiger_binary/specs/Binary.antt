@@ -73,10 +73,6 @@ binary_in bytes = do
   ended ← tail_of h.0.i h.0.o (lines_ahead gates.1)
   Ok (record { inputs = range_with_len 1 h.0.i; gates = gates.0; outputs = outputs.0 })
 
--- the bytes spell this circuit
-abbrev pub SpellsBinary : List ℕ → Aig → Type 0
-SpellsBinary bytes c = binary_in bytes ≡ Ok c
-
 -- ---- what the reader's own functions answer
 
 -- the list so far and the place behind what was read, or the first fault unless memory ran out

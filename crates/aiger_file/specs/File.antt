@@ -22,7 +22,3 @@ aiger_in bytes =
 -- the bytes spell this circuit
 abbrev pub SpellsAiger : List ℕ → Aig → Type 0
 SpellsAiger bytes c = aiger_in bytes ≡ Ok c
-
--- this is their first fault
-abbrev pub HasFirstFault : List ℕ → AigerErr → Type 0
-HasFirstFault bytes e = aiger_in bytes ≡ Err e

@@ -6,7 +6,6 @@ use Rattle.std.specs.List.{list_any, find}
 use Rattle.lits.specs.declared.node.Node.{Node}
 use Rattle.lits.specs.declared.node.Node.TheVariants.{Xor}
 use Rattle.lits.specs.declared.literal.Lit.{Lit}
-use Rattle.lits.specs.declared.step.Step.{Step}
 use Rattle.lits.specs.Same.{same_node, same_lit, opposite}
 use Rattle.netlist.specs.Miter.{positive, negative}
 use Rattle.netlist.specs.Place.{place_of}
@@ -79,12 +78,3 @@ equal_clause j = negative (Xor j) ∷ []
 abbrev pub lemmas_of : Entry → List (List Lit)
 lemmas_of (Merge node lit steps) = merge_clauses node lit
 lemmas_of _ = []
-
--- the steps of an entry, or its log
-abbrev pub steps_of : Entry → List Step
-steps_of (Merge node lit steps) = steps
-steps_of (Apart node lit input) = []
-steps_of (Spent node lit seen log) = log
-steps_of (Out j steps) = steps
-steps_of (OutApart j input) = []
-steps_of (OutSpent j seen log) = log

@@ -39,7 +39,7 @@ pub data Cause : Type 0 where
   Seen : Cause
   -- the step at this place, from 0, is no step
   NoStep : ℕ → Cause
-  -- the log's clause at this place, from 0, isn't new, or the output was decided before it
+  -- the log's clause at this place, from 0, isn't new, or the output was shown equal before it
   NotNew : ℕ → Cause
 
 -- each literal of the steps' clauses is over a node that the miter has a variable for
@@ -158,11 +158,11 @@ HasStep net entries k (OutSpent j seen log) =
 abbrev pub IsNewAt : List Named → List Step → ℕ → Type 0
 IsNewAt cone log k = (s : Step) → slice_get log k ≡ Some s → IsNew same_lit opposite (clauses_of cone (take k log)) s.clause
 
--- before the log's clause at place k, if it is there, unit propagation doesn't decide the output
+-- before the log's clause at place k, if it is there, unit propagation doesn't show the output equal
 abbrev pub IsUndecidedAt : List Named → ℕ → List Step → ℕ → Type 0
 IsUndecidedAt cone j log k = (s : Step) → slice_get log k ≡ Some s → IsUndecided cone (equal_clause j) (take k log)
 
--- the log's clause at place k is new, and of an output's log learned while the output was undecided
+-- the log's clause at place k is new, and one of an output's log comes before the output is shown equal
 abbrev pub HasNew : AigPair → List Entry → ℕ → Entry → Type 0
 HasNew net entries k (Spent node lit seen log) =
     OfCone net (take seen entries) (node ∷ lit.node ∷ []) (λ cone. IsNewAt cone log k)

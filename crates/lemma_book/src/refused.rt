@@ -23,7 +23,7 @@ pub enum Fault {
     Seen,
     /// The step at this place, from 0, is none.
     Step(u64, BadStep),
-    /// The log's clause at this place, from 0, isn't new, or the output was decided before it.
+    /// The log's clause at this place, from 0, isn't new, or the output was shown equal before it.
     NotNew(u64),
 }
 
