@@ -71,6 +71,7 @@ impl Engine {
         for clause in self.lessons.hints(hints) {
             refs.push(self.name_of(net, *clause))?;
         }
+        refs.shrink_to_fit();
         Ok(refs)
     }
 

@@ -59,7 +59,7 @@ fn both_steps(
     ensures { IfOk result (λ v. AreSteps base.now node target v.items) }
 {
     let lit = Lit { node, neg: false };
-    let mut steps = Vec::new(alloc);
+    let mut steps = Vec::with_capacity(alloc, 2)?;
     steps.push(scanned_step(alloc, base, &[lit.not(), target])?)?;
     steps.push(scanned_step(alloc, base, &[lit, target.not()])?)?;
     Ok(steps)

@@ -134,12 +134,14 @@ fn push_step(
     }
 }
 
-/// The hints that lead from one gate that is true to another.
+/// The hints that lead from one gate that is true to another. They take no more room than they need, since a
+/// book keeps those of each merge.
 fn straight_hints(alloc: Global, from: &Legs, to: &Legs) -> Result<Vec<Ref>, AllocError> {
     let mut hints = Vec::from_slice(alloc, &[Ref::Axiom(from.node, 0), Ref::Axiom(from.node, 1)])?;
     push_way(&from.left, &to.left, &mut hints)?;
     push_way(&from.right, &to.right, &mut hints)?;
     hints.push(Ref::Axiom(to.node, 2))?;
+    hints.shrink_to_fit();
     Ok(hints)
 }
 

@@ -51,7 +51,7 @@ pub fn scan(
 }
 
 /// The step that adds the clause of these literals over the base, which unit propagation shows; its hints are
-/// those of `scan`.
+/// those of `scan`, with no room for more.
 pub fn scanned_step(alloc: Global, base: &[Named], lits: &[Lit]) -> Result<Step, AllocError>
     requires named { IsNamed base.now }
     requires clause { IsClause same_lit opposite lits.now }
@@ -62,10 +62,11 @@ pub fn scanned_step(alloc: Global, base: &[Named], lits: &[Lit]) -> Result<Step,
 {
     let clause = Clause::from_slice(alloc, lits)?;
     match scan(alloc, base, &clause)? {
-        Some(hints) => Ok(Step {
-            clause,
-            hints: Listed::of(hints),
-        }),
+        Some(mut hints) => {
+            hints.shrink_to_fit();
+            let hints = Listed::of(hints);
+            Ok(Step { clause, hints })
+        }
         None => unreachable!(),
     }
 }

@@ -27,4 +27,4 @@ scanned_step-requires-2-clause-shown c =
 pub returns : goal.returns
 returns c =
     steps-are c.args.node c.args.target c.requires.apart c.args.base.now c.not.result c.not-2.result c.in_ok-scanned_step.field-0 c.in_ok-scanned_step-2.field-0 _ _ _
-    c.not.ensures c.not-2.ensures c.new-steps.ensures.items c.in_ok-push.ensures.items c.in_ok-push-2.ensures.items c.in_ok-scanned_step.ensures.step c.in_ok-scanned_step-2.ensures.step
+    c.not.ensures c.not-2.ensures c.in_ok-steps.ensures.items c.in_ok-push.ensures.items c.in_ok-push-2.ensures.items c.in_ok-scanned_step.ensures.step c.in_ok-scanned_step-2.ensures.step
