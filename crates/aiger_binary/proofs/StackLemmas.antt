@@ -7,7 +7,7 @@ use Rattle.std.proofs.lemmas.List.Folds.{list_any-append}
 use Rattle.std.proofs.Math.Bool.{or-false, or_comm}
 use Rattle.std.proofs.lemmas.Bool.{or_right}
 use Rattle.lits.specs.Clause.{has}
-use Rattle.lits.proofs.Facts.{no_repeat-range, range-above}
+use Rattle.lits.proofs.Facts.{lt-true, no_repeat-range, range-above}
 use Rattle.netlist.specs.declared.gate.And.{And}
 use Rattle.netlist.specs.Circuit.{IsCircuit, AreOrdered, gate_vars, is_over, var_of, most}
 use Rattle.aiger_binary.specs.Binary.{AreStacked, AreBelow}
@@ -50,17 +50,14 @@ Knows-gates n xs (g ∷ gs) knows stacked v =
     let e : n + length (g ∷ gs) ≡ (n + 1) + length gs = omega arith in
     rw (e, stacked.0, sym (append_assoc xs (n ∷ []) (gate_vars gs))) (Knows-gates (n + 1) (xs ++ n ∷ []) gs (Knows-push n xs knows) stacked.3 v)
 
-lt_true : (a b : ℕ) → a < b → nat_lt a b ≡ true
-lt_true a b h = grind (arith, nat_tests)
-
 AreOrdered-stacked : (n : ℕ) (known : List ℕ) (gs : List And) → Knows n known → AreStacked n gs → AreOrdered known gs
 AreOrdered-stacked n known [] knows stacked = tt
 AreOrdered-stacked n known (g ∷ gs) knows stacked =
     let same : nat_lt g.var n ≡ false = grind (arith, nat_tests, stacked.0) in (
       record {
         new = knows g.var ∙ same;
-        left = knows (var_of g.left) ∙ lt_true (var_of g.left) n stacked.1;
-        right = knows (var_of g.right) ∙ lt_true (var_of g.right) n stacked.2;
+        left = knows (var_of g.left) ∙ lt-true (var_of g.left) n stacked.1;
+        right = knows (var_of g.right) ∙ lt-true (var_of g.right) n stacked.2;
       },
       AreOrdered-stacked (n + 1) (g.var ∷ known) gs (λ v. rw (stacked.0, knows v) (lt_more v n)) stacked.3,
     )
@@ -74,7 +71,7 @@ all_from_has p (x ∷ xs) each = rw (each x here, all_from_has p xs (λ v h. eac
 
 all_below : (n : ℕ) (known lits : List ℕ) → Knows n known → AreBelow n lits → list_all (is_over known) lits ≡ true
 all_below n known [] knows below = refl
-all_below n known (l ∷ ls) knows below = rw (knows (var_of l) ∙ lt_true (var_of l) n below.0, all_below n known ls knows below.1) refl
+all_below n known (l ∷ ls) knows below = rw (knows (var_of l) ∙ lt-true (var_of l) n below.0, all_below n known ls knows below.1) refl
 
 pub IsCircuit-stacked : (i m : ℕ) (gates : List And) (outputs : List ℕ) → m ≡ i + length gates → m ≤ most → AreStacked (i + 1) gates → AreBelow (m + 1) outputs
     → length outputs ≤ most → IsCircuit (record { inputs = range_with_len 1 i; gates = gates; outputs = outputs })

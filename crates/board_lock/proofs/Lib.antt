@@ -10,4 +10,3 @@ mod Turns
 mod Ends
 mod BookLemmas
 mod PassLemmas
-pub mod Facts

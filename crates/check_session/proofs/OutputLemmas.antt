@@ -1,5 +1,5 @@
 -- What one more entry changes of what a book says of its outputs.
-use Rattle.std.proofs.Common.{◌≡◌, ◌≢◌, ℕ, zero, suc, ◌+◌, ◌<◌, ◌≤◌, Bool, true, false, ◌||◌, ◌&&◌, List, [], ◌∷◌, ◌++◌, length, drop, filter, append_assoc, add-one, inl, inr, Option, Some, None, refl, sym, ap, ◌∙◌, subst, arith, rules, Result, Ok, Err, OnOk}
+use Rattle.std.proofs.Common.{◌≡◌, ◌≢◌, ℕ, zero, suc, ◌+◌, ◌<◌, ◌≤◌, Bool, true, false, ◌||◌, ◌&&◌, List, [], ◌∷◌, ◌++◌, length, drop, filter, append_assoc, add-one, inl, inr, Option, Some, None, refl, sym, ap, ◌∙◌, subst, arith, Result, Ok, Err, OnOk}
 use Rattle.std.specs.List.{find, list_any, list_all, range_with_len, AllByRecursion}
 use Rattle.std.specs.Option.{option_or}
 use Rattle.std.proofs.Math.Nat.{eq-or-lt_of_le}
@@ -11,8 +11,9 @@ use Rattle.lemma_book.specs.declared.entry.Entry.{Entry}
 use Rattle.lemma_book.specs.declared.entry.Entry.TheVariants.{Merge, Apart, Spent, Out, OutApart, OutSpent}
 use Rattle.lemma_book.specs.declared.entry.Subject.{Subject}
 use Rattle.lemma_book.specs.declared.entry.Subject.TheVariants.{Merged, Output}
-use Rattle.lemma_book.specs.Entry.{Entries, subject_of, same_subject, is_on, about, settled_at, first_entries, with_last}
+use Rattle.lemma_book.specs.Entry.{Entries, subject_of, is_on, about, settled_at, first_entries, with_last}
 use Rattle.lemma_book.specs.Good.{IsGood, Already}
+use Rattle.lemma_book.proofs.Facts.{exact-subject, same-subject_self}
 use Rattle.lemma_book.specs.Book.{book_after}
 use Rattle.cone_query.specs.Query.{SeesAll}
 use Rattle.proof_stitch.specs.Stitch.{has_out}
@@ -33,12 +34,6 @@ pub after-good : (net : AigPair) (book : Entries) (e : Entry) → IsGood net boo
 after-good net book e good = let free : settled_at book.entries e ≡ None = good Already in rw free refl
 
 -- ---- subjects
-
-exact-subject : (x y : Subject) → same_subject x y ≡ true → x ≡ y
-exact-subject = search rules
-
-same-subject_self : (x : Subject) → same_subject x x ≡ true
-same-subject_self = search rules
 
 pub on-subject : (s : Subject) (e : Entry) → is_on s e ≡ true → subject_of e ≡ Some s
 on-subject s (Merge node lit steps) on = ap (λ (t : Subject). Some t) (exact-subject (Merged node) s on)

@@ -21,7 +21,6 @@ use Rattle.netlist.specs.Circuit.{Aig, var_of}
 use Rattle.netlist.specs.Net.{AigPair, IsNet, circuit_of, node_of, lit_named, gate_at, nodes_of, position_of, value_of, lit_holds}
 use Rattle.netlist.specs.Miter.{axioms_of, variables_of}
 use Rattle.netlist.proofs.Facts.{flat_map-member, values-meet, is_some-place, input-below, has-gate, lit_holds-opposite}
-use Rattle.unit_prop.specs.Log.{base_clauses}
 use Rattle.lemma_book.specs.declared.entry.Entry.{Entry}
 use Rattle.lemma_book.specs.Agreement.{IsTrue}
 use Rattle.lemma_book.specs.Book.{IsLegal}
@@ -69,10 +68,6 @@ named-meets v name k (c ∷ cs) all = (all.0, named-meets v name (k + 1) cs all.
 pub meets-named : (v : Lit → Bool) (name : ℕ → Ref) (k : ℕ) (cs : List (List Lit)) → Meets v cs → AllByRecursion (λ m. Holds v m.clause) (named_from name k cs)
 meets-named v name k [] all = tt
 meets-named v name k (c ∷ cs) all = (all.0, meets-named v name (k + 1) cs all.1)
-
-pub meets-base : (v : Lit → Bool) (ms : List Named) → Meets v (base_clauses ms) → AllByRecursion (λ m. Holds v m.clause) ms
-meets-base v [] all = tt
-meets-base v (m ∷ ms) all = (all.0, meets-base v ms all.1)
 
 -- the clauses of a merge say that node and literal have one value
 equal-from : (a : Node → Bool) (n : Node) (t : Lit) → Meets (lit_holds a) (merge_clauses n t) → a n ≡ lit_holds a t

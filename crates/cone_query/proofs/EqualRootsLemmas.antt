@@ -20,7 +20,7 @@ use Rattle.lits.specs.declared.step.Ref.TheVariants.{Axiom, Entry as Shown, Own}
 use Rattle.lits.specs.declared.step.Named.{Named}
 use Rattle.lits.specs.declared.step.Step.{Step}
 use Rattle.lits.specs.contracts.literal.LitLiteral.TheImpl.Laws as lit
-use Rattle.lits.proofs.Facts.{exact-lit, exact-node, same-node_self, all-append, all-parts}
+use Rattle.lits.proofs.Facts.{exact-lit, exact-node, same-node_self, all-append, all-parts, lit_laws}
 use Rattle.netlist.specs.declared.gate.Definition.{Definition}
 use Rattle.netlist.specs.Circuit.{var_of}
 use Rattle.netlist.specs.Net.{AigPair, circuit_of, output_of, defined_by, difference}
@@ -29,7 +29,7 @@ use Rattle.netlist.proofs.Facts.{output_lit, output_of-below, variables-outputs}
 use Rattle.unit_prop.specs.Closure.{IsOpen}
 use Rattle.unit_prop.specs.Log.{base_clause, base_clauses, with_own, IsStepAfter, IsChain}
 use Rattle.unit_prop.specs.Step.{IsStep}
-use Rattle.unit_prop.proofs.Facts.{contrary, lit_laws, step-more, AreNamed, base_clause-is, named-all, Takes, take-second}
+use Rattle.unit_prop.proofs.Facts.{contrary, step-more, AreNamed, base_clause-is, named-all, Takes, take-second}
 use Rattle.lemma_book.specs.declared.entry.Entry.{Entry}
 use Rattle.lemma_book.specs.declared.entry.Entry.TheVariants.{Out}
 use Rattle.lemma_book.specs.Cone.{AreThere, Covers, clauses_on, nodes_in}

@@ -31,7 +31,7 @@ use Rattle.unit_prop.specs.Log.{base_clause, base_clauses, with_own, IsStepAfter
 use Rattle.unit_prop.specs.Refuter.{IsOver, IsModel, Answers, StaysUndecided}
 use Rattle.unit_prop.specs.Step.{IsStep}
 use Rattle.unit_prop.specs.Variables.{variables}
-use Rattle.unit_prop.proofs.Facts.{contrary, in_turn-append, log-grows}
+use Rattle.unit_prop.proofs.Facts.{contrary, in_turn-append, log-grows, all-base}
 use Rattle.lemma_book.specs.declared.entry.Entry.{Entry}
 use Rattle.lemma_book.specs.declared.entry.Entry.TheVariants.{Out, OutApart, OutSpent}
 use Rattle.lemma_book.specs.declared.entry.Subject.TheVariants.{Output}
@@ -42,7 +42,7 @@ use Rattle.lemma_book.specs.Root.{MergeAt, merge_of}
 use Rattle.lemma_book.proofs.Facts.{apart-lits, good-out, good-out_apart, good-out_spent, is_some-variable, step_after-more, merge-placed, reach-there}
 use Rattle.cone_query.specs.Input.{input_from}
 use Rattle.cone_query.specs.Answered.{IsOutput, SettlesOutput}
-use Rattle.cone_query.proofs.ConeModel.{agree-lit, meets-base, cone-at, named-meets}
+use Rattle.cone_query.proofs.ConeModel.{agree-lit, cone-at, named-meets}
 use Rattle.cone_query.proofs.GateClauses.{xor_from_axioms}
 use Rattle.cone_query.proofs.GateOrder.{xor-nowhere, node_of-no_xor}
 use Rattle.cone_query.proofs.InputLemmas.{length-input_from, input_from-at}
@@ -221,7 +221,7 @@ module _ (net : AigPair) (book : Entries) (j : ℕ) (asks : IsOutput net book j)
           m = (subst (λ (r : Refuted). Answers cone (equal_clause j) [] book.out_budget log left r) is a).answer.1
 
           meets : AllByRecursion (λ n. Holds (lit_holds (true_in model)) n.clause) cone
-          meets = meets-base (lit_holds (true_in model)) cone (true-clauses model m.once.apart (base_clauses cone) m.meets)
+          meets = all-base (lit_holds (true_in model)) cone (true-clauses model m.once.apart (base_clauses cone) m.meets)
 
           nexts : AreIn is_cone.reached (nodes_in (option_to_list (output_of net A j) ++ option_to_list (output_of net B j)))
           nexts = rw not-merged at (is_cone.reach.closed.nexts (Xor j) reached)

@@ -27,7 +27,7 @@ use Rattle.unit_prop.specs.Log.{base_clause, base_clauses, with_own, IsStepAfter
 use Rattle.unit_prop.specs.Refuter.{is_over, IsOver, IsModel, Answers}
 use Rattle.unit_prop.specs.Step.{IsStep}
 use Rattle.unit_prop.specs.Variables.{variables}
-use Rattle.unit_prop.proofs.Facts.{in_turn-append, log-grows, step-more}
+use Rattle.unit_prop.proofs.Facts.{in_turn-append, log-grows, step-more, all-base}
 use Rattle.lemma_book.specs.declared.entry.Task.{Task}
 use Rattle.lemma_book.specs.declared.entry.Entry.{Entry}
 use Rattle.lemma_book.specs.declared.entry.Entry.TheVariants.{Merge, Apart, Spent}
@@ -39,7 +39,7 @@ use Rattle.cone_query.specs.Input.{input_from}
 use Rattle.cone_query.specs.declared.pair_query.Asked.{Asked}
 use Rattle.cone_query.specs.declared.pair_query.Asked.TheVariants.{Shown as Asks_shown}
 use Rattle.cone_query.specs.Asked.{IsPair, IsQuery, IsImplication, IsShown, IsAsked, Settles, seeds_of, forth, back}
-use Rattle.cone_query.proofs.ConeModel.{agree, agree-lit, meets-base}
+use Rattle.cone_query.proofs.ConeModel.{agree, agree-lit}
 use Rattle.cone_query.proofs.InputLemmas.{length-input_from, input_from-at}
 use Rattle.cone_query.proofs.LogLemmas.{log-over, over-there, node-found, log-chain}
 use Rattle.cone_query.proofs.ModelLiterals.{true_in, true-clauses, false-literal}
@@ -139,7 +139,7 @@ module _ (net : AigPair) (book : Entries) (task : Task) (pair : IsPair net book 
           m = (subst (λ (r : Refuted). Answers base clause log left log' left' r) is a).answer.1
 
           meets : AllByRecursion (λ n. Holds (lit_holds (true_in model)) n.clause) base
-          meets = meets-base (lit_holds (true_in model)) base (true-clauses model m.once.apart (base_clauses base) m.meets)
+          meets = all-base (lit_holds (true_in model)) base (true-clauses model m.once.apart (base_clauses base) m.meets)
 
           node_is : true_in model task.node ≡ value_of net bits task.node
           node_is =

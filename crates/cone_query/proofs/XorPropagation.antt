@@ -5,10 +5,10 @@ use Rattle.lits.specs.Same.{same_node, same_lit, opposite}
 use Rattle.lits.specs.declared.node.Node.{Node}
 use Rattle.lits.specs.declared.literal.Lit.{Lit}
 use Rattle.lits.specs.contracts.literal.LitLiteral.TheImpl.Laws as laws
-use Rattle.lits.proofs.Facts.{eq-opposite}
+use Rattle.lits.proofs.Facts.{eq-opposite, lit_laws}
 use Rattle.netlist.specs.Miter.{positive, negative, xor_clauses, kept}
 use Rattle.netlist.proofs.Facts.{kept-head, kept-rest}
-use Rattle.unit_prop.proofs.Facts.{lit_laws, Takes, takes-firsts, take-third}
+use Rattle.unit_prop.proofs.Facts.{Takes, takes-firsts, take-third}
 use Rattle.lemma_book.proofs.Facts.{apart-lits}
 
 module _ (p : Lit → Bool) (x : Node) (a b : Lit) (far_a : same_node a.node x ≡ false) (far_b : same_node b.node x ≡ false) (apart : same_lit b (opposite a) ≡ false)

@@ -5,19 +5,14 @@ use Rattle.std.proofs.lemmas.Bool.{and_parts, or_parts, not-true}
 use Rattle.lits.specs.Clause.{has, firsts, no_repeat, IsClause}
 use Rattle.lits.specs.Dimacs.{DimacsLiteral}
 use Rattle.lits.specs.Same.{same_dim, opposite_dim}
-use Rattle.lits.specs.contracts.dimacs.DimEq.TheImpl.Laws as dim_eq
-use Rattle.lits.specs.contracts.dimacs.DimLiteral.TheImpl.Laws as dim
-use Rattle.lits.proofs.Facts.{IsLiteral, is_literal}
-
-literal_laws : IsLiteral same_dim opposite_dim
-literal_laws = is_literal dim_eq.laws-law dim.exact-law dim.twice-law
+use Rattle.lits.proofs.Facts.{dim_laws}
 
 keeps_all : (x : DimacsLiteral) (xs : List DimacsLiteral) → has same_dim xs x ≡ false
     → filter (λ y. not (same_dim x y)) xs ≡ xs
 keeps_all x [] none = refl
 keeps_all x (y ∷ ys) none =
     let parts = or_parts (same_dim y x) (has same_dim ys x) none in
-    let other : same_dim x y ≡ false = literal_laws.equivalence.symm x y ∙ parts.0 in
+    let other : same_dim x y ≡ false = dim_laws.equivalence.symm x y ∙ parts.0 in
     rw (other, keeps_all x ys parts.1) refl
 
 -- literals that are distinct already

@@ -11,42 +11,38 @@ pub use Rattle.lemma_book.proofs.NamedClauses.{merge-chain_out, out_spent-chain}
 -- a good entry from its steps, its input or its log
 pub use Rattle.lemma_book.proofs.GoodEntries.{good-merge, good-apart, good-spent, good-out, good-out_apart, good-out_spent}
 -- the chain of a good entry's steps
-pub use Rattle.lemma_book.proofs.GoodEntries.{merge-chain, out-chain}
--- a chain and a log, by their places and in turn
-pub use Rattle.lemma_book.proofs.GoodEntries.{chain-step, steps-chain, log-step, log-new, log-undecided}
+pub use Rattle.lemma_book.proofs.GoodEntries.{out-chain}
 -- a chain is one over more clauses too
 pub use Rattle.lemma_book.proofs.MoreClauses.{step_after-more, chain-more}
 -- what is good over a book is good over a longer one, unless that settles it
-pub use Rattle.lemma_book.proofs.LongerBooks.{good-longer, node_clause-longer}
--- a legal book stays legal with a good entry put last, one that is good over its first entries too
-pub use Rattle.lemma_book.proofs.LongerBooks.{legal-last, legal-append}
--- all entries of a legal book are true, and what is good over true ones is
-pub use Rattle.lemma_book.proofs.TrueEntries.{legal-true, good-true}
--- a merged node has its target's value, a literal that of its root
-pub use Rattle.lemma_book.proofs.TrueEntries.{merge-value, root-value}
--- a merge stands at its place; in a legal book its node and target have positions, and the target is the earlier one
-pub use Rattle.lemma_book.proofs.MergedNodes.{merged-entry, merged-one, root-unsettled, merge-placed, merge-earlier, merge-apart, placed-there}
+pub use Rattle.lemma_book.proofs.LongerBooks.{good-longer}
+-- a legal book stays legal with a good entry put last
+pub use Rattle.lemma_book.proofs.LongerBooks.{legal-last}
+-- a merged node has its target's value
+pub use Rattle.lemma_book.proofs.TrueEntries.{merge-value}
+-- in a legal book a merge's node and target have positions, and the target is the earlier one
+pub use Rattle.lemma_book.proofs.MergedNodes.{root-unsettled, merge-placed, merge-earlier, placed-there}
 -- nothing stands before itself
 pub use Rattle.lemma_book.proofs.MergedNodes.{irreflexive}
 -- a cone's names differ, and none is that of an own step
 pub use Rattle.lemma_book.proofs.ConeLemmas.{cone-base}
 -- what seeds reach is one set of nodes, so there is one cone
-pub use Rattle.lemma_book.proofs.ConeLemmas.{reach-one, cone-one}
+pub use Rattle.lemma_book.proofs.ConeLemmas.{cone-one}
 -- what the miter's variables reach, and what a cone speaks of, are nodes that have variables
 pub use Rattle.lemma_book.proofs.ConeLemmas.{reach-there, cone-over}
 -- a node has a variable exactly where it is among the nodes
 pub use Rattle.lemma_book.proofs.ThereLemmas.{is_some-variable}
 -- the root of a literal of a legal book isn't merged, its position isn't above the literal's, and merges of later nodes keep it
-pub use Rattle.lemma_book.proofs.UnmergedRoots.{root-unmerged, root-lower, root-kept, target-lower, carried-node}
+pub use Rattle.lemma_book.proofs.UnmergedRoots.{root-unmerged, root-lower, root-kept, target-lower}
 -- the clauses of some nodes of a cone are those that their names have, also for the steps of a merge where there is no XOR
 pub use Rattle.lemma_book.proofs.PartLemmas.{on-named, IsNoXor, HasNodeName, on-node-named}
 pub use Rattle.lemma_book.proofs.NamedClauses.{HasItsName}
 -- literals of two nodes differ
 pub use Rattle.lemma_book.proofs.FaninLemmas.{apart-lits}
--- no node stands twice among those of the miter
-pub use Rattle.lemma_book.proofs.ThereLemmas.{variables-distinct}
 -- the root of a negation is the negation of the root
-pub use Rattle.lemma_book.proofs.RootLemmas.{carried-opposite, root-opposite}
+pub use Rattle.lemma_book.proofs.RootLemmas.{root-opposite}
+-- subjects that are found equal are one, and each equals itself
+pub use Rattle.lemma_book.proofs.IndexLemmas.{exact-subject, same-subject_self}
 -- what holds of each entry holds of the one about an output
 pub use Rattle.lemma_book.proofs.IndexLemmas.{about-all}
 -- ---- unit propagation over the clauses of a few nodes, a set of literals being closed under it

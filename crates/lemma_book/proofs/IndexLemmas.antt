@@ -13,9 +13,10 @@ use Rattle.lits.proofs.Facts.{exact-node, exact-lit}
 use Rattle.lits.specs.declared.node.Node.{Node}
 use Rattle.lits.specs.declared.literal.Lit.{Lit}
 use Rattle.lemma_book.specs.declared.entry.Entry.TheVariants.{Merge, Apart, Spent, Out, OutApart, OutSpent}
+use Rattle.lemma_book.specs.declared.entry.Subject.{Subject}
 use Rattle.lemma_book.specs.declared.entry.Subject.TheVariants.{Merged, Output}
 use Rattle.lemma_book.specs.declared.shelf.Key.TheVariants.{On, SpentOn}
-use Rattle.lemma_book.specs.Entry.{place_on, is_on, about, is_spent_on, has_spent}
+use Rattle.lemma_book.specs.Entry.{same_subject, place_on, is_on, about, is_spent_on, has_spent}
 use Rattle.lemma_book.specs.declared.entry.Entry.{Entry}
 use Rattle.lemma_book.specs.declared.shelf.Key.{Key}
 use Rattle.lemma_book.specs.Shelf.{same_key, key_of, has_key, number_of, IsIndex, Notes}
@@ -62,6 +63,14 @@ spent-found es n l =
 -- the entry on an output stands at its place
 pub about-at : (es : List Entry) (j : ℕ) (o : Option ℕ) → o ≡ place_on es (Output j) → option_and_then (slice_get es) o ≡ about es j
 about-at es j o e = ap (option_and_then (slice_get es)) e ∙ sym (find-place (is_on (Output j)) es)
+
+-- subjects that are found equal are one
+pub exact-subject : (x y : Subject) → same_subject x y ≡ true → x ≡ y
+exact-subject = search rules
+
+-- a subject equals itself
+pub same-subject_self : (x : Subject) → same_subject x x ≡ true
+same-subject_self = search rules
 
 exact-key : (x y : Key) → same_key x y ≡ true → x ≡ y
 exact-key (On (Merged n)) (On (Merged m)) e = ap (λ (x : Node). On (Merged x)) (exact-node n m e)

@@ -7,14 +7,13 @@ use Rattle.std.specs.List.{list_all, AllByRecursion}
 use Rattle.lits.specs.Clause.{has}
 use Rattle.lits.specs.declared.literal.Lit.{Lit}
 use Rattle.lits.specs.Same.{same_lit, opposite}
-use Rattle.unit_prop.proofs.Facts.{lit_laws}
 use Rattle.unit_prop.specs.Closure.{IsOpen, IsClosure, Clashes, ClosesTo}
 use Rattle.unit_prop.specs.declared.propagation.Closure.TheVariants.{Free}
 use Rattle.unit_prop.specs.New.{occurs, others_negated, Lacks, IsNew}
 use Rattle.lits.specs.declared.step.Named.{Named}
 use Rattle.lits.specs.declared.step.Step.{Step}
 use Rattle.unit_prop.specs.Log.{base_clauses, clauses_of}
-use Rattle.lits.proofs.Facts.{exact-lit}
+use Rattle.lits.proofs.Facts.{exact-lit, lit_laws}
 use Rattle.lemma_book.specs.Judging.{Tells, IsFresh}
 use Rattle.lemma_book.proofs.Telling.{tells-yes, tells-no}
 

@@ -12,11 +12,10 @@ use Rattle.std.proofs.lemmas.Slice.Eq.{slice_eq-Decides}
 use Rattle.lits.specs.declared.literal.Lit.{Lit}
 use Rattle.lits.specs.declared.step.Step.{Step}
 use Rattle.lits.specs.Same.{same_lit}
-use Rattle.lits.proofs.Facts.{exact-lit}
+use Rattle.lits.proofs.Facts.{exact-lit, lit_laws}
 use Rattle.netlist.specs.Net.{AigPair, value_of, lit_holds}
 use Rattle.lits.specs.declared.node.Node.{Node}
 use Rattle.netlist.specs.Miter.{variable_of}
-use Rattle.unit_prop.proofs.Facts.{lit_laws}
 use Rattle.lemma_book.specs.Cone.{AreThere}
 use Rattle.lemma_book.specs.Good.{AreOver, EndsIn, IsApart}
 use Rattle.lemma_book.specs.Judging.{Tells}

@@ -4,6 +4,8 @@
 
 -- what is left of a count: one less after each, and in the end nothing
 pub use Rattle.lits.proofs.ListLemmas.{left-more, left-none}
+-- the test whether a number is less
+pub use Rattle.lits.proofs.ListLemmas.{lt-true}
 -- one number more; none stands before the first one, and none twice
 pub use Rattle.lits.proofs.ListLemmas.{range-more, range-above, no_repeat-range}
 -- ---- lists: what all elements have, and what some element passes
@@ -15,7 +17,7 @@ pub use Rattle.lits.proofs.ListLemmas.{all-append, all-parts, all-filter, all-ma
 -- a test of some element of a mapped list, and a weaker test
 pub use Rattle.lits.proofs.ListLemmas.{list_any-map, list_any-more}
 -- one element more of the front of a list
-pub use Rattle.lits.proofs.ListLemmas.{take_next}
+pub use Rattle.lits.proofs.ListLemmas.{take_one, take_next}
 -- ---- equal nodes and literals
 
 -- those that are found equal are one
@@ -26,6 +28,8 @@ pub use Rattle.lits.proofs.SameLemmas.{same-node_self, same-lit_self}
 
 -- what the lemmas use of a literal's `==` and negation
 pub use Rattle.lits.proofs.ClauseLemmas.{IsLiteral, is_literal}
+-- it holds of the two kinds of literal, and of nodes, which have no sign
+pub use Rattle.lits.proofs.LitLaws.{lit_laws, dim_laws, node_laws}
 -- x equals the negation of y exactly where y equals that of x
 pub use Rattle.lits.proofs.ClauseLemmas.{eq-opposite}
 -- a literal stands in joined lists where it stands in one, and among the first of each where it stands in the list

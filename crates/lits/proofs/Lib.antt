@@ -2,4 +2,5 @@ pub mod Facts
 mod ListLemmas
 mod SameLemmas
 mod ClauseLemmas
+mod LitLaws
 mod IndexLemmas

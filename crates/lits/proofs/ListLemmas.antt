@@ -1,6 +1,6 @@
 -- Counts and ranges, lists whose elements all have a property, and tests that some element passes.
-use Rattle.std.proofs.Common.{◌≡◌, ℕ, zero, suc, ◌+◌, ◌-◌, ◌<◌, ◌≤◌, arith, Bool, true, false, ◌||◌, inl, inr, Some, List, [], ◌∷◌, ◌++◌, take, map, refl, ap, ◌∙◌, subst}
-use Rattle.std.specs.Prelude.{filter, slice_get, ◌==◌}
+use Rattle.std.proofs.Common.{◌≡◌, ℕ, zero, suc, ◌+◌, ◌-◌, ◌<◌, ◌≤◌, arith, Bool, true, false, ◌||◌, inl, inr, Some, List, [], ◌∷◌, ◌++◌, length, take, map, get_or, refl, sym, ap, ◌∙◌, subst}
+use Rattle.std.specs.Prelude.{filter, slice_get, nat_lt, ◌==◌}
 use Rattle.std.specs.List.{list_any, range_with_len, AllByRecursion}
 use Rattle.std.proofs.lemmas.Bool.{or_cases, or_left, or_right}
 use Rattle.std.proofs.lemmas.List.{take_more}
@@ -14,6 +14,10 @@ left-more n k lt = omega arith
 
 pub left-none : (n k : ℕ) → n ≤ k → n - k ≡ 0
 left-none n k le = omega arith
+
+-- the test whether a number is less
+pub lt-true : (a b : ℕ) → a < b → nat_lt a b ≡ true
+lt-true a b lt = grind (arith, nat_tests)
 
 -- one number more
 pub range-more : (a n : ℕ) → range_with_len a (suc n) ≡ range_with_len a n ++ (a + n) ∷ []
@@ -83,8 +87,10 @@ list_any-more p q (x ∷ xs) f e =
     ]
 
 -- one element more of the front of a list
+pub take_one : {X : Type 0} (xs : List X) (i : ℕ) (x : X) → i < length xs → x ≡ get_or xs i x
+    → take (i + 1) xs ≡ take i xs ++ x ∷ []
+take_one xs i x below at = take_more xs i x below ∙ ap (λ y. take i xs ++ y ∷ []) (sym at)
+
 pub take_next : {X : Type 0} (xs : List X) (i : ℕ) (x : X) → slice_get xs i ≡ Some x
     → take (i + 1) xs ≡ take i xs ++ x ∷ []
-take_next xs i x e =
-    take_more xs i x (slice_get_within xs i x e)
-    ∙ ap (λ y. take i xs ++ y ∷ []) (get_or_from_slice_get xs i x x e)
+take_next xs i x e = take_one xs i x (slice_get_within xs i x e) (sym (get_or_from_slice_get xs i x x e))

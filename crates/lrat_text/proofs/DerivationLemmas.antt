@@ -6,18 +6,13 @@ use Rattle.std.proofs.lemmas.List.Folds.{list_any-append}
 use Rattle.std.proofs.Math.Bool.{or-true}
 use Rattle.lits.specs.Assignment.{IsAssignment, Holds, Meets, IsSatisfiable, Follows}
 use Rattle.lits.specs.Dimacs.{DimacsLiteral}
-use Rattle.lits.specs.contracts.dimacs.DimEq.TheImpl.Laws as dim_eq
-use Rattle.lits.specs.contracts.dimacs.DimLiteral.TheImpl.Laws as dim
-use Rattle.lits.proofs.Facts.{IsLiteral, is_literal, all-slice_get}
+use Rattle.lits.proofs.Facts.{dim_laws, all-slice_get}
 use Rattle.unit_prop.proofs.Facts.{step-holds}
 use Rattle.lrat_text.specs.declared.step.Line.{Line}
 use Rattle.lrat_text.specs.declared.step.LratStep.{LratStep}
 use Rattle.lrat_text.specs.declared.step.LratStep.TheVariants.{Add, Del}
 use Rattle.lrat_text.specs.Derivation.{Live, formula_live, after_step, live_after, fault_over, DerivesFrom, Derives, adds_empty, Refutes}
-use Rattle.lits.specs.Same.{same_dim, opposite_dim}
-
-literal_laws : IsLiteral same_dim opposite_dim
-literal_laws = is_literal dim_eq.laws-law dim.exact-law dim.twice-law
+use Rattle.lits.specs.Same.{opposite_dim}
 
 -- each live clause holds under v
 pub record AllHold (v : DimacsLiteral → Bool) (live : Live) : Type 0 where
@@ -37,7 +32,7 @@ module _ (v : DimacsLiteral → Bool) (assigns : IsAssignment opposite_dim v) wh
   step-clause : (live : Live) (id : ℕ) (clause : List DimacsLiteral) (hints : List ℕ)
       → AllHold v live → fault_over live (Add id clause hints) ≡ None → Holds v clause
   step-clause live id clause hints all step =
-      step-holds literal_laws v assigns live all.holds clause hints step
+      step-holds dim_laws v assigns live all.holds clause hints step
 
   step-keeps : (live : Live) (step : LratStep) → AllHold v live → fault_over live step ≡ None
       → AllHold v (after_step live step)

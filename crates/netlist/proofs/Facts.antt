@@ -1,6 +1,6 @@
 -- What crates above may cite.
 -- ---- nodes and literals that the program finds equal are one; what stands at the place that a test finds
-pub use Rattle.netlist.proofs.SameNodes.{equal-number, same-number, any_from_find}
+pub use Rattle.netlist.proofs.SameNodes.{equal-number, any_from_find}
 -- what holds of the place
 pub use Rattle.netlist.proofs.SameNodes.{at-place}
 -- what follows from each fact follows from all; tests that agree pass the same lists
@@ -29,14 +29,10 @@ pub use Rattle.netlist.proofs.ConeValues.{HasFanins}
 
 -- the set has with each XOR the nodes of its two outputs
 pub use Rattle.netlist.proofs.ConeModels.{HasOutputs}
--- on the set a has the inputs' truth values, and meets the clauses that define each node
-pub use Rattle.netlist.proofs.ConeModels.{IsModelOver}
 -- the literal of an output
 pub use Rattle.netlist.proofs.ConeModels.{output_lit}
 -- each output has one
 pub use Rattle.netlist.proofs.ConeModels.{output_of-below}
--- an XOR is true exactly where its outputs differ, if both outputs' nodes are in the set
-pub use Rattle.netlist.proofs.ConeModels.{model-xor}
 -- ---- over which nodes the clauses are that define a node: the node itself and its fanins or outputs. All of them have CNF variables if the node has one
 pub use Rattle.netlist.proofs.ClausesOver.{flat_map-member, variables-outputs}
 -- each literal of the clauses is over the set
@@ -47,9 +43,7 @@ pub use Rattle.netlist.proofs.ClausesOver.{all-members}
 pub use Rattle.netlist.proofs.ClausesOver.{over-kept}
 -- what holds of the clauses that stay, of the first and of those after it
 pub use Rattle.netlist.proofs.ClausesOver.{kept-head, kept-rest}
--- the clauses that define a node of the set are over the set
-pub use Rattle.netlist.proofs.ClausesOver.{over-axioms}
--- so are those with CNF variables, which have also each XOR's outputs
+-- the nodes with CNF variables have with each gate its fanins
 pub use Rattle.netlist.proofs.ClausesOver.{variables-fanins}
 -- each literal of a clause that defines a node with a CNF variable has one
 pub use Rattle.netlist.proofs.ClausesOver.{over-variables}
@@ -79,18 +73,14 @@ pub use Rattle.netlist.proofs.VariableLemmas.{few, few_gates_of}
 pub use Rattle.netlist.proofs.VariableLemmas.{no_repeat-split, no_repeat_push}
 -- its elements are distinct; which of two numbers comes first doesn't matter
 pub use Rattle.netlist.proofs.VariableLemmas.{IsDistinct_from, eq_swap}
--- distinct variables in range are few
-pub use Rattle.netlist.proofs.VariableLemmas.{length-distinct}
 -- the variables of a circuit
 pub use Rattle.netlist.proofs.VariableLemmas.{variables}
 -- what stands in one part of a list without repeats isn't in the other
 pub use Rattle.netlist.proofs.VariableLemmas.{no_repeat-apart}
 -- the middle one of three comes first
 pub use Rattle.netlist.proofs.RunLemmas.{or_move}
--- ---- how the table of a circuit's variables grows
-pub use Rattle.netlist.proofs.TableLemmas.{push_table}
 -- ---- what stands at the position of a gate: the AND of its fanins' values; its fanins stand earlier
-pub use Rattle.netlist.proofs.GateLemmas.{placed_value, IsGateAt}
+pub use Rattle.netlist.proofs.GateLemmas.{IsGateAt}
 -- gate k, the gates counted from 0
 pub use Rattle.netlist.proofs.GateLemmas.{gate-at}
 -- the node at the position of a node is that node, and the node at a position has that position
@@ -108,8 +98,6 @@ pub use Rattle.netlist.proofs.PlaceLemmas.{find-place}
 pub use Rattle.netlist.proofs.GateLemmas.{position-definition}
 -- what defines a gate, and that its fanins' nodes have lower positions
 pub use Rattle.netlist.proofs.GateLemmas.{gate-definition}
--- the nodes behind the inputs are those of the gates
-pub use Rattle.netlist.proofs.NetLemmas.{behind_inputs}
 -- an XOR has no position
 pub use Rattle.netlist.proofs.NodesThere.{no-xor}
 -- ---- what assignments of nodes make of the clauses that define a node

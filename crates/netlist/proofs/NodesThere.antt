@@ -1,6 +1,6 @@
 -- Which nodes have a position or a CNF variable: each side's variables name nodes with a position, so each literal of a
 -- clause that defines a node has a CNF variable.
-use Rattle.std.proofs.Common.{◌≡◌, ℕ, ◌<◌, Bool, true, false, ◌||◌, Option, Some, None, List, [], ◌∷◌, ◌++◌, map, length, refl, sym, ap, ap₂, ◌∙◌, if◌then◌else◌, arith}
+use Rattle.std.proofs.Common.{◌≡◌, ℕ, ◌<◌, Bool, true, false, ◌||◌, Option, Some, None, List, [], ◌∷◌, map, length, refl, sym, ap, ap₂, ◌∙◌, if◌then◌else◌, arith}
 use Rattle.std.specs.Prelude.{◌==◌, slice_get, slice_index}
 use Rattle.std.specs.Option.{option_map_or}
 use Rattle.std.specs.List.{list_any, range_with_len}
@@ -17,7 +17,7 @@ use Rattle.netlist.specs.Place.{place_of}
 use Rattle.netlist.specs.Circuit.{gate_vars, variables_in, is_over, Aig}
 use Rattle.netlist.specs.Net.{AigPair, IsNet, circuit_of, node_of, definition_of, definitions, nodes_of}
 use Rattle.lits.specs.Same.{same_node}
-use Rattle.lits.proofs.Facts.{list_any-map}
+use Rattle.lits.proofs.Facts.{list_any-map, has-append, node_laws}
 use Rattle.netlist.specs.Miter.{xors_of, variables_of}
 use Rattle.netlist.proofs.PlaceLemmas.{place_none}
 use Rattle.netlist.proofs.SameNodes.{other-number, place_from_any, at-place, list_any-same, list_all-get, in-range, range-has}
@@ -37,9 +37,6 @@ pub or_last : (a b d : Bool) → (a || (b || d)) ≡ true → a ≡ false → b 
 or_last true b d e f g = cc
 or_last false true d e f g = cc
 or_last false false d e f g = e
-
-has-append : (xs ys : List Node) (n : Node) → has same_node (xs ++ ys) n ≡ (has same_node xs n || has same_node ys n)
-has-append xs ys n = list_any-append (λ y. same_node y n) xs ys
 
 abbrev inputs_of : AigPair → List Node
 inputs_of net = map Input (range_with_len 0 (length net.a.inputs))
@@ -74,31 +71,31 @@ module _ (net : AigPair) where
   -- a gate's node is there exactly where its side has the gate
   pub has-gate : (s : Side) (v : ℕ) → has same_node (nodes_of net) (Gate s v) ≡ list_any (λ g. g.var == v) (circuit_of net s).gates
   has-gate A v =
-      has-append (inputs_of net) (gates_of net) (Gate A v)
+      has-append node_laws (inputs_of net) (gates_of net) (Gate A v)
       ∙ ap₂ ◌||◌ (no-inputs (Gate A v) (λ k. refl)) (has-gates net (Gate A v) (λ g. g.var == v) (λ g. false) (λ g. refl) (λ g. refl))
       ∙ ap (λ (b : Bool). list_any (λ g. g.var == v) net.a.gates || b) (list_any_false net.b.gates)
       ∙ or-false (list_any (λ g. g.var == v) net.a.gates)
   has-gate B v =
-      has-append (inputs_of net) (gates_of net) (Gate B v)
+      has-append node_laws (inputs_of net) (gates_of net) (Gate B v)
       ∙ ap₂ ◌||◌ (no-inputs (Gate B v) (λ k. refl)) (has-gates net (Gate B v) (λ g. false) (λ g. g.var == v) (λ g. refl) (λ g. refl))
       ∙ ap (λ (b : Bool). b || list_any (λ g. g.var == v) net.b.gates) (list_any_false net.a.gates)
 
   -- an input's node is there exactly where its index is below the number of inputs
   pub has-input : (k : ℕ) → has same_node (nodes_of net) (Input k) ≡ list_any (λ j. j == k) (range_with_len 0 (length net.a.inputs))
   has-input k =
-      has-append (inputs_of net) (gates_of net) (Input k)
+      has-append node_laws (inputs_of net) (gates_of net) (Input k)
       ∙ ap₂ ◌||◌ (has-map Input (λ j. j == k) (Input k) (λ j. refl) (range_with_len 0 (length net.a.inputs))) (no-gates (Input k) (λ s v. refl))
       ∙ or-false (list_any (λ j. j == k) (range_with_len 0 (length net.a.inputs)))
 
   -- an XOR has no position, and a CNF variable exactly where its index is below the number of outputs
   pub no-xor : (j : ℕ) → has same_node (nodes_of net) (Xor j) ≡ false
   no-xor j =
-      has-append (inputs_of net) (gates_of net) (Xor j)
+      has-append node_laws (inputs_of net) (gates_of net) (Xor j)
       ∙ ap₂ ◌||◌ (no-inputs (Xor j) (λ k. refl)) (no-gates (Xor j) (λ s v. refl))
 
   pub has-xor : (j : ℕ) → has same_node (variables_of net) (Xor j) ≡ list_any (λ i. i == j) (range_with_len 0 (length net.a.outputs))
   has-xor j =
-      has-append (nodes_of net) (xors_of net) (Xor j)
+      has-append node_laws (nodes_of net) (xors_of net) (Xor j)
       ∙ ap₂ ◌||◌ (no-xor j) (has-map Xor (λ i. i == j) (Xor j) (λ i. refl) (range_with_len 0 (length net.a.outputs)))
 
   -- so an index of a node that is there is below that number
@@ -110,13 +107,13 @@ module _ (net : AigPair) where
 
   -- a node with a position has a CNF variable
   pub has-variable : (n : Node) → has same_node (nodes_of net) n ≡ true → has same_node (variables_of net) n ≡ true
-  has-variable n h = has-append (nodes_of net) (xors_of net) n ∙ rw h refl
+  has-variable n h = has-append node_laws (nodes_of net) (xors_of net) n ∙ rw h refl
 
   -- an input or a gate with a CNF variable has a position
   pub has-position : (n : Node) → ((j : ℕ) → same_node (Xor j) n ≡ false) → has same_node (variables_of net) n ≡ true
       → has same_node (nodes_of net) n ≡ true
   has-position n none h =
-      sym (has-append (nodes_of net) (xors_of net) n ∙ ap (λ (b : Bool). has same_node (nodes_of net) n || b) (no-xors n none)
+      sym (has-append node_laws (nodes_of net) (xors_of net) n ∙ ap (λ (b : Bool). has same_node (nodes_of net) n || b) (no-xors n none)
       ∙ or-false (has same_node (nodes_of net) n))
       ∙ h
 

@@ -3,7 +3,6 @@ use Rattle.std.proofs.Common.{◌≡◌, ℕ, ◌+◌, ◌-◌, ◌<◌, ◌≤�
 use Rattle.std.specs.Prelude.{slice_get, nat_lt}
 use Rattle.std.specs.List.{flat_map, AllByRecursion}
 use Rattle.std.specs.Option.{option_map_or}
-use Rattle.std.proofs.lemmas.Bool.Decides.{nat_tests}
 use Rattle.std.proofs.lemmas.Option.{none-some, slice_get_within}
 use Rattle.lits.specs.Clause.{has}
 use Rattle.lits.specs.declared.node.Side.TheVariants.{A, B}
@@ -14,7 +13,7 @@ use Rattle.netlist.specs.declared.gate.And.{And}
 use Rattle.netlist.specs.Place.{before}
 use Rattle.netlist.specs.Net.{AigPair, IsNet, circuit_of, definition_of, gate_at, output_of}
 use Rattle.lits.specs.Same.{same_node}
-use Rattle.lits.proofs.Facts.{exact-node, all-slice_get}
+use Rattle.lits.proofs.Facts.{exact-node, lt-true, all-slice_get}
 use Rattle.netlist.specs.Miter.{gate_clauses, kept, xor_axioms, axioms_of, axiom_of, variables_of, clauses_of, clause_number_of, positive, xors_of}
 use Rattle.netlist.proofs.Facts.{slice_get-left, slice_get-right, any_from_find, range-has, has-gate, has-xor, has-variable, over-variables}
 
@@ -83,9 +82,6 @@ flat_map-at f (n ∷ ns) node k h lt = go (same_node n node) refl (flat_map-at f
         ∙ slice_get-right (f n) (flat_map f ns) (length (flat_map f (before (λ m. same_node m node) ns)) + k)
         ∙ rest (rw e at h) lt)
 
-is_below : (k n : ℕ) → k < n → nat_lt k n ≡ true
-is_below k n lt = grind (arith, nat_tests)
-
 -- what a clause has by its number
 pub record IsNumbered (net : AigPair) (node : Node) (k : ℕ) (c : List Lit) : Type 0 where
   pub number : ℕ
@@ -108,7 +104,7 @@ axiom-numbered net node k c e = record {
     below = slice_get_within (axioms_of net node) k c e
 
     within : nat_lt k (length (axioms_of net node)) ≡ true
-    within = is_below k (length (axioms_of net node)) below
+    within = lt-true k (length (axioms_of net node)) below
 
     place : ℕ
     place = length (flat_map (axioms_of net) (before (λ n. same_node n node) (variables_of net))) + k

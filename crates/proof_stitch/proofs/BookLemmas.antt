@@ -11,9 +11,9 @@ use Rattle.std.proofs.lemmas.Bool.{or_left}
 use Rattle.lits.specs.declared.node.Node.{Node}
 use Rattle.lits.specs.declared.step.Step.{Step}
 use Rattle.lits.specs.Same.{same_node}
-use Rattle.lits.proofs.Facts.{exact-node, same-node_self}
+use Rattle.lits.proofs.Facts.{exact-node}
 use Rattle.netlist.specs.Net.{AigPair, IsNet, nodes_of, position_of}
-use Rattle.netlist.proofs.Facts.{at_place, is_some-place, equal-number, same-number, find-place}
+use Rattle.netlist.proofs.Facts.{at_place, is_some-place, equal-number, find-place}
 use Rattle.unit_prop.specs.Log.{InTurn}
 use Rattle.unit_prop.proofs.Facts.{in_turn-map}
 use Rattle.lemma_book.specs.declared.entry.Entry.{Entry}
@@ -22,7 +22,7 @@ use Rattle.lemma_book.specs.declared.entry.Subject.{Subject}
 use Rattle.lemma_book.specs.declared.entry.Subject.TheVariants.{Merged, Output}
 use Rattle.lemma_book.specs.Entry.{subject_of, same_subject, is_on, place_on, about, equal_clause}
 use Rattle.lemma_book.specs.Good.{NoNode, Already, Shape, Count, out_clause, IsGood}
-use Rattle.lemma_book.proofs.Facts.{about-all, clause-more, chain-more, merge-chain_out, out-chain, out_spent-chain}
+use Rattle.lemma_book.proofs.Facts.{about-all, clause-more, chain-more, merge-chain_out, out-chain, out_spent-chain, same-subject_self}
 use Rattle.proof_stitch.specs.Written.{written_steps, shown_clauses}
 use Rattle.proof_stitch.specs.Stitch.{is_out, has_out}
 use Rattle.proof_stitch.specs.Derivation.{is_spent, has_spent, log_of, spent_log}
@@ -195,10 +195,6 @@ key-below net (Merged n) a =
     let within = slice_get_within (nodes_of net) (key net (Merged n)) n (placed net n a).1 in omega (arith, within)
 key-below net (Output j) a = omega (arith, a)
 
-self : (s : Subject) → same_subject s s ≡ true
-self (Merged n) = same-node_self n
-self (Output j) = same-number j
-
 -- the numbers of the subjects that entries are on
 abbrev keys : AigPair → List Entry → List ℕ
 keys net [] = []
@@ -270,7 +266,7 @@ keys-distinct net sweep out before (x ∷ xs) legal = go (subject_of x) refl (ke
     go None e rest = rw e rest
     go (Some s) e rest =
         let is = (good-subject net sweep out before x legal.0 s e).0 in
-        let on : is_on s x ≡ true = ap (λ (o : Option Subject). option_map_or (λ t. same_subject t s) o false) e ∙ self s in
+        let on : is_on s x ≡ true = ap (λ (o : Option Subject). option_map_or (λ t. same_subject t s) o false) e ∙ same-subject_self s in
         let here : list_any (is_on s) (before ++ x ∷ []) ≡ true =
         list_any-append (is_on s) before (x ∷ []) ∙ rw on (or_last (list_any (is_on s) before)) in
         rw e (apart (key net s) (keys net xs) (later-apart net sweep out s is (before ++ x ∷ []) xs here legal.1), rest)

@@ -8,11 +8,9 @@ use Rattle.std.proofs.lemmas.Option.{slice_get-map}
 use Rattle.std.proofs.lemmas.Bool.{false_from_ne_true}
 use Rattle.lits.specs.Clause.{has}
 use Rattle.lits.specs.Dimacs.{DimacsLiteral}
-use Rattle.lits.specs.contracts.dimacs.DimEq.TheImpl.Laws as dim_eq
-use Rattle.lits.specs.contracts.dimacs.DimLiteral.TheImpl.Laws as dim
 use Rattle.lits.specs.declared.node.Node.TheVariants.{Xor}
 use Rattle.lits.specs.declared.literal.Lit.{Lit}
-use Rattle.lits.proofs.Facts.{IsLiteral, is_literal, exact-lit, list_any-map, all-map, list_any-more}
+use Rattle.lits.proofs.Facts.{dim_laws, exact-lit, list_any-map, all-map, list_any-more}
 use Rattle.netlist.specs.Net.{AigPair}
 use Rattle.netlist.specs.Miter.{positive, negative, axioms_of, variables_of, xors_of, clauses_of, numbered, miter_of}
 use Rattle.lits.specs.Same.{same_lit, same_dim, opposite_dim}
@@ -22,9 +20,6 @@ use Rattle.proof_stitch.proofs.AxiomLemmas.{there}
 use Rattle.proof_stitch.proofs.GrowLemmas.{Formula, live-is}
 use Rattle.proof_stitch.proofs.StepLemmas.{HasMiter}
 use Rattle.proof_stitch.proofs.EmptyLemmas.{AreFresh}
-
-literal_laws : IsLiteral same_dim opposite_dim
-literal_laws = is_literal dim_eq.laws-law dim.exact-law dim.twice-law
 
 -- no number of a range passes
 none-in : (test : ℕ → Bool) (a n m : ℕ) → ((i : ℕ) → i < m → test i ≡ false) → a + n ≤ m → list_any test (range_with_len a n) ≡ false
@@ -60,7 +55,7 @@ module _ (net : AigPair) where
   opposed : (i j : ℕ) → same_dim (equal_number i) (opposite_dim (equal_number j)) ≡ false
   opposed i j =
       false_from_ne_true (same_dim (equal_number i) (opposite_dim (equal_number j)))
-      (λ e. let same = literal_laws.exact (equal_number i) (opposite_dim (equal_number j)) e in
+      (λ e. let same = dim_laws.exact (equal_number i) (opposite_dim (equal_number j)) e in
       let sign : true ≡ false = ap (λ (d : DimacsLiteral). d.neg) same in cc)
 
   abbrev pub numbers : ℕ → ℕ → List DimacsLiteral
@@ -94,14 +89,14 @@ module _ (net : AigPair) where
   numbers-inside =
       all-map (λ y. has same_dim all_numbers (opposite_dim (opposite_dim y)) ≡ true) equal_number (range_with_len 0 count)
       (all-in (λ j. has same_dim all_numbers (opposite_dim (opposite_dim (equal_number j))) ≡ true) 0 count count
-      (λ j below. subst (λ (y : DimacsLiteral). has same_dim all_numbers y ≡ true) (sym (literal_laws.twice (equal_number j))) (here j below))
+      (λ j below. subst (λ (y : DimacsLiteral). has same_dim all_numbers y ≡ true) (sym (dim_laws.twice (equal_number j))) (here j below))
       (omega arith))
     where
       here : (j : ℕ) → j < count → has same_dim all_numbers (equal_number j) ≡ true
       here j below =
           list_any-map (λ y. same_dim y (equal_number j)) equal_number (range_with_len 0 count)
           ∙ list_any-more (λ i. eqb i j) (λ i. same_dim (equal_number i) (equal_number j)) (range_with_len 0 count)
-          (λ i e. subst (λ (k : ℕ). same_dim (equal_number k) (equal_number j) ≡ true) (sym (equal-number i j e)) (literal_laws.equivalence.refl (equal_number j)))
+          (λ i e. subst (λ (k : ℕ). same_dim (equal_number k) (equal_number j) ≡ true) (sym (equal-number i j e)) (dim_laws.equivalence.refl (equal_number j)))
           (range-has 0 count j (omega arith) (omega arith))
 
   -- the last clause, by numbers

@@ -10,7 +10,7 @@ pub use Rattle.solver_plain.proofs.EffectLemmas.{after-negated}
 -- a clause with one free literal adds it
 pub use Rattle.solver_plain.proofs.EffectLemmas.{after-unit}
 -- ---- what the clauses of names are
-pub use Rattle.solver_plain.proofs.NameLemmas.{next, own-at}
+pub use Rattle.solver_plain.proofs.NameLemmas.{own-at}
 -- the clause of a name is the one that bears it
 pub use Rattle.solver_plain.proofs.NameLemmas.{base_clause-at}
 -- a clause of the base keeps its name beside a log

@@ -8,16 +8,14 @@ use Rattle.lits.specs.Clause.{has, firsts}
 use Rattle.lits.specs.declared.literal.Lit.{Lit}
 use Rattle.lits.specs.declared.step.Named.{Named}
 use Rattle.lits.specs.declared.step.Step.{Step}
-use Rattle.lits.proofs.Facts.{IsLiteral, has-append, has-firsts, firsts-push, all-append}
+use Rattle.lits.proofs.Facts.{IsLiteral, has-append, has-firsts, firsts-push, all-append, lit_laws, take_one}
 use Rattle.unit_prop.specs.New.{occurs}
 use Rattle.unit_prop.specs.Log.{base_clauses, clauses_of}
 use Rattle.lits.specs.Same.{same_lit, opposite}
 use Rattle.unit_prop.specs.Refuter.{is_over, IsOver}
-use Rattle.unit_prop.proofs.Facts.{lit_laws}
 use Rattle.solver_plain.specs.Literals.{variable_of, is_free, with_lit}
 use Rattle.solver_plain.specs.Formula.{literals_of, variables_of, IsFormula}
 use Rattle.solver_plain.proofs.ListLemmas.{each-of, each-at, all-each}
-use Rattle.solver_plain.proofs.NameLemmas.{next}
 
 -- one more literal's variable
 pub variables-next : (seen lits vars new : List Lit) (i : ℕ) (d y : Lit) → i < length lits
@@ -49,13 +47,13 @@ pub variables_of-next : (base : List Named) (vars new : List Lit) (i : ℕ) (n :
 variables_of-next base vars new i n below at so_far add =
     add (map variable_of (literals_of (take i base))) so_far
     ∙ ap (firsts same_lit) (sym (map-append variable_of (literals_of (take i base)) n.clause)
-    ∙ ap (map variable_of) (sym (literals_of-push (take i base) n) ∙ ap literals_of (sym (next base i n below at))))
+    ∙ ap (map variable_of) (sym (literals_of-push (take i base) n) ∙ ap literals_of (sym (take_one base i n below at))))
 
 -- one more copy
 pub copies-next : (base copies new : List Named) (i : ℕ) (n : Named) (clause : List Lit) → i < length base
     → n ≡ get_or base i n → copies ≡ take i base → clause ≡ n.clause
     → new ≡ copies ++ record { clause = clause; by = n.by } ∷ [] → new ≡ take (i + 1) base
-copies-next base copies new i n clause below at so_far same e = e ∙ rw (so_far, same) (sym (next base i n below at))
+copies-next base copies new i n clause below at so_far same e = e ∙ rw (so_far, same) (sym (take_one base i n below at))
 
 interleave : (a b c d : Bool) → ((a || b) || (c || d)) ≡ ((a || c) || (b || d))
 interleave true b c d = refl

@@ -5,12 +5,12 @@ use Rattle.std.specs.List.{list_any, find, AllByRecursion}
 use Rattle.std.proofs.lemmas.Bool.{or_cases, or_left, or_right, and_parts, or_parts, not-true}
 use Rattle.lits.specs.Clause.{has, no_repeat, has_pair, IsClause}
 use Rattle.lits.specs.declared.literal.Lit.{Lit}
-use Rattle.lits.proofs.Facts.{IsLiteral}
+use Rattle.lits.proofs.Facts.{IsLiteral, lit_laws}
 use Rattle.unit_prop.specs.Closure.{is_negated}
 use Rattle.unit_prop.specs.Log.{base_clauses}
 use Rattle.lits.specs.Same.{same_lit, opposite}
 use Rattle.unit_prop.specs.Refuter.{is_over, IsOver, IsModel}
-use Rattle.unit_prop.proofs.Facts.{lit_laws, all-true, has-head, has-map-opposite}
+use Rattle.unit_prop.proofs.Facts.{all-true, has-head, has-map-opposite}
 use Rattle.solver_plain.specs.Literals.{variable_of, is_free, value_in}
 use Rattle.solver_plain.specs.Formula.{Clauses, clauses_in, literals_of, variables_of}
 use Rattle.solver_plain.specs.Scan.{IsSound, IsOpenClosure}

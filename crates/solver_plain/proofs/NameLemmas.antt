@@ -1,8 +1,7 @@
 -- What the clauses of names are.
-use Rattle.std.proofs.Common.{◌≡◌, ℕ, ◌+◌, ◌<◌, zero, suc, length, take, get_or, arith, Bool, true, false, not, List, [], ◌∷◌, ◌++◌, Option, Some, None, refl, sym, ap, ◌∙◌, subst}
+use Rattle.std.proofs.Common.{◌≡◌, ℕ, ◌<◌, zero, suc, length, get_or, arith, Bool, true, false, not, List, [], ◌∷◌, Option, Some, None, refl, sym, ap, ◌∙◌, subst}
 use Rattle.std.specs.Prelude.{map, IfSome, IfNone}
 use Rattle.std.specs.List.{list_any, slice_get, AllByRecursion}
-use Rattle.std.proofs.lemmas.List.{take_more}
 use Rattle.std.proofs.lemmas.Option.{slice_get_read}
 use Rattle.std.proofs.lemmas.Bool.{and_parts, or_left, or_right, not-true}
 use Rattle.lits.specs.Clause.{has, no_repeat}
@@ -57,9 +56,6 @@ any-named p base log name c e passes = go (list_any p (clauses_of base log)) ref
     go : (b : Bool) → list_any p (clauses_of base log) ≡ b → list_any p (clauses_of base log) ≡ true
     go true f = f
     go false f = let g = all-named (λ (d : List Lit). p d ≡ false) base log name c (all-fail p (clauses_of base log) f) e in cc
-
-pub next : {X : Type 0} (xs : List X) (i : ℕ) (x : X) → i < length xs → x ≡ get_or xs i x → take (i + 1) xs ≡ take i xs ++ x ∷ []
-next xs i x below at = take_more xs i x below ∙ ap (λ y. take i xs ++ y ∷ []) (sym at)
 
 same_refl : (n : Ref) → same_name n n ≡ true
 same_refl = ref_eq.laws-law.refl

@@ -9,13 +9,13 @@ use Rattle.lits.specs.declared.literal.Lit.{Lit}
 use Rattle.lits.specs.declared.step.Named.{Named}
 use Rattle.lits.specs.declared.step.Ref.{Ref}
 use Rattle.lits.specs.contracts.literal.LitLiteral.TheImpl.Laws as lit
-use Rattle.lits.proofs.Facts.{has-append, has-firsts, firsts-push, all-append}
+use Rattle.lits.proofs.Facts.{has-append, has-firsts, firsts-push, all-append, lit_laws}
 use Rattle.unit_prop.specs.Closure.{is_negated}
 use Rattle.unit_prop.specs.Propagation.{IsFree, is_forced_by, IsSettled}
 use Rattle.unit_prop.specs.Step.{State, after_found, fault_from}
 use Rattle.lits.specs.Same.{same_lit, opposite}
 use Rattle.unit_prop.specs.Refuter.{is_over, IsOver}
-use Rattle.unit_prop.proofs.Facts.{lit_laws, contrary, has-map-opposite, IsRound, round-next, round-clash, round-last, consistent-push}
+use Rattle.unit_prop.proofs.Facts.{contrary, has-map-opposite, IsRound, round-next, round-clash, round-last, consistent-push}
 use Rattle.solver_plain.specs.declared.effect.Effect.{Effect}
 use Rattle.solver_plain.specs.declared.effect.Effect.TheVariants.{Clashes, Forces}
 use Rattle.solver_plain.specs.declared.formula.Hint.{Hint}

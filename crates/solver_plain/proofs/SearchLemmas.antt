@@ -12,7 +12,7 @@ use Rattle.lits.specs.declared.literal.Lit.{Lit}
 use Rattle.lits.specs.declared.step.Ref.{Ref}
 use Rattle.lits.specs.declared.step.Step.{Step}
 use Rattle.lits.specs.contracts.literal.LitLiteral.TheImpl.Laws as lit
-use Rattle.lits.proofs.Facts.{has-append, no_repeat-push, has_pair-push, all-append}
+use Rattle.lits.proofs.Facts.{has-append, no_repeat-push, has_pair-push, all-append, lit_laws}
 use Rattle.unit_prop.specs.Closure.{IsClosed}
 use Rattle.unit_prop.specs.Propagation.{IsConsistent, IsFree}
 use Rattle.unit_prop.specs.New.{occurs, others_negated, Lacks, IsNew}
@@ -20,7 +20,7 @@ use Rattle.unit_prop.specs.Step.{IsStep}
 use Rattle.unit_prop.specs.Log.{base_clauses, clauses_of}
 use Rattle.lits.specs.Same.{same_lit, opposite}
 use Rattle.unit_prop.specs.Refuter.{is_over, IsOver}
-use Rattle.unit_prop.proofs.Facts.{lit_laws, has-filter, has-map-opposite, contrary, alone}
+use Rattle.unit_prop.proofs.Facts.{has-filter, has-map-opposite, contrary, alone}
 use Rattle.solver_plain.specs.Literals.{is_free}
 use Rattle.solver_plain.specs.Formula.{Clauses, clause_named, clauses_in, variables_of}
 use Rattle.solver_plain.specs.Scan.{IsSound, IsFreeVariable, IsOpenClosure, IsClash, IsScan, ClashesFrom}

@@ -6,8 +6,8 @@ use Rattle.std.proofs.lemmas.Bool.{or_cases, or_left, or_right}
 use Rattle.lits.specs.Clause.{has, has_pair}
 use Rattle.lits.specs.Same.{same_lit, opposite}
 use Rattle.lits.specs.declared.literal.Lit.{Lit}
-use Rattle.lits.proofs.Facts.{has-append}
-use Rattle.unit_prop.proofs.Facts.{lit_laws, contrary, alone}
+use Rattle.lits.proofs.Facts.{has-append, lit_laws}
+use Rattle.unit_prop.proofs.Facts.{contrary, alone}
 use Rattle.solver_plain.proofs.Facts.{consistent-clause}
 use Rattle.watch_lists.specs.Codes.{flip, lit_at, IsCode}
 use Rattle.watch_lists.specs.Trail.{TrailState, IsTrail, put_at, lits_of}

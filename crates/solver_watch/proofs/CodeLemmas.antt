@@ -6,7 +6,7 @@ use Rattle.lits.specs.Same.{same_lit}
 use Rattle.lits.specs.declared.node.Node.{Node}
 use Rattle.lits.specs.declared.node.Node.TheVariants.{Const}
 use Rattle.lits.specs.declared.literal.Lit.{Lit}
-use Rattle.unit_prop.proofs.Facts.{lit_laws}
+use Rattle.lits.proofs.Facts.{lit_laws}
 use Rattle.watch_lists.specs.Codes.{lit_at}
 
 -- a literal of a list of codes has a place there

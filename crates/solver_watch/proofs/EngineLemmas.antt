@@ -5,7 +5,6 @@ use Rattle.std.specs.List.{list_any, AllByRecursion}
 use Rattle.std.proofs.lemmas.List.{map-append}
 use Rattle.std.proofs.Math.ListN.{get_or-append}
 use Rattle.std.proofs.lemmas.Bool.{or_cases, or_left, or_right}
-use Rattle.std.proofs.lemmas.List.Folds.{list_any-append}
 use Rattle.lits.specs.Clause.{has}
 use Rattle.lits.specs.Same.{same_lit, same_node, opposite}
 use Rattle.lits.specs.declared.node.Node.{Node}
@@ -18,7 +17,7 @@ use Rattle.unit_prop.specs.Refuter.{is_over, IsOver, IsModel}
 use Rattle.solver_plain.proofs.Facts.{each-of, each-at, all-fail, all-left, pair-none, over-opposite, all-occur, all-both}
 use Rattle.solver_watch.specs.declared.engine.Engine.{Engine}
 use Rattle.solver_watch.proofs.AssumeLemmas.{assuming-propagates}
-use Rattle.unit_prop.proofs.Facts.{lit_laws, contrary, has-map-opposite, all-true, all-at, witness}
+use Rattle.unit_prop.proofs.Facts.{contrary, has-map-opposite, all-true, all-at, witness}
 use Rattle.solver_plain.specs.Formula.{Clauses}
 use Rattle.solver_plain.specs.Search.{IsLearnedFor}
 use Rattle.watch_lists.specs.Trail.{TrailState, IsTrail, IsComplete, IsConflict, IsGround, IsQuiet, Adds, Decides, Propagates, put_at, clause_at, lits_of, up_to, back_to}
@@ -35,7 +34,7 @@ use Rattle.solver_watch.proofs.CodeLemmas.{lit_at-variable}
 use Rattle.solver_watch.proofs.WalkLemmas.{ground-of}
 use Rattle.unit_prop.specs.Propagation.{IsFree}
 use Rattle.lits.specs.declared.node.Node.TheVariants.{Const}
-use Rattle.lits.proofs.Facts.{all-append, exact-node}
+use Rattle.lits.proofs.Facts.{all-append, exact-node, has-append, lit_laws, node_laws}
 use Rattle.watch_lists.specs.Codes.{lit_at}
 
 -- the trail of a formula may change where clauses and variables stay
@@ -83,9 +82,6 @@ same-variable m l e = go m.neg l.neg refl refl
     go true false f g = inr (other_neg (f ∙ sym (ap (λ (b : Bool). not b) g)))
     go false true f g = inr (other_neg (f ∙ sym (ap (λ (b : Bool). not b) g)))
 
-pub node-append : (xs ys : List Node) (n : Node) → has same_node (xs ++ ys) n ≡ (has same_node xs n || has same_node ys n)
-node-append xs ys n = list_any-append (λ y. same_node y n) xs ys
-
 -- the clause's step joins the log
 pub known-learn : (f : Formula) (g : Formula) (step : Step) → IsKnown f → IsOver f.base.items step.clause
     → g.base.items ≡ f.base.items → g.log.items ≡ f.log.items ++ step ∷ [] → Adds f.trail step.clause g.trail → IsKnown g
@@ -93,7 +89,7 @@ known-learn f g step known over base log adds = record {
   names = subst (λ (b : List Named). IsBase b) (sym base) known.names;
   clauses = adds.clauses ∙ grown;
   within = within_now;
-  nodes = λ l h. nodes_at l (or_cases _ _ (sym (node-append f.trail.nodes adds.numbers.more l.node)
+  nodes = λ l h. nodes_at l (or_cases _ _ (sym (has-append node_laws f.trail.nodes adds.numbers.more l.node)
       ∙ ap (λ (ns : List Node). has same_node ns l.node) (sym adds.numbers.behind) ∙ h));
 }
   where

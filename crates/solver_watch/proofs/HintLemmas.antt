@@ -8,11 +8,11 @@ use Rattle.lits.specs.Same.{same_lit, opposite}
 use Rattle.lits.specs.declared.literal.Lit.{Lit}
 use Rattle.lits.specs.declared.step.Ref.{Ref}
 use Rattle.lits.specs.contracts.literal.LitLiteral.TheImpl.Laws as lit
-use Rattle.lits.proofs.Facts.{has-append, has-firsts}
+use Rattle.lits.proofs.Facts.{has-append, has-firsts, lit_laws}
 use Rattle.unit_prop.specs.Closure.{is_negated}
 use Rattle.unit_prop.specs.Propagation.{IsConsistent, IsFree}
 use Rattle.unit_prop.specs.Step.{start_of, fault_from, IsStep}
-use Rattle.unit_prop.proofs.Facts.{lit_laws, contrary, alone, has-map-opposite, all-true, all-at, consistent-push}
+use Rattle.unit_prop.proofs.Facts.{contrary, alone, has-map-opposite, all-true, all-at, consistent-push}
 use Rattle.solver_plain.specs.Effect.{IsUnit}
 use Rattle.solver_plain.proofs.Facts.{after-negated, after-unit, Brings, brings-push, brings-fault, consistent-clause}
 use Rattle.watch_lists.specs.Trail.{TrailState, IsTrail, put_at, clause_at, lits_of}

@@ -8,7 +8,7 @@ use Rattle.lits.specs.Clause.{has, firsts, has_pair}
 use Rattle.lits.specs.Same.{same_lit, same_node, opposite}
 use Rattle.lits.specs.declared.literal.Lit.{Lit}
 use Rattle.lits.specs.declared.step.Step.{Step}
-use Rattle.lits.proofs.Facts.{has-firsts}
+use Rattle.lits.proofs.Facts.{has-firsts, lit_laws}
 use Rattle.unit_prop.specs.Closure.{forces}
 use Rattle.unit_prop.specs.New.{occurs, others_negated, IsNew}
 use Rattle.unit_prop.specs.Log.{base_clauses, clauses_of}
@@ -17,7 +17,7 @@ use Rattle.unit_prop.specs.Step.{IsStep}
 use Rattle.lits.specs.declared.step.Ref.{Ref}
 use Rattle.solver_plain.specs.Formula.{clause_named}
 use Rattle.solver_watch.specs.Search.{IsLesson}
-use Rattle.unit_prop.proofs.Facts.{lit_laws, contrary, has-filter, has-map-opposite, all-at}
+use Rattle.unit_prop.proofs.Facts.{contrary, has-filter, has-map-opposite, all-at}
 use Rattle.solver_plain.proofs.Facts.{all-each, each-of, list_all-not, pair-none}
 use Rattle.watch_lists.specs.Trail.{TrailState, IsTrail, IsQuiet, IsConflict, put_at, clause_at, lits_of, up_to}
 use Rattle.watch_lists.specs.declared.put.Put.{Put}

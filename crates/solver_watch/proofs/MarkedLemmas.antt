@@ -1,7 +1,8 @@
 -- The steps of an analysis: one more place, one more clause.
 use Rattle.std.proofs.Common.{◌≡◌, ◌<◌, ◌≤◌, ◌+◌, ℕ, arith, Bool, true, false, ◌||◌, ◌⊎◌, inl, inr, List, [], ◌∷◌, ◌++◌, nat_eq, get_or, set, length, refl, sym, ap, subst, ◌∙◌, length-set}
 use Rattle.lits.specs.Clause.{has}
-use Rattle.unit_prop.proofs.Facts.{contrary, lit_laws}
+use Rattle.lits.proofs.Facts.{lit_laws}
+use Rattle.unit_prop.proofs.Facts.{contrary}
 use Rattle.std.proofs.Math.Nat.{eq-or-lt_of_le}
 use Rattle.std.proofs.lemmas.List.Elements.{All-get_or}
 use Rattle.std.proofs.lemmas.Bool.{or_cases, or_left, or_right}

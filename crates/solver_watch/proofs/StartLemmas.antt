@@ -9,15 +9,15 @@ use Rattle.lits.specs.Same.{same_lit, same_node, opposite}
 use Rattle.lits.specs.declared.node.Node.{Node}
 use Rattle.lits.specs.declared.literal.Lit.{Lit}
 use Rattle.lits.specs.declared.step.Named.{Named}
-use Rattle.lits.proofs.Facts.{exact-node}
+use Rattle.lits.proofs.Facts.{exact-node, has-append, lit_laws, node_laws, take_one}
 use Rattle.unit_prop.specs.Log.{IsBase, base_clauses}
 use Rattle.unit_prop.specs.Refuter.{is_over}
-use Rattle.unit_prop.proofs.Facts.{lit_laws, witness}
-use Rattle.solver_plain.proofs.Facts.{next, over-opposite}
+use Rattle.unit_prop.proofs.Facts.{witness}
+use Rattle.solver_plain.proofs.Facts.{over-opposite}
 use Rattle.watch_lists.specs.Trail.{Adds}
 use Rattle.solver_watch.specs.declared.formula.Formula.{Formula}
 use Rattle.solver_watch.specs.Known.{IsStarted}
-use Rattle.solver_watch.proofs.EngineLemmas.{same-variable, node-append, clauses-both}
+use Rattle.solver_watch.proofs.EngineLemmas.{same-variable, clauses-both}
 
 -- the first clauses of a base are taken
 pub record IsStarting (base : List Named) (f : Formula) : Type 0 where
@@ -36,14 +36,14 @@ over-more base more l =
 pub starting-next : (base : List Named) (i : ℕ) (n : Named) (f g : Formula) → i < length base → n ≡ get_or base i n → IsStarting (take i base) f
     → Adds f.trail n.clause g.trail → g.base.items ≡ f.base.items ++ n ∷ [] → g.log.items ≡ f.log.items → IsStarting (take (i + 1) base) g
 starting-next base i n f g below at so_far adds base_new log_new =
-    subst (λ (b : List Named). IsStarting b g) (sym (next base i n below at)) (record {
+    subst (λ (b : List Named). IsStarting b g) (sym (take_one base i n below at)) (record {
       base_is = base_new ∙ ap (λ (b : List Named). b ++ n ∷ []) so_far.base_is;
       log_is = log_new ∙ so_far.log_is;
       clauses = adds.clauses ∙ ap (λ (cs : List (List Lit)). cs ++ n.clause ∷ []) so_far.clauses
           ∙ sym (map-append (λ (m : Named). m.clause) (take i base) (n ∷ []));
       puts = adds.puts ∙ so_far.puts;
       last = adds.last ∙ so_far.last;
-      nodes = λ l h. over-more (take i base) (n ∷ []) l ∙ nodes_at l (or_cases _ _ (sym (node-append f.trail.nodes adds.numbers.more l.node)
+      nodes = λ l h. over-more (take i base) (n ∷ []) l ∙ nodes_at l (or_cases _ _ (sym (has-append node_laws f.trail.nodes adds.numbers.more l.node)
           ∙ ap (λ (ns : List Node). has same_node ns l.node) (sym adds.numbers.behind) ∙ h));
     })
   where

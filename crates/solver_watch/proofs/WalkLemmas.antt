@@ -7,7 +7,8 @@ use Rattle.std.proofs.lemmas.Bool.{or_cases, or_left, or_right}
 use Rattle.lits.specs.Clause.{has}
 use Rattle.lits.specs.Same.{same_lit, opposite}
 use Rattle.lits.specs.declared.literal.Lit.{Lit}
-use Rattle.unit_prop.proofs.Facts.{lit_laws, contrary, all-true, all-at}
+use Rattle.lits.proofs.Facts.{lit_laws}
+use Rattle.unit_prop.proofs.Facts.{contrary, all-true, all-at}
 use Rattle.unit_prop.specs.Closure.{is_negated}
 use Rattle.watch_lists.specs.Trail.{TrailState, IsTrail, IsGround, IsConflict, put_at, clause_at, lits_of, up_to}
 use Rattle.watch_lists.specs.declared.put.Put.{Put}

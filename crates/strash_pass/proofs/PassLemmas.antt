@@ -15,12 +15,11 @@ use Rattle.std.proofs.lemmas.List.{length-map}
 use Rattle.std.proofs.lemmas.Bool.{and_parts}
 use Rattle.lits.specs.declared.literal.Lit.{Lit}
 use Rattle.lits.specs.declared.step.Step.{Step}
-use Rattle.lits.proofs.Facts.{same-node_self, exact-lit, all-append}
+use Rattle.lits.proofs.Facts.{same-node_self, exact-lit, all-append, lit_laws}
 use Rattle.netlist.specs.declared.gate.Definition.{Definition}
 use Rattle.netlist.specs.Place.{place_of}
 use Rattle.netlist.specs.Net.{AigPair, IsNet, circuit_of, defined_by, definition_of, definitions, position_of}
 use Rattle.netlist.proofs.Facts.{at-place, place_of-append, or_place, slice_get-left, few_gates_of, gate-definition, or_place-none}
-use Rattle.unit_prop.proofs.Facts.{lit_laws}
 use Rattle.lemma_book.specs.declared.entry.Entry.{Entry}
 use Rattle.lemma_book.specs.declared.entry.Entry.TheVariants.{Merge}
 use Rattle.lemma_book.specs.declared.entry.Subject.TheVariants.{Merged}

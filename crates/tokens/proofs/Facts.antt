@@ -45,8 +45,6 @@ pub use Rattle.tokens.proofs.NumeralLemmas.{size_in-decimal, number_in-decimal}
 pub use Rattle.tokens.proofs.NumeralLemmas.{number_in-any}
 -- the text of a literal writes its number
 pub use Rattle.tokens.proofs.NumeralLemmas.{number_in-literal}
--- a word that begins with another byte writes no number
-pub use Rattle.tokens.proofs.NumeralLemmas.{number_in-other}
 -- ---- texts that grow
 
 -- what grew from a text grew from that with more behind it

@@ -1,5 +1,5 @@
 -- The number that the text of a number or of a literal writes.
-use Rattle.std.proofs.Common.{◌≡◌, ℕ, ◌^◌, ◌<◌, Bool, true, false, eqb, List, [], ◌∷◌, Some, Option, None, decimal, refl, ◌∙◌, ne_eqb, lt-ltb, arith}
+use Rattle.std.proofs.Common.{◌≡◌, ℕ, ◌^◌, ◌<◌, Bool, true, false, eqb, List, [], ◌∷◌, Some, decimal, refl, ◌∙◌, ne_eqb, lt-ltb, arith}
 use Rattle.std.specs.Char.{is_ascii_digit}
 use Rattle.std.specs.List.{list_all}
 use Rattle.std.specs.Str.{all_ascii_digits}
@@ -9,7 +9,6 @@ use Rattle.std.proofs.lemmas.Fmt.{digits_decimal, digits_value-decimal, decimal_
 use Rattle.byte_scan.specs.Scanning.{value, value_from}
 use Rattle.byte_scan.specs.HeaderLine.{is_number}
 use Rattle.lits.specs.Dimacs.{DimacsLiteral}
-use Rattle.tokens.specs.declared.number.Number.{Number}
 use Rattle.tokens.specs.Numbers.{size_in, number_in, plain}
 use Rattle.tokens.specs.Text.{literal_text, number_of, IsInRange}
 
@@ -67,8 +66,3 @@ number_in-literal literal range = go literal.neg refl
     go true e =
         let apart : eqb literal.var 0 ≡ false = ne_eqb _ _ (λ f. omega arith) in
         rw (e, size_in-decimal literal.var (omega arith), apart) refl
-
--- A word that begins with another byte writes no number.
-pub number_in-other : (b : ℕ) (bs : List ℕ) → eqb b 45 ≡ false → is_ascii_digit b ≡ false
-    → ◌≡◌ {A = Option Number} (number_in (b ∷ bs)) None
-number_in-other b bs sign digit = rw (sign, digit) refl

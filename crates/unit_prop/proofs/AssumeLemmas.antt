@@ -1,9 +1,9 @@
 -- What a step assumes at its start: the negations of its clause's literals.
 use Rattle.std.proofs.Common.{◌≡◌, ℕ, ◌+◌, ◌<◌, Bool, true, false, List, [], ◌∷◌, ◌++◌, length, take, drop, get_or, refl, sym, ap, ◌∙◌, subst}
 use Rattle.std.specs.Prelude.{map}
-use Rattle.std.proofs.lemmas.List.{take_more, take-append-drop, map-append}
+use Rattle.std.proofs.lemmas.List.{take-append-drop, map-append}
 use Rattle.lits.specs.Clause.{has, has_pair, firsts}
-use Rattle.lits.proofs.Facts.{IsLiteral, has-firsts, firsts-push, has_pair-push, has_pair-append}
+use Rattle.lits.proofs.Facts.{IsLiteral, has-firsts, firsts-push, has_pair-push, has_pair-append, take_one}
 use Rattle.unit_prop.specs.declared.why.Why.{Why}
 use Rattle.unit_prop.specs.declared.why.StepErr.{StepErr}
 use Rattle.unit_prop.specs.declared.why.StepErr.TheVariants.{Bad, NoMemory}
@@ -12,11 +12,6 @@ use Rattle.unit_prop.specs.StepCheck.{Assumes}
 use Rattle.unit_prop.specs.Propagation.{IsConsistent}
 use Rattle.unit_prop.proofs.LiteralLemmas.{has-map-opposite}
 use Rattle.unit_prop.proofs.ClosureLemmas.{consistent-push}
-
--- one more element of a list
-pub seen-more : {X : Type 0} (xs : List X) (i : ℕ) (x : X) → i < length xs → x ≡ get_or xs i x
-    → take (i + 1) xs ≡ take i xs ++ x ∷ []
-seen-more xs i x below at = take_more xs i x below ∙ ap (λ (y : _). take i xs ++ y ∷ []) (sym at)
 
 -- the set has the negations of the literals seen so far, among which no two are complementary
 pub record IsAssumed {L : Type 0} (eq : L → L → Bool) (opposite : L → L) (seen set : List L) : Type 0 where
@@ -52,7 +47,7 @@ module _ {L : Type 0} {eq : L → L → Bool} {opposite : L → L} (laws : IsLit
   -- the next literal's negation joins the set
   pub assumed-next : (lits : List L) (i : ℕ) (x : L) (set new : List L) → i < length lits → x ≡ get_or lits i x
       → IsAssumed eq opposite (take i lits) set → Assumes eq opposite set x new → IsAssumed eq opposite (take (i + 1) lits) new
-  assumed-next lits i x set new below at a adds = rw (seen-more lits i x below at) (assumed-more (take i lits) set x new a adds)
+  assumed-next lits i x set new below at a adds = rw (take_one lits i x below at) (assumed-more (take i lits) set x new a adds)
 
   -- the next literal is the negation of one before it
   pub assumed-pair : (lits : List L) (i : ℕ) (x : L) (set : List L) → i < length lits → x ≡ get_or lits i x
@@ -60,7 +55,7 @@ module _ {L : Type 0} {eq : L → L → Bool} {opposite : L → L} (laws : IsLit
   assumed-pair lits i x set below at a pair =
       let here : has_pair eq opposite (take i lits ++ x ∷ []) ≡ true =
       has_pair-push laws (take i lits) x ∙ rw (a.apart, sym (has-set (take i lits) set x a) ∙ pair) refl in
-      let there : has_pair eq opposite (take (i + 1) lits) ≡ true = rw (seen-more lits i x below at) here in
+      let there : has_pair eq opposite (take (i + 1) lits) ≡ true = rw (take_one lits i x below at) here in
       subst (λ (l : List L). has_pair eq opposite l ≡ true) (take-append-drop (i + 1) lits)
       (has_pair-append laws (take (i + 1) lits) (drop (i + 1) lits) there)
 

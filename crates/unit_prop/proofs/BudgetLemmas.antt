@@ -13,7 +13,7 @@ use Rattle.lits.specs.declared.node.Node.{Node}
 use Rattle.lits.specs.declared.step.Named.{Named}
 use Rattle.lits.specs.declared.step.Step.{Step}
 use Rattle.lits.specs.contracts.literal.LitLiteral.TheImpl.Laws as lit
-use Rattle.lits.proofs.Facts.{all-filter, has-firsts, exact-node}
+use Rattle.lits.proofs.Facts.{all-filter, has-firsts, exact-node, lit_laws, node_laws}
 use Rattle.unit_prop.specs.Log.{base_clauses, InTurn, IsLearned, IsLog, IsBudgetLog}
 use Rattle.unit_prop.specs.New.{IsNew}
 use Rattle.unit_prop.specs.Refuter.{Answers, IsAnswer}
@@ -22,7 +22,6 @@ use Rattle.unit_prop.specs.declared.refuter.Refuted.{Refuted}
 use Rattle.unit_prop.specs.declared.refuter.Refuted.TheVariants.{Spent}
 use Rattle.unit_prop.proofs.ChainLemmas.{log-grows}
 use Rattle.unit_prop.proofs.CountLemmas.{IsAmong, new-count}
-use Rattle.unit_prop.proofs.LitLaws.{lit_laws, node_laws}
 
 -- the literal of each variable without a sign
 positive : Node → Lit

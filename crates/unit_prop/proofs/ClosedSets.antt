@@ -5,9 +5,8 @@ use Rattle.std.proofs.lemmas.Bool.{or_left, or_right}
 use Rattle.lits.specs.Clause.{has, firsts}
 use Rattle.lits.specs.Same.{same_lit, opposite}
 use Rattle.lits.specs.declared.literal.Lit.{Lit}
-use Rattle.lits.proofs.Facts.{has-firsts, same-lit_self}
+use Rattle.lits.proofs.Facts.{has-firsts, same-lit_self, lit_laws}
 use Rattle.unit_prop.specs.Closure.{forces}
-use Rattle.unit_prop.proofs.LitLaws.{lit_laws}
 use Rattle.unit_prop.proofs.LiteralLemmas.{all-true, all-at}
 
 -- the set is closed under unit propagation by the clause

@@ -19,10 +19,10 @@ pub use Rattle.unit_prop.proofs.LiteralLemmas.{all-at}
 pub use Rattle.unit_prop.proofs.StepLemmas.{step-holds}
 -- ---- what a chain of steps shows: each of its clauses holds wherever the clauses that it stands on hold
 pub use Rattle.unit_prop.proofs.ChainLemmas.{in_turn-map, in_turn-append}
+-- a base that is met, clause by clause
+pub use Rattle.unit_prop.proofs.ChainLemmas.{all-base}
 -- what a query makes of a log is a log again
 pub use Rattle.unit_prop.proofs.ChainLemmas.{log-grows}
--- ---- the laws of the two kinds of literal
-pub use Rattle.unit_prop.proofs.LitLaws.{lit_laws}
 -- ---- how a set of literals grows into the closure
 pub use Rattle.unit_prop.proofs.ClosureLemmas.{round-clash, round-last, consistent-push, round-next}
 -- a set within another forces and negates no more

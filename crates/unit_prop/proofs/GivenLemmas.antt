@@ -5,12 +5,11 @@ use Rattle.std.proofs.lemmas.List.Folds.{list_any_at}
 use Rattle.std.proofs.lemmas.List.{take-append-drop}
 use Rattle.std.proofs.lemmas.Bool.{or_left}
 use Rattle.lits.specs.Clause.{has}
-use Rattle.lits.proofs.Facts.{IsLiteral, has-append}
+use Rattle.lits.proofs.Facts.{IsLiteral, has-append, take_one}
 use Rattle.unit_prop.specs.declared.propagation.Closure.{Closure}
 use Rattle.unit_prop.specs.declared.propagation.Closure.TheVariants.{Clash, Free}
 use Rattle.unit_prop.specs.Closure.{ClosureClashes, ClosesTo}
 use Rattle.unit_prop.specs.Propagation.{IsConsistent}
-use Rattle.unit_prop.proofs.AssumeLemmas.{seen-more}
 use Rattle.unit_prop.proofs.ClosureLemmas.{consistent-push}
 
 -- the set has what is given, and no literal beside its negation
@@ -28,7 +27,7 @@ module _ {L : Type 0} {eq : L → L → Bool} {opposite : L → L} (laws : IsLit
       → x ≡ get_or lits i x → StandsFor eq opposite (take i lits) set → has eq set (opposite x) ≡ false
       → new ≡ (if has eq set x then set else set ++ x ∷ []) → StandsFor eq opposite (take (i + 1) lits) new
   given-next differs lits i x set new below at s apart grows =
-      rw (seen-more lits i x below at) (go (has eq set x) refl)
+      rw (take_one lits i x below at) (go (has eq set x) refl)
     where
       go : (b : Bool) → has eq set x ≡ b → StandsFor eq opposite (take i lits ++ x ∷ []) new
       go true e =

@@ -20,7 +20,7 @@ use Rattle.unit_prop.proofs.LiteralLemmas.{contrary, has-map-opposite}
 use Rattle.unit_prop.proofs.AskLemmas.{ask-none, ask-unit, ask-satisfied, ask-more}
 use Rattle.unit_prop.proofs.OpenLemmas.{hint-nothing, hint-one}
 use Rattle.unit_prop.proofs.ClosureLemmas.{IsRound, round-clash, round-next, round-last, consistent-push, missing_places, missing_places-falls}
-use Rattle.unit_prop.proofs.LitLaws.{lit_laws}
+use Rattle.lits.proofs.Facts.{lit_laws}
 
 -- the first that passes is in the list, and passes
 pub find-passes : {X : Type 0} (P : X → Type 0) (p : X → Bool) (xs : List X) (x : X) → AllByRecursion P xs → find p xs ≡ Some x

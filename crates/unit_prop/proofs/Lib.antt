@@ -2,7 +2,6 @@ pub mod Facts
 mod LiteralLemmas
 mod StepLemmas
 mod ChainLemmas
-mod LitLaws
 mod OpenLemmas
 mod AssumeLemmas
 mod AskLemmas

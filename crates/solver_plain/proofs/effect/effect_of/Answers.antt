@@ -1,5 +1,5 @@
 use Rattle.std.proofs.Common.{sym, ◌∙◌}
-use Rattle.unit_prop.proofs.Facts.{lit_laws}
+use Rattle.lits.proofs.Facts.{lit_laws}
 use Rattle.solver_plain.proofs.EffectLemmas.{negated-of_none, unit-of_first, quiet-settled, quiet-unforced}
 use Rattle.solver_plain.proofs.effect.effect_of.Goals as goal
 use Rattle.solver_plain.proofs.effect.effect_of.Goals.{else-not-has-via-then-not-has+else-is_forced, else-not-has-via-else-not-has}

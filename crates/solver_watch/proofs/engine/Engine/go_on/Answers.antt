@@ -1,6 +1,6 @@
 use Rattle.std.proofs.Common.{◌≡◌, ◌<◌, true, List, refl, sym, subst, ◌∙◌, arith, ℕ}
 use Rattle.lits.specs.declared.literal.Lit.{Lit}
-use Rattle.unit_prop.proofs.Facts.{lit_laws}
+use Rattle.lits.proofs.Facts.{lit_laws}
 use Rattle.unit_prop.specs.Refuter.{is_over, IsModel}
 use Rattle.solver_plain.proofs.Facts.{each-at}
 use Rattle.watch_lists.specs.Codes.{lit_at}

@@ -1,4 +1,4 @@
-use Rattle.unit_prop.proofs.LitLaws.{dim_laws}
+use Rattle.lits.proofs.Facts.{dim_laws}
 use Rattle.unit_prop.proofs.AssignmentLemmas.{clash-false}
 use Rattle.unit_prop.proofs.laws.dimacs.clash_refutes.Goals as goal
 

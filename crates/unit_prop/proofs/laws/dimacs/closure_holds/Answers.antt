@@ -1,4 +1,4 @@
-use Rattle.unit_prop.proofs.LitLaws.{dim_laws}
+use Rattle.lits.proofs.Facts.{dim_laws}
 use Rattle.unit_prop.proofs.AssignmentLemmas.{closure-true}
 use Rattle.unit_prop.proofs.laws.dimacs.closure_holds.Goals as goal
 

@@ -1,4 +1,4 @@
-use Rattle.unit_prop.proofs.LitLaws.{dim_laws}
+use Rattle.lits.proofs.Facts.{dim_laws}
 use Rattle.unit_prop.proofs.AssignmentLemmas.{new-differs}
 use Rattle.unit_prop.proofs.laws.dimacs.new_differs.Goals as goal
 

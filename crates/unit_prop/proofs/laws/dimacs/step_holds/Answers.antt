@@ -1,4 +1,4 @@
-use Rattle.unit_prop.proofs.LitLaws.{dim_laws}
+use Rattle.lits.proofs.Facts.{dim_laws}
 use Rattle.unit_prop.proofs.StepLemmas.{step-holds}
 use Rattle.unit_prop.proofs.laws.dimacs.step_holds.Goals as goal
 

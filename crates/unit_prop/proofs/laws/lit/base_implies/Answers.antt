@@ -1,4 +1,4 @@
-use Rattle.unit_prop.proofs.LitLaws.{lit_laws}
+use Rattle.lits.proofs.Facts.{lit_laws}
 use Rattle.unit_prop.proofs.ChainLemmas.{base-implies}
 use Rattle.unit_prop.proofs.laws.lit.base_implies.Goals as goal
 

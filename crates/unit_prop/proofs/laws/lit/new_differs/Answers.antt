@@ -1,4 +1,4 @@
-use Rattle.unit_prop.proofs.LitLaws.{lit_laws}
+use Rattle.lits.proofs.Facts.{lit_laws}
 use Rattle.unit_prop.proofs.AssignmentLemmas.{new-differs}
 use Rattle.unit_prop.proofs.laws.lit.new_differs.Goals as goal
 

@@ -1,4 +1,4 @@
-use Rattle.unit_prop.proofs.LitLaws.{lit_laws}
+use Rattle.lits.proofs.Facts.{lit_laws}
 use Rattle.unit_prop.proofs.StepLemmas.{step-holds}
 use Rattle.unit_prop.proofs.laws.lit.step_holds.Goals as goal
 

@@ -1,4 +1,4 @@
-use Rattle.unit_prop.proofs.LitLaws.{lit_laws}
+use Rattle.lits.proofs.Facts.{lit_laws}
 use Rattle.unit_prop.proofs.ChainLemmas.{steps-hold}
 use Rattle.unit_prop.proofs.laws.lit.steps_hold.Goals as goal
 

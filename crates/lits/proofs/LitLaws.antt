@@ -1,6 +1,6 @@
 -- The laws of the two kinds of literal, and of nodes.
 use Rattle.std.proofs.Common.{refl, rules}
-use Rattle.lits.proofs.Facts.{IsLiteral, is_literal}
+use Rattle.lits.proofs.ClauseLemmas.{IsLiteral, is_literal}
 use Rattle.lits.specs.contracts.literal.LitEq.TheImpl.Laws as lit_eq
 use Rattle.lits.specs.contracts.literal.LitLiteral.TheImpl.Laws as lit
 use Rattle.lits.specs.contracts.dimacs.DimEq.TheImpl.Laws as dim_eq
