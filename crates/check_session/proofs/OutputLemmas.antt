@@ -2,11 +2,13 @@
 use Rattle.std.proofs.Common.{◌≡◌, ◌≢◌, ℕ, zero, suc, ◌+◌, ◌<◌, ◌≤◌, Bool, true, false, ◌||◌, ◌&&◌, List, [], ◌∷◌, ◌++◌, length, drop, filter, append_assoc, add-one, inl, inr, Option, Some, None, refl, sym, ap, ◌∙◌, subst, arith, Result, Ok, Err, OnOk}
 use Rattle.std.specs.List.{find, list_any, list_all, range_with_len, AllByRecursion}
 use Rattle.std.specs.Option.{option_or}
+use Rattle.std.specs.Prelude.{⊤}
 use Rattle.std.proofs.Math.Nat.{eq-or-lt_of_le}
 use Rattle.std.proofs.lemmas.List.Folds.{find-append}
 use Rattle.std.proofs.lemmas.List.Elements.{filter-append}
 use Rattle.std.proofs.Math.Seq.{take-length}
 use Rattle.netlist.specs.Net.{AigPair}
+use Rattle.netlist.proofs.Facts.{found-one, no-facts}
 use Rattle.lemma_book.specs.declared.entry.Entry.{Entry}
 use Rattle.lemma_book.specs.declared.entry.Entry.TheVariants.{Merge, Apart, Spent, Out, OutApart, OutSpent}
 use Rattle.lemma_book.specs.declared.entry.Subject.{Subject}
@@ -46,19 +48,11 @@ on-subject s (OutSpent j seen log) on = ap (λ (t : Subject). Some t) (exact-sub
 is_on-subject : (s : Subject) (e : Entry) → subject_of e ≡ Some s → is_on s e ≡ true
 is_on-subject s e subject = rw subject (same-subject_self s)
 
-find-true : {X : Type 0} (p : X → Bool) (xs : List X) (x : X) → find p xs ≡ Some x → p x ≡ true
-find-true {X} p [] x found = cc
-find-true {X} p (y ∷ ys) x found = go (p y) refl found (find-true p ys x)
-  where
-    go : (b : Bool) → p y ≡ b → find p (y ∷ ys) ≡ Some x → (find p ys ≡ Some x → p x ≡ true) → p x ≡ true
-    go true is f rest = let same : Some y ≡ Some x = rw is at f in let e : y ≡ x = cc in subst (λ (z : X). p z ≡ true) e is
-    go false is f rest = rest (rw is at f)
-
 -- ---- the entry on an output
 
 -- it is about that output
 pub about-subject : (es : List Entry) (j : ℕ) (e : Entry) → about es j ≡ Some e → subject_of e ≡ Some (Output j)
-about-subject es j e found = on-subject (Output j) e (find-true (is_on (Output j)) es e found)
+about-subject es j e found = on-subject (Output j) e (found-one (is_on (Output j)) (λ x. ⊤) es e (no-facts es) found).1
 
 or-some : {X : Type 0} (o : Option X) (x : X) → option_or o (Some x) ≢ None
 or-some None x = λ e. cc

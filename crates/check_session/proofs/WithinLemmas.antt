@@ -19,7 +19,7 @@ use Rattle.lemma_book.specs.declared.entry.Entry.TheVariants.{Merge, Apart, Spen
 use Rattle.lemma_book.specs.Entry.{Entries, about}
 use Rattle.lemma_book.specs.Good.{Count, NoStep, NotNew, IsGood}
 use Rattle.lemma_book.specs.Book.{IsLegal}
-use Rattle.lemma_book.proofs.Facts.{about-all, cone-one, cone-over, in_turn-each}
+use Rattle.lemma_book.proofs.Facts.{IsGoodAfter, about-all, cone-one, cone-over, in_turn-each}
 use Rattle.proof_stitch.specs.Derivation.{is_spent, has_spent, outputs_of}
 use Rattle.check_session.specs.Finding.{Finding, Equivalent, Different, Undecided, Finds}
 use Rattle.check_session.specs.Check.{IsWithinFor}
@@ -31,9 +31,6 @@ BudgetsAreSmall = (base : List Named) (budget : ℕ) (log : List Step) → IsBud
 abbrev pub VariablesAreAmong : Type 0
 VariablesAreAmong = (base : List Named) (nodes : List Node)
     → AllByRecursion (λ n. AllByRecursion (λ l. has same_node nodes l.node ≡ true) n.clause) base → variables base ≤ length nodes
-
-abbrev IsGoodAfter : AigPair → ℕ → ℕ → List Entry → Entry → Type 0
-IsGoodAfter net sweep out before e = IsGood net (record { sweep_budget = sweep; out_budget = out; entries = before }) e
 
 -- the entry is good over some legal book
 record IsGoodSomewhere (net : AigPair) (sweep out : ℕ) (e : Entry) : Type 0 where

@@ -8,6 +8,8 @@ pub use Rattle.lemma_book.proofs.NamedClauses.{found-clause}
 pub use Rattle.lemma_book.proofs.NamedClauses.{clause-more}
 -- the chains of steps of a good merge and of an output's log, over what an output's steps may cite
 pub use Rattle.lemma_book.proofs.NamedClauses.{merge-chain_out, out_spent-chain}
+-- the entry is good over those before it
+pub use Rattle.lemma_book.proofs.GoodEntries.{IsGoodAfter}
 -- a good entry from its steps, its input or its log
 pub use Rattle.lemma_book.proofs.GoodEntries.{good-merge, good-apart, good-spent, good-out, good-out_apart, good-out_spent}
 -- the chain of a good entry's steps

@@ -9,11 +9,16 @@ use Rattle.lits.specs.declared.step.Named.{Named}
 use Rattle.netlist.specs.Net.{AigPair}
 use Rattle.unit_prop.specs.Refuter.{IsUndecided, StaysUndecided}
 use Rattle.unit_prop.specs.Log.{base_clause, IsStepAfter, IsChain, IsLearned, IsLog, IsBudgetLog}
+use Rattle.lemma_book.specs.declared.entry.Entry.{Entry}
 use Rattle.lemma_book.specs.declared.entry.Entry.TheVariants.{Merge, Apart, Spent, Out, OutApart, OutSpent}
 use Rattle.lemma_book.specs.Entry.{Entries, settled_at, merge_clauses, equal_clause}
 use Rattle.lemma_book.specs.Cone.{IsCone}
 use Rattle.lemma_book.specs.Good.{NoNode, Already, NotEarlier, NotApart, Shape, Count, Seen, NoStep, NotNew, AreOver, ArePlaced, IsEarlier, IsApart, IsOutApart, EndsIn, out_clause, node_clause, IsStepAt, IsNewAt, IsUndecidedAt, IsGood}
 use Rattle.lemma_book.proofs.InTurn.{in_turn-at, in_turn-each}
+
+-- the entry is good over those before it, in a book with these budgets
+abbrev pub IsGoodAfter : AigPair → ℕ → ℕ → List Entry → Entry → Type 0
+IsGoodAfter net sweep out before e = IsGood net (record { sweep_budget = sweep; out_budget = out; entries = before }) e
 
 -- a chain of steps is one at each place, and the other way round
 pub chain-step : (find : Ref → Option (List Lit)) (steps : List Step) (k : ℕ) → IsChain find steps → IsStepAt find steps k

@@ -1,6 +1,8 @@
 -- What crates above may cite.
 -- ---- nodes and literals that the program finds equal are one; what stands at the place that a test finds
 pub use Rattle.netlist.proofs.SameNodes.{equal-number, any_from_find}
+-- what is found passes, and has what all elements have
+pub use Rattle.netlist.proofs.SameNodes.{found-one, no-facts}
 -- what holds of the place
 pub use Rattle.netlist.proofs.SameNodes.{at-place}
 -- what follows from each fact follows from all; tests that agree pass the same lists

@@ -21,18 +21,13 @@ use Rattle.lemma_book.specs.declared.entry.Entry.TheVariants.{Merge, Apart, Spen
 use Rattle.lemma_book.specs.declared.entry.Subject.{Subject}
 use Rattle.lemma_book.specs.declared.entry.Subject.TheVariants.{Merged, Output}
 use Rattle.lemma_book.specs.Entry.{subject_of, same_subject, is_on, place_on, about, equal_clause}
-use Rattle.lemma_book.specs.Good.{NoNode, Already, Shape, Count, out_clause, IsGood}
-use Rattle.lemma_book.proofs.Facts.{about-all, clause-more, chain-more, merge-chain_out, out-chain, out_spent-chain, same-subject_self}
+use Rattle.lemma_book.specs.Good.{NoNode, Already, Shape, Count, out_clause}
+use Rattle.lemma_book.proofs.Facts.{IsGoodAfter, about-all, clause-more, chain-more, merge-chain_out, out-chain, out_spent-chain, same-subject_self}
 use Rattle.proof_stitch.specs.Written.{written_steps, shown_clauses}
 use Rattle.proof_stitch.specs.Stitch.{is_out, has_out}
 use Rattle.proof_stitch.specs.Derivation.{is_spent, has_spent, log_of, spent_log}
 use Rattle.proof_stitch.proofs.StepLemmas.{IsDerived}
 use Rattle.proof_stitch.proofs.ShownLemmas.{IsShown, AreDerived}
-
--- the entry is good over those before it
-abbrev pub IsGoodAfter : AigPair → ℕ → ℕ → List Entry → Entry → Type 0
-IsGoodAfter net sweep out before entry =
-    IsGood net (record { sweep_budget = sweep; out_budget = out; entries = before }) entry
 
 -- what a good entry says without the entries before it
 pub record IsSound (net : AigPair) (out : ℕ) (entry : Entry) : Type 0 where
