@@ -29,41 +29,42 @@ fn of_pair(rt: &impl Abort, alloc: Global, kind: &str, about: (&str, &str), body
     let node = lit(rt, about.0).node;
     let (target, seen) = halves(about.1);
     let lit = lit(rt, target);
-    match kind {
-        "merge" => Entry::Merge {
+    match (kind, seen) {
+        ("merge", "") => Entry::Merge {
             node,
             lit,
             steps: steps(rt, alloc, body),
         },
-        "apart" => Entry::Apart {
+        ("apart", "") => Entry::Apart {
             node,
             lit,
             input: input(rt, alloc, body),
         },
-        _ => Entry::Spent {
+        ("spent", _) => Entry::Spent {
             node,
             lit,
             seen: u64::from(number(seen)),
             log: steps(rt, alloc, body),
         },
+        _ => refuse(rt, "no entry about a pair"),
     }
 }
 
 /// An entry about an output, by its number, and how many entries were seen.
 fn of_output(rt: &impl Abort, alloc: Global, kind: &str, about: (&str, &str), body: &str) -> Entry {
     let output = u32::from(number(about.0));
-    match kind {
-        "out" => Entry::Out {
+    match (kind, about.1) {
+        ("out", "") => Entry::Out {
             output,
             steps: steps(rt, alloc, body),
         },
-        "outapart" => Entry::OutApart {
+        ("outapart", "") => Entry::OutApart {
             output,
             input: input(rt, alloc, body),
         },
-        "outspent" => Entry::OutSpent {
+        ("outspent", seen) => Entry::OutSpent {
             output,
-            seen: u64::from(number(about.1)),
+            seen: u64::from(number(seen)),
             log: steps(rt, alloc, body),
         },
         _ => refuse(rt, "no kind of entry"),

@@ -159,10 +159,15 @@ fn check_query<R: Refuter>(
     check_given_up(rt, alloc, solver, base, target, units)
 }
 
-/// The verdict of a case, and its units.
+/// The verdict of a case, which is `yes` or `no`, and its units.
 fn answer_of(text: &str) -> Option<(bool, u64)> {
     let (word, units) = text.split_once(' ')?;
-    Some((word == "yes", units.parse().ok()?))
+    let implied = match word {
+        "yes" => true,
+        "no" => false,
+        _ => return None,
+    };
+    Some((implied, units.parse().ok()?))
 }
 
 /// Tries a target over its base.
