@@ -134,13 +134,13 @@ fn push_step(
     }
 }
 
-/// The hints that lead from one gate that is true to another. They take no more room than they need, since a
-/// book keeps those of each merge.
+/// The hints that lead from one gate that is true to another.
 fn straight_hints(alloc: Global, from: &Legs, to: &Legs) -> Result<Vec<Ref>, AllocError> {
     let mut hints = Vec::from_slice(alloc, &[Ref::Axiom(from.node, 0), Ref::Axiom(from.node, 1)])?;
     push_way(&from.left, &to.left, &mut hints)?;
     push_way(&from.right, &to.right, &mut hints)?;
     hints.push(Ref::Axiom(to.node, 2))?;
+    // A book keeps the hints of each merge, so the room that they don't need is given back.
     hints.shrink_to_fit();
     Ok(hints)
 }

@@ -51,7 +51,7 @@ pub fn scan(
 }
 
 /// The step that adds the clause of these literals over the base, which unit propagation shows; its hints are
-/// those of `scan`, with no room for more.
+/// those of `scan`.
 pub fn scanned_step(alloc: Global, base: &[Named], lits: &[Lit]) -> Result<Step, AllocError>
     requires named { IsNamed base.now }
     requires clause { IsClause same_lit opposite lits.now }
@@ -63,6 +63,7 @@ pub fn scanned_step(alloc: Global, base: &[Named], lits: &[Lit]) -> Result<Step,
     let clause = Clause::from_slice(alloc, lits)?;
     match scan(alloc, base, &clause)? {
         Some(mut hints) => {
+            // A book keeps the hints of each merge, so the room that they don't need is given back.
             hints.shrink_to_fit();
             let hints = Listed::of(hints);
             Ok(Step { clause, hints })
