@@ -27,6 +27,8 @@ VALID = [
     b"aig 3 2 0 1 1\n6\n\x02\x02",
     b"aig 5 2 0 1 3\n11\n\x01\x03\x04\x01\x01\x02i0 x\no0 y\nc\n",
     b"aig 0 0 0 1 0\n1\n",
+    b"aag 3 2 0 1 1 0 2\n2\n4\n6\n2\n7\n6 2 4\n",
+    b"aig 3 2 0 1 1 0 1\n6\n3\n\x02\x02i1 x\ni1 \n",
 ]
 PIECES = [b"\n", b" ", b"-1", b"0", b"16777216", b"16777217", b"99999999999999999999999", b"aag ", b"aig ", b"\r", b"\x00", b"\xff", b"\x80",
           b"\x80\x80\x80\x80\x80", b"c", b"i0 x\n", b"o1 y\n"]
@@ -65,8 +67,10 @@ def wanted(names):
     counts = []
     for name in ("A", "B"):
         try:
-            inputs, _, outputs = second_reader.read(names[name])
-            counts.append((len(inputs), len(outputs)))
+            circuit = second_reader.read(names[name])
+            if circuit.constraints:
+                raise second_reader.Fault("section C is not supported")
+            counts.append((len(circuit.inputs), len(circuit.outputs)))
         except second_reader.Fault as fault:
             return f"cec: {name}: {fault}\n"
     (inputs_a, outputs_a), (inputs_b, outputs_b) = counts

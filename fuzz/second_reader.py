@@ -1,5 +1,6 @@
 """A second reader of AIGER files, ASCII and binary, written from the format's description alone: the first fault of some
-bytes as the program words it, or the numbers of inputs and outputs and the gates in their order."""
+bytes as the program words it, or the circuit: inputs, gates in their order, outputs, constraints and names."""
+from dataclasses import dataclass, field
 
 MOST = 16_777_216
 CAP = 10 ** 18
@@ -7,6 +8,17 @@ CAP = 10 ** 18
 
 class Fault(Exception):
     """The first fault, in the program's words."""
+
+
+@dataclass
+class Circuit:
+    """Variables of the inputs, (literal, fanin, fanin) of the gates, literals of the outputs and of the constraints, and
+    for `i` and for `o` the names, by place, of those that have one."""
+    inputs: list
+    gates: list
+    outputs: list
+    constraints: list
+    names: dict = field(default_factory=dict)
 
 
 def number_at(data, at):
@@ -60,12 +72,13 @@ def header(data, letter):
     m, i, latches, o, a = numbers[:5]
     if latches:
         raise Fault(f"{latches} latches")
-    for name, n in zip("BCJF", numbers[5:]):
+    bad, constraints, justice, fairness = numbers[5:]
+    for name, n in (("B", bad), ("J", justice), ("F", fairness)):
         if n:
             raise Fault(f"section {name} is not supported")
     if m < i + a or (letter == b"i" and m != i + a):
         raise Fault("bad header")
-    return m, i, o, a, min(len(line) + 1, len(data))
+    return m, i, o, a, constraints, min(len(line) + 1, len(data))
 
 
 def used(m, n):
@@ -75,16 +88,29 @@ def used(m, n):
 
 
 def tail(data, at, i, o):
+    """The names that the symbol lines give: a later line for a place counts, and an empty name is none."""
+    names = {b"i": {}, b"o": {}}
     while at < len(data):
         end = data.find(b"\n", at)
         line = data[at:] if end < 0 else data[at:end]
         if line[:1] == b"c":
-            return
+            break
         value, behind = number_at(line, 1)
         limit = {b"i": i, b"o": o}.get(line[:1], 0)
         if value is None or value >= limit or line[behind:behind + 1] != b" ":
             raise Fault(f"bad symbol line at byte {at}")
+        names[line[:1]][value] = line[behind + 1:]
         at = len(data) if end < 0 else end + 1
+    return {letter: {place: name for place, name in given.items() if name} for letter, given in names.items()}
+
+
+def literals(data, at, m, count):
+    """The literals of so many lines, and the place behind them."""
+    found = []
+    for _ in range(count):
+        (n,), at = line_of_numbers(data, at, 1)
+        found.append(used(m, n))
+    return found, at
 
 
 def in_order(inputs, gates):
@@ -108,8 +134,8 @@ def in_order(inputs, gates):
 
 
 def ascii_file(data):
-    m, i, o, a, at = header(data, b"a")
-    defined, outputs, gates = {0}, [], []
+    m, i, o, a, c, at = header(data, b"a")
+    defined, gates = {0}, []
 
     def define(n):
         if n % 2 or n == 0 or n > 2 * m:
@@ -123,19 +149,17 @@ def ascii_file(data):
         (n,), at = line_of_numbers(data, at, 1)
         define(n)
         inputs.append(n // 2)
-    for _ in range(o):
-        (n,), at = line_of_numbers(data, at, 1)
-        outputs.append(used(m, n))
+    outputs, at = literals(data, at, m, o)
+    constraints, at = literals(data, at, m, c)
     for _ in range(a):
         (lhs, left, right), at = line_of_numbers(data, at, 3)
         define(lhs)
         gates.append((lhs, used(m, left), used(m, right)))
-    for n in outputs + [n for gate in gates for n in gate[1:]]:
+    for n in outputs + constraints + [n for gate in gates for n in gate[1:]]:
         if n // 2 not in defined:
             raise Fault(f"literal {n} is undefined")
     gates = in_order(inputs, gates)
-    tail(data, at, i, o)
-    return inputs, gates, outputs
+    return Circuit(inputs, gates, outputs, constraints, tail(data, at, i, o))
 
 
 def delta_at(data, at, gate):
@@ -151,11 +175,10 @@ def delta_at(data, at, gate):
 
 
 def binary_file(data):
-    m, i, o, a, at = header(data, b"i")
-    outputs, gates = [], []
-    for _ in range(o):
-        (n,), at = line_of_numbers(data, at, 1)
-        outputs.append(used(m, n))
+    m, i, o, a, c, at = header(data, b"i")
+    outputs, at = literals(data, at, m, o)
+    constraints, at = literals(data, at, m, c)
+    gates = []
     for gate in range(a):
         lhs = 2 * (i + gate + 1)
         first, at = delta_at(data, at, gate)
@@ -165,12 +188,11 @@ def binary_file(data):
         if second > lhs - first:
             raise Fault(f"bad delta at gate {gate}")
         gates.append((lhs, lhs - first, lhs - first - second))
-    tail(data, at, i, o)
-    return list(range(1, i + 1)), gates, outputs
+    return Circuit(list(range(1, i + 1)), gates, outputs, constraints, tail(data, at, i, o))
 
 
 def read(data):
-    """The inputs' variables, the gates in order and the outputs' literals; Fault where the bytes spell no circuit."""
+    """The circuit that the bytes spell; Fault where they spell none."""
     if data[:4] == b"aag ":
         return ascii_file(data)
     if data[:4] == b"aig ":

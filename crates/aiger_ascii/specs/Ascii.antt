@@ -1,14 +1,15 @@
 -- Which bytes spell which circuit in the ASCII form of AIGER, and which fault they have first (A. Biere, The AIGER
 -- And-Inverter Graph Format, 2007; AIGER 1.9). A file is a header line; a line of one literal for each input, which
--- defines its variable; one for each output; a line of three for each gate, which defines the first; and a tail.
-use Rattle.std.specs.Prelude.{◌≡◌, ◌≤◌, false, ℕ, zero, suc, ◌*◌, ◌%◌, ◌||◌, List, [], ◌∷◌, ◌++◌, Result, Ok, Err, nat_lt, ◌==◌, if◌then◌else◌}
+-- defines its variable; one for each output and then for each constraint; a line of three for each gate, which defines the
+-- first; and a tail, which gives names.
+use Rattle.std.specs.Prelude.{◌≡◌, ◌≤◌, false, ℕ, zero, suc, ◌*◌, ◌%◌, ◌||◌, List, [], ◌∷◌, ◌++◌, length, Result, Ok, Err, nat_lt, ◌==◌, if◌then◌else◌}
 use Rattle.byte_scan.specs.declared.errors.AigerErr.{AigerErr}
 use Rattle.byte_scan.specs.declared.errors.AigerErr.TheVariants.{BadLiteral, DefinedTwice}
 use Rattle.byte_scan.specs.declared.counts.Header.{Header}
 use Rattle.byte_scan.specs.Scanning.{Place}
 use Rattle.byte_scan.specs.Reading.{◌>>=◌, start, header_at, number_at, space_at, number_line_at, literal_line_at, used, lines_ahead, tail_of, IsFault}
 use Rattle.lits.specs.Clause.{has}
-use Rattle.netlist.specs.Circuit.{Aig, var_of, variables_in}
+use Rattle.netlist.specs.Circuit.{Aig, no_parts, var_of, variables_in}
 use Rattle.circuit_draft.specs.Draft.{finished}
 
 -- A literal that is defined is even, not 0 and at most 2M, and its variable wasn't defined before.
@@ -30,6 +31,11 @@ abbrev pub output_at : ℕ → Aig → Place → Result (Aig × Place) AigerErr
 output_at m c p = do
   n ← literal_line_at m p
   Ok (record c { outputs = c.outputs ++ n.0 ∷ [] }, n.1)
+
+abbrev pub constraint_at : ℕ → Aig → Place → Result (Aig × Place) AigerErr
+constraint_at m c p = do
+  n ← literal_line_at m p
+  Ok (record c { constraints = c.constraints ++ n.0 ∷ [] }, n.1)
 
 -- A gate's line is read whole before its literals are judged, from the left.
 abbrev pub gate_at : ℕ → Aig → Place → Result (Aig × Place) AigerErr
@@ -58,9 +64,16 @@ lines_at line (suc n) m c p = do
 -- what the lines behind the header say, gates in the order of their lines
 unfoldable pub body_at : Header → Place → Result (Aig × Place) AigerErr
 body_at h p = do
-  inputs ← lines_at input_at h.i h.m (record { inputs = []; gates = []; outputs = [] }) p
+  inputs ← lines_at input_at h.i h.m no_parts p
   outputs ← lines_at output_at h.o h.m inputs.0 inputs.1
-  lines_at gate_at h.a h.m outputs.0 outputs.1
+  constraints ← lines_at constraint_at h.c h.m outputs.0 outputs.1
+  lines_at gate_at h.a h.m constraints.0 constraints.1
+
+-- the circuit with the names that the tail gives to its inputs and outputs
+abbrev pub named_at : Aig → Place → Result Aig AigerErr
+named_at c p = do
+  names ← tail_of (length c.inputs) (length c.outputs) (lines_ahead p)
+  Ok (record c { names = names })
 
 -- The circuit that the bytes spell, or their first fault. What is undefined or on a cycle is judged behind the last gate,
 -- and then the tail.
@@ -69,8 +82,7 @@ ascii_in bytes = do
   h ← header_at 97 (start bytes)
   body ← body_at h.0 h.1
   circuit ← finished body.0
-  ended ← tail_of h.0.i h.0.o (lines_ahead body.1)
-  Ok circuit
+  named_at circuit body.1
 
 -- ---- what the reader's own functions answer
 

@@ -1,5 +1,5 @@
 ghost use Rattle.std.specs.Prelude.{◌≡◌, ◌≤◌, ◌<◌, ◌+◌, [], length, IfOk, OnOk};
-ghost use Rattle.aiger_ascii.specs.Ascii.{defined, input_at, output_at, gate_at, lines_at, Grows, IsNew};
+ghost use Rattle.aiger_ascii.specs.Ascii.{defined, input_at, output_at, constraint_at, gate_at, lines_at, Grows, IsNew};
 
 use byte_scan::{AigerErr, Scan, VARIABLE_LIMIT, literal_line, number, number_line, space, used};
 use circuit_draft::Draft;
@@ -16,6 +16,7 @@ pub(crate) fn inputs(
     requires first { draft.old.gates ≡ [] }
     ensures reads { Grows result draft.new scan.new (lines_at input_at count most draft.old scan.old) }
     ensures outputs { OnOk result (draft.new.outputs ≡ draft.old.outputs) }
+    ensures constraints { OnOk result (draft.new.constraints ≡ draft.old.constraints) }
 {
     for _ in 0..count {
         input(scan, most, draft)?;
@@ -28,7 +29,9 @@ fn input(scan: &mut Scan, most: u32, draft: &mut Draft) -> Result<(), AigerErr>
     requires most { most ≤ VARIABLE_LIMIT }
     requires first { draft.old.gates ≡ [] }
     ensures reads { Grows result draft.new scan.new (input_at most draft.old scan.old) }
-    ensures rest { OnOk result ((draft.new.gates ≡ []) × (draft.new.outputs ≡ draft.old.outputs)) }
+    ensures gates { OnOk result (draft.new.gates ≡ []) }
+    ensures outputs { OnOk result (draft.new.outputs ≡ draft.old.outputs) }
+    ensures constraints { OnOk result (draft.new.constraints ≡ draft.old.constraints) }
 {
     let n = number_line(scan)?;
     let var = defined(n, most, draft)?;
@@ -45,7 +48,8 @@ pub(crate) fn outputs(
 ) -> Result<(), AigerErr>
     requires most { most ≤ VARIABLE_LIMIT }
     requires room { length draft.old.outputs + count ≤ VARIABLE_LIMIT }
-    ensures { Grows result draft.new scan.new (lines_at output_at count most draft.old scan.old) }
+    ensures reads { Grows result draft.new scan.new (lines_at output_at count most draft.old scan.old) }
+    ensures constraints { OnOk result (draft.new.constraints ≡ draft.old.constraints) }
 {
     for _ in 0..count {
         output(scan, most, draft)?;
@@ -59,9 +63,39 @@ fn output(scan: &mut Scan, most: u32, draft: &mut Draft) -> Result<(), AigerErr>
     requires room { length draft.old.outputs < VARIABLE_LIMIT }
     ensures reads { Grows result draft.new scan.new (output_at most draft.old scan.old) }
     ensures count { OnOk result (length draft.new.outputs ≡ length draft.old.outputs + 1) }
+    ensures constraints { OnOk result (draft.new.constraints ≡ draft.old.constraints) }
 {
     let lit = literal_line(scan, most)?;
     draft.push_output(lit)?;
+    Ok(())
+}
+
+/// Reads the lines of the constraints.
+pub(crate) fn constraints(
+    scan: &mut Scan,
+    count: u32,
+    most: u32,
+    draft: &mut Draft,
+) -> Result<(), AigerErr>
+    requires most { most ≤ VARIABLE_LIMIT }
+    requires room { length draft.old.constraints + count ≤ VARIABLE_LIMIT }
+    ensures { Grows result draft.new scan.new (lines_at constraint_at count most draft.old scan.old) }
+{
+    for _ in 0..count {
+        constraint(scan, most, draft)?;
+    }
+    Ok(())
+}
+
+/// Reads the line of a constraint.
+fn constraint(scan: &mut Scan, most: u32, draft: &mut Draft) -> Result<(), AigerErr>
+    requires most { most ≤ VARIABLE_LIMIT }
+    requires room { length draft.old.constraints < VARIABLE_LIMIT }
+    ensures reads { Grows result draft.new scan.new (constraint_at most draft.old scan.old) }
+    ensures count { OnOk result (length draft.new.constraints ≡ length draft.old.constraints + 1) }
+{
+    let lit = literal_line(scan, most)?;
+    draft.push_constraint(lit)?;
     Ok(())
 }
 

@@ -1,8 +1,9 @@
-ghost use Rattle.std.specs.Prelude.{◌≡◌, ◌≤◌, []};
+ghost use Rattle.std.specs.Prelude.{◌≡◌, ◌≤◌};
 ghost use Rattle.byte_scan.specs.Reading.{Gives};
-ghost use Rattle.aiger_ascii.specs.Ascii.{ascii_in, body_at, Grows};
+ghost use Rattle.aiger_ascii.specs.Ascii.{ascii_in, body_at, named_at, Grows};
+ghost use Rattle.netlist.specs.Circuit.{no_parts};
 
-use crate::lines::{gates, inputs, outputs};
+use crate::lines::{constraints, gates, inputs, outputs};
 use byte_scan::{AigerErr, Header, Scan, VARIABLE_LIMIT, header, tail};
 use circuit_draft::Draft;
 use netlist::Circuit;
@@ -18,8 +19,17 @@ pub fn read(alloc: Global, bytes: &[u8]) -> Result<Circuit, AigerErr>
     let mut draft = Draft::new(alloc);
     body(&mut scan, &header, &mut draft)?;
     let circuit = draft.finish(alloc)?;
-    tail(&mut scan, header.i, header.o)?;
-    Ok(circuit)
+    with_names(alloc, &mut scan, circuit)
+}
+
+/// The circuit with the names that the tail gives it.
+fn with_names(alloc: Global, scan: &mut Scan, circuit: Circuit) -> Result<Circuit, AigerErr>
+    ensures { Gives result (named_at circuit scan.old) }
+{
+    let inputs = circuit.inputs().len() as u32;
+    let outputs = circuit.outputs().len() as u32;
+    let names = tail(alloc, scan, inputs, outputs)?;
+    Ok(circuit.named(names))
 }
 
 /// Reads what the lines behind the header say.
@@ -27,10 +37,12 @@ pub fn read(alloc: Global, bytes: &[u8]) -> Result<Circuit, AigerErr>
 fn body(scan: &mut Scan, header: &Header, draft: &mut Draft) -> Result<(), AigerErr>
     requires most { header.now.m ≤ VARIABLE_LIMIT }
     requires outputs { header.now.o ≤ VARIABLE_LIMIT }
-    requires first { draft.old ≡ record { inputs = []; gates = []; outputs = [] } }
+    requires constraints { header.now.c ≤ VARIABLE_LIMIT }
+    requires first { draft.old ≡ no_parts }
     ensures { Grows result draft.new scan.new (body_at header.now scan.old) }
 {
     inputs(scan, header.i, header.m, draft)?;
     outputs(scan, header.o, header.m, draft)?;
+    constraints(scan, header.c, header.m, draft)?;
     gates(scan, header.a, header.m, draft)
 }

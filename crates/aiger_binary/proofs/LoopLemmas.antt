@@ -9,18 +9,18 @@ use Rattle.byte_scan.specs.Scanning.{Place, ahead, moved}
 use Rattle.byte_scan.specs.Reading.{IsFault, literal_line_at}
 use Rattle.byte_scan.proofs.Facts.{IsFault-bind}
 use Rattle.netlist.specs.declared.gate.And.{And}
-use Rattle.aiger_binary.specs.Binary.{outputs_at, gate_at, gates_at, groups_at, power_of}
+use Rattle.aiger_binary.specs.Binary.{literals_at, gate_at, gates_at, groups_at, power_of}
 
-pub outputs-step : (n k m : ℕ) (lits : List ℕ) (p : Place) (lit : ℕ) (q : Place) → k < n → literal_line_at m p ≡ Ok (lit, q)
-    → outputs_at (n - k) m lits p ≡ outputs_at (n - (k + 1)) m (lits ++ lit ∷ []) q
-outputs-step n k m lits p lit q lt e = rw (left-more n k lt, e) refl
+pub literals-step : (n k m : ℕ) (lits : List ℕ) (p : Place) (lit : ℕ) (q : Place) → k < n → literal_line_at m p ≡ Ok (lit, q)
+    → literals_at (n - k) m lits p ≡ literals_at (n - (k + 1)) m (lits ++ lit ∷ []) q
+literals-step n k m lits p lit q lt e = rw (left-more n k lt, e) refl
 
-pub outputs-fault : (n k m : ℕ) (lits : List ℕ) (p : Place) (e : AigerErr) → k < n → IsFault e (literal_line_at m p) → IsFault e (outputs_at (n - k) m lits p)
-outputs-fault n k m lits p e lt fault =
-    rw (left-more n k lt) (IsFault-bind e (literal_line_at m p) (λ lit. outputs_at (n - (k + 1)) m (lits ++ lit.0 ∷ []) lit.1) fault)
+pub literals-fault : (n k m : ℕ) (lits : List ℕ) (p : Place) (e : AigerErr) → k < n → IsFault e (literal_line_at m p) → IsFault e (literals_at (n - k) m lits p)
+literals-fault n k m lits p e lt fault =
+    rw (left-more n k lt) (IsFault-bind e (literal_line_at m p) (λ lit. literals_at (n - (k + 1)) m (lits ++ lit.0 ∷ []) lit.1) fault)
 
-pub outputs-end : (n k m : ℕ) (lits : List ℕ) (p : Place) → n ≤ k → outputs_at (n - k) m lits p ≡ Ok (lits, p)
-outputs-end n k m lits p le = rw (left-none n k le) refl
+pub literals-end : (n k m : ℕ) (lits : List ℕ) (p : Place) → n ≤ k → literals_at (n - k) m lits p ≡ Ok (lits, p)
+literals-end n k m lits p le = rw (left-none n k le) refl
 
 pub gates-step : (n k i : ℕ) (gs : List And) (p : Place) (g : And) (q : Place) → k < n → length gs ≡ k → gate_at k (i + k + 1) p ≡ Ok (g, q)
     → gates_at (n - k) i gs p ≡ gates_at (n - (k + 1)) i (gs ++ g ∷ []) q

@@ -6,6 +6,9 @@ use Rattle.std.proofs.lemmas.Bool.Decides.{nat_tests}
 use Rattle.std.proofs.lemmas.List.Folds.{list_any-append}
 use Rattle.std.proofs.Math.Bool.{or-false, or_comm}
 use Rattle.std.proofs.lemmas.Bool.{or_right}
+use Rattle.std.proofs.lemmas.List.FromFn.{length-range_with_len}
+use Rattle.symbol_names.specs.declared.names.Names.{Names}
+use Rattle.symbol_names.specs.Names.{AreNames}
 use Rattle.lits.specs.Clause.{has}
 use Rattle.lits.proofs.Facts.{lt-true, no_repeat-range, range-above}
 use Rattle.netlist.specs.declared.gate.And.{And}
@@ -73,9 +76,10 @@ all_below : (n : ℕ) (known lits : List ℕ) → Knows n known → AreBelow n l
 all_below n known [] knows below = refl
 all_below n known (l ∷ ls) knows below = rw (knows (var_of l) ∙ lt-true (var_of l) n below.0, all_below n known ls knows below.1) refl
 
-pub IsCircuit-stacked : (i m : ℕ) (gates : List And) (outputs : List ℕ) → m ≡ i + length gates → m ≤ most → AreStacked (i + 1) gates → AreBelow (m + 1) outputs
-    → length outputs ≤ most → IsCircuit (record { inputs = range_with_len 1 i; gates = gates; outputs = outputs })
-IsCircuit-stacked i m gates outputs is le stacked below few =
+pub IsCircuit-stacked : (i m : ℕ) (gates : List And) (outputs constraints : List ℕ) (names : Names) → m ≡ i + length gates → m ≤ most → AreStacked (i + 1) gates
+    → AreBelow (m + 1) outputs → length outputs ≤ most → AreBelow (m + 1) constraints → length constraints ≤ most → AreNames i (length outputs) names
+    → IsCircuit (record { inputs = range_with_len 1 i; gates = gates; outputs = outputs; constraints = constraints; names = names })
+IsCircuit-stacked i m gates outputs constraints names is le stacked below few within enough fit =
     let swap : i + 1 ≡ 1 + i = omega arith in
     let stack : AreStacked (1 + i) gates = rw swap at stacked in
     let known : Knows ((1 + i) + length gates) (0 ∷ (range_with_len 1 i ++ gate_vars gates)) = Knows-gates (1 + i) (0 ∷ range_with_len 1 i) gates (Knows-inputs i) stack in
@@ -87,6 +91,9 @@ IsCircuit-stacked i m gates outputs is le stacked below few =
       outputs = all_below (m + 1) (0 ∷ (range_with_len 1 i ++ gate_vars gates)) outputs knows below;
       range = all_from_has (λ v. nat_le v most) (0 ∷ (range_with_len 1 i ++ gate_vars gates)) (λ v h. small v (sym (knows v) ∙ h));
       count = few;
+      constraints = all_below (m + 1) (0 ∷ (range_with_len 1 i ++ gate_vars gates)) constraints knows within;
+      constraint_count = enough;
+      names = rw (length-range_with_len 1 i) fit;
     }
   where
     small : (v : ℕ) → nat_lt v (m + 1) ≡ true → nat_le v most ≡ true

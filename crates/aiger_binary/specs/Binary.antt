@@ -1,6 +1,6 @@
 -- Which bytes spell which circuit in the binary form of AIGER, and which fault they have first (A. Biere, The AIGER
 -- And-Inverter Graph Format, 2007; AIGER 1.9). Inputs have no lines: input k, from 0, is the literal 2(k + 1). Behind the
--- header stand the outputs' lines, then two deltas for each gate, then a tail. The gates define the variables behind the
+-- header stand the outputs' lines, then the constraints', then two deltas for each gate, then a tail, which gives names. The gates define the variables behind the
 -- inputs, in order, so that each fanin is defined before.
 use Rattle.std.specs.Prelude.{◌≡◌, ◌<◌, ℕ, zero, suc, ◌+◌, ◌-◌, ◌*◌, ◌||◌, ⊤, List, [], ◌∷◌, ◌++◌, length, Result, Ok, Err, nat_lt, ◌==◌, if◌then◌else◌}
 use Rattle.std.specs.List.{range_with_len}
@@ -54,13 +54,14 @@ gates_at (suc n) inputs gates p = do
   gate ← gate_at (length gates) (inputs + length gates + 1) p
   gates_at n inputs (gates ++ gate.0 ∷ []) gate.1
 
--- ---- outputs
+-- ---- outputs and constraints
 
-abbrev pub outputs_at : ℕ → ℕ → List ℕ → Place → Result (List ℕ × Place) AigerErr
-outputs_at zero m outputs p = Ok (outputs, p)
-outputs_at (suc n) m outputs p = do
+-- n lines of one literal behind those read so far
+abbrev pub literals_at : ℕ → ℕ → List ℕ → Place → Result (List ℕ × Place) AigerErr
+literals_at zero m literals p = Ok (literals, p)
+literals_at (suc n) m literals p = do
   lit ← literal_line_at m p
-  outputs_at n m (outputs ++ lit.0 ∷ []) lit.1
+  literals_at n m (literals ++ lit.0 ∷ []) lit.1
 
 -- ---- the file
 
@@ -68,10 +69,17 @@ outputs_at (suc n) m outputs p = do
 unfoldable pub binary_in : List ℕ → Result Aig AigerErr
 binary_in bytes = do
   h ← header_at 105 (start bytes)
-  outputs ← outputs_at h.0.o h.0.m [] h.1
-  gates ← gates_at h.0.a h.0.i [] outputs.1
-  ended ← tail_of h.0.i h.0.o (lines_ahead gates.1)
-  Ok (record { inputs = range_with_len 1 h.0.i; gates = gates.0; outputs = outputs.0 })
+  outputs ← literals_at h.0.o h.0.m [] h.1
+  constraints ← literals_at h.0.c h.0.m [] outputs.1
+  gates ← gates_at h.0.a h.0.i [] constraints.1
+  names ← tail_of h.0.i h.0.o (lines_ahead gates.1)
+  Ok (record {
+    inputs = range_with_len 1 h.0.i;
+    gates = gates.0;
+    outputs = outputs.0;
+    constraints = constraints.0;
+    names = names;
+  })
 
 -- ---- what the reader's own functions answer
 

@@ -1,29 +1,34 @@
 -- The ASCII text of a circuit spells it.
-use Rattle.std.proofs.Common.{◌≡◌, ℕ, ◌+◌, true, false, List, [], ◌++◌, length, Ok, Result, refl, ap, ◌∙◌, append_assoc, append-nil, arith}
+use Rattle.std.proofs.Common.{◌≡◌, ℕ, ◌+◌, true, false, List, [], ◌++◌, length, Ok, Result, refl, ap, sym, ◌∙◌, append_assoc, append-nil, arith}
 use Rattle.std.specs.Prelude.{nat_lt, Bool, Err, if◌then◌else◌}
 use Rattle.std.specs.List.{flat_map}
 use Rattle.std.proofs.lemmas.Bool.Decides.{nat_tests}
 use Rattle.byte_scan.specs.declared.errors.AigerErr.{AigerErr}
 use Rattle.byte_scan.specs.Scanning.{Place, ahead}
 use Rattle.byte_scan.specs.Reading.{start, lines_ahead, lines_from, tail_of}
+use Rattle.byte_scan.proofs.Facts.{names-none}
+use Rattle.symbol_names.specs.declared.names.Names.{Names}
+use Rattle.symbol_names.specs.Names.{unnamed}
 use Rattle.netlist.specs.Circuit.{Aig, IsCircuit}
+use Rattle.circuit_draft.specs.Draft.{finished}
 use Rattle.netlist.proofs.Facts.{variables}
 use Rattle.aiger_ascii.specs.Ascii.{ascii_in, body_at}
 use Rattle.byte_scan.specs.declared.errors.AigerErr.TheVariants.{BadHeader}
 use Rattle.aiger_binary.specs.Binary.{binary_in}
 use Rattle.aiger_file.specs.File.{aiger_in, is_form, SpellsAiger}
 use Rattle.aiger_text.specs.Lines.{header_line, output_line}
-use Rattle.aiger_text.specs.AsciiText.{ascii_text, input_line, gate_line, IsBound}
+use Rattle.aiger_text.specs.AsciiText.{ascii_text, input_line, gate_line, IsBound, IsPlain}
 use Rattle.aiger_text.proofs.Reading.{Finds}
 use Rattle.aiger_text.proofs.HeaderLine.{header, AreCounts, header-found}
-use Rattle.aiger_text.proofs.Sections.{inputs-found, outputs-found, gates-found}
+use Rattle.aiger_text.proofs.Sections.{aig, inputs-found, outputs-found, gates-found}
 use Rattle.aiger_text.proofs.Within.{few_variables, parts_within}
 use Rattle.aiger_text.proofs.Finished.{finished-circuit}
 
--- where nothing is left, the tail is empty
+-- where nothing is left, nothing has a name
 pub tail-none : (p : Place) (inputs outputs : ℕ) → ahead p ≡ []
-    → tail_of inputs outputs (lines_ahead p) ≡ Ok tt
-tail-none p inputs outputs e = ap (λ (bs : List ℕ). tail_of inputs outputs (lines_from p.at bs)) e
+    → tail_of inputs outputs (lines_ahead p) ≡ Ok (unnamed inputs outputs)
+tail-none p inputs outputs e =
+    ap (λ (bs : List ℕ). tail_of inputs outputs (lines_from p.at bs)) e ∙ ap Ok (names-none inputs outputs)
 
 -- what stands behind the header, and behind the lines of the inputs
 behind_inputs : Aig → List ℕ
@@ -57,7 +62,7 @@ counts m c circuit bound =
     }
 
 body-found : (p : Place) (m : ℕ) (c : Aig) → IsCircuit c → IsBound m c → ahead p ≡ behind_header c
-    → Finds (body_at (header m (length c.inputs) (length c.outputs) (length c.gates)) p) c []
+    → Finds (body_at (header m (length c.inputs) (length c.outputs) (length c.gates)) p) (aig c.inputs c.gates c.outputs) []
 unfolding body_at behind_header behind_inputs
 body-found p m c circuit bound e =
     let within = parts_within m c circuit bound.covers in
@@ -72,25 +77,30 @@ body-found p m c circuit bound e =
     outputs.behind in
     record { place = gates.place; is = rw (inputs.is, outputs.is) gates.is; behind = gates.behind }
 
-pub ascii-spells : (m : ℕ) (c : Aig) → IsCircuit c → IsBound m c → ascii_in (ascii_text m c) ≡ Ok c
+-- the parts that are read are the circuit's
+drafted : (c : Aig) → IsPlain c → aig c.inputs c.gates c.outputs ≡ record c { names = unnamed 0 0 }
+drafted c plain = rw plain.constraints refl
+
+pub ascii-spells : (m : ℕ) (c : Aig) → IsCircuit c → IsPlain c → IsBound m c → ascii_in (ascii_text m c) ≡ Ok c
 unfolding ascii_in
-ascii-spells m c circuit bound =
+ascii-spells m c circuit plain bound =
     let head = header-found (start (ascii_text m c)) 97 m (length c.inputs) (length c.outputs)
     (length c.gates)
     (behind_header c) (counts m c circuit bound) refl (text-parts m c) in
     let body = body-found head.place m c circuit bound head.behind in
+    let done = ap finished (drafted c plain) ∙ finished-circuit c (unnamed 0 0) circuit in
     rw (
       head.is,
       body.is,
-      finished-circuit c circuit,
+      done,
       tail-none body.place (length c.inputs) (length c.outputs) body.behind,
-    ) refl
+    ) (ap (λ (names : Names). Ok (record c { names = names })) (sym plain.names))
 
-pub aiger-spells : (m : ℕ) (c : Aig) → IsCircuit c → IsBound m c → SpellsAiger (ascii_text m c) c
+pub aiger-spells : (m : ℕ) (c : Aig) → IsCircuit c → IsPlain c → IsBound m c → SpellsAiger (ascii_text m c) c
 unfolding aiger_in
-aiger-spells m c circuit bound =
+aiger-spells m c circuit plain bound =
     ap (λ (t : Bool). if t then ascii_in (ascii_text m c) else other) form
-    ∙ ascii-spells m c circuit bound
+    ∙ ascii-spells m c circuit plain bound
   where
     other : Result Aig AigerErr
     other = if is_form 105 (ascii_text m c) then binary_in (ascii_text m c) else Err BadHeader

@@ -7,6 +7,8 @@ use Rattle.std.proofs.lemmas.List.Folds.{list_all-append}
 use Rattle.byte_scan.specs.declared.errors.AigerErr.{AigerErr}
 use Rattle.byte_scan.specs.declared.errors.AigerErr.TheVariants.{BadHeader}
 use Rattle.byte_scan.specs.Reading.{start}
+use Rattle.symbol_names.specs.declared.names.Names.{Names}
+use Rattle.symbol_names.specs.Names.{unnamed}
 use Rattle.netlist.specs.declared.gate.And.{And}
 use Rattle.netlist.specs.Circuit.{Aig, IsCircuit, gate_vars, variables_in}
 use Rattle.netlist.proofs.Facts.{few_gates_of}
@@ -14,7 +16,7 @@ use Rattle.aiger_ascii.specs.Ascii.{ascii_in}
 use Rattle.aiger_binary.specs.Binary.{binary_in}
 use Rattle.aiger_file.specs.File.{aiger_in, is_form, SpellsAiger}
 use Rattle.aiger_text.specs.Lines.{header_line, output_line}
-use Rattle.aiger_text.specs.AsciiText.{IsBound}
+use Rattle.aiger_text.specs.AsciiText.{IsBound, IsPlain}
 use Rattle.aiger_text.specs.BinaryText.{AreInSequence, IsInSequence, gate_deltas, binary_text}
 use Rattle.aiger_text.proofs.HeaderLine.{AreCounts, header-found}
 use Rattle.aiger_text.proofs.Within.{AreUpTo, outputs_within}
@@ -85,9 +87,9 @@ counts c circuit =
       counted = equal;
     }
 
-pub binary-spells : (c : Aig) → IsCircuit c → IsInSequence c → binary_in (binary_text c) ≡ Ok c
+pub binary-spells : (c : Aig) → IsCircuit c → IsPlain c → IsInSequence c → binary_in (binary_text c) ≡ Ok c
 unfolding binary_in behind_header
-binary-spells c circuit is =
+binary-spells c circuit plain is =
     let few = few_gates_of c circuit in
     let m = length c.inputs + length c.gates in
     let head = header-found (start (binary_text c)) 105 m (length c.inputs) (length c.outputs)
@@ -104,14 +106,21 @@ binary-spells c circuit is =
       outputs.is,
       gates.is,
       tail-none gates.place (length c.inputs) (length c.outputs) gates.behind,
-    ) (ap (λ (vs : List ℕ). Ok (record c { inputs = vs })) (sym is.inputs))
+    ) (
+    ap (λ (vs : List ℕ). Ok (bare vs c.gates c.outputs (unnamed (length c.inputs) (length c.outputs)))) (sym is.inputs)
+    ∙ ap (λ (names : Names). Ok (bare c.inputs c.gates c.outputs names)) (sym plain.names)
+    ∙ ap (λ (ls : List ℕ). Ok (record c { constraints = ls })) (sym plain.constraints)
+    )
+  where
+    bare : List ℕ → List And → List ℕ → Names → Aig
+    bare inputs gates outputs names = record { inputs = inputs; gates = gates; outputs = outputs; constraints = []; names = names }
 
-pub aiger-spells : (c : Aig) → IsCircuit c → IsInSequence c → SpellsAiger (binary_text c) c
+pub aiger-spells : (c : Aig) → IsCircuit c → IsPlain c → IsInSequence c → SpellsAiger (binary_text c) c
 unfolding aiger_in
-aiger-spells c circuit is =
+aiger-spells c circuit plain is =
     ap (λ (t : Bool). chosen t (is_form 105 (binary_text c))) other
     ∙ ap (chosen false) form
-    ∙ binary-spells c circuit is
+    ∙ binary-spells c circuit plain is
   where
     chosen : Bool → Bool → Result Aig AigerErr
     chosen s t =

@@ -6,7 +6,7 @@ use Rattle.std.proofs.lemmas.Bool.Decides.{nat_tests}
 use Rattle.byte_scan.specs.declared.errors.AigerErr.{AigerErr}
 use Rattle.byte_scan.specs.Scanning.{Place, ahead, moved}
 use Rattle.netlist.specs.declared.gate.And.{And}
-use Rattle.aiger_binary.specs.Binary.{group_in, groups_at, delta_at, first_fanin, second_fanin, gate_at, gates_at, outputs_at, power_of}
+use Rattle.aiger_binary.specs.Binary.{group_in, groups_at, delta_at, first_fanin, second_fanin, gate_at, gates_at, literals_at, power_of}
 use Rattle.aiger_text.specs.Lines.{output_line}
 use Rattle.aiger_text.specs.BinaryText.{AreInSequence, groups, delta_text, gate_deltas}
 use Rattle.aiger_text.proofs.Reading.{Finds, behind-part, output-found}
@@ -106,7 +106,7 @@ gate-found gate v g p rest same left right most e =
 pub outputs-found : (p : Place) (m : ℕ) (done lits rest : List ℕ) → m ≤ 16777216
     → AllByRecursion (λ n. n ≤ 2 * m + 1) lits
     → ahead p ≡ flat_map output_line lits ++ rest
-    → Finds (outputs_at (length lits) m done p) (done ++ lits) rest
+    → Finds (literals_at (length lits) m done p) (done ++ lits) rest
 outputs-found p m done [] rest most all e =
     record { place = p; is = rw (append-nil done) refl; behind = e }
 outputs-found p m done (n ∷ ns) rest most all e =

@@ -6,7 +6,8 @@ use Rattle.std.proofs.lemmas.List.Folds.{list_any-append, list_all-append}
 use Rattle.std.proofs.lemmas.Bool.{or_left, or_right}
 use Rattle.lits.specs.Clause.{has}
 use Rattle.netlist.specs.declared.gate.And.{And}
-use Rattle.netlist.specs.Circuit.{Aig, IsCircuit, AreOrdered, gate_vars, variables_in, is_over, var_of}
+use Rattle.netlist.specs.Circuit.{Aig, IsCircuit, AreOrdered, gate_vars, variables_in, is_over, var_of, without_names}
+use Rattle.symbol_names.specs.declared.names.Names.{Names}
 use Rattle.netlist.proofs.Facts.{variables}
 use Rattle.circuit_draft.specs.Draft.{undefined_in, uses_in, finished}
 use Rattle.circuit_draft.specs.Levels.{is_in_order}
@@ -69,10 +70,13 @@ none_found test (x ∷ xs) e = go (test x) refl e (none_found test xs)
 undefined-none : (c : Aig) → IsCircuit c → undefined_in c ≡ None
 undefined-none c circuit =
     none_found (is_over (variables_in c)) (uses_in c)
-    (list_all-append (is_over (variables_in c)) c.outputs (fanins_in c.gates)
-    ∙ rw (circuit.outputs, fanins_known c circuit) refl)
+    (list_all-append (is_over (variables_in c)) c.outputs (c.constraints ++ fanins_in c.gates)
+    ∙ rw (circuit.outputs, list_all-append (is_over (variables_in c)) c.constraints (fanins_in c.gates), circuit.constraints, fanins_known c circuit) refl)
 
-pub finished-circuit : (c : Aig) → IsCircuit c → finished c ≡ Ok c
-finished-circuit c circuit =
+-- the circuit as a draft, whatever names it has
+pub finished-circuit : (c : Aig) (names : Names) → IsCircuit c
+    → finished (record c { names = names }) ≡ Ok (without_names c)
+finished-circuit c names circuit =
+    let draft : Aig = record c { names = names } in
     let order = in_order (0 ∷ c.inputs) (0 ∷ c.inputs) c.gates (λ v. refl) circuit.gates in
-    finished-order c (undefined-none c circuit) (no_cycle-order c (variables c circuit) order) order
+    finished-order draft (undefined-none c circuit) (no_cycle-order draft (variables c circuit) order) order

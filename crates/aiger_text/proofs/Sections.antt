@@ -6,7 +6,7 @@ use Rattle.std.specs.List.{flat_map, AllByRecursion}
 use Rattle.byte_scan.specs.Scanning.{Place, ahead}
 use Rattle.lits.specs.Clause.{has, no_repeat}
 use Rattle.netlist.specs.declared.gate.And.{And}
-use Rattle.netlist.specs.Circuit.{Aig, gate_vars}
+use Rattle.netlist.specs.Circuit.{Aig, no_parts, gate_vars}
 use Rattle.netlist.proofs.Facts.{no_repeat-split}
 use Rattle.aiger_ascii.specs.Ascii.{input_at, output_at, gate_at, lines_at}
 use Rattle.aiger_text.specs.Lines.{output_line}
@@ -14,8 +14,9 @@ use Rattle.aiger_text.specs.AsciiText.{input_line, gate_line}
 use Rattle.aiger_text.proofs.Reading.{Finds}
 use Rattle.aiger_text.proofs.Lines.{IsWithin, input-found, output_line-found, gate-found}
 
-abbrev aig : List ℕ → List And → List ℕ → Aig
-aig inputs gates outputs = record { inputs = inputs; gates = gates; outputs = outputs }
+-- what is read so far
+abbrev pub aig : List ℕ → List And → List ℕ → Aig
+aig inputs gates outputs = record no_parts { inputs = inputs; gates = gates; outputs = outputs }
 
 -- a variable that an input may define
 abbrev pub IsInput : ℕ → ℕ → Type 0

@@ -3,7 +3,7 @@ use Rattle.std.proofs.Common.{◌≡◌, ℕ, List, [], ◌∷◌, ◌++◌, ref
 use Rattle.std.specs.Prelude.{codes}
 use Rattle.std.specs.Fmt.{digits}
 use Rattle.netlist.specs.declared.gate.And.{And}
-use Rattle.netlist.specs.Circuit.{Aig}
+use Rattle.netlist.specs.Circuit.{Aig, plain}
 use Rattle.aiger_text.specs.Lines.{number_line}
 use Rattle.aiger_text.specs.AsciiText.{ascii_text}
 use Rattle.aiger_text.specs.BinaryText.{binary_text, delta_text}
@@ -12,7 +12,7 @@ abbrev gate : ℕ → ℕ → ℕ → And
 gate v l r = record { var = v; left = l; right = r }
 
 abbrev aig : List ℕ → List And → List ℕ → Aig
-aig i g o = record { inputs = i; gates = g; outputs = o }
+aig i g o = plain i g o
 
 -- two inputs, and an output that is their AND
 ascii_and : ascii_text 3 (aig (1 ∷ 2 ∷ []) (gate 3 2 4 ∷ []) (6 ∷ []))

@@ -3,6 +3,7 @@
 use Rattle.std.specs.Prelude.{◌≡◌, ℕ, ◌*◌, ◌≤◌, nat_le, true, List, [], ◌∷◌, ◌++◌, length}
 use Rattle.std.specs.List.{list_all, flat_map}
 use Rattle.netlist.specs.declared.gate.And.{And}
+use Rattle.symbol_names.specs.Names.{unnamed}
 use Rattle.netlist.specs.Circuit.{Aig, variables_in, most}
 use Rattle.aiger_text.specs.Lines.{number_line, header_line, output_line}
 
@@ -18,6 +19,11 @@ gate_line g = number_line (2 * g.var ∷ g.left ∷ g.right ∷ [])
 pub record IsBound (m : ℕ) (c : Aig) : Type 0 where
   pub covers : list_all (λ v. nat_le v m) (variables_in c) ≡ true
   pub range : m ≤ most
+
+-- the circuit has no constraint, and no input and no output of it has a name
+pub record IsPlain (c : Aig) : Type 0 where
+  pub constraints : c.constraints ≡ []
+  pub names : c.names ≡ unnamed (length c.inputs) (length c.outputs)
 
 -- The header, then a line for each input, each output and each gate, in the circuit's order.
 unfoldable pub ascii_text : ℕ → Aig → List ℕ

@@ -7,3 +7,7 @@ pub use Rattle.byte_scan.proofs.WordLemmas.{is_number-whole}
 
 -- a fault of what is read first is that of the whole
 pub use Rattle.byte_scan.proofs.ReadingLemmas.{IsFault-bind}
+-- ---- the tail
+
+-- without symbol lines nothing has a name
+pub use Rattle.byte_scan.proofs.TailLemmas.{names-none}

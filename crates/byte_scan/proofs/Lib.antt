@@ -6,3 +6,4 @@ mod NineLemmas
 mod WordsLemmas
 mod PlaceLemmas
 mod ReadingLemmas
+mod TailLemmas

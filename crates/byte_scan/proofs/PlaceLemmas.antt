@@ -6,9 +6,7 @@ use Rattle.std.proofs.lemmas.List.{drop-drop}
 use Rattle.std.proofs.lemmas.Option.{none-some, same_Some}
 use Rattle.std.proofs.Math.ListN.{drop_of_length-le}
 use Rattle.byte_scan.specs.Scanning.{Place, ahead, moved, line_of, next_line}
-use Rattle.std.specs.Prelude.{Err}
-use Rattle.byte_scan.specs.declared.errors.AigerErr.TheVariants.{BadSymbol}
-use Rattle.byte_scan.specs.Reading.{Line, lines_from, onto_line, lines_ahead, begins_with, is_symbol, tail_of}
+use Rattle.byte_scan.specs.Reading.{Line, lines_from, onto_line, lines_ahead}
 
 drop-onto : (at b : ℕ) (ls : List Line) → drop 1 (onto_line at b ls) ≡ drop 1 ls
 drop-onto at b [] = refl
@@ -80,17 +78,3 @@ lines-end p e = go (ahead p) refl
     go : (bs : List ℕ) → ahead p ≡ bs → lines_ahead p ≡ []
     go [] nil = ap (lines_from p.at) nil
     go (b ∷ bs) some = absurd (none-some (line_of (b ∷ bs)) (sym (subst (λ (xs : List ℕ). next_line xs ≡ None) some e) ∙ next_some b bs))
-
--- ---- the tail, line by line
-
-pub tail-comment : (inputs outputs : ℕ) (p q : Place) (line : List ℕ) → next_line (ahead p) ≡ Some line → q ≡ moved p (length (line_of (ahead p)) + 1)
-    → begins_with 99 line ≡ true → tail_of inputs outputs (lines_ahead p) ≡ Ok tt
-tail-comment inputs outputs p q line e is c = rw (lines-next p q line e is, c) refl
-
-pub tail-bad : (inputs outputs : ℕ) (p q : Place) (line : List ℕ) → next_line (ahead p) ≡ Some line → q ≡ moved p (length (line_of (ahead p)) + 1)
-    → begins_with 99 line ≡ false → is_symbol inputs outputs line ≡ false → tail_of inputs outputs (lines_ahead p) ≡ Err (BadSymbol p.at)
-tail-bad inputs outputs p q line e is c s = rw (lines-next p q line e is, c, s) refl
-
-pub tail-symbol : (inputs outputs : ℕ) (p q : Place) (line : List ℕ) → next_line (ahead p) ≡ Some line → q ≡ moved p (length (line_of (ahead p)) + 1)
-    → begins_with 99 line ≡ false → is_symbol inputs outputs line ≡ true → tail_of inputs outputs (lines_ahead p) ≡ tail_of inputs outputs (lines_ahead q)
-tail-symbol inputs outputs p q line e is c s = rw (lines-next p q line e is, c, s) refl

@@ -19,7 +19,7 @@ pub IsFault-bind : {A B : Type 0} (e : AigerErr) (found : Result A AigerErr) (f 
 IsFault-bind NoMemory found f h = tt
 IsFault-bind e found f h = rw h refl
 
-line_some : (bs line : List ℕ) → Some line ≡ next_line bs → line_of bs ≡ line
+pub line_some : (bs line : List ℕ) → Some line ≡ next_line bs → line_of bs ≡ line
 line_some [] line e = absurd (none-some line (sym e))
 line_some (b ∷ bs) line e = same_Some (line_of (b ∷ bs)) line (sym (next_some b bs) ∙ sym e)
 

@@ -49,11 +49,11 @@ header_of ns = record {
 abbrev pub too_large : List ℕ → Option AigerErr
 too_large ns = option_map TooLarge (find (λ n. nat_lt VARIABLE_LIMIT n) ns)
 
--- The first of the sections `B` (66), `C` (67), `J` (74), `F` (70) that isn't empty, by its letter.
+-- The first of the sections `B` (66), `J` (74), `F` (70) that isn't empty, by its letter.
 abbrev pub property : Header → Option AigerErr
 property h =
-    when (nat_lt 0 h.b) (HasProperty 66) or_else when (nat_lt 0 h.c) (HasProperty 67)
-    or_else when (nat_lt 0 h.j) (HasProperty 74) or_else when (nat_lt 0 h.f) (HasProperty 70)
+    when (nat_lt 0 h.b) (HasProperty 66) or_else when (nat_lt 0 h.j) (HasProperty 74)
+    or_else when (nat_lt 0 h.f) (HasProperty 70)
 
 -- M is the number of inputs, latches and gates in the binary form (letter `i`, 105), and no less than
 -- that in the ASCII form.
@@ -71,10 +71,11 @@ numbers_fault letter (Some ns) =
     or_else property (header_of ns)
     or_else when (miscounts letter (header_of ns)) BadHeader
 
--- A header without a fault: M and O are in range, and M is at least, in the binary form exactly, the number of inputs and
+-- A header without a fault: M, O and C are in range, and M is at least, in the binary form exactly, the number of inputs and
 -- gates.
 pub record IsFit (letter : ℕ) (h : Header) : Type 0 where
   pub variables : h.m ≤ VARIABLE_LIMIT
   pub outputs : h.o ≤ VARIABLE_LIMIT
+  pub constraints : h.c ≤ VARIABLE_LIMIT
   pub counts : h.i + h.a ≤ h.m
   pub exact : letter ≡ 105 → h.m ≡ h.i + h.a

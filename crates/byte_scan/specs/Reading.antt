@@ -1,6 +1,11 @@
 -- The parts that both forms of AIGER share (A. Biere, The AIGER And-Inverter Graph Format, 2007; AIGER 1.9). A reader
 -- goes from a place in the bytes to what it read and the place behind it, or to the first fault.
 use Rattle.std.specs.Prelude.{◌≡◌, ℕ, ◌+◌, ◌*◌, Bool, false, ◌&&◌, ◌||◌, List, [], ◌∷◌, length, drop, Option, Some, None, Result, Ok, Err, nat_lt, ◌==◌, if◌then◌else◌}
+use Rattle.std.specs.Prelude.{map, reverse, slice_set}
+use Rattle.std.specs.Option.{option_map}
+use Rattle.std.specs.List.{find, range_with_len}
+use Rattle.symbol_names.specs.declared.names.Names.{Names}
+use Rattle.symbol_names.specs.NameList.{joined, name_of}
 use Rattle.byte_scan.specs.declared.errors.AigerErr.{AigerErr}
 use Rattle.byte_scan.specs.declared.errors.AigerErr.TheVariants.{BadHeader, BadNumber, Truncated, BadLiteral, BadSymbol, NoMemory}
 use Rattle.byte_scan.specs.declared.counts.Header.{Header}
@@ -122,13 +127,42 @@ abbrev pub is_symbol : ℕ → ℕ → List ℕ → Bool
 is_symbol inputs outputs [] = false
 is_symbol inputs outputs (b ∷ bs) = b == 105 && is_named inputs bs || b == 111 && is_named outputs bs
 
--- Symbol lines up to the end of the input, or up to a line that begins with `c` (99): from there on all is comment.
-abbrev pub tail_of : ℕ → ℕ → List Line → Result (Unit {0}) AigerErr
-tail_of inputs outputs [] = Ok tt
-tail_of inputs outputs (line ∷ lines) =
-    if begins_with 99 line.text then Ok tt
-    else if is_symbol inputs outputs line.text then tail_of inputs outputs lines
+-- the number behind the letter of a symbol line, which is the place that it names
+abbrev pub place_in : List ℕ → ℕ
+place_in [] = 0
+place_in (b ∷ bs) = value (digits bs)
+
+-- the bytes behind the space
+abbrev pub symbol_in : List ℕ → List ℕ
+symbol_in [] = []
+symbol_in (b ∷ bs) = drop (length (digits bs) + 1) bs
+
+-- The symbol lines up to the end of the input, or up to a line that begins with `c` (99): from there on all is comment.
+abbrev pub symbols_of : ℕ → ℕ → List Line → Result (List (List ℕ)) AigerErr
+symbols_of inputs outputs [] = Ok []
+symbols_of inputs outputs (line ∷ lines) =
+    if begins_with 99 line.text then Ok []
+    else if is_symbol inputs outputs line.text then (symbols_of inputs outputs lines >>= λ rest. Ok (line.text ∷ rest))
     else Err (BadSymbol line.at)
+
+-- the symbol line is for this letter and place
+abbrev pub is_for : ℕ → ℕ → List ℕ → Bool
+is_for letter k line = begins_with letter line && place_in line == k
+
+-- The name that symbol lines give to a place: that of the last line for it. An empty one is none.
+abbrev pub named_by : List (List ℕ) → ℕ → ℕ → Option (List ℕ)
+named_by lines letter k = joined (option_map (λ line. name_of (symbol_in line)) (find (is_for letter k) (reverse lines)))
+
+-- one place for each input and each output, with the name that the symbol lines give to it
+abbrev pub names_by : ℕ → ℕ → List (List ℕ) → Names
+names_by inputs outputs lines = record {
+  inputs = map (named_by lines 105) (range_with_len 0 inputs);
+  outputs = map (named_by lines 111) (range_with_len 0 outputs);
+}
+
+-- The names that the tail gives: symbol lines and then, perhaps, a comment.
+abbrev pub tail_of : ℕ → ℕ → List Line → Result Names AigerErr
+tail_of inputs outputs lines = symbols_of inputs outputs lines >>= λ symbols. Ok (names_by inputs outputs symbols)
 
 -- ---- what a function answers
 
@@ -151,3 +185,12 @@ Reads (Err e) new found = IsFault e found
 abbrev pub Passes : {A : Type 0} → Result A AigerErr → Place → Result Place AigerErr → Type 0
 Passes (Ok x) new found = found ≡ Ok new
 Passes (Err e) new found = IsFault e found
+
+-- the names with that of one more symbol line
+abbrev pub with_symbol : List ℕ → Names → Names
+with_symbol line names = record {
+  inputs =
+      if begins_with 105 line then slice_set names.inputs (place_in line) (name_of (symbol_in line)) else names.inputs;
+  outputs =
+      if begins_with 111 line then slice_set names.outputs (place_in line) (name_of (symbol_in line)) else names.outputs;
+}

@@ -120,8 +120,6 @@ fn section_with_property(header: &Header) -> Option<u8>
 {
     if header.b > 0 {
         Some(b'B')
-    } else if header.c > 0 {
-        Some(b'C')
     } else if header.j > 0 {
         Some(b'J')
     } else if header.f > 0 {

@@ -6,7 +6,7 @@
 //! says exactly what it gives and where the scan then stands. `header` answers what the line spells, or its
 //! first fault in the order of `specs/HeaderLine.antt`. `specs/Reading.antt` has the form of a reader's
 //! contract, `Gives`, with the lines of literals and the tail; `specs/Faults.antt` how faults are put in
-//! order. No call takes memory.
+//! order. Only `tail` takes memory, for names.
 //!
 //! `AigerErr` is the error of the AIGER readers. No clause says what its `Display` writes: a test shows the
 //! texts. Begin to read at `scan.rt`, then `header_line.rt`, `line.rt`, `symbols.rt`.

@@ -6,7 +6,8 @@ use Rattle.std.proofs.lemmas.List.{append_assoc}
 use Rattle.std.proofs.lemmas.List.Folds.{list_any-append, list_all-append}
 use Rattle.lits.specs.Clause.{has, no_repeat}
 use Rattle.netlist.specs.declared.gate.And.{And}
-use Rattle.netlist.specs.Circuit.{Aig, IsCircuit, AreOrdered, gate_vars, variables_in, is_over, var_of}
+use Rattle.netlist.specs.Circuit.{Aig, IsCircuit, AreOrdered, gate_vars, variables_in, is_over, var_of, without_names}
+use Rattle.symbol_names.proofs.Facts.{AreNames-unnamed}
 use Rattle.netlist.proofs.Facts.{no_repeat-split}
 use Rattle.circuit_draft.specs.Levels.{is_in_order, on_cycle}
 use Rattle.std.proofs.lemmas.Bool.{and_parts, or_parts, not-true}
@@ -27,9 +28,13 @@ none_found test (x ∷ xs) e = go (test x) refl e (none_found test xs)
     go false t e rest = absurd (cc)
 
 pub all_uses : (c : Aig) → undefined_in c ≡ None
-    → (list_all (is_over (variables_in c)) c.outputs ≡ true) × (list_all (is_over (variables_in c)) (flat_map (λ g. g.left ∷ g.right ∷ []) c.gates) ≡ true)
+    → (list_all (is_over (variables_in c)) c.outputs ≡ true)
+    × ((list_all (is_over (variables_in c)) c.constraints ≡ true) × (list_all (is_over (variables_in c)) (flat_map (λ g. g.left ∷ g.right ∷ []) c.gates) ≡ true))
 all_uses c e =
-    and_parts _ _ (sym (list_all-append (is_over (variables_in c)) c.outputs (flat_map (λ g. g.left ∷ g.right ∷ []) c.gates)) ∙ none_found (is_over (variables_in c)) (uses_in c) e)
+    let over = is_over (variables_in c) in
+    let fanins = flat_map (λ (g : And). g.left ∷ g.right ∷ []) c.gates in
+    let first = and_parts _ _ (sym (list_all-append over c.outputs (c.constraints ++ fanins)) ∙ none_found over (uses_in c) e) in
+    (first.0, and_parts _ _ (sym (list_all-append over c.constraints fanins) ∙ first.1))
 
 fanins_at : (test : ℕ → Bool) (gates : List And) (p : ℕ) → p < length gates → list_all test (flat_map (λ g. g.left ∷ g.right ∷ []) gates) ≡ true
     → (test (slice_index_or gates p (record { var = 0; left = 0; right = 0 })).left ≡ true) × (test (slice_index_or gates p (record { var = 0; left = 0; right = 0 })).right ≡ true)
@@ -43,8 +48,8 @@ fanins_at test (g ∷ gs) (suc p) lt e =
 
 pub AreDefined-uses : (c : Aig) → undefined_in c ≡ None → AreDefined c
 AreDefined-uses c e = record {
-  left = λ p lt. (fanins_at (is_over (variables_in c)) c.gates p lt (all_uses c e).1).0;
-  right = λ p lt. (fanins_at (is_over (variables_in c)) c.gates p lt (all_uses c e).1).1;
+  left = λ p lt. (fanins_at (is_over (variables_in c)) c.gates p lt (all_uses c e).1.1).0;
+  right = λ p lt. (fanins_at (is_over (variables_in c)) c.gates p lt (all_uses c e).1.1).1;
 }
 
 -- ---- the file's order serves
@@ -85,21 +90,24 @@ front_once (x ∷ xs) ys e =
     let apart = or_parts (has ◌==◌ xs x) (has ◌==◌ ys x) split in
     rw (apart.0, front_once xs ys parts.1) refl
 
-pub IsCircuit-order : (c : Aig) → IsDraft c → undefined_in c ≡ None → is_in_order (0 ∷ c.inputs) c.gates ≡ true → IsCircuit c
+pub IsCircuit-order : (c : Aig) → IsDraft c → undefined_in c ≡ None → is_in_order (0 ∷ c.inputs) c.gates ≡ true → IsCircuit (without_names c)
 IsCircuit-order c draft none order = record {
   inputs = front_once (0 ∷ c.inputs) (gate_vars c.gates) draft.variables.distinct;
   gates = AreOrdered-order (0 ∷ c.inputs) (0 ∷ c.inputs) c.gates (λ v. refl) draft.variables.distinct order;
   outputs = (all_uses c none).0;
   range = draft.variables.range;
   count = draft.count;
+  constraints = (all_uses c none).1.0;
+  constraint_count = draft.constraint_count;
+  names = AreNames-unnamed (length c.inputs) (length c.outputs);
 }
 
 -- ---- what a draft becomes
 
-pub finished-order : (c : Aig) → undefined_in c ≡ None → on_cycle c ≡ None → is_in_order (0 ∷ c.inputs) c.gates ≡ true → finished c ≡ Ok c
+pub finished-order : (c : Aig) → undefined_in c ≡ None → on_cycle c ≡ None → is_in_order (0 ∷ c.inputs) c.gates ≡ true → finished c ≡ Ok (without_names c)
 finished-order c none cycle order = rw (none, cycle, order) refl
 
-pub IsFinished-order : (c : Aig) → IsDraft c → undefined_in c ≡ None → is_in_order (0 ∷ c.inputs) c.gates ≡ true → IsFinished c c
+pub IsFinished-order : (c : Aig) → IsDraft c → undefined_in c ≡ None → is_in_order (0 ∷ c.inputs) c.gates ≡ true → IsFinished c (without_names c)
 IsFinished-order c draft none order = record {
   is_circuit = IsCircuit-order c draft none order;
   finished = finished-order c none (no_cycle-order c draft.variables order) order;

@@ -14,6 +14,7 @@ use Rattle.netlist.specs.Circuit.{Aig, gate_vars, variables_in, most}
 use Rattle.netlist.specs.Place.{place_of}
 use Rattle.netlist.specs.VariableTable.{Places, place_in, IsTable, AreVariables}
 use Rattle.netlist.proofs.Facts.{at_place, slice_get-left, slice_get-right, few, no_repeat-apart, no_repeat_push}
+use Rattle.circuit_draft.specs.Draft.{IsDraft}
 use Rattle.circuit_draft.specs.Steps.{gate_at}
 use Rattle.circuit_draft.specs.Levels.{gate_for}
 
@@ -50,6 +51,25 @@ pub AreVariables-input : (inputs : List ℕ) (v : ℕ) → AreVariables inputs [
 AreVariables-input inputs v vars fresh le =
     let p = AreVariables-grown (0 ∷ (inputs ++ [])) (0 ∷ ((inputs ++ v ∷ []) ++ [])) v (vars-input inputs v) vars.distinct vars.range fresh le in
     record { distinct = p.0; range = p.1 }
+
+pub IsDraft-gate : (d : Aig) (g : And) → IsDraft d → has ◌==◌ (variables_in d) g.var ≡ false → g.var ≤ most
+    → IsDraft (record d { gates = d.gates ++ g ∷ [] })
+IsDraft-gate d g is fresh le = record {
+  variables = AreVariables-gate d.inputs d.gates g is.variables fresh le;
+  count = is.count;
+  constraint_count = is.constraint_count;
+}
+
+pub IsDraft-input : (d : Aig) (v : ℕ) → IsDraft d → d.gates ≡ [] → has ◌==◌ (variables_in d) v ≡ false → v ≤ most
+    → IsDraft (record d { inputs = d.inputs ++ v ∷ [] })
+IsDraft-input d v is first fresh le = record {
+  variables = rw first (AreVariables-input d.inputs v (rw first at is.variables) (rw first at fresh) le);
+  count = is.count;
+  constraint_count = is.constraint_count;
+}
+
+pub IsTable-input : (d : Aig) (v : ℕ) (t : Places) → d.gates ≡ [] → IsTable t (variables_in d ++ v ∷ []) → IsTable t (variables_in (record d { inputs = d.inputs ++ v ∷ [] }))
+IsTable-input d v t first table = rw (first, vars-input d.inputs v) (rw first at table)
 
 -- there are few gates
 pub few_gates : (inputs : List ℕ) (gates : List And) → AreVariables inputs gates → length inputs + length gates ≤ most

@@ -4,7 +4,7 @@ use Rattle.std.specs.List.{find, flat_map}
 use Rattle.byte_scan.specs.declared.errors.AigerErr.{AigerErr}
 use Rattle.byte_scan.specs.declared.errors.AigerErr.TheVariants.{Undefined, Cycle}
 use Rattle.netlist.specs.declared.gate.And.{And}
-use Rattle.netlist.specs.Circuit.{Aig, is_over, variables_in, most}
+use Rattle.netlist.specs.Circuit.{Aig, is_over, variables_in, without_names, most}
 use Rattle.netlist.specs.VariableTable.{Places, AreVariables, IsTable}
 use Rattle.circuit_draft.specs.Levels.{on_cycle, ordered}
 
@@ -12,15 +12,16 @@ use Rattle.circuit_draft.specs.Levels.{on_cycle, ordered}
 pub record IsDraft (c : Aig) : Type 0 where
   pub variables : AreVariables c.inputs c.gates
   pub count : length c.outputs ≤ most
+  pub constraint_count : length c.constraints ≤ most
 
 -- the parts make a draft, and the table finds its variables
 pub record IsIndexedDraft (c : Aig) (t : Places) : Type 0 where
   pub draft : IsDraft c
   pub table : IsTable t (variables_in c)
 
--- the literals that are used, in the order in which they are read: outputs, then fanins gate by gate
+-- the literals that are used, in the order in which they are read: outputs, constraints, then fanins gate by gate
 abbrev pub uses_in : Aig → List ℕ
-uses_in c = c.outputs ++ flat_map (λ g. g.left ∷ g.right ∷ []) c.gates
+uses_in c = c.outputs ++ (c.constraints ++ flat_map (λ g. g.left ∷ g.right ∷ []) c.gates)
 
 -- the first of them whose variable is neither the constant nor defined
 abbrev pub undefined_in : Aig → Option ℕ
@@ -31,7 +32,7 @@ finished_unless (Some n) cycle c = Err (Undefined n)
 finished_unless None (Some g) c = Err (Cycle (2 * g.var))
 finished_unless None None c = Ok c
 
--- The circuit of a draft, its gates put in order; or the first literal that is undefined; or else the first gate,
+-- The circuit of a draft, its gates put in order, without names; or the first literal that is undefined; or else the first gate,
 -- in the file's order, that is on a cycle or above one.
 abbrev pub finished : Aig → Result Aig AigerErr
-finished c = finished_unless (undefined_in c) (on_cycle c) (record c { gates = ordered c })
+finished c = finished_unless (undefined_in c) (on_cycle c) (without_names (record c { gates = ordered c }))

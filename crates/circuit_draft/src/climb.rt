@@ -27,7 +27,7 @@ impl Draft {
         requires defined { is_over (variables_in self.now) lit ≡ true }
         ensures { IsFanin self.now levels.now lit result }
     {
-        let sources = self.inputs.len() as u32;
+        let sources = self.parts.inputs().len() as u32;
         match self.table.place(lit / 2) {
             Some(place) if place > sources => {
                 let gate = place - sources - 1;
@@ -50,7 +50,7 @@ impl Draft {
         requires right { is_over (variables_in self.now) (gate_at self.now place).right ≡ true }
         ensures { IsStep self.now levels.now place result }
     {
-        let gate = self.gates[place as usize];
+        let gate = self.parts.gates()[place as usize];
         match (
             self.fanin(levels, gate.left),
             self.fanin(levels, gate.right),
@@ -81,7 +81,7 @@ impl Draft {
             (slice_index levels.new root ≢ 0)
             (level_of self.now (gate_at self.now root).var ≡ None)) }
     {
-        let count = self.gates.len();
+        let count = self.parts.gates().len();
         if levels[root as usize] != 0 {
             return Ok(true);
         }

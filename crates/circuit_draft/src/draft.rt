@@ -1,6 +1,6 @@
 ghost use Rattle.std.specs.Prelude.{◌≡◌, ◌≢◌, ◌<◌, ◌≤◌, ◌++◌, ◌∷◌, ◌==◌, [], false, length, OnOk, OnErr, IfOk, IfErr, None, Err, option_map};
 ghost use Rattle.lits.specs.Clause.{has};
-ghost use Rattle.netlist.specs.Circuit.{IsCircuit, most, variables_in};
+ghost use Rattle.netlist.specs.Circuit.{IsCircuit, most, no_parts, variables_in, without_names};
 ghost use Rattle.byte_scan.specs.Reading.{Gives};
 ghost use Rattle.byte_scan.specs.declared.errors.AigerErr.TheVariants.{NoMemory};
 ghost use Rattle.circuit_draft.specs.Draft.{IsDraft, finished, undefined_in};
@@ -9,27 +9,20 @@ ghost use Rattle.circuit_draft.specs.Steps.{IsFinished, with_order};
 
 use crate::buckets::Buckets;
 use byte_scan::AigerErr;
-use netlist::{And, Circuit, VariableTable};
+use netlist::{And, Circuit, Parts, VariableTable};
 use std::alloc::{AllocError, Global};
 use std::marker::Model;
 
-/// A circuit as far as it is read.
+/// A circuit as far as it is read. It has no names.
 pub struct Draft {
-    pub(crate) inputs: Vec<u32>,
-    pub(crate) gates: Vec<And>,
-    pub(crate) outputs: Vec<u32>,
+    pub(crate) parts: Parts,
     pub(crate) table: VariableTable,
 }
 
 // Written out, so that a drop is one call and not one for each field at each exit of a function.
 impl Drop for Draft {
     fn drop(self) {
-        let Draft {
-            inputs: _,
-            gates: _,
-            outputs: _,
-            table: _,
-        } = self;
+        let Draft { parts: _, table: _ } = self;
     }
 }
 
@@ -39,28 +32,18 @@ impl Model for Draft {
 
     ghost Value = { Aig };
 
-    ghost view = { λ d. record {
-      inputs = d.inputs.items;
-      gates = d.gates.items;
-      outputs = d.outputs.items;
-    } };
+    ghost view = { λ d. d.parts };
 
-    ghost invariant = { λ d. IsIndexedDraft (record {
-      inputs = d.inputs.items;
-      gates = d.gates.items;
-      outputs = d.outputs.items;
-    }) d.table };
+    ghost invariant = { λ d. IsIndexedDraft d.parts d.table };
 }
 
 impl Draft {
     /// Nothing so far.
     pub fn new(alloc: Global) -> Draft
-        ensures { result ≡ record { inputs = []; gates = []; outputs = [] } }
+        ensures { result ≡ no_parts }
     {
         Draft {
-            inputs: Vec::new(alloc),
-            gates: Vec::new(alloc),
-            outputs: Vec::new(alloc),
+            parts: Parts::none(alloc),
             table: VariableTable::new(alloc),
         }
     }
@@ -80,9 +63,9 @@ impl Draft {
         ensures ok { OnOk result (self.new ≡ record self.old { inputs = self.old.inputs ++ var ∷ [] }) }
         ensures err { OnErr result (self.new ≡ self.old) }
     {
-        self.inputs.reserve(1)?;
-        self.table.add(var)?;
-        self.inputs.push_reserved(var);
+        self.table.make_room(var)?;
+        self.parts.push_input(var)?;
+        self.table.push(var);
         Ok(())
     }
 
@@ -92,7 +75,18 @@ impl Draft {
         ensures ok { OnOk result (self.new ≡ record self.old { outputs = self.old.outputs ++ lit ∷ [] }) }
         ensures err { OnErr result (self.new ≡ self.old) }
     {
-        self.outputs.push(lit)?;
+        self.parts.push_output(lit)?;
+        Ok(())
+    }
+
+    /// Puts a constraint last.
+    pub fn push_constraint(&mut self, lit: u32) -> Result<(), AllocError>
+        requires { length self.old.constraints < most }
+        ensures ok { OnOk result
+            (self.new ≡ record self.old { constraints = self.old.constraints ++ lit ∷ [] }) }
+        ensures err { OnErr result (self.new ≡ self.old) }
+    {
+        self.parts.push_constraint(lit)?;
         Ok(())
     }
 
@@ -103,19 +97,19 @@ impl Draft {
         ensures ok { OnOk result (self.new ≡ record self.old { gates = self.old.gates ++ gate ∷ [] }) }
         ensures err { OnErr result (self.new ≡ self.old) }
     {
-        self.gates.reserve(1)?;
-        self.table.add(gate.var)?;
-        self.gates.push_reserved(gate);
+        self.table.make_room(gate.var)?;
+        self.parts.push_gate(gate)?;
+        self.table.push(gate.var);
         Ok(())
     }
 
-    /// The circuit, or the first fault that shows only when all gates are known.
+    /// The circuit, without names, or the first fault that shows only when all gates are known.
     pub fn finish(self, alloc: Global) -> Result<Circuit, AigerErr>
         ensures { Gives result (finished self) }
     {
         match self.order(alloc)? {
             Some(gates) => Ok(self.with_gates(alloc, gates)?),
-            None => Ok(self.as_it_stands()),
+            None => Ok(self.as_it_stands(alloc)),
         }
     }
 
@@ -123,7 +117,7 @@ impl Draft {
     fn order(&self, alloc: Global) -> Result<Option<Vec<And>>, AigerErr>
         requires { IsDraft self.now }
         ensures ok { IfOk result (λ order.
-            IsFinished self.now (with_order self.now (option_map (λ v. v.items) order))) }
+            IsFinished self.now (without_names (with_order self.now (option_map (λ v. v.items) order)))) }
         ensures err { IfErr result (λ e. e ≢ NoMemory → finished self.now ≡ Err e) }
     {
         if let Some(lit) = self.undefined() {
@@ -139,38 +133,30 @@ impl Draft {
     fn gates_by_level(&self, alloc: Global) -> Result<Vec<And>, AigerErr>
         requires defined { undefined_in self.now ≡ None }
         requires order { is_in_order (0 ∷ self.now.inputs) self.now.gates ≡ false }
-        ensures ok { IfOk result (λ v. IsFinished self.now (record self.now { gates = v.items })) }
+        ensures ok { IfOk result (λ v.
+            IsFinished self.now (without_names (record self.now { gates = v.items }))) }
         ensures err { IfErr result (λ e. e ≢ NoMemory → finished self.now ≡ Err e) }
     {
         let levels = self.levels(alloc)?;
-        Ok(Buckets::sorted_by(alloc, levels, self.gates.as_slice())?)
+        Ok(Buckets::sorted_by(alloc, levels, self.parts.gates())?)
     }
 
     /// The circuit of a draft whose gates are in order.
-    fn as_it_stands(self) -> Circuit
-        requires { IsCircuit self }
-        ensures { result ≡ self }
+    fn as_it_stands(self, alloc: Global) -> Circuit
+        requires { IsCircuit (without_names self) }
+        ensures { result ≡ without_names self }
     {
-        let Draft {
-            inputs,
-            gates,
-            outputs,
-            table,
-        } = self;
-        Circuit::with_table(inputs, gates, outputs, table)
+        let Draft { parts, table } = self;
+        Circuit::with_table(parts.without_names(alloc), table)
     }
 
     /// The circuit of a draft with its gates in this order.
     fn with_gates(self, alloc: Global, gates: Vec<And>) -> Result<Circuit, AllocError>
-        requires { IsCircuit (record self { gates = gates.items }) }
-        ensures { IfOk result (λ c. c ≡ record self { gates = gates.items }) }
+        requires { IsCircuit (without_names (record self { gates = gates.items })) }
+        ensures { IfOk result (λ c. c ≡ without_names (record self { gates = gates.items })) }
     {
-        let Draft {
-            inputs,
-            gates: _,
-            outputs,
-            table: _,
-        } = self;
-        Circuit::of(alloc, inputs, gates, outputs)
+        let Draft { parts, table: _ } = self;
+        let parts = parts.with_gates(gates).without_names(alloc);
+        Circuit::of_parts(alloc, parts)
     }
 }

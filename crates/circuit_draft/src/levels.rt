@@ -15,7 +15,7 @@ impl Draft {
         ensures cycle { IfErr result (λ e. e ≢ NoMemory →
             option_map (λ g. Cycle (2 * g.var)) (on_cycle self.now) ≡ Some e) }
     {
-        let mut levels = vec![in alloc; 0; self.gates.len()]?;
+        let mut levels = vec![in alloc; 0; self.parts.gates().len()]?;
         self.climb_all(alloc, levels.as_mut_slice())?;
         Ok(levels)
     }
@@ -29,11 +29,11 @@ impl Draft {
         ensures cycle { IfErr result (λ e. e ≢ NoMemory →
             option_map (λ g. Cycle (2 * g.var)) (on_cycle self.now) ≡ Some e) }
     {
-        let count = self.gates.len() as u32;
+        let count = self.parts.gates().len() as u32;
         let mut path = Vec::new(alloc);
         for root in 0..count {
             if !self.climb(levels, &mut path, root)? {
-                let gate = self.gates[root as usize];
+                let gate = self.parts.gates()[root as usize];
                 return Err(AigerErr::Cycle(2 * u64::from(gate.var)));
             }
         }

@@ -10,12 +10,17 @@ impl Draft {
     pub(crate) fn undefined(&self) -> Option<u32>
         ensures { result ≡ undefined_in self.now }
     {
-        for lit in &self.outputs {
+        for lit in self.parts.outputs() {
             if !self.has(*lit / 2) {
                 return Some(*lit);
             }
         }
-        for gate in &self.gates {
+        for constraint in self.parts.constraints() {
+            if !self.has(*constraint / 2) {
+                return Some(*constraint);
+            }
+        }
+        for gate in self.parts.gates() {
             if !self.has(gate.left / 2) {
                 return Some(gate.left);
             }
@@ -30,8 +35,8 @@ impl Draft {
     pub(crate) fn is_in_order(&self) -> bool
         ensures { result ≡ is_in_order (0 ∷ self.now.inputs) self.now.gates }
     {
-        let mut place = self.inputs.len() as u32 + 1;
-        for gate in &self.gates {
+        let mut place = self.parts.inputs().len() as u32 + 1;
+        for gate in self.parts.gates() {
             if !self.is_among(place, gate.left) {
                 return false;
             }

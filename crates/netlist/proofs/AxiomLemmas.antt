@@ -1,5 +1,5 @@
 -- The clauses that define a node: which of them stay, and how many they are.
-use Rattle.std.proofs.Common.{◌≡◌, ◌≢◌, ℕ, ◌+◌, Bool, true, false, not, cond, Option, Some, None, List, [], ◌∷◌, ◌++◌, length, refl, sym, ap, ap₂, ◌∙◌, subst, arith}
+use Rattle.std.proofs.Common.{◌≡◌, ◌≢◌, ℕ, suc, ◌+◌, Bool, true, false, not, cond, Option, Some, None, List, [], ◌∷◌, ◌++◌, length, refl, sym, ap, ap₂, ◌∙◌, subst, arith}
 use Rattle.std.specs.Prelude.{◌==◌, ◌||◌, slice_get, option_and_then, IfSome}
 use Rattle.std.specs.Option.{option_map, option_map_or, option_to_list}
 use Rattle.std.specs.List.{AllByRecursion}
@@ -160,6 +160,31 @@ module _ (d : Definition) (apart : IsApart d) where
       ∙ ap (λ (cs : List (List Lit)). (negative d.node ∷ d.left ∷ []) ∷ (negative d.node ∷ d.right ∷ []) ∷ cs) (append-nil _))
 
   -- the same, put one behind the other
+  -- clause k of a gate's
+  pub gate-clause_0 : slice_get (kept (gate_clauses d)) 0 ≡ Some (negative d.node ∷ d.left ∷ [])
+  gate-clause_0 = ap (λ (cs : List (List Lit)). slice_get cs 0) (sym kept-gate_each)
+
+  pub gate-clause_1 : slice_get (kept (gate_clauses d)) 1 ≡ Some (negative d.node ∷ d.right ∷ [])
+  gate-clause_1 = ap (λ (cs : List (List Lit)). slice_get cs 1) (sym kept-gate_each)
+
+  pub gate-clause_2 : slice_get (kept (gate_clauses d)) 2 ≡ kept_clause (positive d.node ∷ opposite d.left ∷ opposite d.right ∷ [])
+  gate-clause_2 =
+      ap (λ (cs : List (List Lit)). slice_get cs 2) (sym kept-gate_each)
+      ∙ only (kept_clause (positive d.node ∷ opposite d.left ∷ opposite d.right ∷ []))
+    where
+      only : (o : Option (List Lit)) → slice_get (option_to_list o) 0 ≡ o
+      only None = refl
+      only (Some c) = refl
+
+  pub gate-clause_past : (k : ℕ) → slice_get (kept (gate_clauses d)) (suc (suc (suc k))) ≡ None
+  gate-clause_past k =
+      ap (λ (cs : List (List Lit)). slice_get cs (suc (suc (suc k)))) (sym kept-gate_each)
+      ∙ none (kept_clause (positive d.node ∷ opposite d.left ∷ opposite d.right ∷ []))
+    where
+      none : (o : Option (List Lit)) → slice_get (option_to_list o) (suc k) ≡ None
+      none None = refl
+      none (Some c) = refl
+
   pub kept-xor_each : (((option_to_list (kept_clause (negative d.node ∷ d.left ∷ d.right ∷ []))
       ++ option_to_list (kept_clause (negative d.node ∷ opposite d.left ∷ opposite d.right ∷ [])))
       ++ option_to_list (kept_clause (positive d.node ∷ opposite d.left ∷ d.right ∷ [])))

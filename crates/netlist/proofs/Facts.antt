@@ -102,6 +102,9 @@ pub use Rattle.netlist.proofs.GateLemmas.{position-definition}
 pub use Rattle.netlist.proofs.GateLemmas.{gate-definition}
 -- an XOR has no position
 pub use Rattle.netlist.proofs.NodesThere.{no-xor}
+pub use Rattle.netlist.proofs.NetLemmas.{position_of-xor}
+-- an input's position is the place after its index
+pub use Rattle.netlist.proofs.NetLemmas.{position_of-input}
 -- ---- what assignments of nodes make of the clauses that define a node
 
 -- the negation of a literal holds where the literal doesn't

@@ -10,6 +10,7 @@ mod ConeModels
 mod ClausesOver
 mod NumberedClauses
 mod SatisfiableMiter
+mod PartsLemmas
 mod PlaceLemmas
 mod VariableLemmas
 mod TableLemmas

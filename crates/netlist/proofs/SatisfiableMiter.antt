@@ -8,7 +8,7 @@ use Rattle.lits.specs.Assignment.{Holds, Meets, IsSatisfiable}
 use Rattle.lits.specs.declared.node.Node.{Node}
 use Rattle.lits.specs.declared.node.Node.TheVariants.{Xor}
 use Rattle.netlist.specs.Circuit.{output_value}
-use Rattle.netlist.specs.Net.{AigPair, IsNet, Agree, Differ, value_of, lit_holds, differs}
+use Rattle.netlist.specs.Net.{AigPair, IsNet, DiffersOn, Agree, Differ, value_of, lit_holds, differs}
 use Rattle.lits.specs.Same.{same_node, opposite_dim}
 use Rattle.lits.proofs.Facts.{list_any-map, all-append, all-parts}
 use Rattle.netlist.specs.Miter.{positive, axioms_of, xors_of, variables_of, clauses_of, miter_of}
@@ -67,18 +67,24 @@ module _ (net : AigPair) (is : IsNet net) where
   -- values that meet the miter's clauses make two outputs differ
   pub differ_from_model : (v : Node → Bool) → Meets (lit_holds v) (clauses_of net) → Differ net
   differ_from_model v m = record {
-    bits = inputs_under net v;
-    whole = length-inputs_under net v;
     output = xor.0;
-    within = xor-below net xor.0 there;
-    apart = apart_from_differs (output_value net.a (inputs_under net v) xor.0) (output_value net.b (inputs_under net v) xor.0)
-        (sym (model-all net is (has same_node (variables_of net)) v (inputs_under net v) model (variables-outputs net is) (Xor xor.0) there there) ∙ xor.1);
+    bits = bits;
+    differs = record {
+      whole = length-inputs_under net v;
+      within = xor-below net xor.0 there;
+      apart = apart_from_differs (output_value net.a bits xor.0) (output_value net.b bits xor.0)
+          (sym (model-all net is (has same_node (variables_of net)) v bits model (variables-outputs net is) (Xor xor.0) there there)
+          ∙ xor.1);
+    };
   }
     where
+      bits : List Bool
+      bits = inputs_under net v
+
       parts : Meets (lit_holds v) (flat_map (axioms_of net) (variables_of net)) × Meets (lit_holds v) (map positive (xors_of net) ∷ [])
       parts = all-parts (Holds (lit_holds v)) (flat_map (axioms_of net) (variables_of net)) (map positive (xors_of net) ∷ []) m
 
-      model : IsModelOver net (has same_node (variables_of net)) v (inputs_under net v)
+      model : IsModelOver net (has same_node (variables_of net)) v bits
       model = record {
         fanins = variables-fanins net is;
         meets = flat_map-member (Holds (lit_holds v)) (axioms_of net) (variables_of net) parts.0;
@@ -103,10 +109,13 @@ module _ (net : AigPair) (is : IsNet net) where
       v = value_of net d.bits
 
       there : list_any (λ i. i == d.output) (range_with_len 0 (length net.a.outputs)) ≡ true
-      there = let within : d.output < length net.a.outputs = d.within in range-has 0 (length net.a.outputs) d.output (omega arith) (omega arith)
+      there =
+          let within : d.output < length net.a.outputs = d.differs.within in
+          range-has 0 (length net.a.outputs) d.output (omega arith) (omega arith)
 
       apart : v (Xor d.output) ≡ true
-      apart = differs_from_apart (output_value net.a d.bits d.output) (output_value net.b d.bits d.output) d.apart
+      apart =
+          differs_from_apart (output_value net.a d.bits d.output) (output_value net.b d.bits d.output) d.differs.apart
 
   -- the law
   pub satisfiable : IsSatisfiable opposite_dim (miter_of net) ↔ Differ net
@@ -115,17 +124,23 @@ module _ (net : AigPair) (is : IsNet net) where
       (λ s. let r = numbers.0 s in differ_from_model r.0 r.1, λ d. numbers.1 (value_of net d.bits, model_from_differ d))
 
   agree_from_same : ¬ Differ net → Agree net
-  agree_from_same none bits whole j within = go (output_value net.a bits j) (output_value net.b bits j) refl refl
+  agree_from_same none j within bits whole = go (output_value net.a bits j) (output_value net.b bits j) refl refl
     where
+      apart : output_value net.a bits j ≢ output_value net.b bits j
+          → output_value net.a bits j ≡ output_value net.b bits j
+      apart d =
+          let differs : DiffersOn net j bits = record { whole = whole; within = within; apart = d } in
+          absurd (none (record { output = j; bits = bits; differs = differs }))
+
       go : (x y : Bool) → output_value net.a bits j ≡ x → output_value net.b bits j ≡ y → output_value net.a bits j ≡ output_value net.b bits j
       go true true e f = e ∙ sym f
       go false false e f = e ∙ sym f
-      go true false e f = absurd (none (record { bits = bits; whole = whole; output = j; within = within; apart = λ s. let h : true ≡ false = sym e ∙ s ∙ f in cc }))
-      go false true e f = absurd (none (record { bits = bits; whole = whole; output = j; within = within; apart = λ s. let h : false ≡ true = sym e ∙ s ∙ f in cc }))
+      go true false e f = apart (λ s. let h : true ≡ false = sym e ∙ s ∙ f in cc)
+      go false true e f = apart (λ s. let h : false ≡ true = sym e ∙ s ∙ f in cc)
 
   -- the law, the other way round
   pub unsatisfiable : (¬ IsSatisfiable opposite_dim (miter_of net)) ↔ Agree net
   unsatisfiable = (
     λ none. agree_from_same (λ d. none (satisfiable.1 d)),
-    λ agree s. let d = satisfiable.0 s in d.apart (agree d.bits d.whole d.output d.within),
+    λ agree s. let d = satisfiable.0 s in d.differs.apart (agree d.output d.differs.within d.bits d.differs.whole),
   )

@@ -17,8 +17,8 @@ use Rattle.lits.specs.Same.{same_node}
 use Rattle.netlist.specs.Miter.{positive, axioms_of, xors_of, variables_of, variable_of, numbered, miter_of, clause_number_of}
 use Rattle.netlist.specs.Starts.{first_clause, AreStarts}
 use Rattle.std.proofs.lemmas.Bool.Decides.{nat_tests}
-use Rattle.lits.proofs.Facts.{take_next}
-use Rattle.netlist.proofs.PlaceLemmas.{before-take}
+use Rattle.lits.proofs.Facts.{take_next, exact-node}
+use Rattle.netlist.proofs.PlaceLemmas.{before-take, at_place}
 use Rattle.netlist.proofs.SourceLemmas.{place_within}
 
 pub flat_next : {X Y : Type 0} (f : X → List Y) (xs : List X) (i : ℕ) (x : X) → slice_get xs i ≡ Some x
@@ -106,6 +106,42 @@ module _ (net : AigPair) (starts : List ℕ) (table : AreStarts net starts) wher
       let t : nat_lt k (length (axioms_of net node)) ≡ true = grind (arith, nat_tests, l) in
       let here = table.each (v - 1) (let below = place.1 in omega arith) in
       ap (λ (n : ℕ). Some (n + k)) here ∙ sym (clause_number_of-place net node k (v - 1) place.0 ∙ rw t refl)
+
+  -- a variable is at least 1
+  pub positive_variable : (node : Node) (v : ℕ) → variable_of net node ≡ Some v → 1 ≤ v
+  positive_variable node v e = go (place_of (λ n. same_node n node) (variables_of net)) e
+    where
+      go : (o : Option ℕ) → option_map (λ k. k + 1) o ≡ Some v → 1 ≤ v
+      go None e = absurd (none-some v e)
+      go (Some k) e = let h = same_Some (k + 1) v e in omega arith
+
+  -- the next node's first clause is behind the clauses of this one
+  gap : (node : Node) (v : ℕ) → variable_of net node ≡ Some v
+      → slice_index starts v ≡ slice_index starts (v - 1) + length (axioms_of net node)
+  gap node v e =
+      let place = place_at node v e in
+      let below : v - 1 < length (variables_of net) = place.1 in
+      let at = at_place (λ n. same_node n node) (variables_of net) (v - 1) place.0 in
+      let found : slice_get (variables_of net) (v - 1) ≡ Some node = at.1 ∙ ap Some (exact-node at.0 node at.2) in
+      let next : (v - 1) + 1 ≡ v = (let low = positive_variable node v e in omega arith) in
+      table.each v (omega (arith, next)) ∙ ap (first_clause net) (sym next) ∙ first_clause-more net (v - 1) node found
+      ∙ ap (λ (n : ℕ). n + length (axioms_of net node)) (sym (table.each (v - 1) (omega arith)))
+
+  pub place_next : (node : Node) (v : ℕ) → variable_of net node ≡ Some v → v < length starts
+  place_next node v e =
+      let low = positive_variable node v e in
+      omega (arith, (place_at node v e).1, table.count)
+
+  pub number_below : (node : Node) (k v : ℕ) → variable_of net node ≡ Some v
+      → slice_index starts (v - 1) + k < slice_index starts v → Some (slice_index starts (v - 1) + k) ≡ clause_number_of net node k
+  number_below node k v e less = number_in node k v e (omega (arith, less, gap node v e))
+
+  pub number_past : (node : Node) (k v : ℕ) → variable_of net node ≡ Some v
+      → slice_index starts v ≤ slice_index starts (v - 1) + k → None ≡ clause_number_of net node k
+  number_past node k v e more =
+      let past : length (axioms_of net node) ≤ k = omega (arith, more, gap node v e) in
+      let t : nat_lt k (length (axioms_of net node)) ≡ false = grind (arith, nat_tests, past) in
+      sym (clause_number_of-place net node k (v - 1) (place_at node v e).0 ∙ rw t refl)
 
 -- the numbers of the first clauses up to a node, and the next number
 pub record AreFirst (net : AigPair) (numbers : List ℕ) (place next : ℕ) : Type 0 where

@@ -4,7 +4,7 @@ use Rattle.lits.specs.Dimacs.{DimacsLiteral}
 use Rattle.lits.specs.declared.node.Side.TheVariants.{B}
 use Rattle.lits.specs.declared.node.Node.TheVariants.{Gate, Xor}
 use Rattle.netlist.specs.declared.gate.And.{And}
-use Rattle.netlist.specs.Circuit.{Aig, value_in}
+use Rattle.netlist.specs.Circuit.{plain, Aig, value_in}
 use Rattle.netlist.specs.Net.{AigPair, position_of, value_of}
 use Rattle.netlist.specs.Miter.{miter_of, clause_number_of, cnf_number_of}
 
@@ -18,7 +18,7 @@ abbrev gate : ℕ → ℕ → ℕ → And
 gate v l r = record { var = v; left = l; right = r }
 
 abbrev aig : List ℕ → List And → List ℕ → Aig
-aig i g o = record { inputs = i; gates = g; outputs = o }
+aig i g o = plain i g o
 
 abbrev pair : Aig → Aig → AigPair
 pair a b = record { a = a; b = b }

@@ -4,6 +4,8 @@ use Rattle.std.specs.Prelude.{◌≡◌, ℕ, ◌/◌, ◌%◌, ◌≤◌, ◌==
 use Rattle.std.specs.List.{list_all, slice_index_or}
 use Rattle.std.specs.Option.{option_map_or}
 use Rattle.lits.specs.Clause.{has, no_repeat}
+use Rattle.symbol_names.specs.declared.names.Names.{Names}
+use Rattle.symbol_names.specs.Names.{AreNames, unnamed}
 use Rattle.netlist.specs.Place.{place_of}
 use Rattle.netlist.specs.declared.gate.And.{And}
 
@@ -15,11 +17,32 @@ var_of lit = lit / 2
 abbrev pub is_negated : ℕ → Bool
 is_negated lit = lit % 2 == 1
 
--- a circuit: the variables of its inputs in order, its gates in order, and the literals of its outputs in order
+-- A circuit: the variables of its inputs in order, its gates in order, the literals of its outputs and of its constraints
+-- in order, and for each input and output a name or none.
 pub record Aig : Type 0 where
   pub inputs : List ℕ
   pub gates : List And
   pub outputs : List ℕ
+  pub constraints : List ℕ
+  pub names : Names
+
+-- nothing so far
+abbrev pub no_parts : Aig
+no_parts = record { inputs = []; gates = []; outputs = []; constraints = []; names = unnamed 0 0 }
+
+-- the same, without a name
+abbrev pub without_names : Aig → Aig
+without_names c = record c { names = unnamed (length c.inputs) (length c.outputs) }
+
+-- the circuit of these inputs, gates and outputs, without constraints and names
+abbrev pub plain : List ℕ → List And → List ℕ → Aig
+plain inputs gates outputs = record {
+  inputs = inputs;
+  gates = gates;
+  outputs = outputs;
+  constraints = [];
+  names = unnamed (length inputs) (length outputs);
+}
 
 -- the variables that the gates define, in order
 abbrev pub gate_vars : List And → List ℕ
@@ -44,7 +67,7 @@ abbrev pub AreOrdered : List ℕ → List And → Type 0
 AreOrdered known [] = ⊤
 AreOrdered known (g ∷ gs) = IsNext known g × AreOrdered (g.var ∷ known) gs
 
--- the greatest variable, and the greatest number of outputs, that this project takes
+-- the greatest variable, and the greatest number of outputs and of constraints, that this project takes
 abbrev pub most : ℕ
 most = 16777216
 
@@ -55,6 +78,9 @@ pub record IsCircuit (c : Aig) : Type 0 where
   pub outputs : list_all (is_over (variables_in c)) c.outputs ≡ true
   pub range : list_all (λ v. nat_le v most) (variables_in c) ≡ true
   pub count : length c.outputs ≤ most
+  pub constraints : list_all (is_over (variables_in c)) c.constraints ≡ true
+  pub constraint_count : length c.constraints ≤ most
+  pub names : AreNames (length c.inputs) (length c.outputs) c.names
 
 -- the value of a literal, where v gives each variable's value
 abbrev pub lit_value : (ℕ → Bool) → ℕ → Bool

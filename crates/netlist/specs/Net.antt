@@ -123,15 +123,23 @@ value_of net bits (Xor j) = differs (output_value net.a bits j) (output_value ne
 abbrev pub lit_holds : (Node → Bool) → Lit → Bool
 lit_holds v l = if l.neg then not (v l.node) else v l.node
 
--- for each list of the inputs' truth values, both outputs j have one value
-abbrev pub Agree : AigPair → Type 0
-Agree net = (bits : List Bool) → length bits ≡ length net.a.inputs → (j : ℕ) → j < length net.a.outputs
-    → output_value net.a bits j ≡ output_value net.b bits j
-
--- some truth values of the inputs give some pair of outputs two values
-pub record Differ (net : AigPair) : Type 0 where
-  pub bits : List Bool
+-- output j is there, and differs on an input, one truth value for each of the circuits' inputs
+pub record DiffersOn (net : AigPair) (j : ℕ) (bits : List Bool) : Type 0 where
   pub whole : length bits ≡ length net.a.inputs
+  pub within : j < length net.a.outputs
+  pub apart : output_value net.a bits j ≢ output_value net.b bits j
+
+-- output j agrees: on each input both circuits give it one value
+abbrev pub AgreesOn : AigPair → ℕ → Type 0
+AgreesOn net j =
+    (bits : List Bool) → length bits ≡ length net.a.inputs → output_value net.a bits j ≡ output_value net.b bits j
+
+-- each output agrees
+abbrev pub Agree : AigPair → Type 0
+Agree net = (j : ℕ) → j < length net.a.outputs → AgreesOn net j
+
+-- some output differs on some input
+pub record Differ (net : AigPair) : Type 0 where
   pub output : ℕ
-  pub within : output < length net.a.outputs
-  pub apart : output_value net.a bits output ≢ output_value net.b bits output
+  pub bits : List Bool
+  pub differs : DiffersOn net output bits

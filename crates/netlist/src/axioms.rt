@@ -1,4 +1,4 @@
-ghost use Rattle.std.specs.Prelude.{◌≡◌, ◌+◌, ◌<◌, ◌≤◌, [], ◌∷◌, ◌++◌, length};
+ghost use Rattle.std.specs.Prelude.{◌≡◌, ◌+◌, ◌<◌, ◌≤◌, [], ◌∷◌, ◌++◌, length, slice_get};
 ghost use Rattle.std.specs.Option.{option_to_list};
 ghost use Rattle.lits.specs.declared.node.Node.TheVariants.{Const};
 ghost use Rattle.netlist.specs.Miter.{positive, negative, kept, gate_clauses, xor_clauses};
@@ -34,6 +34,16 @@ impl Axioms {
         ensures few { length self.now ≤ 4 }
     {
         &self.clauses[..self.len]
+    }
+
+    /// Clause k, from 0; none exactly where there are no more.
+    pub(crate) fn one(&self, k: u8) -> Option<Short>
+        ensures { result ≡ slice_get self.now k }
+    {
+        match self.as_slice().get(usize::from(k)) {
+            Some(clause) => Some(clause.copy()),
+            None => None,
+        }
     }
 
     /// No clause: the node is free, or isn't there.
@@ -106,6 +116,22 @@ impl Axioms {
     {
         self.clauses[self.len] = short;
         self.len += 1;
+    }
+}
+
+/// Clause k, from 0, of those that say that a gate is the AND of its fanins. It makes no other one.
+///
+/// A hint of a step asks for one clause, so to make them all would be three times the work.
+pub(crate) fn gate_axiom(gate: Definition, k: u8) -> Option<Short>
+    requires { IsApart gate }
+    ensures { result ≡ slice_get (kept (gate_clauses gate)) k }
+{
+    let Definition { node, left, right } = gate;
+    match k {
+        0 => Some(Short::of_two(negative(node), left)),
+        1 => Some(Short::of_two(negative(node), right)),
+        2 => Short::of_three(positive(node), left.not(), right.not()),
+        _ => None,
     }
 }
 

@@ -1,35 +1,35 @@
-ghost use Rattle.std.specs.Prelude.{◌≡◌, ◌∷◌, ◌++◌, ◌≤◌, ◌<◌, ◌&&◌, ◌==◌, true, IfOk, IfSome, length};
-ghost use Rattle.netlist.specs.Circuit.{IsCircuit, gate_vars, is_over, variables_in, value_in, lit_value};
+ghost use Rattle.std.specs.Prelude.{◌≡◌, ◌≤◌, ◌<◌, ◌&&◌, ◌==◌, true, IfOk, IfSome, length};
+ghost use Rattle.std.specs.Option.{option_copied};
+ghost use Rattle.symbol_names.specs.NameList.{name_at};
+ghost use Rattle.symbol_names.specs.Names.{AreNames};
+ghost use Rattle.netlist.specs.Circuit.{IsCircuit, is_over, variables_in, value_in, lit_value};
 ghost use Rattle.netlist.specs.Place.{place_of};
 ghost use Rattle.netlist.specs.VariableTable.{IsTable};
 ghost use Rattle.netlist.specs.Pair.{gate_from};
 ghost use Rattle.netlist.specs.Source.{source_of, source_at, read_in, IsWithin};
 
 use crate::gate::{And, Source};
+use crate::parts::Parts;
 use crate::variable_table::VariableTable;
 use std::alloc::{AllocError, Global};
 use std::marker::Model;
+use symbol_names::Names;
 
-/// A combinational circuit: input variables, AND gates and output literals, each in order.
+/// A combinational circuit: input variables, AND gates, output literals and constraint literals, each in
+/// order, and the inputs' and outputs' names.
 ///
 /// Variables are those of AIGER, from 1 to 16,777,216, each defined once, as an input or by a gate. A gate's
-/// fanins are constants, inputs or earlier gates.
+/// fanins are constants, inputs or earlier gates. A constraint says of an input of the whole circuit that its
+/// literal is true.
 pub struct Circuit {
-    inputs: Vec<u32>,
-    gates: Vec<And>,
-    outputs: Vec<u32>,
+    parts: Parts,
     table: VariableTable,
 }
 
 // Written out, so that a drop is one call and not one for each field at each exit of a function.
 impl Drop for Circuit {
     fn drop(self) {
-        let Circuit {
-            inputs: _,
-            gates: _,
-            outputs: _,
-            table: _,
-        } = self;
+        let Circuit { parts: _, table: _ } = self;
     }
 }
 
@@ -39,52 +39,65 @@ impl Model for Circuit {
 
     ghost Value = { Aig };
 
-    ghost view = { λ c. record {
-      inputs = c.inputs.items;
-      gates = c.gates.items;
-      outputs = c.outputs.items;
-    } };
+    ghost view = { λ c. c.parts };
 
-    ghost invariant = { λ c. IsIndexed (record {
-      inputs = c.inputs.items;
-      gates = c.gates.items;
-      outputs = c.outputs.items;
-    }) c.table };
+    ghost invariant = { λ c. IsIndexed c.parts c.table };
 }
 
 impl Circuit {
-    /// The circuit of these inputs (variables), gates and outputs (literals).
+    /// The circuit of these inputs (variables), gates, outputs and constraints (literals) and names.
     pub fn of(
         alloc: Global,
         inputs: Vec<u32>,
         gates: Vec<And>,
         outputs: Vec<u32>,
+        constraints: Vec<u32>,
+        names: Names,
     ) -> Result<Circuit, AllocError>
-        requires { IsCircuit
-            (record { inputs = inputs.items; gates = gates.items; outputs = outputs.items }) }
-        ensures { IfOk result
-            (λ c. c ≡ record { inputs = inputs.items; gates = gates.items; outputs = outputs.items }) }
+        requires { IsCircuit (record {
+          inputs = inputs.items;
+          gates = gates.items;
+          outputs = outputs.items;
+          constraints = constraints.items;
+          names = names;
+        }) }
+        ensures { IfOk result (λ c. c ≡ record {
+          inputs = inputs.items;
+          gates = gates.items;
+          outputs = outputs.items;
+          constraints = constraints.items;
+          names = names;
+        }) }
     {
-        let table = VariableTable::of(alloc, inputs.as_slice(), gates.as_slice())?;
-        Ok(Circuit::with_table(inputs, gates, outputs, table))
+        Circuit::of_parts(alloc, Parts::of(inputs, gates, outputs, constraints, names))
     }
 
-    /// The same circuit, of a table that was made already.
-    pub fn with_table(
-        inputs: Vec<u32>,
-        gates: Vec<And>,
-        outputs: Vec<u32>,
-        table: VariableTable,
-    ) -> Circuit
-        requires circuit { IsCircuit
-            (record { inputs = inputs.items; gates = gates.items; outputs = outputs.items }) }
-        requires table { IsTable table (0 ∷ (inputs.items ++ gate_vars gates.items)) }
-        ensures { result ≡ record { inputs = inputs.items; gates = gates.items; outputs = outputs.items } }
+    /// The circuit of these parts.
+    pub fn of_parts(alloc: Global, parts: Parts) -> Result<Circuit, AllocError>
+        requires { IsCircuit parts }
+        ensures { IfOk result (λ c. c ≡ parts) }
     {
+        let table = VariableTable::of(alloc, parts.inputs(), parts.gates())?;
+        Ok(Circuit { parts, table })
+    }
+
+    /// The circuit of these parts, of a table that was made already.
+    pub fn with_table(parts: Parts, table: VariableTable) -> Circuit
+        requires circuit { IsCircuit parts }
+        requires table { IsTable table (variables_in parts) }
+        ensures { result ≡ parts }
+    {
+        Circuit { parts, table }
+    }
+
+    /// The same circuit with these names.
+    pub fn named(self, names: Names) -> Circuit
+        requires { AreNames (length self.inputs) (length self.outputs) names }
+        ensures { result ≡ record self { names = names } }
+    {
+        let Circuit { parts, table } = self;
         Circuit {
-            inputs,
-            gates,
-            outputs,
+            parts: parts.named(names),
             table,
         }
     }
@@ -93,12 +106,9 @@ impl Circuit {
     pub fn copy(&self, alloc: Global) -> Result<Circuit, AllocError>
         ensures { IfOk result (λ c. c ≡ self.now) }
     {
-        Ok(Circuit {
-            inputs: Vec::from_slice(alloc, self.inputs.as_slice())?,
-            gates: Vec::from_slice(alloc, self.gates.as_slice())?,
-            outputs: Vec::from_slice(alloc, self.outputs.as_slice())?,
-            table: self.table.copy(alloc)?,
-        })
+        let table = self.table.copy(alloc)?;
+        let parts = self.parts.copy(alloc)?;
+        Ok(Circuit { parts, table })
     }
 
     /// The inputs' variables, in order.
@@ -106,7 +116,7 @@ impl Circuit {
         ensures inputs { result.now ≡ self.now.inputs }
         ensures circuit { IsCircuit self.now }
     {
-        self.inputs.as_slice()
+        self.parts.inputs()
     }
 
     /// The gates, in order.
@@ -114,7 +124,7 @@ impl Circuit {
         ensures gates { result.now ≡ self.now.gates }
         ensures circuit { IsCircuit self.now }
     {
-        self.gates.as_slice()
+        self.parts.gates()
     }
 
     /// The outputs' literals, in order.
@@ -122,7 +132,29 @@ impl Circuit {
         ensures outputs { result.now ≡ self.now.outputs }
         ensures circuit { IsCircuit self.now }
     {
-        self.outputs.as_slice()
+        self.parts.outputs()
+    }
+
+    /// The constraints' literals, in order.
+    pub fn constraints(&self) -> &[u32]
+        ensures constraints { result.now ≡ self.now.constraints }
+        ensures circuit { IsCircuit self.now }
+    {
+        self.parts.constraints()
+    }
+
+    /// The name of input k, from 0; none also where there is no such input.
+    pub fn input_name(&self, k: u32) -> Option<&[u8]>
+        ensures { option_copied result ≡ name_at self.now.names.inputs k }
+    {
+        self.parts.input_name(k)
+    }
+
+    /// The name of output j, from 0; none also where there is no such output.
+    pub fn output_name(&self, j: u32) -> Option<&[u8]>
+        ensures { option_copied result ≡ name_at self.now.names.outputs j }
+    {
+        self.parts.output_name(j)
     }
 
     /// What gives a variable its value; none where the circuit hasn't the variable.
@@ -130,7 +162,7 @@ impl Circuit {
         ensures source { result ≡ source_of self.now var }
         ensures within { IfSome result (IsWithin self.now) }
     {
-        let inputs = self.inputs.len() as u32;
+        let inputs = self.parts.inputs().len() as u32;
         match self.table.place(var) {
             Some(place) => Some(source_at(place, inputs)),
             None => None,
@@ -142,7 +174,7 @@ impl Circuit {
         ensures gate { result ≡ place_of (λ g. g.var == var) self.now.gates }
         ensures within { IfSome result (λ g. g < length self.now.gates) }
     {
-        let _circuit = &self.gates;
+        let _circuit = &self.parts;
         gate_from(self.source(var))
     }
 
@@ -153,7 +185,7 @@ impl Circuit {
         requires room { length self.now.gates ≤ length buf.old }
         ensures { result ≡ value_in self.now inputs.now lit }
     {
-        for (i, gate) in self.gates.iter().enumerate() {
+        for (i, gate) in self.parts.gates().iter().enumerate() {
             buf[i] = self.both(inputs, buf, gate.left, gate.right);
         }
         self.read(inputs, buf, lit)

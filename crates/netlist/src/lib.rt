@@ -1,7 +1,7 @@
 //! Circuits, pairs of circuits, and the miter that asks whether a pair differs.
 //!
 //! A `Circuit` is an and-inverter graph as AIGER has it (Biere 2007; version 1.9, 2011): input variables,
-//! AND gates in order, output literals. A `Net` is two circuits over the same inputs, whose nodes,
+//! AND gates in order, output literals, constraint literals and names, which are its `Parts`. A `Net` is two circuits over the same inputs, whose nodes,
 //! positions, literals and clauses its readers answer exactly. `Net::miter` gives the clauses (Tseitin 1968)
 //! that are satisfiable exactly if the two circuits differ on some input (`laws`).
 //!
@@ -9,7 +9,7 @@
 //! positions, values, what it means to agree), `specs/Miter.antt` (clauses and their numbers),
 //! `specs/Unlike.antt` (why two circuits are no net). The others say what single types of the code keep:
 //! `specs/VariableTable.antt`, `Source.antt`, `Place.antt`, `Pair.antt`, `Short.antt`, `Starts.antt`,
-//! `Numbered.antt`. Begin to read at `gate.rt`: a `VariableTable` finds the variables of a `Circuit`; a
+//! `Numbered.antt`. Begin to read at `gate.rt`: a `Circuit` has its `Parts`, and a `VariableTable` finds its variables; a
 //! `CircuitPair` makes nodes of two circuits and `Axioms` of their clauses; `ClauseStarts` number the
 //! clauses; all this is behind a `Net`.
 #![tactic(auto)]
@@ -18,7 +18,9 @@ pub use axioms::Axioms;
 pub use circuit::Circuit;
 pub use gate::{And, Definition, Fanins, Placed};
 pub use net::Net;
+pub use parts::Parts;
 pub use short::Short;
+pub use symbol_names::{NameList, Names};
 pub use unlike::Unlike;
 pub use variable_table::VariableTable;
 
@@ -29,6 +31,7 @@ pub mod laws;
 mod miter;
 mod net;
 mod pair;
+mod parts;
 mod short;
 mod starts;
 mod unlike;

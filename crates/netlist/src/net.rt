@@ -1,4 +1,4 @@
-ghost use Rattle.std.specs.Prelude.{◌≡◌, ◌<◌, IfOk, IfSome, IfNone, MatchResult, length};
+ghost use Rattle.std.specs.Prelude.{◌≡◌, [], ◌<◌, IfOk, IfSome, IfNone, MatchResult, length};
 ghost use Rattle.netlist.specs.Net.{IsNet, all_fanins, circuit_of, defined_by, fanins_at, lit_of, node_at, nodes_of, output_of, position_of};
 ghost use Rattle.netlist.specs.Miter.{axiom_of, axioms_of, clause_number_of, cnf_number_of, miter_of, variables_of};
 ghost use Rattle.netlist.specs.Starts.{AreStarts};
@@ -51,8 +51,10 @@ impl Model for Net {
 }
 
 impl Net {
-    /// The net of two circuits. The circuits are given up where there is none.
+    /// The net of two circuits without constraints. The circuits are given up where there is none.
     pub fn of(alloc: Global, a: Circuit, b: Circuit) -> Result<Net, Unlike>
+        requires a { a.constraints ≡ [] }
+        requires b { b.constraints ≡ [] }
         ensures unlike { IfSome (unlike_of a b) (λ u. result ≡ Err u) }
         ensures like { IfNone (unlike_of a b)
             (MatchResult result (λ n. n ≡ record { a = a; b = b }) (λ e. e ≡ Unlike.NoMemory)) }
@@ -161,11 +163,7 @@ impl Net {
     pub fn axiom(&self, node: Node, k: u8) -> Option<Short>
         ensures { result ≡ axiom_of self.now node k }
     {
-        let axioms = self.axioms(node);
-        match axioms.as_slice().get(usize::from(k)) {
-            Some(axiom) => Some(axiom.copy()),
-            None => None,
-        }
+        self.pair.axiom(node, k)
     }
 
     /// The number in the miter, from 1, of clause k of those that define the node; none exactly where there
@@ -174,10 +172,15 @@ impl Net {
         ensures { result ≡ clause_number_of self.now node k }
     {
         match self.pair.variable(node) {
-            Some(variable) if u32::from(k) < self.pair.clauses(node) => {
-                Some(self.starts.first(variable - 1) + u32::from(k))
+            Some(variable) => {
+                let number = self.starts.first(variable - 1) + u32::from(k);
+                if number < self.starts.first(variable) {
+                    Some(number)
+                } else {
+                    None
+                }
             }
-            _ => None,
+            None => None,
         }
     }
 

@@ -4,14 +4,15 @@ ghost use Rattle.lits.specs.Clause.{has};
 ghost use Rattle.netlist.specs.Circuit.{most, is_over, variables_in};
 ghost use Rattle.netlist.specs.Net.{IsNet, all_fanins, circuit_of, defined_by, definition_of, difference, fanins_at, fanins_of, placed, lit_named, lit_of, nodes_of, output_of, position_of};
 ghost use Rattle.lits.specs.Same.{same_node};
-ghost use Rattle.netlist.specs.Miter.{axioms_of, numbered, variable_of, variables_of};
+ghost use Rattle.netlist.specs.Miter.{axiom_of, axioms_of, numbered, variable_of, variables_of};
 ghost use Rattle.netlist.specs.Short.{IsApart};
 ghost use Rattle.netlist.specs.Starts.{first_clause};
 ghost use Rattle.netlist.specs.Pair.{AreSizes, gate_node, first_gate, lit_from};
 
-use crate::axioms::{Axioms, gate_count, xor_count};
+use crate::axioms::{Axioms, gate_axiom, gate_count, xor_count};
 use crate::circuit::Circuit;
 use crate::gate::{And, Definition, Fanins, Placed, Source};
+use crate::short::Short;
 use lits::{Dim, Lit, Node, Side};
 use std::alloc::{AllocError, Global};
 use std::marker::Model;
@@ -300,6 +301,16 @@ impl CircuitPair {
             (Node::Gate(..), Some(gate)) => Axioms::of_gate(gate),
             (Node::Xor(_), Some(xor)) => Axioms::of_xor(xor),
             _ => Axioms::none(),
+        }
+    }
+
+    /// Clause k, from 0, of those that define a node; none exactly where there is no such clause.
+    pub fn axiom(&self, node: Node, k: u8) -> Option<Short>
+        ensures { result ≡ axiom_of self.now node k }
+    {
+        match (node, self.definition(node)) {
+            (Node::Gate(..), Some(gate)) => gate_axiom(gate, k),
+            _ => self.axioms(node).one(k),
         }
     }
 

@@ -59,7 +59,7 @@ impl VariableTable {
     }
 
     /// Makes room for a variable.
-    fn make_room(&mut self, var: u32) -> Result<(), AllocError>
+    pub fn make_room(&mut self, var: u32) -> Result<(), AllocError>
         ensures room { OnOk result (var < length self.new.by_variable) }
         ensures table { (vars : List ℕ) → IsTable self.old vars → IsTable self.new vars }
         ensures count { self.new.count ≡ self.old.count }
@@ -81,8 +81,8 @@ impl VariableTable {
         Ok(VariableTable { places, count: 1 })
     }
 
-    /// Puts a new variable last.
-    fn push(&mut self, var: u32)
+    /// Puts a new variable last, for which there is room.
+    pub fn push(&mut self, var: u32)
         requires room { var < length self.old.by_variable }
         requires few { self.old.count < 2 ^ 31 }
         ensures table { (vars : List ℕ) → IsTable self.old vars → has ◌==◌ vars var ≡ false

@@ -6,10 +6,10 @@
 #![tactic(auto)]
 
 ghost use Rattle.std.specs.Prelude.{◌≡◌, [], ◌∷◌, IfOk};
-ghost use Rattle.netlist.specs.Circuit.{IsCircuit};
+ghost use Rattle.netlist.specs.Circuit.{IsCircuit, plain};
 ghost use Rattle.worked_circuits.specs.Worked.{one_gate};
 
-use netlist::{And, Circuit};
+use netlist::{And, Circuit, Names};
 use std::alloc::{AllocError, Global};
 
 /// The gate of a variable, by the literals of its fanins.
@@ -19,30 +19,31 @@ pub fn and(var: u32, left: u32, right: u32) -> And
     And { var, left, right }
 }
 
-/// The circuit of input variables, gates and output literals.
+/// The circuit of input variables, gates and output literals, without constraints and names.
 pub fn circuit(
     alloc: Global,
     inputs: &[u32],
     gates: &[And],
     outputs: &[u32],
 ) -> Result<Circuit, AllocError>
-    requires { IsCircuit (record { inputs = inputs.now; gates = gates.now; outputs = outputs.now }) }
-    ensures { IfOk result
-        (λ c. c ≡ record { inputs = inputs.now; gates = gates.now; outputs = outputs.now }) }
+    requires { IsCircuit (plain inputs.now gates.now outputs.now) }
+    ensures { IfOk result (λ c. c ≡ plain inputs.now gates.now outputs.now) }
 {
+    let names = Names::none(alloc, inputs.len() as u32, outputs.len() as u32);
     Circuit::of(
         alloc,
         Vec::from_slice(alloc, inputs)?,
         Vec::from_slice(alloc, gates)?,
         Vec::from_slice(alloc, outputs)?,
+        Vec::new(alloc),
+        names,
     )
 }
 
 /// The circuit of two inputs, 1 and 2, with one output.
 pub fn two_input_circuit(alloc: Global, gates: &[And], output: u32) -> Result<Circuit, AllocError>
-    requires { IsCircuit (record { inputs = 1 ∷ 2 ∷ []; gates = gates.now; outputs = output ∷ [] }) }
-    ensures { IfOk result
-        (λ c. c ≡ record { inputs = 1 ∷ 2 ∷ []; gates = gates.now; outputs = output ∷ [] }) }
+    requires { IsCircuit (plain (1 ∷ 2 ∷ []) gates.now (output ∷ [])) }
+    ensures { IfOk result (λ c. c ≡ plain (1 ∷ 2 ∷ []) gates.now (output ∷ [])) }
 {
     circuit(alloc, &[1, 2], gates, &[output])
 }
@@ -65,7 +66,8 @@ pub fn swapped_ands(alloc: Global) -> Result<(Circuit, Circuit), AllocError>
 /// Two XORs of two inputs by other gates, of which gate 5 of the first is the negation of gate 5 of the
 /// second.
 pub fn two_xors(alloc: Global) -> Result<(Circuit, Circuit), AllocError>
-    ensures { IfOk result (λ p. (p.0.outputs ≡ 11 ∷ []) × (p.1.outputs ≡ 10 ∷ [])) }
+    ensures outputs { IfOk result (λ p. (p.0.outputs ≡ 11 ∷ []) × (p.1.outputs ≡ 10 ∷ [])) }
+    ensures constraints { IfOk result (λ p. (p.0.constraints ≡ []) × (p.1.constraints ≡ [])) }
 {
     let gates = [and(3, 2, 5), and(4, 3, 4), and(5, 7, 9)];
     let a = two_input_circuit(alloc, &gates, 11)?;

@@ -8,6 +8,8 @@ use Rattle.aiger_binary.specs.Binary.{AreStacked, AreBelow}
 use Rattle.aiger_binary.proofs.Facts.{IsCircuit-stacked}
 use Rattle.aiger_text.specs.BinaryText.{AreInSequence, IsInSequence}
 use Rattle.workload_gen.specs.Adder.{with_last}
+use Rattle.symbol_names.specs.Names.{AreNames, unnamed}
+use Rattle.symbol_names.proofs.Facts.{AreNames-unnamed}
 use Rattle.workload_gen.specs.Gates.{Draft, IsDraft, next, circuit_of}
 
 AreInSequence-push : (v : ℕ) (gs : List And) (g : And) → AreInSequence v gs → g.var ≡ v + length gs
@@ -35,8 +37,11 @@ AreStacked-sequence v (g ∷ gs) all =
 pub IsCircuit-draft : (d : Draft) (outputs : List ℕ) → IsDraft d → AreBelow (next d) outputs → length outputs ≤ most
     → IsCircuit (circuit_of (outputs, d))
 IsCircuit-draft d outputs is below few =
-    IsCircuit-stacked d.inputs (d.inputs + length d.gates) d.gates outputs refl is.range
-    (AreStacked-sequence (d.inputs + 1) d.gates is.sequence) below few
+    let same = length-range_with_len 1 d.inputs in
+    let names : AreNames d.inputs (length outputs) (unnamed (length (range_with_len 1 d.inputs)) (length outputs)) =
+    rw same (AreNames-unnamed d.inputs (length outputs)) in
+    IsCircuit-stacked d.inputs (d.inputs + length d.gates) d.gates outputs [] (unnamed (length (range_with_len 1 d.inputs)) (length outputs)) refl is.range
+    (AreStacked-sequence (d.inputs + 1) d.gates is.sequence) below few tt (omega arith) names
 
 pub IsInSequence-draft : (d : Draft) (outputs : List ℕ) → IsDraft d → IsInSequence (circuit_of (outputs, d))
 IsInSequence-draft d outputs is =

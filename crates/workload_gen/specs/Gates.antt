@@ -3,7 +3,8 @@
 use Rattle.std.specs.Prelude.{◌≡◌, ℕ, ◌+◌, ◌-◌, ◌*◌, ◌%◌, ◌≤◌, ◌==◌, max, min, List, [], ◌∷◌, ◌++◌, length, if◌then◌else◌}
 use Rattle.std.specs.List.{range_with_len}
 use Rattle.netlist.specs.declared.gate.And.{And}
-use Rattle.netlist.specs.Circuit.{Aig, IsCircuit, most}
+use Rattle.netlist.specs.Circuit.{Aig, IsCircuit, most, plain}
+use Rattle.aiger_text.specs.AsciiText.{IsPlain}
 use Rattle.aiger_text.specs.BinaryText.{AreInSequence, IsInSequence}
 
 -- A circuit that grows: how many inputs it has, and its gates so far. The inputs are the variables from 1 on.
@@ -70,9 +71,9 @@ full_adder x y c = do
 
 -- ---- circuits
 
--- the circuit with these outputs
+-- the circuit with these outputs, without constraints and names
 abbrev pub circuit_of : List ℕ × Draft → Aig
-circuit_of p = record { inputs = range_with_len 1 p.1.inputs; gates = p.1.gates; outputs = p.0 }
+circuit_of p = plain (range_with_len 1 p.1.inputs) p.1.gates p.0
 
 -- the circuit that these steps build over so many inputs
 abbrev pub built : ℕ → (Draft → List ℕ × Draft) → Aig
@@ -86,6 +87,7 @@ pub record IsDraft (d : Draft) : Type 0 where
 -- the circuit has both texts: it is one of so many inputs, in AIGER's order
 pub record IsWritable (inputs : ℕ) (c : Aig) : Type 0 where
   pub circuit : IsCircuit c
+  pub plain : IsPlain c
   pub sequence : IsInSequence c
   pub count : length c.inputs ≡ inputs
   pub range : inputs + length c.gates ≤ most

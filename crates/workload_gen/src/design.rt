@@ -4,7 +4,7 @@ ghost use Rattle.aiger_binary.specs.Binary.{AreBelow};
 ghost use Rattle.aiger_file.specs.File.{SpellsAiger};
 ghost use Rattle.aiger_text.specs.AsciiText.{ascii_text};
 ghost use Rattle.aiger_text.specs.BinaryText.{binary_text};
-ghost use Rattle.netlist.specs.Circuit.{most};
+ghost use Rattle.netlist.specs.Circuit.{most, plain};
 ghost use Rattle.workload_gen.specs.Gates.{IsDraft};
 
 use crate::text;
@@ -22,23 +22,15 @@ pub(crate) struct Design {
 
 impl Model for Design {
     ghost use Rattle.std.specs.List.{range_with_len};
-    ghost use Rattle.netlist.specs.Circuit.{Aig};
+    ghost use Rattle.netlist.specs.Circuit.{Aig, plain};
     ghost use Rattle.workload_gen.specs.Gates.{IsWritable};
 
     ghost Value = { Aig };
 
-    ghost view = { λ d. record {
-      inputs = range_with_len 1 d.inputs;
-      gates = d.gates.items;
-      outputs = d.outputs.items;
-    } };
+    ghost view = { λ d. plain (range_with_len 1 d.inputs) d.gates.items d.outputs.items };
 
     ghost invariant = { λ d. IsWritable d.inputs
-        (record {
-          inputs = range_with_len 1 d.inputs;
-          gates = d.gates.items;
-          outputs = d.outputs.items;
-        }) };
+        (plain (range_with_len 1 d.inputs) d.gates.items d.outputs.items) };
 }
 
 impl Design {
@@ -47,11 +39,7 @@ impl Design {
         requires gates { IsDraft (record { inputs = inputs; gates = gates.items }) }
         requires below { AreBelow (inputs + length gates.items + 1) outputs.items }
         requires few { length outputs.items ≤ most }
-        ensures { result ≡ record {
-          inputs = range_with_len 1 inputs;
-          gates = gates.items;
-          outputs = outputs.items;
-        } }
+        ensures { result ≡ plain (range_with_len 1 inputs) gates.items outputs.items }
     {
         Design {
             inputs,

@@ -5,15 +5,16 @@ use Rattle.aiger_ascii.proofs.LoopLemmas.{lines-step, lines-fault, lines-end}
 use Rattle.aiger_ascii.proofs.lines.inputs.Goals as goal
 
 pub loop-init : goal.loop-init
-loop-init c = let whole : c.args.count - 0 ≡ c.args.count = omega arith in rw whole (record { rest = refl; first = c.requires.first; outputs = refl })
+loop-init c = let whole : c.args.count - 0 ≡ c.args.count = omega arith in rw whole (record { rest = refl; first = c.requires.first; outputs = refl; constraints = refl })
 
 pub loop-preserved : goal.loop-preserved
 loop-preserved c =
     let l = c.loop in
     record {
       rest = l.invariant.rest ∙ lines-step input_at c.args.count l.counter c.args.most l.draft c.input.new.draft l.scan c.input.new.scan c.loop-test.true c.in_ok-input.ensures.reads;
-      first = c.in_ok-input.ensures.rest.0;
-      outputs = c.in_ok-input.ensures.rest.1 ∙ l.invariant.outputs;
+      first = c.in_ok-input.ensures.gates;
+      outputs = c.in_ok-input.ensures.outputs ∙ l.invariant.outputs;
+      constraints = c.in_ok-input.ensures.constraints ∙ l.invariant.constraints;
     }
 
 pub returns-in_err-input-clause-reads : goal.returns-in_err-input-clause-reads

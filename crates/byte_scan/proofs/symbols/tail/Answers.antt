@@ -1,18 +1,28 @@
-use Rattle.std.proofs.Common.{arith, ap, sym, ◌∙◌, Err, ℕ}
+use Rattle.std.proofs.Common.{ap, arith, sym, ◌∙◌, Err, ℕ}
 use Rattle.byte_scan.specs.declared.errors.AigerErr.TheVariants.{BadSymbol}
-use Rattle.byte_scan.proofs.PlaceLemmas.{tail-comment, tail-bad, tail-symbol}
+use Rattle.byte_scan.specs.Reading.{lines_ahead}
+use Rattle.byte_scan.proofs.TailLemmas.{HasNames-start, tail-comment, tail-bad, tail-symbol}
 use Rattle.byte_scan.proofs.symbols.tail.Goals as goal
 
-pub returns-then-begins_with : goal.returns-then-begins_with
-returns-then-begins_with c =
-    let l = c.loop-line in
-    sym (l.invariant.same ∙ tail-comment c.args.inputs c.args.outputs l.scan c.line.new.self c.in-Some.line.now (sym c.in-Some.ensures.line) c.in-Some.ensures.moved (sym c.if-begins_with.ensures))
+pub loop-line-init : goal.loop-line-init
+loop-line-init c = record {
+  at = c.at-at.ensures.at;
+  within = omega (arith, c.at-at.ensures.at, c.at-at.ensures.within);
+  names = rw c.none-names.ensures (HasNames-start c.args.inputs c.args.outputs (lines_ahead c.args.scan.now));
+}
 
-pub returns-then-not-is_symbol : goal.returns-then-not-is_symbol
-returns-then-not-is_symbol c =
+pub returns-then-begins_with-clause-reads : goal.returns-then-begins_with-clause-reads
+returns-then-begins_with-clause-reads c =
     let l = c.loop-line in
-    ap (λ (at : ℕ). Err (BadSymbol at)) l.invariant.at
-    ∙ sym (l.invariant.same ∙ tail-bad c.args.inputs c.args.outputs l.scan c.line.new.self c.in-Some.line.now (sym c.in-Some.ensures.line) c.in-Some.ensures.moved (sym c.if-begins_with.ensures) (sym c.if-not-is_symbol.ensures))
+    tail-comment c.args.inputs c.args.outputs (lines_ahead c.args.scan.now) l.scan c.line.new.self c.in-Some.line.now l.names l.invariant.names
+    (sym c.in-Some.ensures.line) c.in-Some.ensures.moved (sym c.if-begins_with.ensures)
+
+pub returns-then-not-branch-clause-reads : goal.returns-then-not-branch-clause-reads
+returns-then-not-branch-clause-reads c =
+    let l = c.loop-line in
+    tail-bad c.args.inputs c.args.outputs (lines_ahead c.args.scan.now) l.scan c.line.new.self c.in-Some.line.now l.names l.invariant.names
+    (sym c.in-Some.ensures.line) c.in-Some.ensures.moved (sym c.if-begins_with.ensures) (sym c.in_ok-put_symbol.ensures.is ∙ c.if-not-branch.true)
+    ∙ ap (λ (at : ℕ). Err (BadSymbol at)) (sym l.invariant.at)
 
 pub loop-line-preserved : goal.loop-line-preserved
 loop-line-preserved c =
@@ -20,5 +30,7 @@ loop-line-preserved c =
     record {
       at = c.at-at-in-Some.ensures.at;
       within = omega (arith, c.at-at-in-Some.ensures.at, c.at-at-in-Some.ensures.within);
-      same = l.invariant.same ∙ tail-symbol c.args.inputs c.args.outputs l.scan c.line.new.self c.in-Some.line.now (sym c.in-Some.ensures.line) c.in-Some.ensures.moved (sym c.if-begins_with.ensures) (sym c.if-not-is_symbol.ensures);
+      names = tail-symbol c.args.inputs c.args.outputs (lines_ahead c.args.scan.now) l.scan c.line.new.self c.in-Some.line.now l.names c.put_symbol.new.names l.invariant.names
+          (sym c.in-Some.ensures.line) c.in-Some.ensures.moved (sym c.if-begins_with.ensures) (sym c.in_ok-put_symbol.ensures.is ∙ c.if-not-branch.false)
+          (c.in_ok-put_symbol.ensures.put c.if-not-branch.false);
     }

@@ -1,12 +1,13 @@
 use Rattle.std.proofs.Common.{◌≡◌, ◌-◌, ◌≤◌, length}
-use Rattle.byte_scan.specs.Reading.{lines_ahead, tail_of}
+use Rattle.byte_scan.specs.Reading.{lines_ahead}
+use Rattle.byte_scan.proofs.TailLemmas.{HasNames}
 use Rattle.byte_scan.proofs.symbols.tail.Given as goal
 
 abbrev pub invariant-loop-line : goal.invariant-loop-line
 invariant-loop-line l = record {
   at : l.at ≡ l.scan.at;
   within : l.scan.at ≤ length l.scan.bytes;
-  same : tail_of l.inputs l.outputs (lines_ahead l.fn.scan) ≡ tail_of l.inputs l.outputs (lines_ahead l.scan);
+  names : HasNames l.inputs l.outputs (lines_ahead l.fn.scan) (lines_ahead l.scan) l.names;
 }
 
 abbrev pub decreases-loop-line : goal.decreases-loop-line

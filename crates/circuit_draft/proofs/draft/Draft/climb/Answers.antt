@@ -61,11 +61,11 @@ returns-then-len-count-clause-found c =
     let l = c.loop-gate in
     let d = c.args.self.now in
     let vars : AreVariables d.inputs d.gates = subst (λ (a : Aig). AreVariables a.inputs a.gates) c.self.view_is c.self.invariant.draft.variables in
-    let count : length c.self.inside.gates.items ≡ length d.gates = ap (λ (a : Aig). length a.gates) c.self.view_is in
+    let count : length c.self.inside.parts.gates ≡ length d.gates = ap (λ (a : Aig). length a.gates) c.self.view_is in
     let walk = subst (λ (ps : List ℕ). Walks d l.levels c.args.root ps) c.in-Some.ensures.items l.invariant.walk in
     let grown = Walks-push d l.levels c.args.root c.pop.new.self.items c.in-Some.gate c.in-First.fanin walk c.in-First.ensures.1 c.in-First.ensures.0 in
     let items = c.push-in-First-2.new.self.items in
-    let long : length d.gates < length items = omega (arith, c.if-len-count.true, c.len.ensures, c.push-in-First-2.new.self.ok.0, c.len-count.ensures, c.self.inside.gates.ok.0, count) in
+    let long : length d.gates < length items = omega (arith, c.if-len-count.true, c.len.ensures, c.push-in-First-2.new.self.ok.0, ap length c.gates-count.ensures, count) in
     too_long d l.levels c.args.root items vars (rw (c.in_ok-push-in-First-2.ensures.items, c.in_ok-push-in-First.ensures.items) grown) (omega arith) long
 
 pub loop-gate-preserved : goal.loop-gate-preserved
@@ -74,10 +74,10 @@ loop-gate-preserved c =
     let d = c.args.self.now in
     let walk = subst (λ (ps : List ℕ). Walks d l.levels c.args.root ps) c.in-Some.ensures.items l.invariant.walk in
     let grown = Walks-push d l.levels c.args.root c.pop.new.self.items c.in-Some.gate c.in-First.fanin walk c.in-First.ensures.1 c.in-First.ensures.0 in
-    let count : length c.self.inside.gates.items ≡ length d.gates = ap (λ (a : Aig). length a.gates) c.self.view_is in
+    let count : length c.self.inside.parts.gates ≡ length d.gates = ap (λ (a : Aig). length a.gates) c.self.view_is in
     record {
       levels = l.invariant.levels;
       keeps = l.invariant.keeps;
       walk = rw (c.in_ok-push-in-First-2.ensures.items, c.in_ok-push-in-First.ensures.items) grown;
-      short = omega (arith, c.if-len-count.false, c.len.ensures, c.push-in-First-2.new.self.ok.0, c.len-count.ensures, c.self.inside.gates.ok.0, count, l.invariant.levels.count);
+      short = omega (arith, c.if-len-count.false, c.len.ensures, c.push-in-First-2.new.self.ok.0, ap length c.gates-count.ensures, count, l.invariant.levels.count);
     }

@@ -17,6 +17,6 @@ sorted_by-requires-clause-within c =
 pub returns-clause-ok : goal.returns-clause-ok
 returns-clause-ok c =
     let draft : IsDraft c.args.self.now = subst (λ (a : Aig). IsDraft a) c.self.view_is c.self.invariant.draft in
-    let gates = c.as_slice.ensures.value ∙ ap (λ (a : Aig). a.gates) c.self.view_is in
-    IsFinished-levels c.args.self.now c.as_slice.result.now c.in_ok-sorted_by.field-0.items c.in_ok-levels.levels.items
+    let gates = c.gates.ensures ∙ ap (λ (a : Aig). a.gates) c.self.view_is in
+    IsFinished-levels c.args.self.now c.gates.result.now c.in_ok-sorted_by.field-0.items c.in_ok-levels.levels.items
     draft c.requires.defined c.requires.order gates c.in_ok-levels.ensures.levels c.in_ok-sorted_by.ensures

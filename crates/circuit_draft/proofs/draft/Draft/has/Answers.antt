@@ -7,6 +7,6 @@ use Rattle.circuit_draft.proofs.draft.Draft.has.Goals as goal
 
 pub returns : goal.returns
 returns c =
-    let d : Aig = record { inputs = c.self.inside.inputs.items; gates = c.self.inside.gates.items; outputs = c.self.inside.outputs.items } in
+    let d : Aig = c.self.inside.parts in
     subst (λ (a : Aig). c.is_some.result ≡ has ◌==◌ (variables_in a) c.args.var) c.self.view_is
     (c.is_some.ensures ∙ ap is_some (c.place.ensures ∙ c.self.invariant.table.finds c.args.var) ∙ is_some-place (λ x. x == c.args.var) (variables_in d))

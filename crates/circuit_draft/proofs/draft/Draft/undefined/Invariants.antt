@@ -7,7 +7,12 @@ use Rattle.circuit_draft.proofs.draft.Draft.undefined.Given as goal
 abbrev pub invariant-loop-lit : goal.invariant-loop-lit
 invariant-loop-lit l =
     undefined_in l.self
-    ≡ find (λ n. not (is_over (variables_in l.self) n)) (drop l.lit-index l.self.outputs ++ flat_map (λ g. g.left ∷ g.right ∷ []) l.self.gates)
+    ≡ find (λ n. not (is_over (variables_in l.self) n)) (drop l.lit-index l.self.outputs ++ (l.self.constraints ++ flat_map (λ g. g.left ∷ g.right ∷ []) l.self.gates))
+
+abbrev pub invariant-loop-constraint : goal.invariant-loop-constraint
+invariant-loop-constraint l =
+    undefined_in l.self
+    ≡ find (λ n. not (is_over (variables_in l.self) n)) (drop l.constraint-index l.self.constraints ++ flat_map (λ g. g.left ∷ g.right ∷ []) l.self.gates)
 
 abbrev pub invariant-loop-gate : goal.invariant-loop-gate
 invariant-loop-gate l =

@@ -6,13 +6,13 @@ use Rattle.netlist.proofs.VariableLemmas.{few_inputs_of}
 use Rattle.netlist.proofs.circuit.Circuit.source.Goals as goal
 
 pub overflow_cast-inputs : goal.overflow_cast-inputs
-overflow_cast-inputs c = omega (arith, few_inputs_of _ c.self.invariant.circuit, c.len-inputs.ensures)
+overflow_cast-inputs c = omega (arith, few_inputs_of _ c.self.invariant.circuit, ap length c.inputs.ensures)
 
 pub returns-in-Some-clause-source : goal.returns-in-Some-clause-source
 returns-in-Some-clause-source c =
-    let found = source_found (record { inputs = c.self.inside.inputs.items; gates = c.self.inside.gates.items; outputs = c.self.inside.outputs.items }) c.self.inside.table c.args.var c.in-Some.place c.self.invariant.table (sym c.place.ensures ∙ c.in-Some.is) in
-    ap Some (c.source_at.ensures ∙ ap (λ (n : ℕ). source_at n c.in-Some.place) (c.len-inputs.ensures ∙ c.self.inside.inputs.ok.0))
-    ∙ subst (λ (g : Aig). Some (source_at (length c.self.inside.inputs.items) c.in-Some.place) ≡ source_of g c.args.var) c.self.view_is found
+    let found = source_found c.self.inside.parts c.self.inside.table c.args.var c.in-Some.place c.self.invariant.table (sym c.place.ensures ∙ c.in-Some.is) in
+    ap Some (c.source_at.ensures ∙ ap (λ (n : ℕ). source_at n c.in-Some.place) (ap length c.inputs.ensures))
+    ∙ subst (λ (g : Aig). Some (source_at (length c.self.inside.parts.inputs) c.in-Some.place) ≡ source_of g c.args.var) c.self.view_is found
 
 pub returns-in-Some-clause-within : goal.returns-in-Some-clause-within
 returns-in-Some-clause-within c =
@@ -21,4 +21,4 @@ returns-in-Some-clause-within c =
 pub returns-in-None-clause-source : goal.returns-in-None-clause-source
 returns-in-None-clause-source c =
     subst (λ (g : Aig). None ≡ source_of g c.args.var) c.self.view_is
-    (source_missing (record { inputs = c.self.inside.inputs.items; gates = c.self.inside.gates.items; outputs = c.self.inside.outputs.items }) c.self.inside.table c.args.var c.self.invariant.table (sym c.place.ensures ∙ c.in-None.is))
+    (source_missing c.self.inside.parts c.self.inside.table c.args.var c.self.invariant.table (sym c.place.ensures ∙ c.in-None.is))

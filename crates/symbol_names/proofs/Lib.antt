@@ -1,0 +1,3 @@
+pub mod Facts
+mod NameLemmas
+mod SpanLemmas

@@ -1,0 +1,2 @@
+pub mod NameList
+pub mod Names
