@@ -1,6 +1,6 @@
 -- What each step tells its pass.
 use Rattle.std.specs.Prelude.{◌≡◌, ℕ, ◌^◌, ◌<◌, ◌≤◌, ◌==◌, true, false, [], ◌∷◌, ◌++◌, length, MatchBool}
-use Rattle.netlist.specs.Circuit.{Aig}
+use Rattle.netlist.specs.Circuit.{no_parts}
 use Rattle.netlist.specs.Net.{AigPair}
 use Rattle.lemma_book.specs.declared.entry.Entry.{Entry}
 use Rattle.lemma_book.specs.declared.refused.Offered.{Offered}
@@ -75,8 +75,7 @@ pub record CameIn (net : AigPair) (v w : Place) : Type 0 where
 -- a net with no input, no gate and no output
 abbrev pub no_net : AigPair
 no_net =
-    let none : Aig = record { inputs = []; gates = []; outputs = [] } in
-    record { a = none; b = none }
+    record { a = no_parts; b = no_parts }
 
 -- the seat is one of the board's table
 pub record IsFit (table place : TableId) : Type 0 where

@@ -18,7 +18,8 @@ use std::sync::Wait;
 use std::thread;
 use std::time::Duration;
 
-/// How many passes may be in line.
+/// How many passes may be in line. What more or fewer cost: docs/DECISIONS.md, "A pass takes a ticket only
+/// where fewer than two are in line".
 const ROOM: u64 = 2;
 
 /// How often a pass looks for room, each time after a pause twice as long, before it sleeps.

@@ -20,7 +20,7 @@ use Rattle.netlist.specs.declared.gate.And.{And}
 use Rattle.netlist.specs.Circuit.{Aig, var_of}
 use Rattle.netlist.specs.Net.{AigPair, IsNet, circuit_of, node_of, lit_named, gate_at, nodes_of, position_of, value_of, lit_holds}
 use Rattle.netlist.specs.Miter.{axioms_of, variables_of}
-use Rattle.netlist.proofs.Facts.{flat_map-member, values-meet, is_some-place, input-below, has-gate, lit_holds-opposite}
+use Rattle.netlist.proofs.Facts.{flat_map-member, values-meet, is_some-place, input-below, has-gate, lit_holds-opposite, position_of-xor}
 use Rattle.lemma_book.specs.declared.entry.Entry.{Entry}
 use Rattle.lemma_book.specs.Agreement.{IsTrue}
 use Rattle.lemma_book.specs.Book.{IsLegal}
@@ -30,7 +30,7 @@ use Rattle.lemma_book.specs.Good.{IsBefore}
 use Rattle.lemma_book.specs.Root.{MergeAt, merge_of}
 use Rattle.lemma_book.proofs.Facts.{reach-there, merge-earlier, merge-value}
 use Rattle.cone_query.proofs.GateClauses.{constant_from_axioms, gate_from_axioms}
-use Rattle.cone_query.proofs.GateOrder.{found-var, left-earlier, right-earlier, xor-nowhere}
+use Rattle.cone_query.proofs.GateOrder.{found-var, left-earlier, right-earlier}
 
 -- what holds of all elements holds of the first ones
 pub all-take : {X : Type 0} (P : X → Type 0) (k : ℕ) (xs : List X) → AllByRecursion P xs → AllByRecursion P (take k xs)
@@ -191,7 +191,7 @@ module _ (net : AigPair) (is : IsNet net) (book : Entries) (legal : IsLegal net 
           plain rest (Gate s v) u r e =
               let f = find-any (λ g. g.var == v) (circuit_of net s).gates (sym (has-gate net s v) ∙ placed net (Gate s v) (suc k) u) in
               gate-value s v f.0 f.1 r e k u rest
-          plain rest (Xor j) u r e = let f : IsUnder None (suc k) = rw (xor-nowhere net j) at u in absurd f
+          plain rest (Xor j) u r e = let f : IsUnder None (suc k) = rw (position_of-xor net j) at u in absurd f
 
           merged : ((m : Node) → IsUnder (position_of net m) k → is_cone.reached m ≡ true → a m ≡ value_of net bits m)
               → (o : Option MergeAt) → merge_of es n ≡ o → a n ≡ value_of net bits n

@@ -84,25 +84,6 @@ module _ (net : AigPair) where
       none [] = refl
       none (j ∷ js) = rw (none js) refl
 
-  -- an XOR has no position
-  pub xor-nowhere : (j : ℕ) → position_of net (Xor j) ≡ None
-  xor-nowhere j =
-      ap (option_map (λ k. k + 1)) (place_of-append (λ m. same_node m (Xor j)) inputs (map (λ d. d.node) (definitions net)))
-      ∙ rw (none (range_with_len 0 (length net.a.inputs)), gates) refl
-    where
-      none : (ks : List ℕ) → place_of (λ m. same_node m (Xor j)) (map Input ks) ≡ None
-      none [] = refl
-      none (k ∷ ks) = rw (none ks) refl
-
-      side : (s : Side) (gs : List And) → place_of (λ d. same_node d.node (Xor j)) (map (definition_of s (circuit_of net s)) gs) ≡ None
-      side s [] = refl
-      side s (g ∷ gs) = rw (side s gs) refl
-
-      gates : place_of (λ m. same_node m (Xor j)) (map (λ d. d.node) (definitions net)) ≡ None
-      gates =
-          place_of-map (λ m. same_node m (Xor j)) (λ d. d.node) (definitions net)
-          ∙ (place_of-append (λ d. same_node d.node (Xor j)) first second ∙ rw (side A net.a.gates, side B net.b.gates) refl)
-
 -- no variable of a side is named by an XOR
 pub node_of-no_xor : (s : Side) (c : Aig) (x j : ℕ) → same_node (Xor j) (node_of s c x) ≡ false
 node_of-no_xor s c x j = go (x == 0) (place_of (λ y. y == x) c.inputs)

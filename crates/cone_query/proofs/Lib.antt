@@ -9,7 +9,6 @@ mod PairLemmas
 mod OccursLemmas
 mod ValueLemmas
 mod SetLemmas
+mod UnmergedInputs
 mod StartLemmas
 mod OutputLemmas
-mod XorPropagation
-mod EqualRootsLemmas

@@ -21,6 +21,7 @@ use Rattle.unit_prop.specs.New.{occurs}
 use Rattle.unit_prop.specs.Log.{base_clause, base_clauses, clauses_of, InTurn, IsStepAfter, IsChain, IsLearned, IsLog}
 use Rattle.unit_prop.specs.Refuter.{IsOver}
 use Rattle.unit_prop.proofs.Facts.{in_turn-map, contrary}
+use Rattle.netlist.proofs.Facts.{position_of-xor}
 use Rattle.lemma_book.specs.declared.entry.Entry.{Entry}
 use Rattle.lemma_book.specs.Book.{IsLegal}
 use Rattle.lemma_book.specs.Cone.{AreThere, AreIn, named_from, named_clauses, next_of, IsCone}
@@ -29,7 +30,7 @@ use Rattle.lemma_book.specs.Good.{AreOver, IsBefore, out_clause, node_clause}
 use Rattle.lemma_book.specs.Root.{MergeAt, merge_of}
 use Rattle.lemma_book.proofs.Facts.{is_some-variable, cone-over, cone-named, found-clause, chain-more, merge-placed, placed-there}
 use Rattle.cone_query.proofs.ConeModel.{cone-at, cone-from}
-use Rattle.cone_query.proofs.GateOrder.{left-earlier, right-earlier, xor-nowhere}
+use Rattle.cone_query.proofs.GateOrder.{left-earlier, right-earlier}
 
 module _ (P : Node → Type 0) where
   abbrev AllOver : List (List Lit) → Type 0
@@ -122,7 +123,7 @@ module _ (net : AigPair) (is : IsNet net) (book : Entries) (legal : IsLegal net 
               → AreIn IsPlaced (option_map_or (λ g. node_of s (circuit_of net s) (var_of g.left) ∷ node_of s (circuit_of net s) (var_of g.right) ∷ []) o [])
           gate None f = tt
           gate (Some g) f = (earlier _ _ (left-earlier net is s v g f), (earlier _ _ (right-earlier net is s v g f), tt))
-      go (Xor j) h None e = contrary (is_some (position_of net (Xor j))) h (ap is_some (xor-nowhere net j))
+      go (Xor j) h None e = contrary (is_some (position_of net (Xor j))) h (ap is_some (position_of-xor net j))
 
   -- in a cone of such seeds each clause is one that a merge's steps may cite
   node-named : AreIn IsPlaced seeds → AllByRecursion (λ m. node_clause net (take seen book.entries) m.by ≡ Some m.clause) cone
@@ -147,7 +148,7 @@ module _ (net : AigPair) (is : IsNet net) (book : Entries) (legal : IsLegal net 
       plain Const h k c e = e
       plain (Input i) h k c e = e
       plain (Gate s v) h k c e = e
-      plain (Xor j) h k c e = contrary (is_some (position_of net (Xor j))) (reach-placed starts (Xor j) h) (ap is_some (xor-nowhere net j))
+      plain (Xor j) h k c e = contrary (is_some (position_of net (Xor j))) (reach-placed starts (Xor j) h) (ap is_some (position_of-xor net j))
 
       go : (n : Node) → is_cone.reached n ≡ true → (o : Option MergeAt) → merge_of es n ≡ o
           → AllByRecursion (λ m. node_clause net es m.by ≡ Some m.clause) (named_clauses net es n)

@@ -125,16 +125,17 @@ module _ (net : AigPair) (book : Entries) (task : Task) (cone : List Named)
   is_whole : IsCone net book.entries (task.node ∷ []) cone
   is_whole = subst (λ (es : List Entry). IsCone net es (task.node ∷ []) cone) (take-length book.entries) is_cone
 
-  pub unnamed-yes : (k : ℕ) → task.lit.node ≡ Input k → OnTrue (not named) (IsUnnamed net book.entries task)
-  unnamed-yes k e = go named is
-    where
-      go : (b : Bool) → b ≡ list_any (λ m. speaks_of task.lit m.clause) cone → OnTrue (not b) (IsUnnamed net book.entries task)
-      go true f = tt
-      go false f = record { input = k; is_input = e; cone = cone; is_cone = is_whole; unnamed = sym (any-over cone task.lit) ∙ sym f }
+  pub named-over : named ≡ true → is_over cone task.lit ≡ true
+  named-over t = sym (any-over cone task.lit) ∙ (sym is ∙ t)
 
-  pub unnamed-no : OnFalse (not named) (IsNamedInput net book.entries task)
-  unnamed-no = go named is
-    where
-      go : (b : Bool) → b ≡ list_any (λ m. speaks_of task.lit m.clause) cone → OnFalse (not b) (IsNamedInput net book.entries task)
-      go true f = λ k e. record { cone = cone; is_cone = is_whole; holds = sym (any-over cone task.lit) ∙ sym f }
-      go false f = tt
+  pub named-input : named ≡ true → IsNamedInput net book.entries task
+  named-input t k e = record { cone = cone; is_cone = is_whole; holds = named-over t }
+
+  pub unnamed-input : named ≡ false → (k : ℕ) → task.lit.node ≡ Input k → IsUnnamed net book.entries task
+  unnamed-input f k e = record {
+    input = k;
+    is_input = e;
+    cone = cone;
+    is_cone = is_whole;
+    unnamed = sym (any-over cone task.lit) ∙ (sym is ∙ f);
+  }

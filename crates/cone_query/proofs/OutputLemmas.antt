@@ -39,28 +39,18 @@ use Rattle.lemma_book.specs.Cone.{AreThere, AreIn, named_from, named_clauses, no
 use Rattle.lemma_book.specs.Entry.{Entries, is_on, place_on, about, equal_clause}
 use Rattle.lemma_book.specs.Good.{AreOver, out_clause}
 use Rattle.lemma_book.specs.Root.{MergeAt, merge_of}
-use Rattle.lemma_book.proofs.Facts.{apart-lits, good-out, good-out_apart, good-out_spent, is_some-variable, step_after-more, merge-placed, reach-there}
+use Rattle.lemma_book.proofs.Facts.{apart-lits, good-out, good-out_apart, good-out_spent, step_after-more, reach-there}
+use Rattle.lemma_book.proofs.Facts.{xor-there, xor-variable, xor-unmerged, output-no_xor, xor-axioms_are, output-unsettled}
 use Rattle.cone_query.specs.Input.{input_from}
 use Rattle.cone_query.specs.Answered.{IsOutput, SettlesOutput}
 use Rattle.cone_query.proofs.ConeModel.{agree-lit, cone-at, named-meets}
 use Rattle.cone_query.proofs.GateClauses.{xor_from_axioms}
-use Rattle.cone_query.proofs.GateOrder.{xor-nowhere, node_of-no_xor}
+use Rattle.cone_query.proofs.GateOrder.{node_of-no_xor}
 use Rattle.cone_query.proofs.InputLemmas.{length-input_from, input_from-at}
 use Rattle.cone_query.proofs.LogLemmas.{log-over, over-there, out-found, log-chain}
 use Rattle.cone_query.proofs.ModelLiterals.{true_in, true-clauses, false-literal}
 use Rattle.cone_query.proofs.OccursLemmas.{speaks_of, occurs-at}
 use Rattle.cone_query.proofs.ReachedLemmas.{false-outside}
-
--- an output without an entry has none at any place
-pub output-unsettled : (entries : List Entry) (j : ℕ) → about entries j ≡ None → place_on entries (Output j) ≡ None
-output-unsettled entries j none = go (place_on entries (Output j)) refl
-  where
-    go : (o : Option ℕ) → place_on entries (Output j) ≡ o → place_on entries (Output j) ≡ None
-    go None e = e
-    go (Some k) e =
-        let at = at_place (is_on (Output j)) entries k e in
-        let found : find (is_on (Output j)) entries ≡ Some at.0 = find-place (is_on (Output j)) entries ∙ (ap (option_and_then (slice_get entries)) e ∙ at.1) in
-        absurd (none-some at.0 (sym none ∙ found))
 
 -- a test passes for the clauses that stay
 module _ (test : List Lit → Bool) where
@@ -108,51 +98,20 @@ module _ (net : AigPair) (book : Entries) (j : ℕ) (asks : IsOutput net book j)
   abbrev es : List Entry
   es = take (length book.entries) book.entries
 
-  -- the miter has a variable for the XOR
-  pub xor-there : has same_node (variables_of net) (Xor j) ≡ true
-  xor-there = has-xor net j ∙ range-has 0 (length net.a.outputs) j (omega arith) (omega (arith, asks.below))
-
-  pub xor-variable : IsSome (variable_of net (Xor j))
-  xor-variable = is_some-variable net (Xor j) ∙ xor-there
-
-  -- an XOR isn't merged
-  pub not-merged : merge_of es (Xor j) ≡ None
-  not-merged = go (merge_of es (Xor j)) refl
-    where
-      go : (o : Option MergeAt) → merge_of es (Xor j) ≡ o → merge_of es (Xor j) ≡ None
-      go None e = e
-      go (Some m) e =
-          contrary (is_some (position_of net (Xor j))) (merge-placed net book asks.legal (length book.entries) (Xor j) m e).0 (ap is_some (xor-nowhere net j))
-
-  pub axioms-are : axioms_of net (Xor j) ≡ kept (xor_clauses (Xor j) (output_lit net A j) (output_lit net B j))
-  axioms-are =
-      ap (λ (o : Option Lit). xor_axioms j o (output_of net B j)) (output_of-below net asks.net_is A j asks.below)
-      ∙ ap (λ (o : Option Lit). xor_axioms j (Some (output_lit net A j)) o) (output_of-below net asks.net_is B j asks.below)
-
   module _ (cone : List Named) (is_cone : IsCone net es (Xor j ∷ []) cone) where
     reached : is_cone.reached (Xor j) ≡ true
     reached = is_cone.reach.closed.starts.0
 
     -- its variable occurs in the cone
     pub target-over : IsOver cone (equal_clause j)
-    target-over = (occurs-at net es (Xor j ∷ []) cone is_cone (negative (Xor j)) (Xor j) reached xor-there none, tt)
+    target-over = (occurs-at net es (Xor j ∷ []) cone is_cone (negative (Xor j)) (Xor j) reached (xor-there net asks.net_is j asks.below) none, tt)
       where
-        no_xor : (s : Side) → same_node (output_lit net s j).node (Xor j) ≡ false
-        no_xor s = symmetric (output_lit net s j).node (node_of-no_xor s (circuit_of net s) (var_of (slice_index (circuit_of net s).outputs j)) j)
-          where
-            symmetric : (n : Node) → same_node (Xor j) n ≡ false → same_node n (Xor j) ≡ false
-            symmetric n e = go (same_node n (Xor j)) refl
-              where
-                go : (b : Bool) → same_node n (Xor j) ≡ b → same_node n (Xor j) ≡ false
-                go false f = f
-                go true f = contrary (same_node (Xor j) n) (subst (λ (m : Node). same_node (Xor j) m ≡ true) (sym (exact-node n (Xor j) f)) (same-node_self (Xor j))) e
-
         none : ¬ AllByRecursion (λ m. speaks_of (negative (Xor j)) m.clause ≡ false) (named_clauses net es (Xor j))
         none all =
             spoken (kept (xor_clauses (Xor j) (output_lit net A j) (output_lit net B j))) (negative (Xor j)) (Axiom (Xor j)) 0
-            (xor-kept (Xor j) (output_lit net A j) (output_lit net B j) (no_xor A) (no_xor B))
-            (subst (λ (cs : List (List Lit)). AllByRecursion (λ m. speaks_of (negative (Xor j)) m.clause ≡ false) (named_from (Axiom (Xor j)) 0 cs)) axioms-are
-            (rw not-merged at all))
+            (xor-kept (Xor j) (output_lit net A j) (output_lit net B j) (output-no_xor net A j j) (output-no_xor net B j j))
+            (subst (λ (cs : List (List Lit)). AllByRecursion (λ m. speaks_of (negative (Xor j)) m.clause ≡ false) (named_from (Axiom (Xor j)) 0 cs)) (xor-axioms_are net asks.net_is j asks.below)
+            (rw (xor-unmerged net book asks.legal (length book.entries) j) at all))
 
     module _ (log : List Step) (left : ℕ) (result : Refuted) (a : Answers cone (equal_clause j) [] book.out_budget log left result) where
       learned : IsLog cone log
@@ -170,7 +129,7 @@ module _ (net : AigPair) (book : Entries) (j : ℕ) (asks : IsOutput net book j)
       proof-settles hints e is made = subst (SettlesOutput net book j) (sym made) (record {
         about = refl;
         good = good-out net book j (log ++ last ∷ []) asks.below
-            (all-append (λ s. AreThere net s.clause) log (last ∷ []) over ((xor-variable, tt), tt))
+            (all-append (λ s. AreThere net s.clause) log (last ∷ []) over ((xor-variable net asks.net_is j asks.below, tt), tt))
             (output-unsettled book.entries j asks.unsettled)
             (record { before = log; last = last ∷ []; parts = refl; clauses_are = refl })
             (omega (arith, count, length-append log (last ∷ [])))
@@ -204,7 +163,7 @@ module _ (net : AigPair) (book : Entries) (j : ℕ) (asks : IsOutput net book j)
       model-settles_output model e is made = subst (SettlesOutput net book j) (sym made) (record {
         about = refl;
         good = good-out_apart net book j bits asks.below (output-unsettled book.entries j asks.unsettled)
-            (record { whole = length-input_from net model; apart = λ same. unequal (output_value net.a bits j) (output_value net.b bits j) same differ });
+            (record { whole = length-input_from net model; within = asks.below; apart = λ same. unequal (output_value net.a bits j) (output_value net.b bits j) same differ });
         seen = tt;
         outside = record {
           reached = is_cone.reached;
@@ -224,7 +183,7 @@ module _ (net : AigPair) (book : Entries) (j : ℕ) (asks : IsOutput net book j)
           meets = all-base (lit_holds (true_in model)) cone (true-clauses model m.once.apart (base_clauses cone) m.meets)
 
           nexts : AreIn is_cone.reached (nodes_in (option_to_list (output_of net A j) ++ option_to_list (output_of net B j)))
-          nexts = rw not-merged at (is_cone.reach.closed.nexts (Xor j) reached)
+          nexts = rw (xor-unmerged net book asks.legal (length book.entries) j) at (is_cone.reach.closed.nexts (Xor j) reached)
 
           both : (is_cone.reached (output_lit net A j).node ≡ true) × (is_cone.reached (output_lit net B j).node ≡ true)
           both =
@@ -234,20 +193,20 @@ module _ (net : AigPair) (book : Entries) (j : ℕ) (asks : IsOutput net book j)
 
           placed : (s : Side) → is_cone.reached (output_lit net s j).node ≡ true → IsSome (position_of net (output_lit net s j).node)
           placed s r =
-              let there = reach-there net asks.net_is book asks.legal (length book.entries) (Xor j ∷ []) (xor-there, tt) is_cone.reached is_cone.reach (output_lit net s j).node r in
+              let there = reach-there net asks.net_is book asks.legal (length book.entries) (Xor j ∷ []) ((xor-there net asks.net_is j asks.below), tt) is_cone.reached is_cone.reach (output_lit net s j).node r in
               is_some-place (λ n. same_node n (output_lit net s j).node) (nodes_of net)
               ∙ has-position net (output_lit net s j).node (node_of-no_xor s (circuit_of net s) (var_of (slice_index (circuit_of net s).outputs j))) there
 
           value : (s : Side) → is_cone.reached (output_lit net s j).node ≡ true
               → lit_holds (true_in model) (output_lit net s j) ≡ lit_holds (value_of net bits) (output_lit net s j)
           value s r =
-              agree-lit net asks.net_is book asks.legal (length book.entries) asks.all_true (Xor j ∷ []) cone is_cone (xor-there, tt) (true_in model) meets bits
+              agree-lit net asks.net_is book asks.legal (length book.entries) asks.all_true (Xor j ∷ []) cone is_cone ((xor-there net asks.net_is j asks.below), tt) (true_in model) meets bits
               (length-input_from net model) (λ k inside q. sym (input_from-at net model k false inside)) (output_lit net s j) (placed s r) r
 
           xor_axioms-hold : Meets (lit_holds (true_in model)) (axioms_of net (Xor j))
           xor_axioms-hold =
               named-meets (lit_holds (true_in model)) (Axiom (Xor j)) 0 (axioms_of net (Xor j))
-              (rw not-merged at (cone-at net es (Xor j ∷ []) cone is_cone (λ n. Holds (lit_holds (true_in model)) n.clause) (Xor j) reached xor-there meets))
+              (rw (xor-unmerged net book asks.legal (length book.entries) j) at (cone-at net es (Xor j ∷ []) cone is_cone (λ n. Holds (lit_holds (true_in model)) n.clause) (Xor j) reached (xor-there net asks.net_is j asks.below) meets))
 
           is_true : true_in model (Xor j) ≡ true
           is_true = not-false (true_in model (Xor j)) (false-literal model (negative (Xor j)) m.once.apart (and_parts (has same_lit model (positive (Xor j))) true m.refutes).0)

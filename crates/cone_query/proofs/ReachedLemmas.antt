@@ -81,13 +81,17 @@ module _ (net : AigPair) (es : List Entry) (seeds : List Node) (cone : List Name
   bare [] a = tt
   bare (m ∷ ms) a = (a.0, bare ms a.1)
 
+  -- so is a literal that occurs in it
+  pub over-reached : (q : Lit) → is_over cone q ≡ true → is_cone.reached q.node ≡ true
+  over-reached q h = occurs-over (λ n. is_cone.reached n ≡ true) (base_clauses cone) q (bare cone cone-reached) h
+
   -- so are those of a model
   model-reached : (model : List Lit) (q : Lit) → IsOver cone model → has same_lit model q ≡ true → is_cone.reached q.node ≡ true
   model-reached [] q within h = cc
   model-reached (l ∷ ls) q within h = go (same_lit l q) refl (model-reached ls q within.1)
     where
       go : (b : Bool) → same_lit l q ≡ b → (has same_lit ls q ≡ true → is_cone.reached q.node ≡ true) → is_cone.reached q.node ≡ true
-      go true e rest = occurs-over (λ n. is_cone.reached n ≡ true) (base_clauses cone) q (bare cone cone-reached) (subst (λ (m : Lit). is_over cone m ≡ true) (exact-lit l q e) within.0)
+      go true e rest = over-reached q (subst (λ (m : Lit). is_over cone m ≡ true) (exact-lit l q e) within.0)
       go false e rest = rest (sym (ap (λ (b : Bool). b || has same_lit ls q) e) ∙ h)
 
   -- the input of a model is false outside the cone
@@ -101,3 +105,18 @@ module _ (net : AigPair) (es : List Entry) (seeds : List Node) (cone : List Name
       unknown : (b : Bool) → has same_lit model (positive (Input k)) ≡ b → has same_lit model (positive (Input k)) ≡ false
       unknown true e = let h : true ≡ false = sym (model-reached model (positive (Input k)) within e) ∙ out in cc
       unknown false e = e
+
+-- the cone of a node that names a literal is the cone of both
+pub own-both : (net : AigPair) (es : List Entry) (n : Node) (l : Lit) (own : List Named) → IsCone net es (n ∷ []) own
+    → is_over own l ≡ true → IsCone net es (n ∷ l.node ∷ []) own
+own-both net es n l own is_own over = record {
+  reached = is_own.reached;
+  reach = record {
+    closed = record {
+      starts = (is_own.reach.closed.starts.0, (over-reached net es (n ∷ []) own is_own l over, tt));
+      nexts = is_own.reach.closed.nexts;
+    };
+    least = λ set closed m h. is_own.reach.least set (record { starts = (closed.starts.0, tt); nexts = closed.nexts }) m h;
+  };
+  clauses = is_own.clauses;
+}

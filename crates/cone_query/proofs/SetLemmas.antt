@@ -1,11 +1,10 @@
 -- An input that no clause of a node's cone names can be set without a change of the node's value.
-use Rattle.std.proofs.Common.{◌≡◌, ◌≢◌, ℕ, ◌<◌, Bool, true, false, not, ◌||◌, List, [], ◌∷◌, length, take, set, get_or, replicate, refl, sym, ap, ◌∙◌, subst, if◌then◌else◌, arith, length-set, get_or-set_same, get_or-set_other}
+use Rattle.std.proofs.Common.{◌≡◌, ◌≢◌, ℕ, ◌<◌, Bool, true, false, not, ◌||◌, List, [], ◌∷◌, length, take, set, replicate, refl, sym, ap, ◌∙◌, subst, if◌then◌else◌, arith, length-set, get_or-set_same}
 use Rattle.std.specs.Prelude.{◌==◌, slice_index_or}
 use Rattle.std.specs.List.{list_any, AllByRecursion}
 use Rattle.std.proofs.lemmas.Bool.Decides.{nat_tests}
-use Rattle.std.proofs.lemmas.Bool.{cases_lt, or_parts}
-use Rattle.std.proofs.lemmas.List.{get_or-replicate, length-replicate, get_or_past}
-use Rattle.std.proofs.Common.{inl, inr}
+use Rattle.std.proofs.lemmas.Bool.{or_parts, or_left, or_right}
+use Rattle.std.proofs.lemmas.List.{length-replicate}
 use Rattle.std.proofs.Math.Seq.{take-length}
 use Rattle.lits.specs.Assignment.{Holds}
 use Rattle.lits.specs.Clause.{has}
@@ -16,12 +15,13 @@ use Rattle.lits.specs.declared.step.Named.{Named}
 use Rattle.lits.specs.Same.{same_node, same_lit, opposite}
 use Rattle.lits.proofs.Facts.{exact-node, same-node_self}
 use Rattle.netlist.specs.Net.{AigPair, value_of, lit_holds}
-use Rattle.netlist.proofs.Facts.{equal-number}
+use Rattle.netlist.proofs.Facts.{equal-number, all-weaker}
 use Rattle.unit_prop.proofs.Facts.{contrary}
 use Rattle.lemma_book.specs.declared.entry.Task.{Task}
 use Rattle.lemma_book.specs.declared.entry.Entry.{Entry}
 use Rattle.lemma_book.specs.declared.entry.Entry.TheVariants.{Apart}
-use Rattle.lemma_book.specs.Cone.{next_of, IsReach, IsCone}
+use Rattle.lemma_book.specs.Agreement.{IsTrue}
+use Rattle.lemma_book.specs.Cone.{next_of, AreIn, IsClosed, IsReach, IsCone}
 use Rattle.lemma_book.specs.Entry.{Entries}
 use Rattle.lemma_book.proofs.Facts.{good-apart}
 use Rattle.cone_query.specs.Input.{IsBelow, with_input, other_value}
@@ -30,6 +30,7 @@ use Rattle.cone_query.specs.Asked.{IsPair, Settles, seeds_of}
 use Rattle.cone_query.proofs.ConeModel.{agree, values-meet_cone}
 use Rattle.cone_query.proofs.InputLemmas.{there-below}
 use Rattle.cone_query.proofs.OccursLemmas.{speaks_of, silent}
+use Rattle.cone_query.proofs.UnmergedInputs.{zeros-at, one-other, input-unmerged}
 use Rattle.cone_query.proofs.PairLemmas.{pair-there, pair-placed, pair-starts}
 
 -- a literal over the node is it or its negation
@@ -73,18 +74,8 @@ module _ (v a : Node → Bool) (lit : Lit) (others : (n : Node) → same_node n 
       parts : (has same_lit m.clause lit ≡ false) × (has same_lit m.clause (opposite lit) ≡ false)
       parts = or_parts (has same_lit m.clause lit) (has same_lit m.clause (opposite lit)) quiet.0
 
--- the inputs' truth values with one set among false ones
-zeros-at : (n i : ℕ) → get_or (replicate n false) i false ≡ false
-zeros-at n i = elim (cases_lt i n) [
-  | inl below ↦ get_or-replicate n i false false below
-  | inr past ↦ get_or_past (replicate n false) i false (omega (arith, length-replicate n false))
-]
-
-one-other : (n k i : ℕ) (b : Bool) → i ≢ k → get_or (set (replicate n false) k b) i false ≡ false
-one-other n k i b other = get_or-set_other (replicate n false) k i b false other ∙ zeros-at n i
-
-module _ (net : AigPair) (book : Entries) (task : Task) (pair : IsPair net book task) (gate : IsGate task.node) (base : List Named)
-    (is_base : IsCone net (take (length book.entries) book.entries) (seeds_of task) base) (unnamed : IsUnnamed net book.entries task) (value : Bool)
+module _ (net : AigPair) (book : Entries) (task : Task) (pair : IsPair net book task) (gate : IsGate task.node)
+    (unnamed : IsUnnamed net book.entries task) (value : Bool)
     (zeros bits : List Bool) (zeros_are : zeros ≡ replicate (length net.a.inputs) false) (value_is : value ≡ value_of net zeros task.node)
     (bits_are : bits ≡ with_input task.lit.node (other_value value task.lit.neg) zeros) where
   abbrev k : ℕ
@@ -172,17 +163,63 @@ module _ (net : AigPair) (book : Entries) (task : Task) (pair : IsPair net book 
       go false false true e f = cc
       go false false false e f = cc
 
+  -- the seeds reach what the gate reaches, and the input
+  both : Node → Bool
+  both n = own_is.reached n || same_node n task.lit.node
+
+  both-reach : IsReach (next_of net (take (length book.entries) book.entries)) (seeds_of task) both
+  unfolding both
+  both-reach = record {
+    closed = record {
+      starts = (
+        or_left (own_is.reached task.node) (same_node task.node task.lit.node) own_is.reach.closed.starts.0,
+        (or_right (own_is.reached task.lit.node) (same_node task.lit.node task.lit.node) (same-node_self task.lit.node), tt),
+      );
+      nexts = nexts;
+    };
+    least = λ set closed n h. least set closed n (own_is.reached n) refl h;
+  }
+    where
+      nothing : next_of net (take (length book.entries) book.entries) task.lit.node ≡ []
+      nothing =
+          rw (
+            unnamed.is_input,
+            input-unmerged net book pair.legal (length book.entries)
+                (subst (AllByRecursion (IsTrue net)) (sym (take-length book.entries)) pair.all_true) k,
+          ) refl
+
+      nexts : (n : Node) → both n ≡ true → AreIn both (next_of net (take (length book.entries) book.entries) n)
+      nexts n h = go (own_is.reached n) refl h
+        where
+          go : (t : Bool) → own_is.reached n ≡ t → (own_is.reached n || same_node n task.lit.node) ≡ true
+              → AreIn (λ m. own_is.reached m || same_node m task.lit.node) (next_of net (take (length book.entries) book.entries) n)
+          go true e g =
+              all-weaker (λ m. own_is.reached m ≡ true) (λ m. (own_is.reached m || same_node m task.lit.node) ≡ true)
+              (λ m r. or_left (own_is.reached m) (same_node m task.lit.node) r)
+              (next_of net (take (length book.entries) book.entries) n) (own_is.reach.closed.nexts n e)
+          go false e g =
+              let same : n ≡ task.lit.node = exact-node n task.lit.node (rw e at g) in
+              rw (same, nothing) tt
+
+      least : (set : Node → Bool) → IsClosed (next_of net (take (length book.entries) book.entries)) (seeds_of task) set
+          → (n : Node) (t : Bool) → own_is.reached n ≡ t → (own_is.reached n || same_node n task.lit.node) ≡ true → set n ≡ true
+      least set closed n true e g =
+          own_is.reach.least set (record { starts = (closed.starts.0, tt); nexts = closed.nexts }) n e
+      least set closed n false e g =
+          let same : n ≡ task.lit.node = exact-node n task.lit.node (rw e at g) in
+          rw same closed.starts.1.0
+
   pub set-settles : Settles net book task (Apart task.node task.lit bits)
   set-settles = record {
     about = refl;
     good = good-apart net book task.node task.lit bits (pair-placed net book task pair) pair.earlier (record { whole = whole; apart = differ });
     seen = tt;
     outside = record {
-      reached = is_base.reached;
-      reach = subst (λ (es : List Entry). IsReach (next_of net es) (seeds_of task) is_base.reached) (take-length book.entries) is_base.reach;
+      reached = both;
+      reach = subst (λ (es : List Entry). IsReach (next_of net es) (seeds_of task) both) (take-length book.entries) both-reach;
       outside = λ i out. elsewhere i (λ same.
-          contrary (is_base.reached (Input i))
-          (subst (λ (n : Node). is_base.reached n ≡ true) (unnamed.is_input ∙ ap Input (sym same)) is_base.reach.closed.starts.1.0) out);
+          contrary (both (Input i))
+          (subst (λ (n : Node). both n ≡ true) (unnamed.is_input ∙ ap Input (sym same)) both-reach.closed.starts.1.0) out);
     };
     within = tt;
   }

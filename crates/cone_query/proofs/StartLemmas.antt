@@ -12,7 +12,7 @@ use Rattle.lits.specs.Same.{same_node, same_lit, opposite}
 use Rattle.lits.proofs.Facts.{exact-node}
 use Rattle.netlist.specs.Net.{AigPair, circuit_of, nodes_of, position_of}
 use Rattle.netlist.specs.Miter.{positive, negative, variables_of}
-use Rattle.netlist.proofs.Facts.{is_some-place, has-gate}
+use Rattle.netlist.proofs.Facts.{is_some-place, has-gate, position_of-xor}
 use Rattle.unit_prop.specs.Refuter.{is_over, IsOver}
 use Rattle.unit_prop.proofs.Facts.{contrary}
 use Rattle.lemma_book.specs.declared.entry.Task.{Task}
@@ -25,7 +25,6 @@ use Rattle.lemma_book.proofs.Facts.{reach-there, cone-one, irreflexive}
 use Rattle.cone_query.specs.Query.{IsGate, IsUnnamed}
 use Rattle.cone_query.specs.Asked.{IsPair, IsQuery, IsImplication, IsNamedInput, seeds_of, forth, back}
 use Rattle.cone_query.proofs.ConeModel.{find-any}
-use Rattle.cone_query.proofs.GateOrder.{xor-nowhere}
 use Rattle.cone_query.proofs.OccursLemmas.{occurs-at, occurs-more, spoken-merge, spoken-const, spoken-gate}
 use Rattle.cone_query.proofs.PairLemmas.{pair-placed, pair-starts, over-opposite}
 
@@ -58,7 +57,7 @@ module _ (net : AigPair) (book : Entries) (task : Task) (pair : IsPair net book 
           let at = find-any (λ g. g.var == v) (circuit_of net s).gates (sym (has-gate net s v) ∙ (sym (is_some-place (λ m. same_node m (Gate s v)) (nodes_of net)) ∙ p)) in
           occurs-at net (take (length book.entries) book.entries) (seeds_of task) base is_base (negative (Gate s v)) (Gate s v) r (there (Gate s v) r)
           (spoken-gate net (take (length book.entries) book.entries) pair.net_is s v at.0 at.1 e)
-      plain (Xor j) same r p e = contrary (is_some (position_of net (Xor j))) p (ap is_some (xor-nowhere net j))
+      plain (Xor j) same r p e = contrary (is_some (position_of net (Xor j))) p (ap is_some (position_of-xor net j))
 
       merged : (o : Option MergeAt) → merge_of (take (length book.entries) book.entries) n ≡ o → is_over base (negative n) ≡ true
       merged None e = plain n refl reached placed e

@@ -17,7 +17,7 @@ use Rattle.lemma_book.specs.declared.entry.Entry.{Entry}
 use Rattle.lemma_book.specs.Agreement.{IsTrue}
 use Rattle.lemma_book.specs.Book.{IsLegal}
 use Rattle.lemma_book.specs.Cone.{IsCone}
-use Rattle.lemma_book.specs.Entry.{Entries}
+use Rattle.lemma_book.specs.Entry.{Entries, OfPair, seeds_of as nodes_asked}
 use Rattle.lemma_book.specs.Good.{OfCone, IsGood, IsEarlier}
 use Rattle.lemma_book.specs.Root.{IsRoot}
 use Rattle.cone_query.specs.Query.{task_of, SeesAll, IsFalseOutside, IsWithin}
@@ -32,8 +32,13 @@ pub record IsPair (net : AigPair) (book : Entries) (task : Task) : Type 0 where
   pub root : IsRoot book.entries task.node
   pub earlier : IsEarlier net task.node task.lit
 
+-- the nodes of its query
 abbrev pub seeds_of : Task → List Node
-seeds_of task = task.node ∷ task.lit.node ∷ []
+seeds_of task = nodes_asked (OfPair task.node task.lit)
+
+-- the base is the cone of both nodes over the whole book
+abbrev pub IsBaseOf : AigPair → Entries → Task → List Named → Type 0
+IsBaseOf net book task base = IsCone net (take (length book.entries) book.entries) (seeds_of task) base
 
 -- an input whose literal it is is named by a clause of the node's cone
 abbrev pub IsNamedInput : AigPair → List Entry → Task → Type 0
@@ -53,7 +58,7 @@ IsImplication task clause = (clause ≡ forth task) ⊎ (clause ≡ back task)
 -- a query of the pair goes on: the base is the cone of both nodes over the whole book, both occur in it, the steps so far
 -- were learned over it, and each unit of the budget is left or was spent for one
 pub record IsQuery (net : AigPair) (book : Entries) (task : Task) (base : List Named) (log : List Step) (left : ℕ) : Type 0 where
-  pub cone : IsCone net (take (length book.entries) book.entries) (seeds_of task) base
+  pub cone : IsBaseOf net book task base
   pub over : IsOver base (forth task)
   pub learned : IsLog base log
   pub spends : left + length log ≡ book.sweep_budget

@@ -2,4 +2,3 @@ pub mod Input
 pub mod Query
 pub mod Asked
 pub mod Answered
-pub mod EqualRoots

@@ -1,16 +1,18 @@
 -- What an entry of a query says besides that it is good.
-use Rattle.std.specs.Prelude.{◌≡◌, ℕ, ◌≤◌, ◌^◌, Bool, true, false, ⊤, Option, None, Some, List, [], ◌∷◌, length}
+use Rattle.std.specs.Prelude.{◌≡◌, ℕ, ◌≤◌, ◌^◌, Bool, true, false, ⊤, Option, None, Some, List, [], ◌∷◌, ◌++◌, length, map}
 use Rattle.std.specs.List.{slice_index_or}
 use Rattle.lits.specs.declared.node.Node.{Node}
-use Rattle.lits.specs.declared.node.Node.TheVariants.{Input, Gate, Xor}
+use Rattle.lits.specs.declared.node.Node.TheVariants.{Input, Gate}
 use Rattle.lits.specs.declared.step.Named.{Named}
+use Rattle.lits.specs.declared.step.Step.{Step}
 use Rattle.netlist.specs.Net.{AigPair}
 use Rattle.unit_prop.specs.Refuter.{is_over}
 use Rattle.unit_prop.specs.Variables.{variables}
 use Rattle.lemma_book.specs.declared.entry.Task.{Task}
 use Rattle.lemma_book.specs.declared.entry.Entry.{Entry}
-use Rattle.lemma_book.specs.declared.entry.Entry.TheVariants.{Merge, Apart, Spent, OutApart, OutSpent}
-use Rattle.lemma_book.specs.Entry.{Entries}
+use Rattle.lemma_book.specs.declared.entry.Entry.TheVariants.{Merge, Apart, Spent}
+use Rattle.lemma_book.specs.Entry.{Entries, Question, Answer, Equal, Differ, Open, question_of, answer_of}
+use Rattle.lemma_book.specs.Entry.{seeds_of, budget_of, equal_clauses}
 use Rattle.lemma_book.specs.Cone.{next_of, IsReach, IsCone}
 use Rattle.lemma_book.specs.Good.{OfCone}
 
@@ -26,11 +28,14 @@ task_of (Apart node lit input) = Some (record { node = node; lit = lit })
 task_of (Spent node lit seen log) = Some (record { node = node; lit = lit })
 task_of _ = None
 
+abbrev pub SeesAllOf : Entries → Answer → Type 0
+SeesAllOf book (Equal steps) = ⊤
+SeesAllOf book (Differ input) = ⊤
+SeesAllOf book (Open seen log) = seen ≡ length book.entries
+
 -- a query that spent its budget saw the whole book
 abbrev pub SeesAll : Entries → Entry → Type 0
-SeesAll book (Spent node lit seen log) = seen ≡ length book.entries
-SeesAll book (OutSpent j seen log) = seen ≡ length book.entries
-SeesAll book _ = ⊤
+SeesAll book e = SeesAllOf book (answer_of e)
 
 -- the inputs that the seeds don't reach over the entries are false
 pub record AreFalseOutside (net : AigPair) (entries : List Entry) (seeds : List Node) (input : List Bool) : Type 0 where
@@ -38,18 +43,35 @@ pub record AreFalseOutside (net : AigPair) (entries : List Entry) (seeds : List 
   pub reach : IsReach (next_of net entries) seeds reached
   pub outside : (k : ℕ) → reached (Input k) ≡ false → slice_index_or input k false ≡ false
 
--- so they are in a counterexample: the seeds are the pair's nodes, or the output's XOR
+abbrev pub IsFalseOutsideOf : AigPair → List Entry → Question → Answer → Type 0
+IsFalseOutsideOf net entries q (Equal steps) = ⊤
+IsFalseOutsideOf net entries q (Differ input) = AreFalseOutside net entries (seeds_of q) input
+IsFalseOutsideOf net entries q (Open seen log) = ⊤
+
+-- so they are in a counterexample
 abbrev pub IsFalseOutside : AigPair → List Entry → Entry → Type 0
-IsFalseOutside net entries (Apart node lit input) = AreFalseOutside net entries (node ∷ lit.node ∷ []) input
-IsFalseOutside net entries (OutApart j input) = AreFalseOutside net entries (Xor j ∷ []) input
-IsFalseOutside net entries _ = ⊤
+IsFalseOutside net entries e = IsFalseOutsideOf net entries (question_of e) (answer_of e)
+
+abbrev pub IsWithinOf : AigPair → Entries → Question → Answer → Type 0
+IsWithinOf net book q (Equal steps) = ⊤
+IsWithinOf net book q (Differ input) = ⊤
+IsWithinOf net book q (Open seen log) =
+    OfCone net book.entries (seeds_of q) (λ cone. budget_of book q ≤ 3 ^ variables cone)
 
 -- a budget that was spent is no greater than 3 to the number of its cone's variables
 abbrev pub IsWithin : AigPair → Entries → Entry → Type 0
-IsWithin net book (Spent node lit seen log) =
-    OfCone net book.entries (node ∷ lit.node ∷ []) (λ cone. book.sweep_budget ≤ 3 ^ variables cone)
-IsWithin net book (OutSpent j seen log) = OfCone net book.entries (Xor j ∷ []) (λ cone. book.out_budget ≤ 3 ^ variables cone)
-IsWithin net book _ = ⊤
+IsWithin net book e = IsWithinOf net book (question_of e) (answer_of e)
+
+-- the entry is built of what its query leaves: equal values are shown by the log and then a step for each clause that
+-- says so, and an open question has the log itself
+abbrev pub IsBuiltOf : List Step → Question → Answer → Type 0
+IsBuiltOf log q (Equal steps) =
+    (last : List Step) × (steps ≡ log ++ last) × (map (λ s. s.clause) last ≡ equal_clauses q)
+IsBuiltOf log q (Differ input) = ⊤
+IsBuiltOf log q (Open seen learned) = learned ≡ log
+
+abbrev pub IsBuilt : List Step → Entry → Type 0
+IsBuilt log e = IsBuiltOf log (question_of e) (answer_of e)
 
 -- the literal is that of an input that no clause of the node's cone names
 pub record IsUnnamed (net : AigPair) (entries : List Entry) (task : Task) : Type 0 where

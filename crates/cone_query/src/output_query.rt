@@ -7,10 +7,9 @@ ghost use Rattle.lemma_book.specs.Good.{IsGood};
 ghost use Rattle.lemma_book.specs.declared.entry.Subject.TheVariants.{Output};
 ghost use Rattle.cone_query.specs.Answered.{IsOutput, SettlesOutput};
 ghost use Rattle.cone_query.specs.Input.{input_from};
-ghost use Rattle.cone_query.specs.Query.{SeesAll, IsFalseOutside, IsWithin};
+ghost use Rattle.cone_query.specs.Query.{SeesAll, IsFalseOutside, IsWithin, IsBuilt};
 
 use crate::copies::{copied, one_more, unit};
-use crate::equal_roots::entry_of_equal_roots;
 use crate::input::input_of;
 use lemma_book::laws::entries_are_true;
 use lemma_book::{Book, Entry};
@@ -20,8 +19,11 @@ use std::alloc::{AllocError, Global};
 use unit_prop::laws::budget;
 use unit_prop::{Refuted, Refuter};
 
-/// Settles output j, which has no entry yet: from the merges on its two paths where their roots are
-/// equal, else by a query for at most the book's budget of learned clauses.
+/// Asks whether both circuits give output j, which has no entry yet, one value: whether the cone of its XOR
+/// implies that the XOR is false, for at most the book's budget of learned clauses.
+///
+/// The entry is built of what the query leaves: an `Out` of the log and then the unit, an `OutSpent` of the
+/// log.
 pub fn output<R: Refuter + Send>(
     alloc: Global,
     net: &Net,
@@ -37,27 +39,11 @@ pub fn output<R: Refuter + Send>(
     ensures seen { IfOk result (SeesAll seen.now) }
     ensures outside { IfOk result (IsFalseOutside net.now seen.now.entries) }
     ensures within { IfOk result (IsWithin net.now seen.now) }
+    ensures built { IfOk result (IsBuilt (R.Refuter.log_of refuter.new)) }
 {
     laws::is_net(net);
     entries_are_true(net, seen);
-    settle(alloc, net, seen, j, refuter)
-}
-
-/// Settles an output by its roots, where they are equal, else by a query.
-fn settle<R: Refuter>(
-    alloc: Global,
-    net: &Net,
-    seen: &Book,
-    j: u32,
-    refuter: &mut R,
-) -> Result<Entry, AllocError>
-    requires { IsOutput net.now seen.now j }
-    ensures { IfOk result (SettlesOutput net.now seen.now j) }
-{
-    match entry_of_equal_roots(alloc, net, seen, j)? {
-        Some(entry) => Ok(entry),
-        None => query(alloc, net, seen, j, refuter),
-    }
+    query(alloc, net, seen, j, refuter)
 }
 
 /// Asks whether the cone of the output's XOR implies that the XOR is false.
@@ -69,7 +55,8 @@ fn query<R: Refuter>(
     refuter: &mut R,
 ) -> Result<Entry, AllocError>
     requires { IsOutput net.now seen.now j }
-    ensures { IfOk result (SettlesOutput net.now seen.now j) }
+    ensures settles { IfOk result (SettlesOutput net.now seen.now j) }
+    ensures built { IfOk result (IsBuilt (R.Refuter.log_of refuter.new)) }
 {
     let differs = Lit {
         node: Node::Xor(j),
@@ -93,7 +80,8 @@ fn ask<R: Refuter>(
         (Xor j ∷ []) (R.Refuter.base_of refuter.old) }
     requires empty { R.Refuter.log_of refuter.old ≡ [] }
     requires ready { R.Refuter.is_ready refuter.old ≡ true }
-    ensures { IfOk result (SettlesOutput net.now seen.now j) }
+    ensures settles { IfOk result (SettlesOutput net.now seen.now j) }
+    ensures built { IfOk result (IsBuilt (R.Refuter.log_of refuter.new)) }
 {
     budget::budget_log_length();
     let differs = Lit {

@@ -1,4 +1,4 @@
-ghost use Rattle.std.specs.Prelude.{◌≡◌, ◌≤◌, ◌||◌, Some, true, [], ◌∷◌, ◌++◌, length, take, IfOk, OnOk};
+ghost use Rattle.std.specs.Prelude.{◌≡◌, ◌≤◌, ◌||◌, Some, true, [], ◌∷◌, ◌++◌, length, IfOk, IfSome, IfNone, OnOk};
 ghost use Rattle.std.specs.Bool.{OnTrue, OnFalse};
 ghost use Rattle.std.specs.List.{list_any};
 ghost use Rattle.std.specs.Option.{IsSome};
@@ -6,12 +6,12 @@ ghost use Rattle.lits.specs.Clause.{has};
 ghost use Rattle.lits.specs.Same.{same_lit, opposite};
 ghost use Rattle.netlist.specs.Net.{position_of, value_of};
 ghost use Rattle.lemma_book.specs.Book.{IsLegal};
-ghost use Rattle.lemma_book.specs.Cone.{AreThere, IsCone};
+ghost use Rattle.lemma_book.specs.Cone.{AreThere};
 ghost use Rattle.lemma_book.specs.Good.{IsGood, IsEarlier};
 ghost use Rattle.lemma_book.specs.Root.{IsRoot};
 ghost use Rattle.cone_query.specs.Input.{input_from};
 ghost use Rattle.cone_query.specs.Query.{task_of, SeesAll, IsFalseOutside, IsWithin, IsUnnamed, IsSetAlone, IsGate};
-ghost use Rattle.cone_query.specs.Asked.{IsPair, IsQuery, IsImplication, IsAsked, IsNamedInput, Settles, seeds_of};
+ghost use Rattle.cone_query.specs.Asked.{IsPair, IsQuery, IsImplication, IsAsked, IsBaseOf, IsNamedInput, Settles};
 
 use crate::copies::copied;
 use crate::input::{input_of, other_value, set};
@@ -67,17 +67,45 @@ fn settle<R: Refuter + Send>(
     ensures alone { IfOk result (λ e. IsUnnamed net.now seen.now.entries task.now → IsSetAlone e) }
     ensures unasked { OnOk result (IsUnnamed net.now seen.now.entries task.now → refuter.new ≡ refuter.old) }
 {
+    let Some(base) = named_cone(alloc, net, seen, task)? else {
+        return set_apart(alloc, net, seen, task);
+    };
+    refuter.start(alloc, base.as_slice())?;
+    let mut left = seen.sweep_budget();
+    both_ways(alloc, net, seen, task, refuter, &mut left)
+}
+
+/// The cone of both nodes; none where the literal is that of an input that no clause of the gate's cone
+/// names.
+///
+/// The gate's cone that names the input is the cone of both, so one cone is made in either case.
+fn named_cone(
+    alloc: Global,
+    net: &Net,
+    seen: &Book,
+    task: &Task,
+) -> Result<Option<Vec<Named>>, AllocError>
+    requires { IsPair net.now seen.now task.now }
+    ensures cone { IfOk result (λ o. IfSome o
+        (λ base. IsBaseOf net.now seen.now task.now base.items)) }
+    ensures named { IfOk result (λ o. IfSome o
+        (λ base. IsNamedInput net.now seen.now.entries task.now)) }
+    ensures unnamed { IfOk result (λ o. IfNone o (IsUnnamed net.now seen.now.entries task.now)) }
+{
     let node = Lit {
         node: task.node,
         neg: false,
     };
-    let base = seen.cone(alloc, net, seen.len(), &[node, task.lit])?;
-    if is_unnamed(alloc, net, seen, task)? {
-        return set_apart(alloc, net, seen, task, base.as_slice());
+    let Node::Input(_) = task.lit.node else {
+        let base = seen.cone(alloc, net, seen.len(), &[node, task.lit])?;
+        return Ok(Some(base));
+    };
+    let own = seen.cone(alloc, net, seen.len(), &[node])?;
+    if mentions(own.as_slice(), task.lit) {
+        Ok(Some(own))
+    } else {
+        Ok(None)
     }
-    refuter.start(alloc, base.as_slice())?;
-    let mut left = seen.sweep_budget();
-    both_ways(alloc, net, seen, task, refuter, &mut left)
 }
 
 /// Asks for both implications between the pair, over the cone that the refuter was started with.
@@ -126,23 +154,6 @@ fn both_ways<R: Refuter + Send>(
     }
 }
 
-/// Whether the literal is that of an input that no clause of the node's cone names.
-fn is_unnamed(alloc: Global, net: &Net, seen: &Book, task: &Task) -> Result<bool, AllocError>
-    requires { IsPair net.now seen.now task.now }
-    ensures yes { IfOk result (λ b. OnTrue b (IsUnnamed net.now seen.now.entries task.now)) }
-    ensures no_ { IfOk result (λ b. OnFalse b (IsNamedInput net.now seen.now.entries task.now)) }
-{
-    let Node::Input(_) = task.lit.node else {
-        return Ok(false);
-    };
-    let node = Lit {
-        node: task.node,
-        neg: false,
-    };
-    let own = seen.cone(alloc, net, seen.len(), &[node])?;
-    Ok(!mentions(own.as_slice(), task.lit))
-}
-
 /// Whether a clause has the literal or its negation.
 fn mentions(base: &[Named], lit: Lit) -> bool
     ensures { result ≡ list_any
@@ -153,17 +164,9 @@ fn mentions(base: &[Named], lit: Lit) -> bool
 
 /// The entry of a pair whose literal is that of an input that no clause of the gate's cone names. All other
 /// inputs are false, and this one is set so that the literal hasn't the gate's value.
-fn set_apart(
-    alloc: Global,
-    net: &Net,
-    seen: &Book,
-    task: &Task,
-    base: &[Named],
-) -> Result<Entry, AllocError>
+fn set_apart(alloc: Global, net: &Net, seen: &Book, task: &Task) -> Result<Entry, AllocError>
     requires pair { IsPair net.now seen.now task.now }
     requires gate { IsGate task.now.node }
-    requires cone { IsCone net.now (take (length seen.now.entries) seen.now.entries)
-        (seeds_of task.now) base.now }
     requires unnamed { IsUnnamed net.now seen.now.entries task.now }
     ensures settles { IfOk result (Settles net.now seen.now task.now) }
     ensures alone { IfOk result IsSetAlone }

@@ -59,3 +59,7 @@ pub use Rattle.lemma_book.proofs.AlongMerges.{ArePlacedAll, placed-all, passed-p
 pub use Rattle.lemma_book.proofs.AlongMerges.{along, together}
 -- what holds of the one at each place holds in turn
 pub use Rattle.lemma_book.proofs.InTurn.{in_turn-each}
+-- an output's XOR has a variable and is unmerged, no output's literal is over it, and what defines it
+pub use Rattle.lemma_book.proofs.OutputXor.{xor-there, xor-variable, xor-unmerged, output-no_xor, xor-definition, xor-axioms_are}
+-- an output without an entry is none's subject
+pub use Rattle.lemma_book.proofs.OutputXor.{output-unsettled}

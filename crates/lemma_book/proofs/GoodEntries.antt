@@ -6,14 +6,14 @@ use Rattle.lits.specs.declared.literal.Lit.{Lit}
 use Rattle.lits.specs.declared.step.Ref.{Ref}
 use Rattle.lits.specs.declared.step.Step.{Step}
 use Rattle.lits.specs.declared.step.Named.{Named}
-use Rattle.netlist.specs.Net.{AigPair}
+use Rattle.netlist.specs.Net.{AigPair, DiffersOn}
 use Rattle.unit_prop.specs.Refuter.{IsUndecided, StaysUndecided}
 use Rattle.unit_prop.specs.Log.{base_clause, IsStepAfter, IsChain, IsLearned, IsLog, IsBudgetLog}
 use Rattle.lemma_book.specs.declared.entry.Entry.{Entry}
 use Rattle.lemma_book.specs.declared.entry.Entry.TheVariants.{Merge, Apart, Spent, Out, OutApart, OutSpent}
 use Rattle.lemma_book.specs.Entry.{Entries, settled_at, merge_clauses, equal_clause}
 use Rattle.lemma_book.specs.Cone.{IsCone}
-use Rattle.lemma_book.specs.Good.{NoNode, Already, NotEarlier, NotApart, Shape, Count, Seen, NoStep, NotNew, AreOver, ArePlaced, IsEarlier, IsApart, IsOutApart, EndsIn, out_clause, node_clause, IsStepAt, IsNewAt, IsUndecidedAt, IsGood}
+use Rattle.lemma_book.specs.Good.{NoNode, Already, NotEarlier, NotApart, Shape, Count, Seen, NoStep, NotNew, AreOver, ArePlaced, IsEarlier, IsApart, EndsIn, out_clause, node_clause, IsStepAt, IsNewAt, IsUndecidedAt, IsGood}
 use Rattle.lemma_book.proofs.InTurn.{in_turn-at, in_turn-each}
 
 -- the entry is good over those before it, in a book with these budgets
@@ -97,7 +97,7 @@ module _ (net : AigPair) (book : Entries) where
 
   -- an input on which the output differs
   pub good-out_apart : (j : ℕ) (input : List Bool) → j < length net.a.outputs → settled_at book.entries (OutApart j input) ≡ None
-      → IsOutApart net j input → IsGood net book (OutApart j input)
+      → DiffersOn net j input → IsGood net book (OutApart j input)
   good-out_apart j input below new apart NoNode = below
   good-out_apart j input below new apart Already = new
   good-out_apart j input below new apart NotEarlier = tt

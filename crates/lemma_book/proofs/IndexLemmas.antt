@@ -16,7 +16,7 @@ use Rattle.lemma_book.specs.declared.entry.Entry.TheVariants.{Merge, Apart, Spen
 use Rattle.lemma_book.specs.declared.entry.Subject.{Subject}
 use Rattle.lemma_book.specs.declared.entry.Subject.TheVariants.{Merged, Output}
 use Rattle.lemma_book.specs.declared.shelf.Key.TheVariants.{On, SpentOn}
-use Rattle.lemma_book.specs.Entry.{same_subject, place_on, is_on, about, is_spent_on, has_spent}
+use Rattle.lemma_book.specs.Entry.{same_subject, place_on, is_on, about, is_spent_on, has_spent_on}
 use Rattle.lemma_book.specs.declared.entry.Entry.{Entry}
 use Rattle.lemma_book.specs.declared.shelf.Key.{Key}
 use Rattle.lemma_book.specs.Shelf.{same_key, key_of, has_key, number_of, IsIndex, Notes}
@@ -55,7 +55,7 @@ is_spent-key n l (OutApart j input) = refl
 is_spent-key n l (OutSpent j seen log) = refl
 
 -- an entry is found by node and literal exactly where there is one
-pub spent-found : (es : List Entry) (n : Node) (l : Lit) → is_some (number_of es (SpentOn (record { node = n; lit = l }))) ≡ has_spent es n l
+pub spent-found : (es : List Entry) (n : Node) (l : Lit) → is_some (number_of es (SpentOn (record { node = n; lit = l }))) ≡ has_spent_on es n l
 spent-found es n l =
     is_some-place (has_key (SpentOn (record { node = n; lit = l }))) es
     ∙ list_any-same (has_key (SpentOn (record { node = n; lit = l }))) (is_spent_on n l) (is_spent-key n l) es

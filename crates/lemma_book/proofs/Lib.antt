@@ -24,3 +24,4 @@ mod Judged
 mod PartLemmas
 mod ConeValueLemmas
 mod AlongMerges
+mod OutputXor

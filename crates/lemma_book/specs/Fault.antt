@@ -1,6 +1,5 @@
 -- The first cause for which an entry is refused, in the order in which entries are judged, and the answers that tell it.
-use Rattle.std.specs.Prelude.{◌≡◌, ℕ, ◌<◌, ◌⊎◌, ⊤, Option, Some, List, [], ◌∷◌, length, take, slice_get}
-use Rattle.lits.specs.declared.node.Node.TheVariants.{Xor}
+use Rattle.std.specs.Prelude.{◌≡◌, ℕ, ◌<◌, ◌⊎◌, ⊤, Option, Some, List, length, take, slice_get}
 use Rattle.lits.specs.declared.literal.Lit.{Lit}
 use Rattle.lits.specs.declared.step.Ref.{Ref}
 use Rattle.lits.specs.declared.step.Step.{Step}
@@ -10,7 +9,6 @@ use Rattle.unit_prop.specs.declared.why.BadStep.{BadStep}
 use Rattle.unit_prop.specs.Step.{first_fault}
 use Rattle.unit_prop.specs.Log.{base_clause, with_own}
 use Rattle.lemma_book.specs.declared.entry.Entry.{Entry}
-use Rattle.lemma_book.specs.declared.entry.Entry.TheVariants.{Merge, Apart, Spent, Out, OutApart, OutSpent}
 use Rattle.lemma_book.specs.declared.refused.Fault.{Fault}
 use Rattle.lemma_book.specs.declared.refused.Fault.TheVariants as fault
 use Rattle.lemma_book.specs.declared.refused.Refused.{Refused}
@@ -19,8 +17,9 @@ use Rattle.lemma_book.specs.declared.refused.Offered.{Offered}
 use Rattle.lemma_book.specs.declared.refused.Offered.TheVariants.{At, Already as AlreadyAt}
 use Rattle.lemma_book.specs.declared.refused.Judgement.{Judgement}
 use Rattle.lemma_book.specs.declared.refused.Judgement.TheVariants as judged
+use Rattle.lemma_book.specs.Entry.{Question, Answer, Equal, Differ, Open, question_of, answer_of, seeds_of}
 use Rattle.lemma_book.specs.Entry.{Entries, settled_at, with_last}
-use Rattle.lemma_book.specs.Good.{Cause, NoNode, Already, NotEarlier, NotApart, Shape, Count, Seen, NoStep, NotNew, node_clause, out_clause, OfCone, IsFreeOf, IsGood}
+use Rattle.lemma_book.specs.Good.{Cause, NoNode, Already, NotEarlier, NotApart, Shape, Count, Seen, NoStep, NotNew, clause_for, OfCone, IsFreeOf, IsGood}
 
 abbrev pub Stands : AigPair → Entries → Entry → Cause → Type 0
 Stands net book e cause = ¬ IsFreeOf net book e cause
@@ -61,16 +60,16 @@ pub record FailsAt (find : Ref → Option (List Lit)) (steps : List Step) (k : �
   pub place : slice_get steps k ≡ Some step
   pub fails : first_fault same_lit opposite (with_own find (take k steps)) step.clause step.hints ≡ Some bad
 
--- the entry's step at place k has this first fault
+-- the answer's step at place k has this first fault
+abbrev pub HasBadStepOf : AigPair → List Entry → ℕ → BadStep → Question → Answer → Type 0
+HasBadStepOf net entries k bad q (Equal steps) = FailsAt (clause_for net entries q) steps k bad
+HasBadStepOf net entries k bad q (Differ input) = ⊥
+HasBadStepOf net entries k bad q (Open seen log) =
+    OfCone net (take seen entries) (seeds_of q) (λ cone. FailsAt (base_clause cone) log k bad)
+
+-- the entry's step at place k does
 abbrev pub HasBadStep : AigPair → List Entry → ℕ → BadStep → Entry → Type 0
-HasBadStep net entries k bad (Merge node lit steps) = FailsAt (node_clause net entries) steps k bad
-HasBadStep net entries k bad (Apart node lit input) = ⊥
-HasBadStep net entries k bad (Spent node lit seen log) =
-    OfCone net (take seen entries) (node ∷ lit.node ∷ []) (λ cone. FailsAt (base_clause cone) log k bad)
-HasBadStep net entries k bad (Out j steps) = FailsAt (out_clause net entries) steps k bad
-HasBadStep net entries k bad (OutApart j input) = ⊥
-HasBadStep net entries k bad (OutSpent j seen log) =
-    OfCone net (take seen entries) (Xor j ∷ []) (λ cone. FailsAt (base_clause cone) log k bad)
+HasBadStep net entries k bad e = HasBadStepOf net entries k bad (question_of e) (answer_of e)
 
 -- the fault is the entry's first cause
 abbrev pub IsFault : AigPair → Entries → Entry → Fault → Type 0

@@ -1,5 +1,5 @@
 -- When an entry is good over the entries before it: none of the causes stands for which one is refused.
-use Rattle.std.specs.Prelude.{◌≡◌, ◌≢◌, ℕ, ◌+◌, ◌<◌, ◌≤◌, Bool, ⊤, Option, None, Some, List, [], ◌∷◌, ◌++◌, length, map, take, slice_get}
+use Rattle.std.specs.Prelude.{◌≡◌, ◌≢◌, ℕ, ◌+◌, ◌<◌, ◌≤◌, Bool, ⊤, Option, None, Some, List, ◌++◌, length, map, take, slice_get}
 use Rattle.std.specs.Option.{option_and_then, IsSome}
 use Rattle.std.specs.List.{AllByRecursion}
 use Rattle.lits.specs.declared.node.Node.{Node}
@@ -10,15 +10,14 @@ use Rattle.lits.specs.declared.step.Ref.TheVariants.{Axiom, Entry as Shown, Own}
 use Rattle.lits.specs.declared.step.Step.{Step}
 use Rattle.lits.specs.declared.step.Named.{Named}
 use Rattle.lits.specs.Same.{same_lit, opposite}
-use Rattle.netlist.specs.Circuit.{output_value}
-use Rattle.netlist.specs.Net.{AigPair, position_of, value_of, lit_holds}
+use Rattle.netlist.specs.Net.{AigPair, DiffersOn, position_of, value_of, lit_holds}
 use Rattle.netlist.specs.Miter.{axiom_of}
 use Rattle.unit_prop.specs.New.{IsNew}
 use Rattle.unit_prop.specs.Refuter.{IsUndecided}
 use Rattle.unit_prop.specs.Log.{base_clause, clauses_of, IsStepAfter}
 use Rattle.lemma_book.specs.declared.entry.Entry.{Entry}
-use Rattle.lemma_book.specs.declared.entry.Entry.TheVariants.{Merge, Apart, Spent, Out, OutApart, OutSpent}
-use Rattle.lemma_book.specs.Entry.{Entries, settled_at, merge_clauses, equal_clause, lemmas_of}
+use Rattle.lemma_book.specs.Entry.{Question, OfPair, OfOutput, Answer, Equal, Differ, Open, question_of, answer_of}
+use Rattle.lemma_book.specs.Entry.{Entries, seeds_of, budget_of, equal_clause, equal_clauses, settled_at, lemmas_of}
 use Rattle.lemma_book.specs.Cone.{AreThere, IsCone}
 
 -- why an entry is refused
@@ -50,14 +49,19 @@ AreOver net steps = AllByRecursion (λ s. AreThere net s.clause) steps
 abbrev pub ArePlaced : AigPair → Node → Lit → Type 0
 ArePlaced net node lit = IsSome (position_of net node) × IsSome (position_of net lit.node)
 
+-- the net has the question's nodes, or its output
+abbrev pub IsThereFor : AigPair → Question → Type 0
+IsThereFor net (OfPair node lit) = ArePlaced net node lit
+IsThereFor net (OfOutput j) = j < length net.a.outputs
+
+abbrev pub IsThereOf : AigPair → Question → Answer → Type 0
+IsThereOf net q (Equal steps) = IsThereFor net q × AreOver net steps
+IsThereOf net q (Differ input) = IsThereFor net q
+IsThereOf net q (Open seen log) = IsThereFor net q × AreOver net log
+
 -- the entry speaks of nodes, outputs and literals that the net has
 abbrev pub IsThere : AigPair → Entry → Type 0
-IsThere net (Merge node lit steps) = ArePlaced net node lit × AreOver net steps
-IsThere net (Apart node lit input) = ArePlaced net node lit
-IsThere net (Spent node lit seen log) = ArePlaced net node lit × AreOver net log
-IsThere net (Out j steps) = (j < length net.a.outputs) × AreOver net steps
-IsThere net (OutApart j input) = j < length net.a.outputs
-IsThere net (OutSpent j seen log) = (j < length net.a.outputs) × AreOver net log
+IsThere net e = IsThereOf net (question_of e) (answer_of e)
 
 abbrev pub IsBefore : Option ℕ → Option ℕ → Type 0
 IsBefore (Some p) (Some q) = p < q
@@ -67,28 +71,33 @@ IsBefore _ _ = ⊥
 abbrev pub IsEarlier : AigPair → Node → Lit → Type 0
 IsEarlier net node lit = IsBefore (position_of net lit.node) (position_of net node)
 
--- the target is earlier than the node
+-- a pair's target is earlier than its node
+abbrev pub IsEarlierFor : AigPair → Question → Type 0
+IsEarlierFor net (OfPair node lit) = IsEarlier net node lit
+IsEarlierFor net (OfOutput j) = ⊤
+
+-- so it is where the entry is about a pair
 abbrev pub HasEarlier : AigPair → Entry → Type 0
-HasEarlier net (Merge node lit steps) = IsEarlier net node lit
-HasEarlier net (Apart node lit input) = IsEarlier net node lit
-HasEarlier net (Spent node lit seen log) = IsEarlier net node lit
-HasEarlier net _ = ⊤
+HasEarlier net e = IsEarlierFor net (question_of e)
 
 -- node and literal differ on the input
 pub record IsApart (net : AigPair) (node : Node) (lit : Lit) (input : List Bool) : Type 0 where
   pub whole : length input ≡ length net.a.inputs
   pub apart : value_of net input node ≢ lit_holds (value_of net input) lit
 
--- the output differs on the input
-pub record IsOutApart (net : AigPair) (j : ℕ) (input : List Bool) : Type 0 where
-  pub whole : length input ≡ length net.a.inputs
-  pub apart : output_value net.a input j ≢ output_value net.b input j
+-- the values of the question differ on the input
+abbrev pub DifferFor : AigPair → Question → List Bool → Type 0
+DifferFor net (OfPair node lit) input = IsApart net node lit input
+DifferFor net (OfOutput j) input = DiffersOn net j input
+
+abbrev pub HasApartOf : AigPair → Question → Answer → Type 0
+HasApartOf net q (Equal steps) = ⊤
+HasApartOf net q (Differ input) = DifferFor net q input
+HasApartOf net q (Open seen log) = ⊤
 
 -- where the entry says that values differ, they do
 abbrev pub HasApart : AigPair → Entry → Type 0
-HasApart net (Apart node lit input) = IsApart net node lit input
-HasApart net (OutApart j input) = IsOutApart net j input
-HasApart net _ = ⊤
+HasApart net e = HasApartOf net (question_of e) (answer_of e)
 
 -- the last clauses are these
 pub record EndsIn (clauses : List (List Lit)) (steps : List Step) : Type 0 where
@@ -97,26 +106,32 @@ pub record EndsIn (clauses : List (List Lit)) (steps : List Step) : Type 0 where
   pub parts : steps ≡ before ++ last
   pub clauses_are : map (λ s. s.clause) last ≡ clauses
 
+abbrev pub HasShapeOf : Question → Answer → Type 0
+HasShapeOf q (Equal steps) = EndsIn (equal_clauses q) steps
+HasShapeOf q (Differ input) = ⊤
+HasShapeOf q (Open seen log) = ⊤
+
 -- steps end in the clauses that their entry shows
 abbrev pub HasShape : Entry → Type 0
-HasShape (Merge node lit steps) = EndsIn (merge_clauses node lit) steps
-HasShape (Out j steps) = EndsIn (equal_clause j ∷ []) steps
-HasShape _ = ⊤
+HasShape e = HasShapeOf (question_of e) (answer_of e)
+
+abbrev pub HasCountOf : ℕ → Answer → Type 0
+HasCountOf budget (Equal steps) = length steps ≤ budget + 2
+HasCountOf budget (Differ input) = ⊤
+HasCountOf budget (Open seen log) = length log ≡ budget
 
 -- steps are a log within the budget and two more at most, a log that was spent is that of the whole budget
 abbrev pub HasCount : Entries → Entry → Type 0
-HasCount book (Merge node lit steps) = length steps ≤ book.sweep_budget + 2
-HasCount book (Apart node lit input) = ⊤
-HasCount book (Spent node lit seen log) = length log ≡ book.sweep_budget
-HasCount book (Out j steps) = length steps ≤ book.out_budget + 2
-HasCount book (OutApart j input) = ⊤
-HasCount book (OutSpent j seen log) = length log ≡ book.out_budget
+HasCount book e = HasCountOf (budget_of book (question_of e)) (answer_of e)
+
+abbrev pub HasSeenOf : Entries → Answer → Type 0
+HasSeenOf book (Equal steps) = ⊤
+HasSeenOf book (Differ input) = ⊤
+HasSeenOf book (Open seen log) = seen ≤ length book.entries
 
 -- a log is over entries that are there
 abbrev pub HasSeen : Entries → Entry → Type 0
-HasSeen book (Spent node lit seen log) = seen ≤ length book.entries
-HasSeen book (OutSpent j seen log) = seen ≤ length book.entries
-HasSeen book _ = ⊤
+HasSeen book e = HasSeenOf book (answer_of e)
 
 -- clause k that entry i shows of two nodes: a merge shows two
 abbrev pub merge_clause : List Entry → ℕ → ℕ → Option (List Lit)
@@ -133,6 +148,11 @@ abbrev pub node_clause : AigPair → List Entry → Ref → Option (List Lit)
 node_clause net entries (Axiom (Xor j) k) = None
 node_clause net entries name = out_clause net entries name
 
+-- the clauses that the steps of an answer to the question may cite
+abbrev pub clause_for : AigPair → List Entry → Question → Ref → Option (List Lit)
+clause_for net entries (OfPair node lit) = node_clause net entries
+clause_for net entries (OfOutput j) = out_clause net entries
+
 -- the step at place k, if it is there, is one over the clauses that `find` gives and the steps before it
 abbrev pub IsStepAt : (Ref → Option (List Lit)) → List Step → ℕ → Type 0
 IsStepAt find steps k = (s : Step) → slice_get steps k ≡ Some s → IsStepAfter find (take k steps) s
@@ -143,16 +163,15 @@ pub record OfCone (net : AigPair) (entries : List Entry) (seeds : List Node) (P 
   pub is_cone : IsCone net entries seeds cone
   pub holds : P cone
 
+abbrev pub HasStepOf : AigPair → List Entry → ℕ → Question → Answer → Type 0
+HasStepOf net entries k q (Equal steps) = IsStepAt (clause_for net entries q) steps k
+HasStepOf net entries k q (Differ input) = ⊤
+HasStepOf net entries k q (Open seen log) =
+    OfCone net (take seen entries) (seeds_of q) (λ cone. IsStepAt (base_clause cone) log k)
+
 -- the step at place k is one: that of a log stands on the cone over the entries that were seen
 abbrev pub HasStep : AigPair → List Entry → ℕ → Entry → Type 0
-HasStep net entries k (Merge node lit steps) = IsStepAt (node_clause net entries) steps k
-HasStep net entries k (Apart node lit input) = ⊤
-HasStep net entries k (Spent node lit seen log) =
-    OfCone net (take seen entries) (node ∷ lit.node ∷ []) (λ cone. IsStepAt (base_clause cone) log k)
-HasStep net entries k (Out j steps) = IsStepAt (out_clause net entries) steps k
-HasStep net entries k (OutApart j input) = ⊤
-HasStep net entries k (OutSpent j seen log) =
-    OfCone net (take seen entries) (Xor j ∷ []) (λ cone. IsStepAt (base_clause cone) log k)
+HasStep net entries k e = HasStepOf net entries k (question_of e) (answer_of e)
 
 -- the log's clause at place k, if it is there, is new over the cone and the clauses before it
 abbrev pub IsNewAt : List Named → List Step → ℕ → Type 0
@@ -163,12 +182,18 @@ abbrev pub IsUndecidedAt : List Named → ℕ → List Step → ℕ → Type 0
 IsUndecidedAt cone j log k = (s : Step) → slice_get log k ≡ Some s → IsUndecided cone (equal_clause j) (take k log)
 
 -- the log's clause at place k is new, and one of an output's log comes before the output is shown equal
+abbrev pub IsNewFor : Question → List Named → List Step → ℕ → Type 0
+IsNewFor (OfPair node lit) cone log k = IsNewAt cone log k
+IsNewFor (OfOutput j) cone log k = IsNewAt cone log k × IsUndecidedAt cone j log k
+
+abbrev pub HasNewOf : AigPair → List Entry → ℕ → Question → Answer → Type 0
+HasNewOf net entries k q (Equal steps) = ⊤
+HasNewOf net entries k q (Differ input) = ⊤
+HasNewOf net entries k q (Open seen log) = OfCone net (take seen entries) (seeds_of q) (λ cone. IsNewFor q cone log k)
+
+-- so is the clause at place k of the entry's log
 abbrev pub HasNew : AigPair → List Entry → ℕ → Entry → Type 0
-HasNew net entries k (Spent node lit seen log) =
-    OfCone net (take seen entries) (node ∷ lit.node ∷ []) (λ cone. IsNewAt cone log k)
-HasNew net entries k (OutSpent j seen log) =
-    OfCone net (take seen entries) (Xor j ∷ []) (λ cone. IsNewAt cone log k × IsUndecidedAt cone j log k)
-HasNew net entries k _ = ⊤
+HasNew net entries k e = HasNewOf net entries k (question_of e) (answer_of e)
 
 -- the entry gives no cause of that kind over the book
 abbrev pub IsFreeOf : AigPair → Entries → Entry → Cause → Type 0

@@ -1,6 +1,6 @@
 -- Merged nodes, and the root that merges lead to: the representative of a node's class (Kuehlmann et al. 2002), found
 -- by following entries to lower nodes.
-use Rattle.std.specs.Prelude.{◌≡◌, ℕ, zero, suc, Bool, Option, None, Some, List, [], ◌∷◌, length, slice_get, if◌then◌else◌}
+use Rattle.std.specs.Prelude.{◌≡◌, ℕ, zero, suc, Bool, Option, None, Some, List, [], ◌∷◌, ◌++◌, length, slice_get, if◌then◌else◌}
 use Rattle.std.specs.Option.{option_map_or, option_and_then}
 use Rattle.lits.specs.declared.node.Node.{Node}
 use Rattle.lits.specs.declared.literal.Lit.{Lit}
@@ -60,3 +60,10 @@ passed (suc n) entries l =
 
 abbrev pub passed_by : List Entry → Lit → List Lit
 passed_by entries l = passed (length entries) entries l
+
+-- some first ones of the literals were put last
+pub record PutsSome (lits old new : List Lit) : Type 0 where
+  pub some : List Lit
+  pub rest : List Lit
+  pub parts : lits ≡ some ++ rest
+  pub put : new ≡ old ++ some

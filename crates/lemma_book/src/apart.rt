@@ -1,13 +1,14 @@
 ghost use Rattle.std.specs.Prelude.{◌≡◌, ◌<◌, length, IfOk};
 ghost use Rattle.std.specs.Option.{IsSome};
 ghost use Rattle.netlist.specs.Circuit.{output_value};
-ghost use Rattle.netlist.specs.Net.{circuit_of, position_of, value_of};
-ghost use Rattle.lemma_book.specs.Good.{IsThere, ArePlaced, IsApart, IsOutApart, HasApart};
+ghost use Rattle.netlist.specs.Net.{DiffersOn, circuit_of, position_of, value_of};
+ghost use Rattle.lemma_book.specs.Good.{IsThere, ArePlaced, IsApart, HasApart};
 ghost use Rattle.lemma_book.specs.Judging.{Tells};
 ghost use Rattle.lemma_book.specs.ConeValue.{AreValues};
 
-use crate::cone_value::value_at;
+use crate::cone_value::{Known, value_at};
 use crate::entry::Entry;
+use crate::node_hasher::NodeHasher;
 use lits::{Lit, Node, Side};
 use netlist::{Net, laws};
 use std::alloc::{AllocError, Global};
@@ -46,7 +47,7 @@ fn are_apart(
     if input.len() != net.circuit(Side::A).inputs().len() {
         return Ok(false);
     }
-    let mut known = HashMap::new(alloc);
+    let mut known = HashMap::with_hasher(alloc, NodeHasher::new());
     let value = node_value(alloc, net, input, &mut known, node)?;
     let target = node_value(alloc, net, input, &mut known, lit.node)?;
     Ok(value != (target != lit.neg))
@@ -57,7 +58,7 @@ fn node_value(
     alloc: Global,
     net: &Net,
     input: &[bool],
-    known: &mut HashMap<u32, bool>,
+    known: &mut Known,
     node: Node,
 ) -> Result<bool, AllocError>
     requires placed { IsSome (position_of net.now node) }
@@ -81,7 +82,7 @@ fn outputs_are_apart(
     input: &[bool],
 ) -> Result<bool, AllocError>
     requires there { output < length net.now.a.outputs }
-    ensures { IfOk result (Tells (IsOutApart net.now output input.now)) }
+    ensures { IfOk result (Tells (DiffersOn net.now output input.now)) }
 {
     if input.len() != net.circuit(Side::A).inputs().len() {
         return Ok(false);

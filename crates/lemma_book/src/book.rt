@@ -1,7 +1,7 @@
 ghost use Rattle.std.specs.Prelude.{◌≡◌, ◌≤◌, None, [], ◌++◌, length, slice_get, take, is_some, IfOk, IfErr, OnOk, OnErr};
 ghost use Rattle.std.specs.Option.{option_copied, option_map};
-ghost use Rattle.lemma_book.specs.Entry.{place_on, has_spent, about, with_last};
-ghost use Rattle.lemma_book.specs.Root.{merge_of, carried, passed_by, path_of, root_of};
+ghost use Rattle.lemma_book.specs.Entry.{place_on, has_spent_on, about, with_last};
+ghost use Rattle.lemma_book.specs.Root.{merge_of, carried, passed_by, path_of, PutsSome, root_of};
 ghost use Rattle.lemma_book.specs.Cone.{AreThere, clauses_on, nodes_in, IsCone};
 ghost use Rattle.lemma_book.specs.Book.{IsLegal, StartsWith};
 
@@ -118,7 +118,7 @@ impl Book {
 
     /// Whether a query of the node and the literal spent its budget.
     pub fn is_spent(&self, node: Node, lit: Lit) -> bool
-        ensures { result ≡ has_spent self.now.entries node lit }
+        ensures { result ≡ has_spent_on self.now.entries node lit }
     {
         self.shelf
             .number(Key::SpentOn(Task { node, lit }))
@@ -187,10 +187,13 @@ impl Book {
         Ok(path)
     }
 
-    /// The root of a literal; the literals on the way whose nodes are merged are put last in the list.
+    /// The root of a literal; the literals on the way whose nodes are merged are put last in the list. Where
+    /// memory is refused, it has some first ones of them.
     pub fn root_by(&self, lit: Lit, passed: &mut Vec<Lit>) -> Result<Lit, AllocError>
         ensures root { IfOk result (λ r. r ≡ root_of self.now.entries lit) }
         ensures passed { OnOk result (passed.new.items ≡ passed.old.items ++ passed_by self.now.entries lit) }
+        ensures refused { OnErr result
+            (PutsSome (passed_by self.now.entries lit) passed.old.items passed.new.items) }
     {
         let mut lit = lit;
         for _step in 0..self.len() {

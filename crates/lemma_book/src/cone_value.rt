@@ -2,9 +2,13 @@ ghost use Rattle.std.specs.Prelude.{◌≡◌, ◌<◌, ◌≤◌, length, All, 
 ghost use Rattle.netlist.specs.Net.{IsNet, nodes_of};
 ghost use Rattle.lemma_book.specs.ConeValue.{value_at, placed_value, IsAndAt, AreValues, IsUnknown, IsValueOrNeeds, IsNext};
 
+use crate::node_hasher::NodeHasher;
 use netlist::{Fanins, Net, Placed};
 use std::alloc::{AllocError, Global};
 use std::collections::HashMap;
+
+/// Values of nodes by position. A cone's positions lie near each other, and so do their places in the table.
+pub(crate) type Known = HashMap<u32, bool, NodeHasher>;
 
 /// The value of the node at a position on the input, by that part of its cone on which it rests: where
 /// one fanin of a gate is false the other one isn't asked for. What is found is kept in `known`, for
@@ -15,7 +19,7 @@ pub(crate) fn value_at(
     alloc: Global,
     net: &Net,
     input: &[bool],
-    known: &mut HashMap<u32, bool>,
+    known: &mut Known,
     position: u32,
 ) -> Result<bool, AllocError>
     requires net { IsNet net.now }
@@ -46,7 +50,7 @@ pub(crate) fn value_at(
 }
 
 /// The last of the waiting positions whose value isn't known yet, or else the sought one.
-fn next_unknown(known: &HashMap<u32, bool>, waiting: &mut Vec<u32>, sought: u32) -> Option<u32>
+fn next_unknown(known: &Known, waiting: &mut Vec<u32>, sought: u32) -> Option<u32>
     requires waiting { All (λ p. p ≤ sought) waiting.old.items }
     ensures waiting { All (λ p. p ≤ sought) waiting.new.items }
     ensures next { IsNext known.now sought result }
@@ -64,12 +68,7 @@ fn next_unknown(known: &HashMap<u32, bool>, waiting: &mut Vec<u32>, sought: u32)
 }
 
 /// The value of the node at a position, or the position of a fanin that has to be known first.
-fn value_or_needed(
-    net: &Net,
-    input: &[bool],
-    known: &HashMap<u32, bool>,
-    position: u32,
-) -> Result<bool, u32>
+fn value_or_needed(net: &Net, input: &[bool], known: &Known, position: u32) -> Result<bool, u32>
     requires net { IsNet net.now }
     requires whole { length input.now ≡ length net.now.a.inputs }
     requires there { position < length (nodes_of net.now) }
@@ -102,7 +101,7 @@ fn first_value(net: &Net, input: &[bool], position: u32) -> bool
 fn both(
     net: &Net,
     input: &[bool],
-    known: &HashMap<u32, bool>,
+    known: &Known,
     position: u32,
     fanins: Fanins,
 ) -> Result<bool, u32>
@@ -124,7 +123,7 @@ fn both(
 }
 
 /// The value of a literal, if that of its node is known.
-fn literal_value(net: &Net, input: &[bool], known: &HashMap<u32, bool>, lit: Placed) -> Option<bool>
+fn literal_value(net: &Net, input: &[bool], known: &Known, lit: Placed) -> Option<bool>
     requires whole { length input.now ≡ length net.now.a.inputs }
     requires known { AreValues known.now net.now input.now }
     ensures some { IfSome result (λ b. b ≡ placed_value (value_at net.now input.now) lit) }

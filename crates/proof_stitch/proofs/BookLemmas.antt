@@ -21,11 +21,11 @@ use Rattle.lemma_book.specs.declared.entry.Entry.TheVariants.{Merge, Apart, Spen
 use Rattle.lemma_book.specs.declared.entry.Subject.{Subject}
 use Rattle.lemma_book.specs.declared.entry.Subject.TheVariants.{Merged, Output}
 use Rattle.lemma_book.specs.Entry.{subject_of, same_subject, is_on, place_on, about, equal_clause}
+use Rattle.lemma_book.specs.Entry.{is_out, has_out, is_spent, has_spent, log_of}
 use Rattle.lemma_book.specs.Good.{NoNode, Already, Shape, Count, out_clause}
 use Rattle.lemma_book.proofs.Facts.{IsGoodAfter, about-all, clause-more, chain-more, merge-chain_out, out-chain, out_spent-chain, same-subject_self}
 use Rattle.proof_stitch.specs.Written.{written_steps, shown_clauses}
-use Rattle.proof_stitch.specs.Stitch.{is_out, has_out}
-use Rattle.proof_stitch.specs.Derivation.{is_spent, has_spent, log_of, spent_log}
+use Rattle.proof_stitch.specs.Derivation.{spent_log}
 use Rattle.proof_stitch.proofs.StepLemmas.{IsDerived}
 use Rattle.proof_stitch.proofs.ShownLemmas.{IsShown, AreDerived}
 

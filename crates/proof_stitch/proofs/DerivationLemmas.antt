@@ -12,7 +12,8 @@ use Rattle.lrat_text.specs.declared.step.LratStep.{LratStep}
 use Rattle.lrat_text.specs.Writing.{text_from}
 use Rattle.proof_stitch.specs.Steps.{additions_from, additions}
 use Rattle.proof_stitch.specs.Written.{written_steps, shown_ids, book_additions}
-use Rattle.proof_stitch.specs.Derivation.{has_spent, spent_log, outputs_of, derivation_of, spans_from, spans_of, IsDerivation}
+use Rattle.lemma_book.specs.Entry.{has_spent, outputs_of}
+use Rattle.proof_stitch.specs.Derivation.{spent_log, derivation_of, spans_from, spans_of, IsDerivation}
 use Rattle.proof_stitch.proofs.GrowLemmas.{Formula, Grows, grows-derives, grows-writable}
 use Rattle.proof_stitch.proofs.StepLemmas.{clauses_in, IsDerived, grows-lists}
 use Rattle.proof_stitch.proofs.ShownLemmas.{merges-live, grows-entries}

@@ -12,7 +12,8 @@ use Rattle.proof_stitch.specs.declared.logs.Span.{Span}
 use Rattle.proof_stitch.specs.Steps.{additions_from, additions}
 use Rattle.proof_stitch.specs.Ids.{HasIds}
 use Rattle.proof_stitch.specs.Written.{shown_ids}
-use Rattle.proof_stitch.specs.Derivation.{spent_log, outputs_of, span_of, spans_from}
+use Rattle.lemma_book.specs.Entry.{outputs_of}
+use Rattle.proof_stitch.specs.Derivation.{spent_log, span_of, spans_from}
 use Rattle.proof_stitch.proofs.BookLemmas.{IsSoundBook, log-derived, total}
 use Rattle.proof_stitch.proofs.DerivationLemmas.{logs-few}
 use Rattle.proof_stitch.proofs.WriterLemmas.{ShownFit, shown-fit, derived-ids, text_from-append}

@@ -16,7 +16,7 @@ use Rattle.lits.specs.Same.{same_node, same_dim, opposite_dim}
 use Rattle.netlist.specs.Miter.{variable_of, variables_of, xors_of, miter_of}
 use Rattle.netlist.proofs.Facts.{length-range, at-place, variable-some, few_gates_of}
 use Rattle.lemma_book.specs.declared.entry.Entry.{Entry}
-use Rattle.lemma_book.specs.Entry.{equal_clause}
+use Rattle.lemma_book.specs.Entry.{equal_clause, has_out}
 use Rattle.lrat_text.specs.declared.step.LratStep.{LratStep}
 use Rattle.lrat_text.specs.declared.step.LratStep.TheVariants.{Add}
 use Rattle.lrat_text.specs.Writing.{text_from, AreWritable, numbered as lines_from}
@@ -24,7 +24,7 @@ use Rattle.lrat_text.specs.Reading.{SpellsLrat}
 use Rattle.lrat_text.specs.Derivation.{formula_live, adds_empty}
 use Rattle.proof_stitch.specs.Steps.{additions_from, additions}
 use Rattle.proof_stitch.specs.Written.{written_steps, shown_clauses, shown_from, shown_ids, book_additions}
-use Rattle.proof_stitch.specs.Stitch.{has_out, unit_id, empty_addition, refutation_of, IsRefutation}
+use Rattle.proof_stitch.specs.Stitch.{unit_id, empty_addition, refutation_of, IsRefutation}
 use Rattle.proof_stitch.proofs.AxiomLemmas.{there}
 use Rattle.proof_stitch.proofs.GrowLemmas.{Formula, Grows, grows-derives, grows-writable}
 use Rattle.proof_stitch.proofs.StepLemmas.{clause_of, clauses_in, FitsDimacs}

@@ -6,16 +6,16 @@ use Rattle.lits.specs.declared.node.Node.{Node}
 use Rattle.lits.specs.declared.node.Node.TheVariants.{Input, Gate, Xor}
 use Rattle.lits.specs.declared.step.Ref.TheVariants.{Axiom, Entry as Shown, Own}
 use Rattle.lits.specs.declared.step.Step.{Step}
-use Rattle.netlist.specs.Circuit.{Aig}
+use Rattle.netlist.specs.Circuit.{Aig, plain}
 use Rattle.netlist.specs.Net.{AigPair}
 use Rattle.netlist.specs.Miter.{positive, negative}
 use Rattle.lrat_text.specs.declared.step.LratStep.TheVariants.{Add}
 use Rattle.lemma_book.specs.declared.entry.Entry.{Entry}
 use Rattle.lemma_book.specs.declared.entry.Entry.TheVariants.{Merge, Spent, Out, OutSpent}
-use Rattle.lemma_book.specs.Entry.{Entries}
+use Rattle.lemma_book.specs.Entry.{Entries, has_out}
 use Rattle.lemma_book.specs.Book.{IsLegal}
 use Rattle.lemma_book.proofs.Facts.{good-merge, good-out}
-use Rattle.proof_stitch.specs.Stitch.{has_out, refutation_of}
+use Rattle.proof_stitch.specs.Stitch.{refutation_of}
 use Rattle.proof_stitch.specs.Derivation.{derivation_of, spans_of}
 
 abbrev n : ℕ → DimacsLiteral
@@ -29,8 +29,8 @@ p v = record { var = v; neg = false }
 -- 10: (6 -4 5), 11: (6 4 -5), 12: (6).
 abbrev swapped : AigPair
 swapped = record {
-  a = record { inputs = 1 ∷ 2 ∷ []; gates = record { var = 3; left = 2; right = 4 } ∷ []; outputs = 6 ∷ [] };
-  b = record { inputs = 1 ∷ 2 ∷ []; gates = record { var = 3; left = 4; right = 2 } ∷ []; outputs = 6 ∷ [] };
+  a = plain (1 ∷ 2 ∷ []) (record { var = 3; left = 2; right = 4 } ∷ []) (6 ∷ []);
+  b = plain (1 ∷ 2 ∷ []) (record { var = 3; left = 4; right = 2 } ∷ []) (6 ∷ []);
 }
 
 abbrev a : Node
@@ -96,7 +96,7 @@ derivation_of-swapped = refl
 -- Two outputs, the input and its negation, the same on both sides. The miter is 1: (1), 2: (-3 2), 3: (-3 -2), 4: (-4 -2),
 -- 5: (-4 2), 6: (3 4).
 abbrev wire : Aig
-wire = record { inputs = 1 ∷ []; gates = []; outputs = 2 ∷ 3 ∷ [] }
+wire = plain (1 ∷ []) [] (2 ∷ 3 ∷ [])
 
 abbrev wires : AigPair
 wires = record { a = wire; b = wire }

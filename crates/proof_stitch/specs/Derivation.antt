@@ -1,7 +1,6 @@
 -- What a book derives from the miter where queries of some outputs spent their budget: the steps of its Merge and Out
 -- entries, and then the logs of those queries.
-use Rattle.std.specs.Prelude.{◌≡◌, ℕ, ◌+◌, ◌-◌, ◌&&◌, nat_le, Bool, true, false, List, [], ◌∷◌, ◌++◌, length, map, filter, All, if◌then◌else◌}
-use Rattle.std.specs.List.{range_with_len}
+use Rattle.std.specs.Prelude.{◌≡◌, ℕ, ◌+◌, ◌-◌, ◌&&◌, nat_le, Bool, List, [], ◌∷◌, ◌++◌, length, map, filter, All, if◌then◌else◌}
 use Rattle.std.specs.Option.{option_map_or}
 use Rattle.lits.specs.declared.step.Step.{Step}
 use Rattle.netlist.specs.Net.{AigPair}
@@ -12,42 +11,15 @@ use Rattle.lrat_text.specs.Reading.{SpellsLrat}
 use Rattle.lrat_text.specs.Writing.{numbered}
 use Rattle.lrat_text.specs.Derivation.{Derives}
 use Rattle.lemma_book.specs.declared.entry.Entry.{Entry}
-use Rattle.lemma_book.specs.declared.entry.Entry.TheVariants.{Merge, Apart, Spent, Out, OutApart, OutSpent}
-use Rattle.lemma_book.specs.Entry.{about}
+use Rattle.lemma_book.specs.Entry.{about, has_spent, log_of, outputs_of}
 use Rattle.proof_stitch.specs.Steps.{additions_from, additions}
 use Rattle.proof_stitch.specs.Text.{proof_text}
 use Rattle.proof_stitch.specs.Written.{written_steps, shown_ids, book_additions}
 use Rattle.proof_stitch.specs.declared.logs.Span.{Span}
 
--- the entry says that its output's query spent its budget
-abbrev pub is_spent : Entry → Bool
-is_spent (Merge node lit steps) = false
-is_spent (Apart node lit input) = false
-is_spent (Spent node lit seen log) = false
-is_spent (Out j steps) = false
-is_spent (OutApart j input) = false
-is_spent (OutSpent j seen log) = true
-
--- the output's entry does
-abbrev pub has_spent : List Entry → ℕ → Bool
-has_spent entries j = option_map_or is_spent (about entries j) false
-
--- the log of an output's query that spent its budget
-abbrev pub log_of : Entry → List Step
-log_of (Merge node lit steps) = []
-log_of (Apart node lit input) = []
-log_of (Spent node lit seen log) = []
-log_of (Out j steps) = []
-log_of (OutApart j input) = []
-log_of (OutSpent j seen log) = log
-
 -- the log of the output's query, if it spent its budget
 abbrev pub spent_log : List Entry → ℕ → List Step
 spent_log entries j = option_map_or log_of (about entries j) []
-
--- the outputs in order
-abbrev pub outputs_of : AigPair → List ℕ
-outputs_of net = range_with_len 0 (length net.a.outputs)
 
 -- the lines of these logs behind the id `last`
 abbrev pub log_lines : AigPair → List Entry → ℕ → List LratStep

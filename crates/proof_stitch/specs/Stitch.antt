@@ -1,6 +1,6 @@
 -- The proof that a book refutes the miter, where it shows of every output that both circuits give it one value.
-use Rattle.std.specs.Prelude.{ℕ, ◌+◌, Bool, true, false, List, [], ◌∷◌, ◌++◌, length, map}
-use Rattle.std.specs.List.{range_with_len, slice_index_or}
+use Rattle.std.specs.Prelude.{ℕ, ◌+◌, List, [], ◌∷◌, ◌++◌, length, map}
+use Rattle.std.specs.List.{slice_index_or}
 use Rattle.std.specs.Option.{option_map_or}
 use Rattle.netlist.specs.Net.{AigPair}
 use Rattle.netlist.specs.Miter.{miter_of}
@@ -10,24 +10,10 @@ use Rattle.lrat_text.specs.Reading.{SpellsLrat}
 use Rattle.lrat_text.specs.Writing.{numbered}
 use Rattle.lrat_text.specs.Derivation.{Refutes}
 use Rattle.lemma_book.specs.declared.entry.Entry.{Entry}
-use Rattle.lemma_book.specs.declared.entry.Entry.TheVariants.{Merge, Apart, Spent, Out, OutApart, OutSpent}
 use Rattle.lemma_book.specs.declared.entry.Subject.TheVariants.{Output}
-use Rattle.lemma_book.specs.Entry.{place_on, about}
+use Rattle.lemma_book.specs.Entry.{place_on, outputs_of}
 use Rattle.proof_stitch.specs.Written.{shown_ids, book_additions}
 use Rattle.proof_stitch.specs.Text.{proof_text}
-
--- the entry shows that its output is equal
-abbrev pub is_out : Entry → Bool
-is_out (Merge node lit steps) = false
-is_out (Apart node lit input) = false
-is_out (Spent node lit seen log) = false
-is_out (Out j steps) = true
-is_out (OutApart j input) = false
-is_out (OutSpent j seen log) = false
-
--- the output's entry does
-abbrev pub has_out : List Entry → ℕ → Bool
-has_out entries j = option_map_or is_out (about entries j) false
 
 -- the id of the clause that the output's entry shows, if `shown` has these ids by entry
 abbrev pub unit_in : List ℕ → List Entry → ℕ → ℕ
@@ -38,7 +24,7 @@ unit_id net entries j = unit_in (shown_ids net entries) entries j
 
 -- those of the outputs in order
 abbrev pub unit_ids : AigPair → List Entry → List ℕ
-unit_ids net entries = map (unit_id net entries) (range_with_len 0 (length net.a.outputs))
+unit_ids net entries = map (unit_id net entries) (outputs_of net)
 
 -- the addition of the empty clause under that id: its hints are the units of the outputs, and then the miter's last
 -- clause

@@ -7,27 +7,26 @@ use Rattle.netlist.specs.Net.{AigPair}
 use Rattle.netlist.specs.Miter.{miter_of}
 use Rattle.lrat_text.specs.declared.step.LratStep.{LratStep}
 use Rattle.lemma_book.specs.declared.entry.Entry.{Entry}
-use Rattle.lemma_book.specs.declared.entry.Entry.TheVariants.{Merge, Apart, Spent, Out, OutApart, OutSpent}
-use Rattle.lemma_book.specs.Entry.{merge_clauses, equal_clause}
+use Rattle.lemma_book.specs.Entry.{Question, Answer, Equal, Differ, Open, question_of, answer_of, equal_clauses}
 use Rattle.proof_stitch.specs.Steps.{additions}
 
 -- the steps of an entry that are written: a log isn't
-abbrev pub written_steps : Entry → List Step
-written_steps (Merge node lit steps) = steps
-written_steps (Apart node lit input) = []
-written_steps (Spent node lit seen log) = []
-written_steps (Out j steps) = steps
-written_steps (OutApart j input) = []
-written_steps (OutSpent j seen log) = []
+abbrev pub steps_in : Answer → List Step
+steps_in (Equal steps) = steps
+steps_in (Differ input) = []
+steps_in (Open seen log) = []
 
--- the clauses that the entry shows, which are the last ones of its steps
+abbrev pub written_steps : Entry → List Step
+written_steps e = steps_in (answer_of e)
+
+-- the clauses that an answer to the question shows, which are the last ones of its steps
+abbrev pub clauses_shown : Question → Answer → List (List Lit)
+clauses_shown q (Equal steps) = equal_clauses q
+clauses_shown q (Differ input) = []
+clauses_shown q (Open seen log) = []
+
 abbrev pub shown_clauses : Entry → List (List Lit)
-shown_clauses (Merge node lit steps) = merge_clauses node lit
-shown_clauses (Apart node lit input) = []
-shown_clauses (Spent node lit seen log) = []
-shown_clauses (Out j steps) = equal_clause j ∷ []
-shown_clauses (OutApart j input) = []
-shown_clauses (OutSpent j seen log) = []
+shown_clauses e = clauses_shown (question_of e) (answer_of e)
 
 -- by entry, the id of the first of the clauses that it shows, where the entries' steps have the ids from that one on
 abbrev pub shown_from : ℕ → List Entry → List ℕ

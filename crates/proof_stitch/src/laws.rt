@@ -2,7 +2,8 @@
 //! function that does nothing when it runs.
 ghost use Rattle.std.specs.Prelude.{◌≡◌, ◌<◌, ℕ, length, true};
 ghost use Rattle.lemma_book.specs.Book.{IsLegal};
-ghost use Rattle.proof_stitch.specs.Stitch.{has_out, refutation_of, IsRefutation};
+ghost use Rattle.lemma_book.specs.Entry.{has_out};
+ghost use Rattle.proof_stitch.specs.Stitch.{refutation_of, IsRefutation};
 ghost use Rattle.proof_stitch.specs.Derivation.{derivation_of, spans_of, IsDerivation, AreSpans};
 
 use lemma_book::Book;

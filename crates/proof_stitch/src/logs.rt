@@ -4,7 +4,8 @@ ghost use Rattle.proof_stitch.specs.Steps.{additions_behind};
 ghost use Rattle.proof_stitch.specs.Ids.{HaveIds};
 ghost use Rattle.proof_stitch.specs.Text.{Puts};
 ghost use Rattle.proof_stitch.specs.Written.{shown_ids};
-ghost use Rattle.proof_stitch.specs.Derivation.{log_lines, spent_log, outputs_of, span_of, spans_from};
+ghost use Rattle.lemma_book.specs.Entry.{outputs_of};
+ghost use Rattle.proof_stitch.specs.Derivation.{log_lines, spent_log, span_of, spans_from};
 
 use crate::proof_text::ProofText;
 use lemma_book::{Book, Entry};

@@ -2,7 +2,8 @@ ghost use Rattle.std.specs.Prelude.{◌≡◌, ◌+◌, ◌<◌, ℕ, IfOk, IsSo
 ghost use Rattle.netlist.specs.Miter.{miter_of};
 ghost use Rattle.lemma_book.specs.Book.{IsLegal};
 ghost use Rattle.proof_stitch.specs.Text.{proof_text, Stitches};
-ghost use Rattle.proof_stitch.specs.Stitch.{has_out, refutation_of, IsRefutation};
+ghost use Rattle.lemma_book.specs.Entry.{has_out};
+ghost use Rattle.proof_stitch.specs.Stitch.{refutation_of, IsRefutation};
 
 use crate::entries::{push_entries, units};
 use crate::laws;

@@ -4,12 +4,11 @@ use Rattle.lits.specs.declared.node.Node.TheVariants.{Xor}
 use Rattle.lits.specs.declared.step.Named.{Named}
 use Rattle.unit_prop.specs.Log.{IsBase}
 use Rattle.lemma_book.specs.Cone.{IsCone}
-use Rattle.lemma_book.proofs.Facts.{cone-base}
-use Rattle.cone_query.proofs.OutputLemmas.{xor-variable}
+use Rattle.lemma_book.proofs.Facts.{cone-base, xor-variable}
 use Rattle.cone_query.proofs.output_query.query.Goals as goal
 
 pub cone-requires-clause-there : goal.cone-requires-clause-there
-cone-requires-clause-there g c = (xor-variable c.args.net.now c.args.seen.now c.args.j c.requires, tt)
+cone-requires-clause-there g c = (xor-variable c.args.net.now c.requires.net_is c.args.j c.requires.below, tt)
 
 pub start-requires : goal.start-requires
 start-requires g c =

@@ -11,7 +11,7 @@ use Rattle.cone_query.proofs.pair_query.set_apart.Goals as goal
 
 pub returns-clause-settles : goal.returns-clause-settles
 returns-clause-settles c =
-    set-settles c.args.net.now c.args.seen.now c.args.task.now c.requires.pair c.requires.gate c.args.base.now c.requires.cone c.requires.unnamed
+    set-settles c.args.net.now c.args.seen.now c.args.task.now c.requires.pair c.requires.gate c.requires.unnamed
     c.in_ok-value.value c.in_ok-input.input.items c.of.result
     (c.in_ok-input.ensures.items_if_clones_equal (λ y e. e)
     ∙ ap (λ (n : ℕ). replicate n false) (ap length c.inputs.ensures.inputs ∙ ap (λ (a : Aig). length a.inputs) c.circuit.ensures.circuit))
@@ -20,7 +20,7 @@ returns-clause-settles c =
 
 pub returns-clause-alone : goal.returns-clause-alone
 returns-clause-alone c =
-    set-alone c.args.net.now c.args.seen.now c.args.task.now c.requires.pair c.requires.gate c.args.base.now c.requires.cone c.requires.unnamed
+    set-alone c.args.net.now c.args.seen.now c.args.task.now c.requires.pair c.requires.gate c.requires.unnamed
     c.in_ok-value.value c.in_ok-input.input.items c.of.result
     (c.in_ok-input.ensures.items_if_clones_equal (λ y e. e)
     ∙ ap (λ (n : ℕ). replicate n false) (ap length c.inputs.ensures.inputs ∙ ap (λ (a : Aig). length a.inputs) c.circuit.ensures.circuit))

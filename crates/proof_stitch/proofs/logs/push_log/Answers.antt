@@ -3,7 +3,7 @@ use Rattle.std.specs.Option.{option_copied, option_map_or}
 use Rattle.lits.specs.declared.step.Step.{Step}
 use Rattle.lemma_book.specs.declared.entry.Entry.{Entry}
 use Rattle.proof_stitch.specs.Ids.{HasIds}
-use Rattle.proof_stitch.specs.Derivation.{log_of}
+use Rattle.lemma_book.specs.Entry.{log_of}
 use Rattle.proof_stitch.proofs.logs.push_log.Goals as goal
 
 pub push_steps-requires-clause-ids : goal.push_steps-requires-clause-ids

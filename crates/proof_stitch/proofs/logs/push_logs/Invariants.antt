@@ -1,6 +1,6 @@
 use Rattle.std.proofs.Common.{◌-◌}
 use Rattle.std.specs.List.{range_with_len}
-use Rattle.proof_stitch.specs.Derivation.{outputs_of}
+use Rattle.lemma_book.specs.Entry.{outputs_of}
 use Rattle.proof_stitch.proofs.LogLemmas.{IsAtLog}
 use Rattle.proof_stitch.proofs.logs.push_logs.Given as goal
 

@@ -3,7 +3,7 @@ use Rattle.netlist.specs.Miter.{miter_of}
 use Rattle.lrat_text.specs.Writing.{text_from}
 use Rattle.proof_stitch.specs.declared.logs.Span.{Span}
 use Rattle.proof_stitch.specs.Written.{book_additions}
-use Rattle.proof_stitch.specs.Derivation.{outputs_of}
+use Rattle.lemma_book.specs.Entry.{outputs_of}
 use Rattle.proof_stitch.proofs.BookLemmas.{legal-book}
 use Rattle.proof_stitch.proofs.DerivationLemmas.{derivation-text, derivation-spans, spans-whole}
 use Rattle.proof_stitch.proofs.write_derivation.whole_derivation.Goals as goal

@@ -1,19 +1,34 @@
 -- Outputs whose literals have one root, and the steps that show that they are equal.
-use Rattle.std.specs.Prelude.{◌≡◌, ◌≢◌, ℕ, Some, List, [], ◌∷◌, ◌++◌, map}
+use Rattle.std.specs.Prelude.{◌≡◌, ◌≢◌, ℕ, ◌<◌, None, Some, List, [], ◌∷◌, ◌++◌, length, map}
 use Rattle.lits.specs.Clause.{IsClause}
 use Rattle.lits.specs.Same.{same_lit, opposite}
 use Rattle.lits.specs.declared.literal.Lit.{Lit}
 use Rattle.lits.specs.declared.step.Named.{Named}
 use Rattle.lits.specs.declared.step.Ref.TheVariants.{Own}
 use Rattle.lits.specs.declared.step.Step.{Step}
-use Rattle.netlist.specs.Net.{AigPair, output_of}
+use Rattle.netlist.specs.Net.{AigPair, IsNet, output_of}
 use Rattle.lits.specs.declared.node.Side.TheVariants.{A, B}
 use Rattle.unit_prop.specs.Closure.{IsOpen}
 use Rattle.unit_prop.specs.HintScan.{IsNamed}
 use Rattle.unit_prop.specs.Log.{base_clause, base_clauses}
 use Rattle.unit_prop.specs.Step.{IsStep}
 use Rattle.lemma_book.specs.declared.entry.Entry.{Entry}
+use Rattle.lemma_book.specs.declared.entry.Entry.TheVariants.{Out}
+use Rattle.lemma_book.specs.Entry.{Entries, about}
+use Rattle.lemma_book.specs.Book.{IsLegal}
 use Rattle.lemma_book.specs.Root.{root_of}
+
+-- the output is there, and has no entry
+pub record IsUnsettled (net : AigPair) (book : Entries) (j : ℕ) : Type 0 where
+  pub net_is : IsNet net
+  pub legal : IsLegal net book
+  pub below : j < length net.a.outputs
+  pub unsettled : about book.entries j ≡ None
+
+-- the entry says that the output is equal
+abbrev pub IsOutOf : ℕ → Entry → Type 0
+IsOutOf j (Out i steps) = i ≡ j
+IsOutOf j _ = ⊥
 
 -- the roots of the output's literals of the two sides differ
 abbrev pub HaveOtherRoots : AigPair → List Entry → ℕ → Type 0

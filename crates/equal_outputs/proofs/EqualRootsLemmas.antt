@@ -22,8 +22,7 @@ use Rattle.lits.specs.declared.step.Step.{Step}
 use Rattle.lits.specs.contracts.literal.LitLiteral.TheImpl.Laws as lit
 use Rattle.lits.proofs.Facts.{exact-lit, exact-node, same-node_self, all-append, all-parts, lit_laws}
 use Rattle.netlist.specs.declared.gate.Definition.{Definition}
-use Rattle.netlist.specs.Circuit.{var_of}
-use Rattle.netlist.specs.Net.{AigPair, circuit_of, output_of, defined_by, difference}
+use Rattle.netlist.specs.Net.{AigPair, output_of, defined_by}
 use Rattle.netlist.specs.Miter.{positive, negative, kept, xor_clauses, variable_of}
 use Rattle.netlist.proofs.Facts.{output_lit, output_of-below, variables-outputs}
 use Rattle.unit_prop.specs.Closure.{IsOpen}
@@ -34,16 +33,15 @@ use Rattle.lemma_book.specs.declared.entry.Entry.{Entry}
 use Rattle.lemma_book.specs.declared.entry.Entry.TheVariants.{Out}
 use Rattle.lemma_book.specs.Cone.{AreThere, Covers, clauses_on, nodes_in}
 use Rattle.lemma_book.specs.Entry.{Entries, equal_clause}
-use Rattle.lemma_book.specs.Good.{AreOver, EndsIn, out_clause}
+use Rattle.lemma_book.specs.Good.{AreOver, EndsIn, out_clause, IsGood}
 use Rattle.lemma_book.specs.Root.{merge_of, passed_by, root_of, IsRoot}
 use Rattle.lemma_book.proofs.Facts.{good-out, root-opposite, is_some-variable, apart-lits, on-named, HasItsName, takes-axioms, covers-opposite, passed-there, together, covers-left, covers-right, covers-self}
-use Rattle.cone_query.specs.Answered.{IsOutput, SettlesOutput}
-use Rattle.cone_query.specs.EqualRoots.{with_first, AreShown, HaveOtherRoots, IsWayTo, Shows}
-use Rattle.cone_query.proofs.GateOrder.{node_of-no_xor}
-use Rattle.cone_query.proofs.OutputLemmas.{output-unsettled, xor-there, xor-variable, not-merged, axioms-are}
-use Rattle.cone_query.proofs.XorPropagation.{xor-other, xor-same}
+use Rattle.lemma_book.proofs.Facts.{xor-there, xor-variable, xor-unmerged, output-no_xor, xor-definition, xor-axioms_are}
+use Rattle.lemma_book.proofs.Facts.{output-unsettled}
+use Rattle.equal_outputs.specs.EqualRoots.{with_first, AreShown, HaveOtherRoots, IsUnsettled, IsWayTo, Shows}
+use Rattle.equal_outputs.proofs.XorPropagation.{xor-other, xor-same}
 
-module _ (net : AigPair) (book : Entries) (j : ℕ) (asks : IsOutput net book j) where
+module _ (net : AigPair) (book : Entries) (j : ℕ) (asks : IsUnsettled net book j) where
   abbrev x : Node
   x = Xor j
 
@@ -53,29 +51,12 @@ module _ (net : AigPair) (book : Entries) (j : ℕ) (asks : IsOutput net book j)
   abbrev b : Lit
   b = output_lit net B j
 
-  -- the XOR's definition
-  pub defined : defined_by net x ≡ Some (record { node = x; left = a; right = b })
-  defined =
-      ap (λ (o : Option Lit). difference j o (output_of net B j)) (output_of-below net asks.net_is A j asks.below)
-      ∙ ap (λ (o : Option Lit). difference j (Some a) o) (output_of-below net asks.net_is B j asks.below)
-
-  -- the outputs' nodes aren't the XOR
-  far : (s : Side) → same_node (output_lit net s j).node x ≡ false
-  far s = go (same_node (output_lit net s j).node x) refl
-    where
-      go : (c : Bool) → same_node (output_lit net s j).node x ≡ c → c ≡ false
-      go false e = refl
-      go true e =
-          contrary (same_node x (output_lit net s j).node)
-          (subst (λ (n : Node). same_node x n ≡ true) (sym (exact-node (output_lit net s j).node x e)) (same-node_self x))
-          (node_of-no_xor s (circuit_of net s) (var_of (slice_index (circuit_of net s).outputs j)) j)
-
   -- an output's literal has a variable
   pub side-there : (s : Side) → IsSome (variable_of net (output_lit net s j).node)
   side-there s =
       is_some-variable net (output_lit net s j).node
       ∙ (variables-outputs net asks.net_is).output s j (output_lit net s j) (output_of-below net asks.net_is s j asks.below)
-      (xor-there net book j asks)
+      (xor-there net asks.net_is j asks.below)
 
   abbrev way : List Lit
   way = ((positive x ∷ []) ++ passed_by book.entries a) ++ passed_by book.entries b
@@ -83,7 +64,7 @@ module _ (net : AigPair) (book : Entries) (j : ℕ) (asks : IsOutput net book j)
   pub way-there : AreThere net way
   way-there =
       all-append (λ l. IsSome (variable_of net l.node)) ((positive x ∷ []) ++ passed_by book.entries a) (passed_by book.entries b)
-      (all-append (λ l. IsSome (variable_of net l.node)) (positive x ∷ []) (passed_by book.entries a) (xor-variable net book j asks, tt)
+      (all-append (λ l. IsSome (variable_of net l.node)) (positive x ∷ []) (passed_by book.entries a) (xor-variable net asks.net_is j asks.below, tt)
       (passed-there net book asks.legal (length book.entries) a))
       (passed-there net book asks.legal (length book.entries) b)
 
@@ -106,7 +87,9 @@ module _ (net : AigPair) (book : Entries) (j : ℕ) (asks : IsOutput net book j)
       (covers-self (passed_by book.entries b))
 
   root : IsRoot book.entries x
-  root = subst (λ (es : List Entry). merge_of es x ≡ None) (take-length book.entries) (not-merged net book j asks)
+  root =
+      subst (λ (es : List Entry). merge_of es x ≡ None) (take-length book.entries)
+      (xor-unmerged net book asks.legal (length book.entries) j)
 
   module _ (same : root_of book.entries a ≡ root_of book.entries b) where
     -- they aren't complements of each other
@@ -124,13 +107,13 @@ module _ (net : AigPair) (book : Entries) (j : ℕ) (asks : IsOutput net book j)
     module _ (p : Lit → Bool) (units : AllByRecursion (Takes p) (base_clauses base)) (on : p (positive x) ≡ true) where
       xor-takes : AllByRecursion (Takes p) (kept (xor_clauses x a b))
       xor-takes =
-          subst (AllByRecursion (Takes p)) (axioms-are net book j asks)
-          (takes-axioms net book.entries (nodes_in way) p units x xor-inside (xor-there net book j asks) root)
+          subst (AllByRecursion (Takes p)) (xor-axioms_are net asks.net_is j asks.below)
+          (takes-axioms net book.entries (nodes_in way) p units x xor-inside (xor-there net asks.net_is j asks.below) root)
 
       -- where the XOR is true, no output is: the other one has its value
       off-clash : p (opposite a) ≡ true → (p b ≡ true) × (p (opposite b) ≡ true)
       off-clash off = (
-        xor-other p x a b (far A) (far B) apart xor-takes on off,
+        xor-other p x a b (output-no_xor net A j j) (output-no_xor net B j j) apart xor-takes on off,
         together net book asks.legal (nodes_in way) p units (opposite a) (opposite b)
             (root-opposite book.entries a ∙ (ap opposite same ∙ sym (root-opposite book.entries b)))
             (covers-opposite (nodes_in way) (length book.entries) book.entries a on_a) (covers-opposite (nodes_in way) (length book.entries) book.entries b on_b) off,
@@ -139,7 +122,7 @@ module _ (net : AigPair) (book : Entries) (j : ℕ) (asks : IsOutput net book j)
       on-clash : p a ≡ true → (p b ≡ true) × (p (opposite b) ≡ true)
       on-clash h = (
         together net book asks.legal (nodes_in way) p units a b same on_a on_b h,
-        xor-same p x a b (far A) (far B) apart xor-takes on h,
+        xor-same p x a b (output-no_xor net A j j) (output-no_xor net B j j) apart xor-takes on h,
       )
 
     first : Shows (base_clauses base) (negative x ∷ a ∷ [])
@@ -185,8 +168,8 @@ module _ (net : AigPair) (book : Entries) (j : ℕ) (asks : IsOutput net book j)
     pub way-to : IsWayTo base (negative x) a
     way-to = record {
       clause = record {
-        once = rw (apart-lits a (negative x) (far A)) refl;
-        apart = rw (apart-lits a (positive x) (far A)) refl;
+        once = rw (apart-lits a (negative x) (output-no_xor net A j j)) refl;
+        apart = rw (apart-lits a (positive x) (output-no_xor net A j j)) refl;
       };
       named = named-all (with_own (out_clause net book.entries) []) base (base-owned []);
       named_more = named-all (with_own (out_clause net book.entries) (record { clause = half; hints = [] } ∷ [])) (with_first base half) (more-owned (record { clause = half; hints = [] }));
@@ -197,14 +180,9 @@ module _ (net : AigPair) (book : Entries) (j : ℕ) (asks : IsOutput net book j)
     -- ---- the entry
     module _ (steps : List Step) (over : AreOver net steps) (ends : EndsIn (equal_clause j ∷ []) steps) (few : length steps ≤ 2)
         (chain : IsChain (out_clause net book.entries) steps) where
-      settles : SettlesOutput net book j (Out j steps)
-      settles = record {
-        about = refl;
-        good = good-out net book j steps asks.below over (output-unsettled book.entries j asks.unsettled) ends (omega (arith, few)) chain;
-        seen = tt;
-        outside = tt;
-        within = tt;
-      }
+      settles : IsGood net book (Out j steps)
+      settles =
+          good-out net book j steps asks.below over (output-unsettled book.entries j asks.unsettled) ends (omega (arith, few)) chain
 
     -- a step over the base, or over it with the first step's clause, is one of the entry
     step-in : (before : List Step) (ms : List Named) → AreNamed (with_own (out_clause net book.entries) before) ms → (s : Step)
@@ -213,15 +191,15 @@ module _ (net : AigPair) (book : Entries) (j : ℕ) (asks : IsOutput net book j)
         step-more same_lit opposite (base_clause ms) (with_own (out_clause net book.entries) before)
         (base_clause-is (with_own (out_clause net book.entries) before) ms named) s.clause s.hints step
 
-    pub shown-settles : (steps : List Step) → AreShown base (negative x) a steps → SettlesOutput net book j (Out j steps)
+    pub shown-settles : (steps : List Step) → AreShown base (negative x) a steps → IsGood net book (Out j steps)
     shown-settles [] shown = absurd shown
     shown-settles (s ∷ []) shown =
-        settles (s ∷ []) (subst (AreThere net) (sym shown.0) (xor-variable net book j asks, tt), tt)
+        settles (s ∷ []) (subst (AreThere net) (sym shown.0) (xor-variable net asks.net_is j asks.below, tt), tt)
         (record { before = []; last = s ∷ []; parts = refl; clauses_are = ap (λ (c : List Lit). c ∷ []) shown.0 }) (omega arith)
         (step-in [] base (base-owned []) s shown.1, tt)
     shown-settles (r ∷ s ∷ []) shown =
         settles (r ∷ s ∷ [])
-        (subst (AreThere net) (sym shown.0.0) (xor-variable net book j asks, (side-there A, tt)), (subst (AreThere net) (sym shown.1.0) (xor-variable net book j asks, tt), tt))
+        (subst (AreThere net) (sym shown.0.0) (xor-variable net asks.net_is j asks.below, (side-there A, tt)), (subst (AreThere net) (sym shown.1.0) (xor-variable net asks.net_is j asks.below, tt), tt))
         (record { before = r ∷ []; last = s ∷ []; parts = refl; clauses_are = ap (λ (c : List Lit). c ∷ []) shown.1.0 }) (omega arith)
         (step-in [] base (base-owned []) r shown.0.1, (step-in (r ∷ []) (with_first base r.clause) (more-owned r) s shown.1.1, tt))
     shown-settles (q ∷ r ∷ s ∷ ss) shown = absurd shown
@@ -239,10 +217,10 @@ other-lits l r b e f same =
     let g : same_lit l r ≡ true = subst (λ (m : Lit). same_lit l m ≡ true) same (lit_laws.equivalence.refl l) in
     let h : true ≡ false = sym f ∙ (e ∙ ap not g) in cc
 
-module _ (net : AigPair) (book : Entries) (j : ℕ) (asks : IsOutput net book j) (d : Definition) (is : defined_by net (Xor j) ≡ Some d)
+module _ (net : AigPair) (book : Entries) (j : ℕ) (asks : IsUnsettled net book j) (d : Definition) (is : defined_by net (Xor j) ≡ Some d)
     (l r : Lit) (left : l ≡ root_of book.entries d.left) (right : r ≡ root_of book.entries d.right) where
   definition-is : d ≡ record { node = Xor j; left = output_lit net A j; right = output_lit net B j }
-  definition-is = same_Some d (record { node = Xor j; left = output_lit net A j; right = output_lit net B j }) (sym is ∙ defined net book j asks)
+  definition-is = same_Some d (record { node = Xor j; left = output_lit net A j; right = output_lit net B j }) (sym is ∙ xor-definition net asks.net_is j asks.below)
 
   left-is : d.left ≡ output_lit net A j
   left-is = ap (λ (e : Definition). e.left) definition-is
@@ -280,7 +258,7 @@ module _ (net : AigPair) (book : Entries) (j : ℕ) (asks : IsOutput net book j)
           (subst (λ (y : Lit). IsWayTo (base net book j asks) y d.left) (sym x-is)
           (subst (IsWayTo (base net book j asks) (negative (Xor j))) (sym left-is) (way-to net book j asks same-roots)))
 
-      pub lits-settle : (steps : List Step) → AreShown ms x d.left steps → SettlesOutput net book j (Out j steps)
+      pub lits-settle : (steps : List Step) → AreShown ms x d.left steps → IsGood net book (Out j steps)
       lits-settle steps shown =
           shown-settles net book j asks same-roots steps
           (subst (λ (h : Lit). AreShown (base net book j asks) (negative (Xor j)) h steps) left-is

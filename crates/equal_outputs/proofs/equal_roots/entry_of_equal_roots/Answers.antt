@@ -4,9 +4,9 @@ use Rattle.lits.specs.declared.node.Node.TheVariants.{Xor}
 use Rattle.lits.specs.declared.literal.Lit.{Lit}
 use Rattle.netlist.specs.Miter.{positive}
 use Rattle.lemma_book.specs.Root.{passed_by}
-use Rattle.cone_query.specs.EqualRoots.{AreShown}
-use Rattle.cone_query.proofs.EqualRootsLemmas.{equal-lits, other-lits, other-roots, lits-there, lits-way_to, lits-settle}
-use Rattle.cone_query.proofs.equal_roots.entry_of_equal_roots.Goals as goal
+use Rattle.equal_outputs.specs.EqualRoots.{AreShown}
+use Rattle.equal_outputs.proofs.EqualRootsLemmas.{equal-lits, other-lits, other-roots, lits-there, lits-way_to, lits-settle}
+use Rattle.equal_outputs.proofs.equal_roots.entry_of_equal_roots.Goals as goal
 
 pub returns-then-ne-clause-apart : goal.returns-then-ne-clause-apart
 returns-then-ne-clause-apart c =
@@ -40,8 +40,8 @@ steps_to-requires c =
     (equal-lits c.in_ok-left.left c.in_ok-right.right c.ne.result c.ne.ensures c.if-ne.false)
     c.in_ok-base.base.items c.len.result c.len.ensures c.in_ok-base.ensures c.not.result c.not.ensures
 
-pub returns-clause-equal : goal.returns-clause-equal
-returns-clause-equal c =
+pub returns-clause-good : goal.returns-clause-good
+returns-clause-good c =
     let es = c.args.seen.now.entries in
     lits-settle c.args.net.now c.args.seen.now c.args.j c.requires c.in-Some.definition (sym c.definition.ensures ∙ c.in-Some.is)
     c.in_ok-left.left c.in_ok-right.right c.in_ok-left.ensures.root c.in_ok-right.ensures.root c.deref.result.now

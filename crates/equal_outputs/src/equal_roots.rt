@@ -1,26 +1,47 @@
-ghost use Rattle.std.specs.Prelude.{◌≡◌, [], ◌∷◌, ◌++◌, IfOk, IfSome, IfNone};
-ghost use Rattle.cone_query.specs.Answered.{IsOutput, SettlesOutput};
-ghost use Rattle.cone_query.specs.EqualRoots.{AreShown, HaveOtherRoots, IsWayTo};
+ghost use Rattle.std.specs.Prelude.{◌≡◌, ◌<◌, None, [], ◌∷◌, ◌++◌, length, IfOk, IfSome, IfNone};
+ghost use Rattle.lemma_book.specs.Book.{IsLegal};
+ghost use Rattle.lemma_book.specs.Entry.{about};
+ghost use Rattle.lemma_book.specs.Good.{IsGood};
+ghost use Rattle.equal_outputs.specs.EqualRoots.{AreShown, HaveOtherRoots, IsOutOf, IsUnsettled, IsWayTo};
 
-use crate::copies::unit;
 use lemma_book::{Book, Entry};
 use lits::{Clause, Listed, Lit, Literal, Named, Node, Ref, Step};
-use netlist::Net;
+use netlist::{Net, laws};
 use std::alloc::{AllocError, Global};
 use unit_prop::{scan, scanned_step};
 
-/// The entry of an output whose two literals have one root; none exactly where their roots differ.
+/// The entry of output j, which has none yet, where its two literals have one root; none exactly where their
+/// roots differ.
 ///
 /// Where the sweep has merged what is equal, most outputs are such. No query is made: the clauses of the XOR
 /// and of the merges on the two paths show it, so the work is that of the paths, and not that of the cone.
-pub(crate) fn entry_of_equal_roots(
+pub fn equal_output(
     alloc: Global,
     net: &Net,
     seen: &Book,
     j: u32,
 ) -> Result<Option<Entry>, AllocError>
-    requires { IsOutput net.now seen.now j }
-    ensures equal { IfOk result (λ o. IfSome o (SettlesOutput net.now seen.now j)) }
+    requires legal { IsLegal net.now seen.now }
+    requires output { j < length net.now.a.outputs }
+    requires unsettled { about seen.now.entries j ≡ None }
+    ensures equal { IfOk result (λ o. IfSome o (IsOutOf j)) }
+    ensures good { IfOk result (λ o. IfSome o (IsGood net.now seen.now)) }
+    ensures apart { IfOk result (λ o. IfNone o (HaveOtherRoots net.now seen.now.entries j)) }
+{
+    laws::is_net(net);
+    entry_of_equal_roots(alloc, net, seen, j)
+}
+
+/// The same of an output that is known to be there, with no entry.
+fn entry_of_equal_roots(
+    alloc: Global,
+    net: &Net,
+    seen: &Book,
+    j: u32,
+) -> Result<Option<Entry>, AllocError>
+    requires { IsUnsettled net.now seen.now j }
+    ensures equal { IfOk result (λ o. IfSome o (IsOutOf j)) }
+    ensures good { IfOk result (λ o. IfSome o (IsGood net.now seen.now)) }
     ensures apart { IfOk result (λ o. IfNone o (HaveOtherRoots net.now seen.now.entries j)) }
 {
     let differs = Lit {
@@ -57,7 +78,7 @@ fn steps_to(
     requires { IsWayTo base.old.items lit half }
     ensures { IfOk result (λ v. AreShown base.old.items lit half v.items) }
 {
-    let clause = unit(alloc, lit)?;
+    let clause = Clause::from_slice(alloc, &[lit])?;
     match scan(alloc, base, &clause)? {
         Some(hints) => {
             let hints = Listed::of(hints);

@@ -1,0 +1,2 @@
+mod XorPropagation
+mod EqualRootsLemmas
