@@ -1,25 +1,26 @@
 -- Classes that are kept: what rows of new patterns part them into, and the tasks that they give.
-use Rattle.std.proofs.Common.{◌≡◌, ◌∙◌, ℕ, ◌+◌, ◌*◌, ◌-◌, ◌/◌, ◌<◌, ◌≤◌, ◌&&◌, nat_lt, Bool, true, false, not, Option, None, Some, List, [], length, take, drop, refl, sym, ap, ap₂, subst, arith, inl, inr, length-append, length-drop, length-take, Result, Ok, Err, IfOk, if◌then◌else◌}
+use Rattle.std.proofs.Common.{◌≡◌, ◌∙◌, ℕ, ◌+◌, ◌*◌, ◌-◌, ◌/◌, ◌<◌, ◌≤◌, ◌&&◌, ◌++◌, min, nat_lt, Bool, true, false, not, Option, None, Some, List, [], length, take, drop, refl, sym, ap, ap₂, subst, arith, inl, inr, length-append, length-drop, length-take, Result, Ok, Err, IfOk, if◌then◌else◌}
 use Rattle.std.specs.List.{AllByRecursion, slice_index_or}
 use Rattle.std.proofs.lemmas.Bool.{cases_lt, false_from_ne_true}
 use Rattle.std.proofs.lemmas.Bool.Decides.{nat_tests}
 use Rattle.std.proofs.lemmas.List.{get_or_append_left, get_or-append_right, get_or-append-add, get_or-drop, get_or-take}
+use Rattle.std.proofs.lemmas.List.{take-take, take_min}
 use Rattle.std.proofs.Math.Seq.{take-length}
 use Rattle.lits.specs.declared.literal.Lit.{Lit}
 use Rattle.netlist.specs.Net.{AigPair, IsNet, nodes_of, node_at, value_of, differs}
 use Rattle.netlist.proofs.Facts.{position-node}
-use Rattle.word_sim.specs.Patterns.{Patterns, part_from}
+use Rattle.word_sim.specs.Patterns.{Patterns, first_words, part_from}
 use Rattle.word_sim.specs.Rows.{Signatures, AreSignatures, turned}
 use Rattle.word_sim.proofs.Facts.{some-signatures}
 use Rattle.lemma_book.specs.declared.entry.Entry.{Entry}
 use Rattle.lemma_book.specs.declared.entry.Task.{Task}
-use Rattle.lemma_book.specs.Entry.{Entries, has_spent}
+use Rattle.lemma_book.specs.Entry.{Entries, has_spent_on}
 use Rattle.lemma_book.specs.Root.{root_of}
 use Rattle.lemma_book.specs.Book.{IsLegal}
 use Rattle.lemma_book.specs.Agreement.{HaveOneValue}
 use Rattle.sig_classes.specs.Chains.{are_one, class_of, is_first}
 use Rattle.sig_classes.specs.Pass.{root_at, is_gate, lit_between, task_at, IsNextTask}
-use Rattle.sig_classes.specs.Kept.{AreSame, IsLeastSame, AreClasses, Kept, AreKept, AreLeast, HaveSigns, led_at}
+use Rattle.sig_classes.specs.Kept.{AreSame, IsLeastSame, AreClasses, Kept, AreKept, AreLeast, HaveSigns, led_at, next_part, next_seen}
 use Rattle.sig_classes.proofs.ChainLemmas.{one-parts, one-from, one-none}
 use Rattle.sig_classes.proofs.FirstLemmas.{first-parts, first-from}
 use Rattle.sig_classes.proofs.LeaderLemmas.{first-bit, alike-same, same-alike}
@@ -52,9 +53,13 @@ same-moved net q p from to j k first here same =
 
 -- ---- the patterns of a part
 
+-- the first 64 patterns, and those from the word on that follows so many
+abbrev part-behind : ℕ → List (List Bool) → List (List Bool)
+part-behind seen patterns = take 64 patterns ++ drop (64 * (seen / 64)) patterns
+
 module _ (patterns : List (List Bool)) (seen : ℕ) (some : 1 ≤ length patterns) where
   abbrev part : List (List Bool)
-  part = part_from seen patterns
+  part = part-behind seen patterns
 
   abbrev behind : ℕ
   behind = 64 * (seen / 64)
@@ -179,46 +184,80 @@ module _ (patterns : List (List Bool)) (seen : ℕ) (some : 1 ≤ length pattern
     part-signs p below =
         first-bit net is entries part sigs are p below ∙ ap (λ (bits : List Bool). value_of net bits (node_at net p)) part-first
 
-part-some : (patterns : List (List Bool)) (seen : ℕ) → 1 ≤ length (part_from seen patterns) → 1 ≤ length patterns
-part-some patterns seen some =
-    omega (arith, some, length-append (take 64 patterns) (drop (64 * (seen / 64)) patterns), length-take 64 patterns, length-drop (64 * (seen / 64)) patterns)
+-- ---- the next block
 
--- what is known where the rows of the part were looked at
-pub record AreParted (net : AigPair) (patterns : List (List Bool)) (sigs : Signatures) (leaders : List ℕ) : Type 0 where
-  pub classes : AreClasses net patterns leaders
-  pub signs : HaveSigns net patterns sigs
-  pub some : 1 ≤ length patterns
+-- the patterns that were looked at when the next block was
+abbrev cut-of : ℕ → List (List Bool) → List (List Bool)
+cut-of seen patterns = first_words (seen / 64 + 4) patterns
 
-pub are-parted : (net : AigPair) → IsNet net → (entries : List Entry) (patterns : List (List Bool)) (kept : Kept) → AreKept net patterns kept
-    → (piece : Patterns) (inputs : ℕ) → piece ≡ record { inputs = inputs; patterns = part_from kept.seen patterns }
-    → (sigs : Signatures) → AreSignatures net piece.patterns sigs → (old new : List ℕ) → old ≡ kept.leaders
-    → AreLeast old sigs (length (nodes_of net)) new → AreParted net patterns sigs new
-are-parted net is entries patterns kept are piece inputs parts sigs bits old new same least =
-    let rows : AreSignatures net (part_from kept.seen patterns) sigs = subst (λ (p : Patterns). AreSignatures net p.patterns sigs) parts bits in
-    let some : 1 ≤ length patterns = part-some patterns kept.seen rows.some in
-    record {
-      classes = refined-classes patterns kept.seen some net kept.leaders are.some are.classes sigs rows is entries new
-          (subst (λ (ls : List ℕ). AreLeast ls sigs (length (nodes_of net)) new) same least);
-      signs = part-signs patterns kept.seen some net kept.leaders are.some are.classes sigs rows is entries;
-      some = some;
-    }
+next-behind : (patterns : List (List Bool)) (seen : ℕ) → next_part seen patterns ≡ part-behind seen (cut-of seen patterns)
+next-behind patterns seen =
+    ap (λ (ps : List (List Bool)). ps ++ drop (64 * (seen / 64)) (cut-of seen patterns))
+    (sym (take-take 64 (64 * (seen / 64 + 4)) patterns (omega arith)))
+
+cut-length : (patterns : List (List Bool)) (seen : ℕ) → length (cut-of seen patterns) ≡ next_seen seen (length patterns)
+cut-length patterns seen = length-take (64 * (seen / 64 + 4)) patterns
+
+cut-first : (patterns : List (List Bool)) (seen : ℕ) → pattern-at (cut-of seen patterns) 0 ≡ pattern-at patterns 0
+cut-first patterns seen = get_or-take (64 * (seen / 64 + 4)) patterns 0 [] (omega arith)
+
+-- rows of the next block are rows of some patterns
+pub next-some : (net : AigPair) (patterns : List (List Bool)) (seen : ℕ) (sigs : Signatures) → AreSignatures net (next_part seen patterns) sigs
+    → 1 ≤ length patterns
+next-some net patterns seen sigs are =
+    let whole : length (next_part seen patterns) ≡ length (take 64 patterns) + length (drop (64 * (seen / 64)) (cut-of seen patterns)) =
+    length-append (take 64 patterns) (drop (64 * (seen / 64)) (cut-of seen patterns)) in
+    omega (arith, are.some, whole, length-take 64 patterns, length-drop (64 * (seen / 64)) (cut-of seen patterns), cut-length patterns seen)
+
+module _ (net : AigPair) (is : IsNet net) (entries : List Entry) (patterns : List (List Bool)) (seen : ℕ) (sigs : Signatures)
+    (are : AreSignatures net (next_part seen patterns) sigs) where
+  rows-behind : AreSignatures net (part-behind seen (cut-of seen patterns)) sigs
+  rows-behind = subst (λ (ps : List (List Bool)). AreSignatures net ps sigs) (next-behind patterns seen) are
+
+  cut-some : 1 ≤ length (cut-of seen patterns)
+  cut-some = omega (arith, next-some net patterns seen sigs are, cut-length patterns seen)
+
+  -- the rows begin as they do over all patterns
+  pub next-signs : HaveSigns net patterns sigs
+  next-signs p below =
+      first-bit net is entries (part-behind seen (cut-of seen patterns)) sigs rows-behind p below
+      ∙ ap (λ (bits : List Bool). value_of net bits (node_at net p))
+      (part-first (cut-of seen patterns) seen cut-some ∙ cut-first patterns seen)
+
+  -- the classes that they part are kept
+  pub next-kept : (kept : Kept) → kept.seen ≡ seen → AreKept net patterns kept → (new : List ℕ)
+      → AreLeast kept.leaders sigs (length (nodes_of net)) new
+      → AreKept net patterns (record { seen = next_seen seen (length patterns); leaders = new })
+  next-kept kept at old new least =
+      let few : seen ≤ length patterns = omega (arith, at, old.some) in
+      let before : take seen (cut-of seen patterns) ≡ take kept.seen patterns =
+      take-take seen (64 * (seen / 64 + 4)) patterns (omega arith) ∙ ap (λ (n : ℕ). take n patterns) (sym at) in
+      let all : take (next_seen seen (length patterns)) patterns ≡ cut-of seen patterns = take_min (64 * (seen / 64 + 4)) patterns in
+      let now : AreClasses net (cut-of seen patterns) new =
+      refined-classes (cut-of seen patterns) seen cut-some net kept.leaders (omega (arith, few, cut-length patterns seen))
+      (subst (λ (ps : List (List Bool)). AreClasses net ps kept.leaders) (sym before) old.classes) sigs rows-behind is entries new least in
+      record {
+        some = omega arith;
+        classes = subst (λ (ps : List (List Bool)). AreClasses net ps new) (sym all) now;
+      }
+
+-- after the last block the classes are over all patterns
+pub last-classes : (net : AigPair) (patterns : List (List Bool)) (seen : ℕ) (kept : Kept) → AreKept net patterns kept
+    → kept.seen ≡ next_seen seen (length patterns) → length patterns ≤ 64 * (seen / 64 + 4) → AreClasses net patterns kept.leaders
+last-classes net patterns seen kept old at end =
+    let all : take kept.seen patterns ≡ patterns =
+    ap (λ (n : ℕ). take n patterns) (omega (arith, at, end)) ∙ take-length patterns in
+    subst (λ (ps : List (List Bool)). AreClasses net ps kept.leaders) all old.classes
 
 pub if-ok : {T E : Type 0} (r : Result T E) (P Q : T → Type 0) → IfOk r P → ((x : T) → P x → Q x) → IfOk r Q
 if-ok (Ok x) P Q p f = f x p
 if-ok (Err e) P Q p f = tt
 
--- classes over all patterns are kept
-pub kept-all : (net : AigPair) (patterns : List (List Bool)) (count : ℕ) (leaders : List ℕ) → count ≡ length patterns
-    → AreClasses net patterns leaders → AreKept net patterns (record { seen = count; leaders = leaders })
-kept-all net patterns count leaders all classes =
-    let whole : take count patterns ≡ patterns = ap (λ (n : ℕ). take n patterns) all ∙ take-length patterns in
-    record { some = omega (arith, all); classes = subst (λ (ps : List (List Bool)). AreClasses net ps leaders) (sym whole) classes }
-
 -- ---- tasks
 
 abbrev task-with : AigPair → List Entry → ℕ → Lit → Option Task
 task-with net entries p lit =
-    if is_gate (node_at net p) && not (has_spent entries (node_at net p) lit) then Some (record { node = node_at net p; lit = lit }) else None
+    if is_gate (node_at net p) && not (has_spent_on entries (node_at net p) lit) then Some (record { node = node_at net p; lit = lit }) else None
 
 module _ (net : AigPair) (is : IsNet net) (book : Entries) (legal : IsLegal net book) (patterns : List (List Bool)) (some : 1 ≤ length patterns)
     (whole : AllByRecursion (λ bits. length bits ≡ length net.a.inputs) patterns)

@@ -12,7 +12,7 @@ use Rattle.netlist.proofs.Facts.{node-at, position-node, all-weaker}
 use Rattle.word_sim.specs.Rows.{Signatures, AreSignatures}
 use Rattle.lemma_book.specs.declared.entry.Entry.{Entry}
 use Rattle.lemma_book.specs.declared.entry.Task.{Task}
-use Rattle.lemma_book.specs.Entry.{has_spent}
+use Rattle.lemma_book.specs.Entry.{has_spent_on}
 use Rattle.lemma_book.specs.Root.{merge_of}
 use Rattle.lemma_book.specs.Good.{IsEarlier}
 use Rattle.sig_classes.specs.Leader.{IsLeader, IsDue, AreRising, IsIn, AreTasks}
@@ -69,9 +69,9 @@ module _ (net : AigPair) (is : IsNet net) (entries : List Entry) (patterns : Lis
 
       -- of any other its leader is the one that was found
       pub next-found : IsNextTask net entries patterns p (task_at net entries sigs q p)
-      next-found = go (is_gate (node_at net p)) (has_spent entries (node_at net p) (lit_between net sigs q p)) refl refl
+      next-found = go (is_gate (node_at net p)) (has_spent_on entries (node_at net p) (lit_between net sigs q p)) refl refl
         where
-          go : (gate spent : Bool) → is_gate (node_at net p) ≡ gate → has_spent entries (node_at net p) (lit_between net sigs q p) ≡ spent
+          go : (gate spent : Bool) → is_gate (node_at net p) ≡ gate → has_spent_on entries (node_at net p) (lit_between net sigs q p) ≡ spent
               → IsNextTask net entries patterns p (if gate && not spent then Some (record { node = node_at net p; lit = lit_between net sigs q p }) else None)
           go true false e f =
               let g = gate-is (node_at net p) e in record {
@@ -94,8 +94,8 @@ module _ (net : AigPair) (is : IsNet net) (entries : List Entry) (patterns : Lis
               }
           go true true e f = λ t same due.
               let lit : t.lit ≡ lit_between net sigs q p = alone t.lit (subst (λ (n : Node). IsLeader net entries patterns n t.lit) same due.leader) in
-              let spent : has_spent entries t.node t.lit ≡ true =
-              ap (λ (n : Node). has_spent entries n t.lit) same ∙ ap (has_spent entries (node_at net p)) lit ∙ f in
+              let spent : has_spent_on entries t.node t.lit ≡ true =
+              ap (λ (n : Node). has_spent_on entries n t.lit) same ∙ ap (has_spent_on entries (node_at net p)) lit ∙ f in
               let h : true ≡ false = sym spent ∙ due.unspent in cc
           go false spent e f = λ t same due.
               let h : true ≡ false = sym (is-gate t.node due.gate.side due.gate.var due.gate.gate) ∙ ap is_gate same ∙ e in cc

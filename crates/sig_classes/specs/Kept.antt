@@ -1,6 +1,7 @@
 -- Classes that are kept while patterns join a pool: a position has the least one of its class.
-use Rattle.std.specs.Prelude.{◌≡◌, ℕ, ◌<◌, ◌≤◌, ◌&&◌, nat_lt, Bool, true, false, Option, None, List, length, take, if◌then◌else◌}
+use Rattle.std.specs.Prelude.{◌≡◌, ℕ, ◌+◌, ◌*◌, ◌/◌, ◌<◌, ◌≤◌, ◌&&◌, nat_lt, min, Bool, true, false, Option, None, List, length, take, if◌then◌else◌}
 use Rattle.netlist.specs.Net.{AigPair, nodes_of, node_at}
+use Rattle.word_sim.specs.Patterns.{part_from}
 use Rattle.word_sim.specs.Rows.{Signatures, turned, value_on}
 use Rattle.lemma_book.specs.declared.entry.Entry.{Entry}
 use Rattle.lemma_book.specs.declared.entry.Task.{Task}
@@ -34,6 +35,14 @@ pub record Kept : Type 0 where
 pub record AreKept (net : AigPair) (patterns : List (List Bool)) (kept : Kept) : Type 0 where
   pub some : kept.seen ≤ length patterns
   pub classes : AreClasses net (take kept.seen patterns) kept.leaders
+
+-- how many patterns were seen after the next block of four words
+abbrev pub next_seen : ℕ → ℕ → ℕ
+next_seen seen count = min (64 * (seen / 64 + 4)) count
+
+-- what the next block is simulated on
+abbrev pub next_part : ℕ → List (List Bool) → List (List Bool)
+next_part seen patterns = part_from seen 4 patterns
 
 -- q is the least position that shares p's class and has a row alike
 pub record IsLeastOne (classes : List ℕ) (sigs : Signatures) (q p : ℕ) : Type 0 where

@@ -10,7 +10,7 @@ use Rattle.lits.specs.declared.literal.Lit.{Lit}
 use Rattle.netlist.specs.Net.{AigPair, position_of, value_of, lit_holds}
 use Rattle.lemma_book.specs.declared.entry.Entry.{Entry}
 use Rattle.lemma_book.specs.declared.entry.Task.{Task}
-use Rattle.lemma_book.specs.Entry.{has_spent}
+use Rattle.lemma_book.specs.Entry.{has_spent_on}
 use Rattle.lemma_book.specs.Root.{IsRoot}
 use Rattle.lemma_book.specs.Good.{IsEarlier}
 use Rattle.lemma_book.specs.Agreement.{HasValueOf}
@@ -44,7 +44,7 @@ pub record IsDue (net : AigPair) (entries : List Entry) (patterns : List (List B
   pub gate : IsOpenGate net entries task.node
   pub leader : IsLeader net entries patterns task.node task.lit
   pub earlier : IsEarlier net task.node task.lit
-  pub unspent : has_spent entries task.node task.lit ≡ false
+  pub unspent : has_spent_on entries task.node task.lit ≡ false
 
 -- the tasks stand in order of position, so no node comes twice
 abbrev pub AreRising : AigPair → List Task → Type 0
@@ -64,12 +64,12 @@ pub record AreTasks (net : AigPair) (entries : List Entry) (patterns : List (Lis
 -- each gate that is its own root leads its class, or a query of it and its leader spent its budget
 abbrev pub IsReduced : AigPair → List Entry → List (List Bool) → Type 0
 IsReduced net entries patterns = (t : Task) → IsOpenGate net entries t.node → IsLeader net entries patterns t.node t.lit
-    → IsEarlier net t.node t.lit → has_spent entries t.node t.lit ≡ true
+    → IsEarlier net t.node t.lit → has_spent_on entries t.node t.lit ≡ true
 
 -- a query of the node and some literal spent its budget
 pub record HasSpent (entries : List Entry) (n : Node) : Type 0 where
   pub lit : Lit
-  pub spent : has_spent entries n lit ≡ true
+  pub spent : has_spent_on entries n lit ≡ true
 
 -- no earlier root has the node's value, or its complement, on every input
 abbrev pub IsLone : AigPair → List Entry → Node → Type 0

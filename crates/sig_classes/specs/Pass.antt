@@ -8,7 +8,7 @@ use Rattle.netlist.specs.Net.{AigPair, node_at, differs}
 use Rattle.word_sim.specs.Rows.{Signatures}
 use Rattle.lemma_book.specs.declared.entry.Entry.{Entry}
 use Rattle.lemma_book.specs.declared.entry.Task.{Task}
-use Rattle.lemma_book.specs.Entry.{has_spent}
+use Rattle.lemma_book.specs.Entry.{has_spent_on}
 use Rattle.lemma_book.specs.Root.{merge_of}
 use Rattle.sig_classes.specs.Leader.{IsDue}
 use Rattle.sig_classes.specs.Alike.{row_of, first_bit}
@@ -32,7 +32,7 @@ lit_between net sigs q p =
 -- the task of the node at p, where that at q leads it
 abbrev pub task_at : AigPair → List Entry → Signatures → ℕ → ℕ → Option Task
 task_at net entries sigs q p =
-    if is_gate (node_at net p) && not (has_spent entries (node_at net p) (lit_between net sigs q p))
+    if is_gate (node_at net p) && not (has_spent_on entries (node_at net p) (lit_between net sigs q p))
     then Some (record { node = node_at net p; lit = lit_between net sigs q p }) else None
 
 -- the chains have the first members of the classes of all roots before the position

@@ -1,10 +1,11 @@
 ghost use Rattle.std.specs.Prelude.{◌≡◌, ◌<◌, ◌≤◌, ◌+◌, Bool, List, length, IfOk};
 ghost use Rattle.std.specs.List.{AllByRecursion};
 ghost use Rattle.netlist.specs.Net.{nodes_of};
+ghost use Rattle.word_sim.specs.Rows.{AreSignatures};
 ghost use Rattle.lemma_book.specs.Book.{IsLegal};
 ghost use Rattle.sig_classes.specs.Leader.{AreTasks};
 ghost use Rattle.sig_classes.specs.Chains.{AreBefore, class_of};
-ghost use Rattle.sig_classes.specs.Kept.{AreClasses, AreKept, AreLeast, HasLeasts, HaveSigns, IsLeastOne, led_at};
+ghost use Rattle.sig_classes.specs.Kept.{AreClasses, AreKept, AreLeast, HasLeasts, HaveSigns, IsLeastOne, led_at, next_part, next_seen};
 
 use crate::chains::{Firsts, class_of};
 use crate::classes::open_task;
@@ -14,11 +15,16 @@ use std::alloc::{AllocError, Global};
 use std::marker::Model;
 use word_sim::{Pool, Sigs, signatures};
 
+/// How many words of patterns are simulated at once. No row is longer than that and the pool's first word,
+/// so memory doesn't grow with the patterns that join; with four words a pass some 25 % of the time is that
+/// first word's, and rows of more words cost memory at each node.
+const BLOCK: u32 = 4;
+
 /// The classes of a pair's nodes on the patterns of a pool, kept while patterns join it.
 ///
-/// What joined is simulated alone, beside the pool's first word, which tells as before which rows are
-/// turned; a class breaks up by the rows of that. So a pattern is simulated once, where `tasks` of all rows
-/// would pay for it in each round to come.
+/// What joined is simulated alone, a few words at a time, beside the pool's first word, which tells as
+/// before which rows are turned; a class breaks up by the rows of that. So a pattern is simulated once,
+/// where `tasks` of all rows would pay for it in each round to come.
 #[derive(Drop)]
 pub struct KeptClasses {
     seen: u64,
@@ -42,6 +48,30 @@ impl KeptClasses {
         Ok(KeptClasses { seen: 0, leaders })
     }
 
+    /// How many of the pool's first patterns the classes are over.
+    pub fn seen(&self) -> u64
+        ensures { result ≡ self.now.seen }
+    {
+        self.seen
+    }
+
+    /// Simulates the next few words of patterns, and breaks the classes up by them. The rows are those of the
+    /// first word and of these; after the last patterns they are those of the first word alone.
+    pub fn refine(&mut self, alloc: Global, net: &Net, pool: &Pool) -> Result<Sigs, AllocError>
+        requires inputs { pool.now.inputs ≡ length net.now.a.inputs }
+        requires kept { AreKept net.now pool.now.patterns self.old }
+        ensures kept { AreKept net.now pool.now.patterns self.new }
+        ensures seen { IfOk result (λ s. self.new.seen ≡ next_seen self.old.seen (length pool.now.patterns)) }
+        ensures rows { IfOk result (AreSignatures net.now (next_part self.old.seen pool.now.patterns)) }
+    {
+        netlist::laws::is_net(net);
+        let part = pool.part(alloc, self.seen, BLOCK)?;
+        let sigs = signatures(alloc, net, &part)?;
+        self.leaders = refined(alloc, net, self.leaders.as_slice(), &sigs)?;
+        self.seen = next_seen(self.seen, pool);
+        Ok(sigs)
+    }
+
     /// The pairs that are to be asked for over the whole pool, as `tasks` of all its rows would give them.
     pub fn tasks(
         &mut self,
@@ -58,12 +88,22 @@ impl KeptClasses {
         ensures kept { AreKept net.now pool.now.patterns self.new }
     {
         netlist::laws::is_net(net);
-        let part = pool.part(alloc, self.seen)?;
-        let sigs = signatures(alloc, net, &part)?;
-        self.leaders = refined(alloc, net, self.leaders.as_slice(), &sigs)?;
-        self.seen = pool.patterns();
+        while self.seen / 64 + u64::from(BLOCK) < u64::from(pool.words()) {
+            self.refine(alloc, net, pool)?;
+        }
+        let sigs = self.refine(alloc, net, pool)?;
         due(alloc, net, &sigs, self.leaders.as_slice(), book)
     }
+}
+
+/// How many patterns were seen after the next block.
+fn next_seen(seen: u64, pool: &Pool) -> u64
+    ensures { result ≡ next_seen seen (length pool.now.patterns) }
+{
+    let end = (seen / 64)
+        .saturating_add(u64::from(BLOCK))
+        .saturating_mul(64);
+    end.min(pool.patterns())
 }
 
 /// The least positions of the classes into which rows part those that are given.

@@ -5,3 +5,4 @@ mod PartLemmas
 mod SomeRows
 mod BitLemmas
 mod RowLemmas
+pub mod GateLemmas

@@ -1,5 +1,5 @@
 -- Blocks of words, and what is a part of a pool.
-use Rattle.std.proofs.Common.{◌≡◌, ◌∙◌, ℕ, ◌+◌, ◌*◌, ◌-◌, ◌/◌, ◌%◌, ◌<◌, ◌≤◌, ◌&&◌, nat_lt, Bool, false, List, [], ◌∷◌, ◌++◌, length, take, drop, refl, sym, ap, ap₂, add-one, inl, inr, append_assoc, length-append, length-drop, length-take}
+use Rattle.std.proofs.Common.{◌≡◌, ◌∙◌, ℕ, ◌+◌, ◌*◌, ◌-◌, ◌/◌, ◌%◌, ◌<◌, ◌≤◌, ◌&&◌, ◌⊎◌, min, nat_lt, Bool, false, List, [], ◌∷◌, ◌++◌, length, take, drop, refl, sym, ap, ap₂, add-one, inl, inr, append_assoc, length-append, length-drop, length-take}
 use native.Mathlib.Omega.{arith}
 use native.Mathlib.Nat.{mul_comm}
 use Rattle.std.proofs.Math.Nat.{suc-mul}
@@ -10,7 +10,7 @@ use Rattle.std.specs.Int.{bit_at}
 use Rattle.std.proofs.lemmas.List.FromFn.{fill_by_all, get_or-map-range_with_len, length-map-range_with_len}
 use Rattle.std.proofs.lemmas.List.{append-nil, get_or_past, get_or_append_left, get_or-append-add, get_or-append_right, get_or-take, get_or-drop}
 use Rattle.std.proofs.lemmas.Nat.Bits.{bit_at-lt, bit_at-zero}
-use Rattle.word_sim.specs.Patterns.{Patterns, is_set, truth_of, words_of, part_from}
+use Rattle.word_sim.specs.Patterns.{Patterns, is_set, truth_of, words_of, first_words, part_from}
 use Rattle.word_sim.specs.Storage.{drawn_patterns, added_patterns, IsClear, bit_of, IsBlock, AreBlocks}
 use Rattle.word_sim.proofs.PoolLemmas.{added-pattern, drawn-pattern, map-range-same, row-inside, times-mono}
 
@@ -87,16 +87,23 @@ all-whole inputs words drawn count added k below =
 clear-bit : (x b : ℕ) → is_set x b ≡ false → bit_at x b ≡ 0
 clear-bit x b none = grind (arith, nat_tests, bit_at-lt x b, none)
 
+-- so many patterns behind some words: all that there are, or whole words
+abbrev pub IsEnd : Patterns → ℕ → ℕ → Type 0
+IsEnd pool from n = (length pool.patterns ≡ 64 * from + n) ⊎ (n % 64 ≡ 0)
+
 -- the bits behind the last pattern
-pub part-clear : (pool : Patterns) (from count n : ℕ) (words : List ℕ) → AreBlocks pool from count words
-    → length pool.patterns ≡ 64 * from + n → IsClear pool.inputs n words
-part-clear pool from count n words blocks all w i b inside within behind = elim (cases_lt w count) [
-  | inl less ↦
-      let past : nat_lt (64 * (from + w) + b) (length pool.patterns) ≡ false = le-ltb _ _ (omega (arith, behind, all)) in
-      clear-bit (slice_index_or words (w * pool.inputs + i) 0) b
-      (blocks.bits w i b less inside within ∙ ap (λ (t : Bool). t && truth_of pool.patterns i (64 * (from + w) + b)) past)
+pub part-clear : (pool : Patterns) (from n : ℕ) (words : List ℕ) → AreBlocks pool from (words_of n) words → IsEnd pool from n
+    → IsClear pool.inputs n words
+part-clear pool from n words blocks end w i b inside within behind = elim (cases_lt w (words_of n)) [
+  | inl less ↦ elim end [
+    | inl all ↦
+        let past : nat_lt (64 * (from + w) + b) (length pool.patterns) ≡ false = le-ltb _ _ (omega (arith, behind, all)) in
+        clear-bit (slice_index_or words (w * pool.inputs + i) 0) b
+        (blocks.bits w i b less inside within ∙ ap (λ (t : Bool). t && truth_of pool.patterns i (64 * (from + w) + b)) past)
+    | inr whole ↦ absurd (omega (arith, whole, less, within, behind))
+  ]
   | inr more ↦
-      ap (λ (k : ℕ). bit_at k b) (get_or_past words (w * pool.inputs + i) 0 (omega (arith, blocks.size, times-mono count w pool.inputs more)))
+      ap (λ (k : ℕ). bit_at k b) (get_or_past words (w * pool.inputs + i) 0 (omega (arith, blocks.size, times-mono (words_of n) w pool.inputs more)))
       ∙ bit_at-zero b
 ]
 
@@ -123,29 +130,42 @@ module _ (pool : Patterns) (whole : IsWhole pool) where
       let slot : k / 64 * pool.inputs + i ≡ i * 1 + k / 64 = omega (arith, ap (λ (z : ℕ). z * pool.inputs) zero-word) in
       ap (λ (s : ℕ). is_set (slice_index_or drawn s 0) (k % 64)) slot))
 
-  last-part : (from n : ℕ) (added : List ℕ) → AreBlocks pool from (words_of (length pool.patterns) - from) added
-      → length pool.patterns ≡ 64 * from + n → drop (64 * from) pool.patterns ≡ added_patterns pool.inputs n added
-  last-part from n added blocks all =
-      fill_by_all (added-pattern pool.inputs added) (drop (64 * from) pool.patterns) n [] (omega (arith, length-drop (64 * from) pool.patterns, all))
-      (λ k below. get_or-drop (64 * from) pool.patterns k []
-      ∙ part-at from (words_of (length pool.patterns) - from) added blocks k (64 * from + k) (omega (arith, all)) refl (omega (arith, all)))
+  last-part : (from words n : ℕ) (added : List ℕ) → AreBlocks pool from (words_of n) added
+      → min (64 * (from + words)) (length pool.patterns) ≡ 64 * from + n
+      → drop (64 * from) (first_words (from + words) pool.patterns) ≡ added_patterns pool.inputs n added
+  last-part from words n added blocks all =
+      let cut : List (List Bool) = first_words (from + words) pool.patterns in
+      let size : length cut ≡ 64 * from + n = length-take (64 * (from + words)) pool.patterns ∙ all in
+      fill_by_all (added-pattern pool.inputs added) (drop (64 * from) cut) n [] (omega (arith, length-drop (64 * from) cut, size))
+      (λ k below. get_or-drop (64 * from) cut k []
+      ∙ get_or-take (64 * (from + words)) pool.patterns (64 * from + k) [] (omega (arith, all, below))
+      ∙ part-at from (words_of n) added blocks k (64 * from + k) (omega (arith, below)) refl (omega (arith, all, below)))
 
   abbrev pool-of : ℕ → List (List Bool) → Patterns
   pool-of inputs patterns = record { inputs = inputs; patterns = patterns }
 
   -- what the blocks spell
-  pub part-is : (seen inputs from n : ℕ) (drawn added : List ℕ) → inputs ≡ pool.inputs → 64 ≤ length pool.patterns → from ≡ seen / 64
-      → length pool.patterns ≡ 64 * from + n → AreBlocks pool 0 1 drawn → AreBlocks pool from (words_of (length pool.patterns) - from) added
-      → pool-of inputs (drawn_patterns inputs 1 drawn ++ added_patterns inputs n added) ≡ pool-of pool.inputs (part_from seen pool.patterns)
-  part-is seen inputs from n drawn added same some word all first rest =
+  pub part-is : (seen words inputs from n : ℕ) (drawn added : List ℕ) → inputs ≡ pool.inputs → 64 ≤ length pool.patterns → from ≡ seen / 64
+      → min (64 * (from + words)) (length pool.patterns) ≡ 64 * from + n → AreBlocks pool 0 1 drawn → AreBlocks pool from (words_of n) added
+      → pool-of inputs (drawn_patterns inputs 1 drawn ++ added_patterns inputs n added) ≡ pool-of pool.inputs (part_from seen words pool.patterns)
+  part-is seen words inputs from n drawn added same some word all first rest =
       ap (λ (m : ℕ). pool-of m (drawn_patterns m 1 drawn ++ added_patterns m n added)) same
       ∙ ap (pool-of pool.inputs) (ap₂ ◌++◌ (sym (first-part drawn first some))
-      (sym (last-part from n added rest all) ∙ ap (λ (w : ℕ). drop (64 * w) pool.patterns) word))
+      (sym (last-part from words n added rest all)
+      ∙ ap (λ (w : ℕ). drop (64 * w) (first_words (w + words) pool.patterns)) word))
+
+-- where so many words end, or the patterns before that
+pub part-end : (pool : Patterns) (from words n end : ℕ) → end ≡ min (64 * (from + words)) (length pool.patterns) → n ≡ end - from * 64
+    → 64 * from ≤ length pool.patterns → (min (64 * (from + words)) (length pool.patterns) ≡ 64 * from + n) × IsEnd pool from n
+part-end pool from words n end is count few = elim (cases_lt (64 * (from + words)) (length pool.patterns)) [
+  | inl less ↦
+      let whole : n ≡ 64 * words = omega (arith, is, count, less) in
+      (omega (arith, is, count, few, less), inr (omega (arith, whole)))
+  | inr more ↦ (omega (arith, is, count, few, more), inl (omega (arith, is, count, few, more)))
+]
 
 -- the words of the part
-pub part-size : (pool : Patterns) (from n inputs : ℕ) (added : List ℕ) → inputs ≡ pool.inputs
-    → length pool.patterns ≡ 64 * from + n → AreBlocks pool from (words_of (length pool.patterns) - from) added
+pub part-size : (pool : Patterns) (from n inputs : ℕ) (added : List ℕ) → inputs ≡ pool.inputs → AreBlocks pool from (words_of n) added
     → length added ≡ inputs * words_of n
-part-size pool from n inputs added same all blocks =
-    let count : words_of (length pool.patterns) - from ≡ words_of n = omega (arith, all) in
-    blocks.size ∙ ap (λ (k : ℕ). k * pool.inputs) count ∙ mul_comm (words_of n) pool.inputs ∙ ap (λ (k : ℕ). k * words_of n) (sym same)
+part-size pool from n inputs added same blocks =
+    blocks.size ∙ mul_comm (words_of n) pool.inputs ∙ ap (λ (k : ℕ). k * words_of n) (sym same)

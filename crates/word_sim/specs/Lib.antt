@@ -1,3 +1,4 @@
 pub mod Patterns
 pub mod Storage
 pub mod Rows
+pub mod Gates

@@ -48,6 +48,10 @@ seeded seed words inputs = record {
   patterns = map (seeded_pattern seed words inputs) (range_with_len 0 (64 * words));
 }
 
--- the first 64 patterns, and behind them those from the word on that follows so many patterns
-abbrev pub part_from : ℕ → List (List Bool) → List (List Bool)
-part_from seen patterns = take 64 patterns ++ drop (64 * (seen / 64)) patterns
+-- the patterns of the first so many words
+abbrev pub first_words : ℕ → List (List Bool) → List (List Bool)
+first_words words patterns = take (64 * words) patterns
+
+-- the first 64 patterns, and behind them those of at most so many words from the one on that follows so many patterns
+abbrev pub part_from : ℕ → ℕ → List (List Bool) → List (List Bool)
+part_from seen words patterns = take 64 patterns ++ drop (64 * (seen / 64)) (first_words (seen / 64 + words) patterns)

@@ -1,4 +1,4 @@
-ghost use Rattle.std.specs.Prelude.{◌≡◌, ◌≤◌, ◌<◌, ◌∷◌, ◌++◌, ◌+◌, ◌*◌, ◌&&◌, nat_lt, ℕ, [], length, IfOk, OnOk, OnErr};
+ghost use Rattle.std.specs.Prelude.{◌≡◌, ◌≤◌, ◌<◌, ◌∷◌, ◌++◌, ◌+◌, ◌*◌, ◌&&◌, nat_lt, min, ℕ, [], length, IfOk, OnOk, OnErr};
 ghost use Rattle.word_sim.specs.Patterns.{is_set, part_from, truth_of, words_of};
 ghost use Rattle.word_sim.specs.Patterns.{seeded as seeded_pool};
 ghost use Rattle.word_sim.specs.Storage.{AreBlocks, AreSet, HasRoom, IsBlock};
@@ -104,14 +104,16 @@ impl Pool {
         }
     }
 
-    /// The first 64 patterns, and those from the word on that follows so many: what there is to simulate
-    /// where these were simulated before. The first tell which rows are turned, as they did then.
-    pub fn part(&self, alloc: Global, seen: u64) -> Result<Pool, AllocError>
-        requires { seen ≤ length self.now.patterns }
+    /// The first 64 patterns, and those of at most so many words from the one on that follows so many
+    /// patterns: what there is to simulate next where these were simulated before. The first tell which rows
+    /// are turned, as they did then.
+    pub fn part(&self, alloc: Global, seen: u64, words: u32) -> Result<Pool, AllocError>
+        requires seen { seen ≤ length self.now.patterns }
+        requires words { 1 ≤ words }
         ensures { IfOk result (λ p.
-            p ≡ record { inputs = self.now.inputs; patterns = part_from seen self.now.patterns }) }
+            p ≡ record { inputs = self.now.inputs; patterns = part_from seen words self.now.patterns }) }
     {
-        let count = self.patterns() - seen / 64 * 64;
+        let count = self.end(seen / 64, words) - seen / 64 * 64;
         let (Ok(from), Ok(added_count)) = (u32::try_from(seen / 64), u32::try_from(count)) else {
             return Err(AllocError);
         };
@@ -120,8 +122,16 @@ impl Pool {
             drawn_words: 1,
             drawn: self.blocks(alloc, 0, 1)?,
             added_count,
-            added: self.blocks(alloc, from, self.words() - from)?,
+            added: self.blocks(alloc, from, added_count.div_ceil(64))?,
         })
+    }
+
+    /// Where so many words from one on end, or the patterns before that.
+    fn end(&self, from: u64, words: u32) -> u64
+        ensures { result ≡ min (64 * (from + words)) (length self.now.patterns) }
+    {
+        let end = from.saturating_add(u64::from(words)).saturating_mul(64);
+        end.min(self.patterns())
     }
 
     /// So many words from one on, each for all inputs.

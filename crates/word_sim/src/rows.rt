@@ -82,7 +82,7 @@ fn fill_gates(net: &Net, pool: &Pool, buf: &mut [u64])
 }
 
 /// The row of the gate with a position, of the rows of its fanins.
-fn fill_gate(gate: Fanins, buf: &mut [u64], position: usize, words: usize, count: u64)
+pub(crate) fn fill_gate(gate: Fanins, buf: &mut [u64], position: usize, words: usize, count: u64)
     requires left { gate.left.position < position }
     requires right { gate.right.position < position }
     requires words { words ≡ words_of count }

@@ -1,27 +1,25 @@
-use Rattle.std.proofs.Common.{List, ℕ, sym, subst}
-use Rattle.sig_classes.specs.Kept.{AreClasses, AreKept, Kept}
-use Rattle.sig_classes.proofs.KeptLemmas.{are-parted, if-ok, kept-all}
+use Rattle.std.proofs.Common.{◌≡◌, ◌∙◌, ◌+◌, ◌*◌, ◌/◌, ◌≤◌, ℕ, List, Bool, length, arith, sym, ap, subst}
+use Rattle.sig_classes.specs.Kept.{AreClasses, AreKept, Kept, next_seen}
+use Rattle.sig_classes.proofs.KeptLemmas.{if-ok, last-classes, next-signs, next-some}
 use Rattle.sig_classes.proofs.kept.KeptClasses.tasks.Goals as goal
 
 pub returns-clause-tasks : goal.returns-clause-tasks
 returns-clause-tasks c =
     let net = c.args.net.now in
     let patterns = c.args.pool.now.patterns in
-    let i = c.self.inside in
-    let now = are-parted c.args.net.now c.is_net.ensures c.args.book.now.entries c.args.pool.now.patterns
-    (record { seen = i.seen; leaders = i.leaders.items }) (subst (λ (k : Kept). AreKept net patterns k) (sym c.self.view_is) c.requires.kept)
-    c.in_ok-part.part c.args.pool.now.inputs c.in_ok-part.ensures c.in_ok-sigs.sigs c.in_ok-sigs.ensures c.as_slice.result.now
-    c.in_ok-self-inside.field-0.items c.as_slice.ensures.value c.in_ok-self-inside.ensures in
+    let seen = c.loop-self.self.seen in
+    let new = c.self-2.inside in
+    let last = c.in_ok-sigs.ensures in
+    let before : c.self.inside.seen ≡ c.loop-self.self.seen = ap (λ (k : Kept). k.seen) c.self.view_is in
+    let end : length c.args.pool.now.patterns ≤ 64 * (c.loop-self.self.seen / 64 + 4) =
+    omega (arith, before, c.words.ensures.words, c.loop-self-test.false) in
+    let at : new.seen ≡ next_seen c.loop-self.self.seen (length c.args.pool.now.patterns) =
+    ap (λ (k : Kept). k.seen) c.self-2.view_is ∙ last.seen in
+    let kept : AreKept c.args.net.now c.args.pool.now.patterns (record { seen = new.seen; leaders = new.leaders.items }) =
+    subst (λ (k : Kept). AreKept net patterns k) (sym c.self-2.view_is) last.kept in
+    let classes : AreClasses c.args.net.now c.args.pool.now.patterns new.leaders.items =
+    last-classes c.args.net.now c.args.pool.now.patterns c.loop-self.self.seen (record { seen = new.seen; leaders = new.leaders.items }) kept at end in
     if-ok c.due.result _ _ c.due.ensures (λ v due. due c.args.pool.now.patterns
-    (subst (λ (ls : List ℕ). AreClasses net patterns ls) (sym c.as_slice-2.ensures.value) now.classes) now.signs now.some c.requires.whole)
-
-pub returns-clause-kept : goal.returns-clause-kept
-returns-clause-kept c =
-    let net = c.args.net.now in
-    let patterns = c.args.pool.now.patterns in
-    let i = c.self.inside in
-    let now = are-parted c.args.net.now c.is_net.ensures c.args.book.now.entries c.args.pool.now.patterns
-    (record { seen = i.seen; leaders = i.leaders.items }) (subst (λ (k : Kept). AreKept net patterns k) (sym c.self.view_is) c.requires.kept)
-    c.in_ok-part.part c.args.pool.now.inputs c.in_ok-part.ensures c.in_ok-sigs.sigs c.in_ok-sigs.ensures c.as_slice.result.now
-    c.in_ok-self-inside.field-0.items c.as_slice.ensures.value c.in_ok-self-inside.ensures in
-    kept-all c.args.net.now c.args.pool.now.patterns c.patterns-self-inside.result c.in_ok-self-inside.field-0.items c.patterns-self-inside.ensures now.classes
+    (subst (λ (ls : List ℕ). AreClasses net patterns ls) (sym c.as_slice.ensures.value) classes)
+    (next-signs c.args.net.now c.is_net.ensures c.args.book.now.entries c.args.pool.now.patterns c.loop-self.self.seen c.in_ok-sigs.sigs last.rows)
+    (next-some c.args.net.now c.args.pool.now.patterns c.loop-self.self.seen c.in_ok-sigs.sigs last.rows) c.requires.whole)

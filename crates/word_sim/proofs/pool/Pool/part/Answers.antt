@@ -1,8 +1,8 @@
-use Rattle.std.proofs.Common.{◌≡◌, ◌∙◌, ◌+◌, ◌-◌, ◌*◌, ℕ, length, sym, ap, subst}
+use Rattle.std.proofs.Common.{◌≡◌, ◌∙◌, ◌+◌, ◌*◌, ℕ, length, sym, ap, subst}
 use native.Mathlib.Omega.{arith}
 use Rattle.word_sim.specs.Patterns.{Patterns, words_of}
 use Rattle.word_sim.specs.Storage.{AreBlocks, IsClear}
-use Rattle.word_sim.proofs.PartLemmas.{IsWhole, all-whole, part-clear, part-is, part-size}
+use Rattle.word_sim.proofs.PartLemmas.{IsWhole, all-whole, part-clear, part-end, part-is, part-size}
 use Rattle.word_sim.proofs.PoolLemmas.{patterns-count}
 use Rattle.word_sim.proofs.pool.Pool.part.Goals as goal
 
@@ -11,17 +11,20 @@ invariant_of-result c =
     let i = c.self.inside in
     let pool = c.args.self.now in
     let same : i.inputs ≡ c.args.self.now.inputs = ap (λ (p : Patterns). p.inputs) c.self.view_is in
-    let all : length c.args.self.now.patterns ≡ 64 * c.in-Ok-Ok.from + c.in-Ok-Ok.added_count =
-    omega (arith, c.patterns.ensures, c.in-Ok-Ok.ensures.1, c.in-Ok-Ok.ensures'.1, c.requires) in
-    let rest : AreBlocks c.args.self.now c.in-Ok-Ok.from (words_of (length c.args.self.now.patterns) - c.in-Ok-Ok.from) c.in_ok-blocks-2.field-0.items =
-    subst (λ (n : ℕ). AreBlocks pool c.in-Ok-Ok.from (n - c.in-Ok-Ok.from) c.in_ok-blocks-2.field-0.items) c.words.ensures.words c.in_ok-blocks-2.ensures in (
+    let from = c.in-Ok-Ok.from in
+    let n = c.in-Ok-Ok.added_count in
+    let ends = part-end c.args.self.now c.in-Ok-Ok.from c.args.words c.in-Ok-Ok.added_count c.end.result
+    (omega (arith, c.end.ensures, c.in-Ok-Ok.ensures.1)) (omega (arith, c.in-Ok-Ok.ensures.1, c.in-Ok-Ok.ensures'.1))
+    (omega (arith, c.in-Ok-Ok.ensures.1, c.requires.seen)) in
+    let rest : AreBlocks c.args.self.now c.in-Ok-Ok.from (words_of c.in-Ok-Ok.added_count) c.in_ok-blocks-2.field-0.items =
+    subst (λ (k : ℕ). AreBlocks pool c.in-Ok-Ok.from k c.in_ok-blocks-2.field-0.items) (omega (arith, c.div_ceil.ensures)) c.in_ok-blocks-2.ensures in (
       omega (arith, c.in_ok-blocks.ensures.size, same),
-      part-size c.args.self.now c.in-Ok-Ok.from c.in-Ok-Ok.added_count i.inputs c.in_ok-blocks-2.field-0.items same all rest,
+      part-size c.args.self.now c.in-Ok-Ok.from c.in-Ok-Ok.added_count i.inputs c.in_ok-blocks-2.field-0.items same rest,
       omega arith,
       omega arith,
       omega (arith, c.in-Ok-Ok.ensures'.0),
-      subst (λ (n : ℕ). IsClear n c.in-Ok-Ok.added_count c.in_ok-blocks-2.field-0.items) (sym same)
-          (part-clear c.args.self.now c.in-Ok-Ok.from _ c.in-Ok-Ok.added_count c.in_ok-blocks-2.field-0.items rest all),
+      subst (λ (k : ℕ). IsClear k c.in-Ok-Ok.added_count c.in_ok-blocks-2.field-0.items) (sym same)
+          (part-clear c.args.self.now c.in-Ok-Ok.from c.in-Ok-Ok.added_count c.in_ok-blocks-2.field-0.items rest ends.1),
     )
 
 pub returns : goal.returns
@@ -34,8 +37,10 @@ returns c =
     let whole : IsWhole c.args.self.now =
     subst IsWhole c.self.view_is
     (λ k below. all-whole i.inputs i.drawn_words i.drawn.items i.added_count i.added.items k (omega (arith, below, count))) in
-    let all : length c.args.self.now.patterns ≡ 64 * c.in-Ok-Ok.from + c.in-Ok-Ok.added_count =
-    omega (arith, c.patterns.ensures, c.in-Ok-Ok.ensures.1, c.in-Ok-Ok.ensures'.1, c.requires) in
-    part-is c.args.self.now whole c.args.seen i.inputs c.in-Ok-Ok.from c.in-Ok-Ok.added_count c.in_ok-blocks.field-0.items c.in_ok-blocks-2.field-0.items
-    (ap (λ (p : Patterns). p.inputs) c.self.view_is) (omega (arith, size, c.self.invariant.2)) c.in-Ok-Ok.ensures.1 all c.in_ok-blocks.ensures
-    (subst (λ (n : ℕ). AreBlocks pool c.in-Ok-Ok.from (n - c.in-Ok-Ok.from) c.in_ok-blocks-2.field-0.items) c.words.ensures.words c.in_ok-blocks-2.ensures)
+    let ends = part-end c.args.self.now c.in-Ok-Ok.from c.args.words c.in-Ok-Ok.added_count c.end.result
+    (omega (arith, c.end.ensures, c.in-Ok-Ok.ensures.1)) (omega (arith, c.in-Ok-Ok.ensures.1, c.in-Ok-Ok.ensures'.1))
+    (omega (arith, c.in-Ok-Ok.ensures.1, c.requires.seen)) in
+    part-is c.args.self.now whole c.args.seen c.args.words i.inputs c.in-Ok-Ok.from c.in-Ok-Ok.added_count c.in_ok-blocks.field-0.items
+    c.in_ok-blocks-2.field-0.items (ap (λ (p : Patterns). p.inputs) c.self.view_is) (omega (arith, size, c.self.invariant.2)) c.in-Ok-Ok.ensures.1 ends.0
+    c.in_ok-blocks.ensures
+    (subst (λ (k : ℕ). AreBlocks pool c.in-Ok-Ok.from k c.in_ok-blocks-2.field-0.items) (omega (arith, c.div_ceil.ensures)) c.in_ok-blocks-2.ensures)
