@@ -3,4 +3,6 @@ mod GatePropagation
 mod GateFacts
 mod ShowsLemmas
 mod WayLemmas
+mod TwinLemmas
+mod AddsLemmas
 mod PassLemmas

@@ -1,5 +1,5 @@
 -- A merge by two steps over the clauses of some nodes is good.
-use Rattle.std.proofs.Common.{◌≡◌, ℕ, ◌+◌, ◌≤◌, Bool, true, false, not, Option, Some, None, List, [], ◌∷◌, ◌++◌, length, take, refl, sym, ap, ◌∙◌, subst, arith}
+use Rattle.std.proofs.Common.{◌≡◌, ℕ, ◌+◌, ◌≤◌, Bool, true, false, not, Option, Some, None, List, [], ◌∷◌, ◌++◌, length, map, take, refl, sym, ap, ◌∙◌, subst, arith}
 use Rattle.std.specs.Option.{option_map_or}
 use Rattle.std.specs.List.{AllByRecursion}
 use Rattle.std.proofs.lemmas.Option.{none-some}
@@ -17,7 +17,7 @@ use Rattle.lits.proofs.Facts.{exact-node}
 use Rattle.netlist.specs.Net.{AigPair, position_of}
 use Rattle.netlist.specs.Miter.{positive, negative}
 use Rattle.unit_prop.specs.Step.{IsStep}
-use Rattle.unit_prop.specs.HintScan.{IsNamed}
+use Rattle.unit_prop.specs.HintScan.{IsNamed, ScansTo}
 use Rattle.unit_prop.specs.Log.{base_clause, with_own, IsStepAfter}
 use Rattle.unit_prop.proofs.Facts.{step-more, base_clause-is, named-all}
 use Rattle.lemma_book.specs.declared.entry.Entry.{Entry}
@@ -29,7 +29,8 @@ use Rattle.lemma_book.specs.Cone.{AreThere, clauses_on, nodes_in}
 use Rattle.lemma_book.specs.Good.{ArePlaced, AreOver, IsBefore, IsEarlier, EndsIn, IsGood, node_clause}
 use Rattle.lemma_book.specs.Book.{book_after}
 use Rattle.lemma_book.proofs.Facts.{good-merge, root-unsettled, placed-there, on-node-named, IsNoXor, HasNodeName, irreflexive}
-use Rattle.strash_pass.specs.Pass.{AreNotXors, is_xor, AreSteps, Merges}
+use Rattle.strash_pass.specs.Strash.{AreScanned}
+use Rattle.strash_pass.specs.Pass.{AreNotXors, is_xor, AreSteps}
 
 no-xors : (lits : List Lit) → AreNotXors lits → AllByRecursion IsNoXor (nodes_in lits)
 no-xors [] all = tt
@@ -91,6 +92,26 @@ module _ (node : Node) (target : Lit) (apart : same_node target.node node ≡ fa
       rw (g, f, e)
       ((first.0 ∙ ap (λ (x : Lit). x ∷ target ∷ []) l_is, first.1), (second.0 ∙ ap (λ (x : Lit). positive node ∷ x ∷ []) m_is, second.1))
 
+  -- and their hints are those of a scan
+  pub steps-scanned : (base : List Named) (l m : Lit) (below above : Step) (none one two : List Step) → l ≡ negative node → m ≡ opposite target
+      → none ≡ [] → one ≡ none ++ below ∷ [] → two ≡ one ++ above ∷ []
+      → below.clause ≡ l ∷ target ∷ [] → above.clause ≡ positive node ∷ m ∷ []
+      → ScansTo base (map opposite (l ∷ target ∷ [])) below.hints → ScansTo base (map opposite (positive node ∷ m ∷ [])) above.hints
+      → AreScanned base node target two
+  steps-scanned base l m below above none one two l_is m_is e f g first second scans_below scans_above =
+      subst (AreScanned base node target) (sym all) (record {
+        clauses =
+            ap (λ (c : List Lit). c ∷ above.clause ∷ []) (first ∙ ap (λ (x : Lit). x ∷ target ∷ []) l_is)
+            ∙ ap (λ (c : List Lit). (negative node ∷ target ∷ []) ∷ c ∷ []) (second ∙ ap (λ (x : Lit). positive node ∷ x ∷ []) m_is);
+        hints = (
+          subst (λ (c : List Lit). ScansTo base (map opposite c) below.hints) (sym first) scans_below,
+          (subst (λ (c : List Lit). ScansTo base (map opposite c) above.hints) (sym second) scans_above, tt),
+        );
+      })
+    where
+      all : two ≡ below ∷ above ∷ []
+      all = g ∙ ap (λ (s : List Step). s ++ above ∷ []) (f ∙ ap (λ (s : List Step). s ++ below ∷ []) e)
+
 module _ (net : AigPair) (book : Entries) (node : Node) (target : Lit) (unmerged : IsRoot book.entries node) where
   unsettled : place_on book.entries (Merged node) ≡ None
   unsettled = root-unsettled book.entries node unmerged
@@ -136,5 +157,7 @@ module _ (net : AigPair) (book : Entries) (node : Node) (target : Lit) (unmerged
       (sym (ap (λ (n : ℕ). take n book.entries) count ∙ take-length book.entries)) good
 
   -- and it is put last
-  pub put-last : (steps : List Step) (new : Entries) → new ≡ book_after book (Merge node target steps) → Merges book new node target
-  put-last steps new e = record { steps = steps; last = e ∙ ap (λ (o : Option ℕ). option_map_or (λ i. book) o (with_last book (Merge node target steps))) unsettled }
+  pub put-last : (steps : List Step) (new : Entries) → new ≡ book_after book (Merge node target steps)
+      → new ≡ with_last book (Merge node target steps)
+  put-last steps new e =
+      e ∙ ap (λ (o : Option ℕ). option_map_or (λ i. book) o (with_last book (Merge node target steps))) unsettled

@@ -1,6 +1,6 @@
 -- How the pass goes on: a gate that was merged, merges now, or is noted.
-use Rattle.std.proofs.Common.{◌≡◌, ℕ, suc, ◌+◌, ◌<◌, ◌^◌, map, Bool, true, false, cond, Option, Some, None, List, [], ◌∷◌, ◌++◌, length, refl, sym, ap, ◌∙◌, subst, arith, length-append, append-nil, append_assoc, ◌⊎◌, inl, inr}
-use Rattle.std.specs.Prelude.{slice_get, nat_lt, Result, Ok, Err, OnOk, OnErr}
+use Rattle.std.proofs.Common.{◌≡◌, ℕ, suc, ◌+◌, ◌<◌, ◌^◌, map, Bool, true, false, cond, Option, Some, None, List, [], ◌∷◌, ◌++◌, length, refl, sym, ap, ◌∙◌, subst, arith, length-append, ◌⊎◌, inl, inr}
+use Rattle.std.specs.Prelude.{slice_get, nat_lt, Result, Ok, Err, OnOk}
 use Rattle.std.specs.Option.{option_map, option_and_then, is_some, option_or}
 use Rattle.std.proofs.lemmas.Bool.Decides.{nat_tests}
 use Rattle.std.proofs.lemmas.Option.{none-some, same_Some, slice_get_within}
@@ -15,7 +15,7 @@ use Rattle.std.proofs.lemmas.List.{length-map}
 use Rattle.std.proofs.lemmas.Bool.{and_parts}
 use Rattle.lits.specs.declared.literal.Lit.{Lit}
 use Rattle.lits.specs.declared.step.Step.{Step}
-use Rattle.lits.proofs.Facts.{same-node_self, exact-lit, all-append, lit_laws}
+use Rattle.lits.proofs.Facts.{same-node_self, exact-lit, lit_laws}
 use Rattle.netlist.specs.declared.gate.Definition.{Definition}
 use Rattle.netlist.specs.Place.{place_of}
 use Rattle.netlist.specs.Net.{AigPair, IsNet, circuit_of, defined_by, definition_of, definitions, position_of}
@@ -29,7 +29,7 @@ use Rattle.lemma_book.specs.Book.{IsLegal}
 use Rattle.lemma_book.proofs.Facts.{root-kept, root-unsettled}
 use Rattle.strash_pass.specs.declared.pair.Pair.{Pair}
 use Rattle.strash_pass.specs.declared.visit.Pass.{Pass}
-use Rattle.strash_pass.specs.Strash.{folded, AreTwins, IsPlain, ArePlain, ArePlainBelow, AddsMerges, IsMerge}
+use Rattle.strash_pass.specs.Strash.{folded, AreTwins, IsPlain, ArePlain, ArePlainBelow}
 use Rattle.strash_pass.specs.Pass.{gates_before, same_pair, pair_of, IsSeen, IsPass, IsTwin, Merges}
 use Rattle.strash_pass.proofs.GateFacts.{IsGate, is-gate, gate-a, gate-b, apart-placed}
 
@@ -82,7 +82,7 @@ record IsSame (es more : List Entry) (c : Definition) : Type 0 where
   right : root_of more c.right ≡ root_of es c.right
 
 module _ (net : AigPair) (is : IsNet net) (book new : Entries) (legal : IsLegal net book) (n : ℕ) (d : Definition) (at : slice_get (definitions net) n ≡ Some d)
-    (target : Lit) (merges : Merges book new d.node target) where
+    (way : List Lit) (target : Lit) (merges : Merges net book new way d.node target) where
   gate-d : IsGate net n d
   gate-d = is-gate net is n d at
 
@@ -275,37 +275,6 @@ module _ (net : AigPair) (es : List Entry) (p : Pass) (n : ℕ) (d : Definition)
                   ∙ ap (λ (x : Lit). is_some (get same_pair q.gates (pair_of a x))) (sym right)
                   ∙ ap is_some (puts (pair_of a b)) ∙ rw (same-pair_self (pair_of a b)) refl
             ]
-
--- ---- books that grow by merges
-pub adds-none : (book : Entries) → AddsMerges book book
-adds-none book = record { added = []; entries = sym (append-nil book.entries); merges = tt; sweep = refl; out = refl }
-
-pub adds-one : (book new : Entries) (node : Node) (target : Lit) → Merges book new node target → AddsMerges book new
-adds-one book new node target m = record {
-  added = Merge node target m.steps ∷ [];
-  entries = ap (λ (b : Entries). b.entries) m.last;
-  merges = (tt, tt);
-  sweep = ap (λ (b : Entries). b.sweep_budget) m.last;
-  out = ap (λ (b : Entries). b.out_budget) m.last;
-}
-
-pub adds-more : (book mid new : Entries) → AddsMerges book mid → AddsMerges mid new → AddsMerges book new
-adds-more book mid new x y = record {
-  added = x.added ++ y.added;
-  entries = y.entries ∙ ap (λ (l : List Entry). l ++ y.added) x.entries ∙ append_assoc book.entries x.added y.added;
-  merges = all-append IsMerge x.added y.added x.merges y.merges;
-  sweep = y.sweep ∙ x.sweep;
-  out = y.out ∙ x.out;
-}
-
-pub adds-same : (book new : Entries) → new ≡ book → AddsMerges book new
-adds-same book new e = subst (AddsMerges book) (sym e) (adds-none book)
-
--- whether the merge was put or refused
-pub merged-grows : {T E : Type 0} (book new : Entries) (node : Node) (target : Lit) (r : Result T E)
-    → OnOk r (Merges book new node target) → OnErr r (new ≡ book) → AddsMerges book new
-merged-grows book new node target (Ok t) m same = adds-one book new node target m
-merged-grows book new node target (Err e) m same = adds-same book new same
 
 -- where both sides were visited, all gates are plain
 pub all-plain : {T E : Type 0} (net : AigPair) (es : List Entry) (p : Pass) (r : Result T E) → OnOk r (IsPass net es p p.visited)

@@ -19,8 +19,8 @@ use Rattle.lemma_book.specs.Cone.{nodes_in}
 use Rattle.lemma_book.specs.Good.{ArePlaced, IsEarlier}
 use Rattle.lemma_book.specs.Book.{IsLegal}
 use Rattle.lemma_book.proofs.Facts.{ArePlacedAll, passed-placed, target-lower, root-lower, has-nodes_append, covers-left, covers-right, covers-self}
-use Rattle.strash_pass.specs.Strash.{folded}
-use Rattle.strash_pass.specs.Pass.{AreNotXors, IsTwin, IsWay, Reaches, ShowsMerge, constant_among, is_const, is_xor}
+use Rattle.strash_pass.specs.Strash.{constant_among, folded, is_const}
+use Rattle.strash_pass.specs.Pass.{AreNotXors, IsTwin, IsWay, Reaches, ShowsMerge, is_xor}
 use Rattle.strash_pass.proofs.GateFacts.{IsGate, is-gate}
 use Rattle.strash_pass.proofs.ShowsLemmas.{fold-cases, fold-shows, twin-shows}
 

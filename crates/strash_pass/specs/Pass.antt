@@ -1,8 +1,8 @@
 -- What the pass keeps from gate to gate, and what it asks of a merge.
-use Rattle.std.specs.Prelude.{◌≡◌, ◌<◌, ◌||◌, ℕ, Bool, true, false, List, [], ◌∷◌, map, length, slice_get, None, Some, if◌then◌else◌}
+use Rattle.std.specs.Prelude.{◌≡◌, ◌<◌, ℕ, Bool, true, false, List, [], ◌∷◌, map, length, slice_get, None, Some}
 use Rattle.std.specs.Option.{is_some, IsSome}
 use Rattle.std.specs.List.{AllByRecursion}
-use Rattle.lits.specs.declared.node.Node.TheVariants.{Const, Xor}
+use Rattle.lits.specs.declared.node.Node.TheVariants.{Xor}
 use Rattle.lits.specs.declared.node.Side.{Side}
 use Rattle.lits.specs.declared.node.Side.TheVariants.{A, B}
 use Rattle.lits.specs.declared.node.Node.{Node}
@@ -26,7 +26,7 @@ use Rattle.lemma_book.specs.Cone.{Covers, clauses_on, nodes_in}
 use Rattle.strash_pass.specs.declared.pair.Pair.{Pair}
 use Rattle.strash_pass.specs.declared.visit.Pass.{Pass}
 use Rattle.strash_pass.specs.contracts.pair.PairPartialEq.TheImpl as pair_eq
-use Rattle.strash_pass.specs.Strash.{folded, ArePlainBelow, AreTwins}
+use Rattle.strash_pass.specs.Strash.{folded, ArePlainBelow, AreScanned, AreTwins}
 
 -- the `==` of pairs
 abbrev pub same_pair : Pair → Pair → Bool
@@ -79,13 +79,6 @@ pub record IsTwin (net : AigPair) (entries : List Entry) (c d : Definition) : Ty
   pub twins : AreTwins entries c d
   pub unfolded : folded (root_of entries d.left) (root_of entries d.right) ≡ None
 
-abbrev pub is_const : Lit → Bool
-is_const l = same_node l.node Const
-
--- the constant, where one of these is it
-abbrev pub constant_among : Lit → Lit → Lit → List Lit
-constant_among a b t = if is_const a || (is_const b || is_const t) then positive Const ∷ [] else []
-
 -- unit propagation over these clauses shows the clause of the two literals
 abbrev pub ShowsOver : List (List Lit) → Lit → Lit → Type 0
 ShowsOver clauses a b = ¬ IsOpen same_lit opposite clauses (map opposite (a ∷ b ∷ []))
@@ -106,15 +99,11 @@ AreSteps base node target (below ∷ above ∷ []) =
     × ((above.clause ≡ positive node ∷ opposite target ∷ []) × IsStep same_lit opposite (base_clause base) above.clause above.hints)
 AreSteps base node target _ = ⊥
 
--- the book has one more entry, which merges the node
-pub record Merges (old new : Entries) (node : Node) (target : Lit) : Type 0 where
+-- the book has one more entry, which merges the node by the steps that scanning the clauses of the way gives
+pub record Merges (net : AigPair) (old new : Entries) (way : List Lit) (node : Node) (target : Lit) : Type 0 where
   pub steps : List Step
   pub last : new ≡ with_last old (Merge node target steps)
-
--- it has, or nothing has changed
-abbrev pub MergesOrStays : Entries → Entries → Node → Lit → Bool → Type 0
-MergesOrStays old new node target true = Merges old new node target
-MergesOrStays old new node target false = new ≡ old
+  pub scanned : AreScanned (clauses_on net old.entries (nodes_in way)) node target steps
 
 -- none of the nodes is an XOR
 abbrev pub is_xor : Node → Bool

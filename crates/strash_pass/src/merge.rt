@@ -4,10 +4,12 @@ ghost use Rattle.netlist.specs.Net.{IsNet};
 ghost use Rattle.netlist.specs.Miter.{positive, negative};
 ghost use Rattle.unit_prop.specs.HintScan.{IsNamed};
 ghost use Rattle.unit_prop.specs.Log.{base_clauses};
+ghost use Rattle.lemma_book.specs.Entry.{with_last};
 ghost use Rattle.lemma_book.specs.Root.{IsRoot};
 ghost use Rattle.lemma_book.specs.Cone.{AreThere};
 ghost use Rattle.lemma_book.specs.Good.{ArePlaced, IsEarlier, IsGood};
 ghost use Rattle.lemma_book.specs.Book.{IsLegal};
+ghost use Rattle.strash_pass.specs.Strash.{AreScanned};
 ghost use Rattle.strash_pass.specs.Pass.{ShowsMerge, ShowsOver, AreSteps, Merges, AreNotXors};
 
 use lemma_book::{Book, Entry};
@@ -37,7 +39,7 @@ pub fn merge(
     requires unmerged { IsRoot book.old.entries node }
     requires shows { ShowsMerge net.now book.old.entries way.now node target }
     ensures legal { IsLegal net.now book.new }
-    ensures ok { OnOk result (Merges book.old book.new node target) }
+    ensures ok { OnOk result (Merges net.now book.old book.new way.now node target) }
     ensures err { OnErr result (book.new ≡ book.old) }
 {
     let base = book.clauses_on(alloc, net, book.len(), way)?;
@@ -56,7 +58,8 @@ fn both_steps(
     requires apart { same_node target.node node ≡ false }
     requires below { ShowsOver (base_clauses base.now) (negative node) target }
     requires above { ShowsOver (base_clauses base.now) (positive node) (opposite target) }
-    ensures { IfOk result (λ v. AreSteps base.now node target v.items) }
+    ensures steps { IfOk result (λ v. AreSteps base.now node target v.items) }
+    ensures scanned { IfOk result (λ v. AreScanned base.now node target v.items) }
 {
     let lit = Lit { node, neg: false };
     let mut steps = Vec::with_capacity(alloc, 2)?;
@@ -78,7 +81,7 @@ fn put(
     requires unmerged { IsRoot book.old.entries node }
     requires good { IsGood net.now book.old (Entry.Merge node target steps.items) }
     ensures legal { IsLegal net.now book.new }
-    ensures ok { OnOk result (Merges book.old book.new node target) }
+    ensures ok { OnOk result (book.new ≡ with_last book.old (Entry.Merge node target steps.items)) }
     ensures err { OnErr result (book.new ≡ book.old) }
 {
     let entry = Entry::Merge {

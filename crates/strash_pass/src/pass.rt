@@ -1,7 +1,7 @@
 ghost use Rattle.std.specs.Prelude.{◌≡◌, ◌+◌, length, OnOk, IfOk};
-ghost use Rattle.netlist.specs.Net.{IsNet, circuit_of};
+ghost use Rattle.netlist.specs.Net.{IsNet, circuit_of, definitions};
 ghost use Rattle.lemma_book.specs.Book.{IsLegal};
-ghost use Rattle.strash_pass.specs.Strash.{AddsMerges, ArePlain};
+ghost use Rattle.strash_pass.specs.Strash.{AddsMerges, AddsStructural, ArePlain};
 ghost use Rattle.strash_pass.specs.Pass.{gates_before, IsPass};
 
 use crate::visit::Pass;
@@ -14,12 +14,15 @@ use std::alloc::{AllocError, Global};
 /// Merges each gate that the structure alone shows to be equal to an earlier node, and tells how many
 /// it merged.
 ///
-/// Afterwards no unmerged gate folds or has an earlier unmerged twin. Where memory is refused the
-/// merges so far stand.
+/// Gate by gate in the order of positions, each is merged to what its fanins' roots fold to, else to the
+/// earliest unmerged gate over the same two roots, by the hints that scanning the clauses of both gates'
+/// ways gives. Afterwards no unmerged gate folds or has an earlier unmerged twin. Where memory is refused
+/// the merges so far stand.
 pub fn run(alloc: Global, net: &Net, book: &mut Book) -> Result<u64, AllocError>
     requires { IsLegal net.now book.old }
     ensures legal { IsLegal net.now book.new }
     ensures grows { AddsMerges book.old book.new }
+    ensures structural { AddsStructural net.now 0 (length (definitions net.now)) book.old book.new }
     ensures count { IfOk result (λ n. length book.new.entries ≡ length book.old.entries + n) }
     ensures plain { OnOk result (ArePlain net.now book.new.entries) }
 {
@@ -40,7 +43,7 @@ fn visit_both(pass: &mut Pass, alloc: Global, net: &Net, book: &mut Book) -> Res
     requires pass { IsPass net.now book.old.entries pass.old pass.old.visited }
     requires visited { pass.old.visited ≡ 0 }
     ensures legal { IsLegal net.now book.new }
-    ensures grows { AddsMerges book.old book.new }
+    ensures grows { AddsStructural net.now 0 (length (definitions net.now)) book.old book.new }
     ensures plain { OnOk result (ArePlain net.now book.new.entries) }
 {
     visit_side(pass, alloc, net, book, Side::A)?;
@@ -60,7 +63,8 @@ fn visit_side(
     requires pass { IsPass net.now book.old.entries pass.old pass.old.visited }
     requires visited { pass.old.visited ≡ gates_before net.now side }
     ensures legal { IsLegal net.now book.new }
-    ensures grows { AddsMerges book.old book.new }
+    ensures grows { AddsStructural net.now (gates_before net.now side)
+        (gates_before net.now side + length (circuit_of net.now side).gates) book.old book.new }
     ensures pass { OnOk result (IsPass net.now book.new.entries pass.new pass.new.visited) }
     ensures visited { OnOk result
         (pass.new.visited ≡ gates_before net.now side + length (circuit_of net.now side).gates) }

@@ -4,7 +4,7 @@ ghost use Rattle.netlist.specs.Net.{IsNet, definitions};
 ghost use Rattle.netlist.specs.Miter.{positive};
 ghost use Rattle.lemma_book.specs.Book.{IsLegal};
 ghost use Rattle.lemma_book.specs.Root.{passed_by, root_of};
-ghost use Rattle.strash_pass.specs.Strash.{AddsMerges};
+ghost use Rattle.strash_pass.specs.Strash.{AddsStructural};
 
 use crate::fold::folded;
 use crate::pair::Pair;
@@ -40,7 +40,7 @@ impl Pass {
         requires pass { IsPass net.now book.old.entries self.old self.old.visited }
         requires gate { slice_get (definitions net.now) self.old.visited ≡ Some gate }
         ensures legal { IsLegal net.now book.new }
-        ensures grows { AddsMerges book.old book.new }
+        ensures grows { AddsStructural net.now self.old.visited (self.old.visited + 1) book.old book.new }
         ensures pass { OnOk result (IsPass net.now book.new.entries self.new self.new.visited) }
         ensures visited { OnOk result (self.new.visited ≡ self.old.visited + 1) }
     {
@@ -62,7 +62,7 @@ impl Pass {
         requires pass { IsPass net.now book.old.entries self.old self.old.visited }
         requires gate { slice_get (definitions net.now) self.old.visited ≡ Some gate }
         ensures legal { IsLegal net.now book.new }
-        ensures grows { AddsMerges book.old book.new }
+        ensures grows { AddsStructural net.now self.old.visited (self.old.visited + 1) book.old book.new }
         ensures pass { OnOk result (IsPass net.now book.new.entries self.new (self.old.visited + 1)) }
         ensures visited { self.new.visited ≡ self.old.visited }
     {

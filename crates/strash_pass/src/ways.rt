@@ -3,12 +3,11 @@ ghost use Rattle.netlist.specs.Net.{IsNet};
 ghost use Rattle.netlist.specs.Miter.{positive};
 ghost use Rattle.lemma_book.specs.Book.{IsLegal};
 ghost use Rattle.lemma_book.specs.Root.{root_of};
-ghost use Rattle.strash_pass.specs.Strash.{folded};
-ghost use Rattle.strash_pass.specs.Pass.{constant_among, HasGate, IsTwin, IsWay, Merges};
+ghost use Rattle.strash_pass.specs.Strash.{constant_among, folded, way_of};
+ghost use Rattle.strash_pass.specs.Pass.{HasGate, IsTwin, IsWay, Merges};
 
 use crate::merge::merge;
 use crate::pair::Pair;
-use crate::straight::merged_straight;
 use lemma_book::Book;
 use lits::{Lit, Node};
 use netlist::{Definition, Net};
@@ -33,7 +32,8 @@ pub fn merge_folded(
     requires right { roots.right ≡ root_of book.old.entries gate.right }
     requires folds { folded roots.left roots.right ≡ Some target }
     ensures legal { IsLegal net.now book.new }
-    ensures ok { OnOk result (Merges book.old book.new gate.node target) }
+    ensures ok { OnOk result (Merges net.now book.old book.new
+        (way.items ++ constant_among roots.left roots.right target) gate.node target) }
     ensures err { OnErr result (book.new ≡ book.old) }
 {
     let way = with_constant(way, roots.left, roots.right, target)?;
@@ -73,30 +73,8 @@ pub fn merge_twin(
     requires way { IsWay net.now book.old.entries way.items gate }
     requires twin { IsTwin net.now book.old.entries twin gate }
     ensures legal { IsLegal net.now book.new }
-    ensures ok { OnOk result (Merges book.old book.new gate.node (positive twin.node)) }
-    ensures err { OnErr result (book.new ≡ book.old) }
-{
-    if merged_straight(alloc, net, book, gate, twin)? {
-        return Ok(());
-    }
-    merge_by_search(alloc, net, book, gate, twin, way)
-}
-
-/// The same by hints that are searched for among the clauses on both ways.
-fn merge_by_search(
-    alloc: Global,
-    net: &Net,
-    book: &mut Book,
-    gate: Definition,
-    twin: Definition,
-    way: Vec<Lit>,
-) -> Result<(), AllocError>
-    requires net { IsNet net.now }
-    requires legal { IsLegal net.now book.old }
-    requires way { IsWay net.now book.old.entries way.items gate }
-    requires twin { IsTwin net.now book.old.entries twin gate }
-    ensures legal { IsLegal net.now book.new }
-    ensures ok { OnOk result (Merges book.old book.new gate.node (positive twin.node)) }
+    ensures ok { OnOk result (Merges net.now book.old book.new
+        (way.items ++ way_of book.old.entries twin) gate.node (positive twin.node)) }
     ensures err { OnErr result (book.new ≡ book.old) }
 {
     let mut way = way;

@@ -1,6 +1,7 @@
 -- The two steps stand on the clauses of the nodes on the way.
 use Rattle.std.proofs.Common.{◌≡◌, ◌∙◌, List, ap, sym, subst, take, ℕ, length}
 use Rattle.std.proofs.Math.Seq.{take-length}
+use Rattle.std.proofs.lemmas.Result.{on_ok_weaker}
 use Rattle.lits.specs.declared.step.Named.{Named}
 use Rattle.lits.specs.declared.literal.Lit.{Lit}
 use Rattle.lits.specs.Same.{opposite}
@@ -9,6 +10,7 @@ use Rattle.netlist.specs.Miter.{positive, negative}
 use Rattle.unit_prop.specs.Log.{base_clauses}
 use Rattle.lemma_book.specs.declared.entry.Entry.{Entry}
 use Rattle.lemma_book.specs.Cone.{clauses_on, nodes_in}
+use Rattle.strash_pass.specs.Strash.{AreScanned}
 use Rattle.strash_pass.specs.Pass.{ShowsOver}
 use Rattle.strash_pass.proofs.MergeLemmas.{base-named, earlier-apart, steps-good}
 use Rattle.strash_pass.proofs.merge.merge.Goals as goal
@@ -42,4 +44,15 @@ pub put-requires-clause-good : goal.put-requires-clause-good
 put-requires-clause-good c =
     steps-good c.args.net.now c.args.book.now c.args.node c.args.target c.requires.unmerged c.args.way.now c.requires.no_xors c.deref.result.now
     (over-all c.args.net.now c.args.book.now.entries c.args.way.now _ _ _ c.deref.ensures.value c.in_ok-base.ensures c.len.ensures)
-    c.requires.placed c.requires.earlier c.in_ok-steps.steps.items c.in_ok-steps.ensures
+    c.requires.placed c.requires.earlier c.in_ok-steps.steps.items c.in_ok-steps.ensures.steps
+
+pub returns-clause-ok : goal.returns-clause-ok
+returns-clause-ok c =
+    let base_is = over-all c.args.net.now c.args.book.now.entries c.args.way.now _ _ _ c.deref.ensures.value c.in_ok-base.ensures c.len.ensures in
+    on_ok_weaker c.put.result
+    (λ e. record {
+      steps = c.in_ok-steps.steps.items;
+      last = e;
+      scanned = subst (λ (b : List Named). AreScanned b c.args.node c.args.target c.in_ok-steps.steps.items) base_is c.in_ok-steps.ensures.scanned;
+    })
+    c.put.ensures.ok

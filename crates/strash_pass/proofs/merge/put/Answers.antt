@@ -1,7 +1,8 @@
 -- The entry is good over all entries, and comes last.
-use Rattle.std.proofs.Common.{List, subst, sym}
+use Rattle.std.proofs.Common.{◌∙◌, List, ap, subst, sym}
 use Rattle.lits.specs.declared.step.Step.{Step}
 use Rattle.lemma_book.specs.declared.entry.Entry.TheVariants.{Merge}
+use Rattle.lemma_book.specs.Entry.{with_last}
 use Rattle.lemma_book.specs.Good.{IsGood}
 use Rattle.strash_pass.proofs.MergeLemmas.{all-entries, put-last}
 use Rattle.strash_pass.proofs.merge.put.Goals as goal
@@ -15,3 +16,4 @@ append-requires-clause-good c =
 pub returns-in-Ok-clause-ok : goal.returns-in-Ok-clause-ok
 returns-in-Ok-clause-ok c =
     put-last c.args.net.now c.args.book.now c.args.node c.args.target c.requires.unmerged c.of.result c.append.new.self c.in-Ok.ensures.after
+    ∙ ap (λ (l : List Step). with_last c.args.book.now (Merge c.args.node c.args.target l)) c.of.ensures

@@ -1,8 +1,15 @@
 -- The merges are counted by how long the book was before.
 use Rattle.std.proofs.Common.{arith, ap, length, length-append}
+use Rattle.strash_pass.proofs.AddsLemmas.{adds-merges}
 use Rattle.strash_pass.proofs.pass.run.Goals as goal
 
 pub returns-clause-count : goal.returns-clause-count
 returns-clause-count c =
     let grows = c.visit_both.ensures.grows in
     omega (arith, c.len-before.ensures, c.len.ensures, ap length grows.entries, length-append c.args.book.now.entries grows.added)
+
+pub returns-clause-grows : goal.returns-clause-grows
+returns-clause-grows c = adds-merges _ _ _ _ _ c.visit_both.ensures.grows
+
+pub returns-in_err-visit_both-clause-grows : goal.returns-in_err-visit_both-clause-grows
+returns-in_err-visit_both-clause-grows c = adds-merges _ _ _ _ _ c.visit_both.ensures.grows

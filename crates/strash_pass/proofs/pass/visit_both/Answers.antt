@@ -1,10 +1,18 @@
 -- All gates were visited.
-use Rattle.strash_pass.proofs.PassLemmas.{adds-more, all-plain}
+use Rattle.std.proofs.Common.{arith}
+use Rattle.strash_pass.proofs.AddsLemmas.{adds-more, adds-to, count-gates}
+use Rattle.strash_pass.proofs.PassLemmas.{all-plain}
 use Rattle.strash_pass.proofs.pass.visit_both.Goals as goal
 
 pub returns-clause-grows : goal.returns-clause-grows
-returns-clause-grows c = adds-more _ _ _ c.visit_side.ensures.grows c.visit_side-2.ensures.grows
+returns-clause-grows c =
+    adds-to _ _ _ _ _ _ (omega (arith, count-gates c.args.net.now))
+    (adds-more _ _ _ _ _ _ _ (adds-to _ _ _ _ _ _ (omega arith) c.visit_side.ensures.grows) c.visit_side-2.ensures.grows)
 
 pub returns-clause-plain : goal.returns-clause-plain
 returns-clause-plain c =
     all-plain c.args.net.now c.visit_side-2.new.book.entries c.visit_side-2.new.pass c.visit_side-2.result c.visit_side-2.ensures.pass c.visit_side-2.ensures.visited
+
+pub returns-in_err-visit_side-clause-grows : goal.returns-in_err-visit_side-clause-grows
+returns-in_err-visit_side-clause-grows c =
+    adds-to _ _ _ _ _ _ (omega (arith, count-gates c.args.net.now)) c.visit_side.ensures.grows

@@ -4,7 +4,8 @@ use Rattle.std.specs.Prelude.{slice_get}
 use Rattle.std.proofs.lemmas.Option.{slice_get-get_or}
 use Rattle.netlist.specs.declared.gate.And.{And}
 use Rattle.netlist.specs.Circuit.{Aig}
-use Rattle.strash_pass.proofs.PassLemmas.{adds-more, adds-none, side-gate, side-defined}
+use Rattle.strash_pass.proofs.AddsLemmas.{adds-more, adds-none, adds-to}
+use Rattle.strash_pass.proofs.PassLemmas.{side-gate, side-defined}
 use Rattle.strash_pass.proofs.pass.visit_side.Goals as goal
 
 no_gate : And
@@ -14,6 +15,9 @@ no_gate = record { var = 0; left = 0; right = 0 }
 gate-at : (items : List And) (made want : Aig) (j : ℕ) (d : And) → items ≡ made.gates → made ≡ want → j < length items → slice_get want.gates j ≡ Some (get_or items j d)
 gate-at items made want j d e f below =
     ap (λ (l : List And). slice_get l j) (sym (e ∙ ap (λ (c : Aig). c.gates) f)) ∙ slice_get-get_or items j d below
+
+count-items : (items : List And) (made want : Aig) → items ≡ made.gates → made ≡ want → length items ≡ length want.gates
+count-items items made want e f = ap length (e ∙ ap (λ (c : Aig). c.gates) f)
 
 pub visit-requires-clause-gate : goal.visit-requires-clause-gate
 unfolding no_gate
@@ -29,15 +33,19 @@ unreachable-requires c =
     (gate-at _ _ _ _ no_gate c.gates-gate-items.ensures.gates c.circuit.ensures.circuit c.loop-gate-test.true) (sym c.definition.ensures ∙ c.in-None.is)
 
 pub loop-gate-init : goal.loop-gate-init
-loop-gate-init c = record { legal = c.requires.legal; grows = adds-none _; pass = c.requires.pass; visited = omega (arith, c.requires.visited) }
+loop-gate-init c = record { legal = c.requires.legal; grows = adds-none _ _ _ _ (omega (arith, c.requires.visited)); pass = c.requires.pass; visited = omega (arith, c.requires.visited) }
 
 pub loop-gate-preserved : goal.loop-gate-preserved
 loop-gate-preserved c = record {
   legal = c.visit.ensures.legal;
-  grows = adds-more _ _ _ c.loop-gate.invariant.grows c.visit.ensures.grows;
+  grows = adds-to _ _ _ _ _ _ (omega (arith, c.in_ok-visit-in-Some.ensures.visited))
+      (adds-more _ _ _ _ _ _ _ c.loop-gate.invariant.grows c.visit.ensures.grows);
   pass = c.in_ok-visit-in-Some.ensures.pass;
   visited = omega (arith, c.loop-gate.invariant.visited, c.in_ok-visit-in-Some.ensures.visited);
 }
 
 pub returns-in_err-visit-in-Some-clause-grows : goal.returns-in_err-visit-in-Some-clause-grows
-returns-in_err-visit-in-Some-clause-grows c = adds-more _ _ _ c.loop-gate.invariant.grows c.visit.ensures.grows
+returns-in_err-visit-in-Some-clause-grows c =
+    adds-to _ _ _ _ _ _
+    (omega (arith, c.loop-gate.invariant.visited, c.loop-gate-test.true, count-items _ _ _ c.gates-gate-items.ensures.gates c.circuit.ensures.circuit))
+    (adds-more _ _ _ _ _ _ _ c.loop-gate.invariant.grows c.visit.ensures.grows)

@@ -1,8 +1,9 @@
 -- What the gate folds to stands earlier, and the clauses on the way show it.
 use Rattle.std.proofs.Common.{◌∙◌, List, sym, subst}
+use Rattle.std.proofs.lemmas.Result.{on_ok_weaker}
 use Rattle.lits.specs.declared.literal.Lit.{Lit}
 use Rattle.lemma_book.proofs.Facts.{ArePlacedAll, placed-all}
-use Rattle.strash_pass.specs.Pass.{ShowsMerge}
+use Rattle.strash_pass.specs.Pass.{Merges, ShowsMerge}
 use Rattle.strash_pass.proofs.GateFacts.{is-gate}
 use Rattle.strash_pass.proofs.WayLemmas.{placed-no_xors, constant-placed, fold-placed, fold-earlier, fold-way}
 use Rattle.strash_pass.proofs.ways.merge_folded.Goals as goal
@@ -39,3 +40,10 @@ merge-requires-clause-shows c =
     (fold-way c.args.net.now c.args.book.now c.requires.legal c.args.way.items c.requires.gate.place c.args.gate
     (is-gate c.args.net.now c.requires.net c.requires.gate.place c.args.gate c.requires.gate.at) c.args.roots.left c.args.roots.right c.args.target
     c.requires.left c.requires.right c.requires.folds c.requires.way.reaches)
+
+pub returns-clause-ok : goal.returns-clause-ok
+returns-clause-ok c =
+    on_ok_weaker c.merge.result
+    (λ m. subst (λ (l : List Lit). Merges c.args.net.now c.args.book.now c.merge.new.book l c.args.gate.node c.args.target)
+    (c.deref.ensures.value ∙ c.in_ok-way.ensures) m)
+    c.merge.ensures.ok

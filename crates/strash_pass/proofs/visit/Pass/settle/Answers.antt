@@ -1,5 +1,5 @@
 -- The gate merges, or it is noted.
-use Rattle.std.proofs.Common.{◌∙◌, [], List, sym, subst}
+use Rattle.std.proofs.Common.{◌∙◌, [], List, sym, subst, arith}
 use Rattle.std.proofs.lemmas.Result.{on_ok_weaker}
 use Rattle.lits.specs.declared.literal.Lit.{Lit}
 use Rattle.netlist.specs.Miter.{positive}
@@ -7,7 +7,8 @@ use Rattle.lemma_book.specs.Root.{merge_of}
 use Rattle.strash_pass.specs.Pass.{IsWay}
 use Rattle.strash_pass.proofs.GateFacts.{is-gate}
 use Rattle.strash_pass.proofs.WayLemmas.{way-of}
-use Rattle.strash_pass.proofs.PassLemmas.{adds-none, merged-grows, no-root, none-noted, pass-merged, pass-noted, pass-skipped, root-from, seen-twin}
+use Rattle.strash_pass.proofs.AddsLemmas.{adds-none, fold-grows, twin-grows}
+use Rattle.strash_pass.proofs.PassLemmas.{no-root, none-noted, pass-merged, pass-noted, pass-skipped, root-from, seen-twin}
 use Rattle.strash_pass.proofs.visit.Pass.settle.Goals as goal
 
 pub returns-then-is_merged-clause-pass : goal.returns-then-is_merged-clause-pass
@@ -16,10 +17,10 @@ returns-then-is_merged-clause-pass c =
     (no-root (merge_of c.args.book.now.entries c.args.gate.node) c.is_merged.result c.is_merged.ensures c.if-is_merged.true)
 
 pub returns-then-is_merged-clause-grows : goal.returns-then-is_merged-clause-grows
-returns-then-is_merged-clause-grows c = adds-none _
+returns-then-is_merged-clause-grows c = adds-none _ _ _ _ (omega arith)
 
 pub returns-in_err-roots-clause-grows : goal.returns-in_err-roots-clause-grows
-returns-in_err-roots-clause-grows c = adds-none _
+returns-in_err-roots-clause-grows c = adds-none _ _ _ _ (omega arith)
 
 pub merge_folded-requires-clause-way : goal.merge_folded-requires-clause-way
 merge_folded-requires-clause-way c =
@@ -31,13 +32,16 @@ merge_folded-requires-clause-way c =
 
 pub returns-in-Some-clause-grows : goal.returns-in-Some-clause-grows
 returns-in-Some-clause-grows c =
-    merged-grows c.args.book.now c.merge_folded.new.book c.args.gate.node c.in-Some.target c.merge_folded.result c.merge_folded.ensures.ok c.merge_folded.ensures.err
+    let root = root-from (merge_of c.args.book.now.entries c.args.gate.node) c.is_merged.result c.is_merged.ensures c.if-is_merged.false in
+    fold-grows c.args.net.now c.args.book.now c.merge_folded.new.book c.args.self.now.visited c.args.gate c.requires.gate root
+    c.in_ok-roots.roots.left c.in_ok-roots.roots.right c.in-Some.target c.in_ok-roots.way.items c.merge_folded.result c.in_ok-roots.ensures.way
+    c.in_ok-roots.ensures.left c.in_ok-roots.ensures.right (sym c.folded.ensures ∙ c.in-Some.is) c.merge_folded.ensures.ok c.merge_folded.ensures.err
 
 pub returns-in-Some-clause-pass : goal.returns-in-Some-clause-pass
 returns-in-Some-clause-pass c =
     on_ok_weaker c.merge_folded.result
     (λ m. pass-merged c.args.net.now c.requires.net c.args.book.now c.merge_folded.new.book c.requires.legal c.args.self.now.visited c.args.gate c.requires.gate
-    c.in-Some.target m c.args.self.now c.requires.pass)
+    _ c.in-Some.target m c.args.self.now c.requires.pass)
     c.merge_folded.ensures.ok
 
 pub merge_twin-requires-clause-way : goal.merge_twin-requires-clause-way
@@ -56,13 +60,19 @@ merge_twin-requires-clause-twin c =
 
 pub returns-in-Some-twin-clause-grows : goal.returns-in-Some-twin-clause-grows
 returns-in-Some-twin-clause-grows c =
-    merged-grows c.args.book.now c.merge_twin.new.book c.args.gate.node (positive c.in-Some-twin.twin.node) c.merge_twin.result c.merge_twin.ensures.ok c.merge_twin.ensures.err
+    let root = root-from (merge_of c.args.book.now.entries c.args.gate.node) c.is_merged.result c.is_merged.ensures c.if-is_merged.false in
+    let twin = seen-twin c.args.net.now c.args.book.now.entries c.args.self.now c.args.self.now.visited c.args.gate c.in-Some-twin.twin c.requires.gate
+    c.requires.pass c.in_ok-roots.roots.left c.in_ok-roots.roots.right c.in_ok-roots.ensures.left c.in_ok-roots.ensures.right
+    (sym c.folded.ensures ∙ c.in-None.is) (sym c.twin.ensures ∙ c.in-Some-twin.is) in
+    twin-grows c.args.net.now c.args.book.now c.merge_twin.new.book c.args.self.now.visited c.args.gate c.requires.gate root
+    c.in-Some-twin.twin c.in_ok-roots.way.items c.merge_twin.result c.requires.net c.in_ok-roots.ensures.way c.requires.pass.plain twin
+    c.merge_twin.ensures.ok c.merge_twin.ensures.err
 
 pub returns-in-Some-twin-clause-pass : goal.returns-in-Some-twin-clause-pass
 returns-in-Some-twin-clause-pass c =
     on_ok_weaker c.merge_twin.result
     (λ m. pass-merged c.args.net.now c.requires.net c.args.book.now c.merge_twin.new.book c.requires.legal c.args.self.now.visited c.args.gate c.requires.gate
-    (positive c.in-Some-twin.twin.node) m c.args.self.now c.requires.pass)
+    _ (positive c.in-Some-twin.twin.node) m c.args.self.now c.requires.pass)
     c.merge_twin.ensures.ok
 
 pub returns-in_ok-insert-in-None-twin-clause-pass : goal.returns-in_ok-insert-in-None-twin-clause-pass
@@ -75,7 +85,7 @@ returns-in_ok-insert-in-None-twin-clause-pass c =
     c.in_ok-roots.ensures.left c.in_ok-roots.ensures.right root (sym c.folded.ensures ∙ c.in-None.is) none.0 none.1 c.in_ok-insert-in-None-twin.ensures.updates.0
 
 pub returns-in_ok-insert-in-None-twin-clause-grows : goal.returns-in_ok-insert-in-None-twin-clause-grows
-returns-in_ok-insert-in-None-twin-clause-grows c = adds-none _
+returns-in_ok-insert-in-None-twin-clause-grows c = adds-none _ _ _ _ (omega arith)
 
 pub returns-in_err-insert-in-None-twin-clause-grows : goal.returns-in_err-insert-in-None-twin-clause-grows
-returns-in_err-insert-in-None-twin-clause-grows c = adds-none _
+returns-in_err-insert-in-None-twin-clause-grows c = adds-none _ _ _ _ (omega arith)

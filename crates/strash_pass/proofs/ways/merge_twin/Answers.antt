@@ -1,12 +1,13 @@
 -- The twin stands earlier, and the clauses on both gates' ways show that they are equal.
-use Rattle.std.proofs.Common.{◌∙◌, ◌++◌, List, ap, sym, subst}
+use Rattle.std.proofs.Common.{◌∙◌, [], ◌∷◌, ◌++◌, List, ap, sym, subst, append_assoc}
+use Rattle.std.proofs.lemmas.Result.{on_ok_weaker}
 use Rattle.lits.specs.declared.literal.Lit.{Lit}
 use Rattle.netlist.specs.Miter.{positive}
 use Rattle.lemma_book.specs.Root.{passed_by}
 use Rattle.lemma_book.proofs.Facts.{ArePlacedAll, placed-all}
-use Rattle.strash_pass.specs.Pass.{ShowsMerge}
+use Rattle.strash_pass.specs.Pass.{Merges, ShowsMerge}
 use Rattle.strash_pass.proofs.WayLemmas.{placed-no_xors, twin-placed_all, twin-placed, twin-earlier, twin-way}
-use Rattle.strash_pass.proofs.ways.merge_by_search.Goals as goal
+use Rattle.strash_pass.proofs.ways.merge_twin.Goals as goal
 
 pub merge-requires-clause-there : goal.merge-requires-clause-there
 merge-requires-clause-there c =
@@ -39,3 +40,17 @@ merge-requires-clause-shows c =
     ∙ ap (λ (l : List Lit). l ++ passed_by c.args.book.now.entries c.args.twin.right)
     (c.in_ok-_left.ensures.passed ∙ ap (λ (l : List Lit). l ++ passed_by c.args.book.now.entries c.args.twin.left) c.in_ok-push.ensures.items)))
     (twin-way c.args.net.now c.args.book.now c.requires.legal c.requires.net c.args.way.items c.args.twin c.args.gate c.requires.twin c.requires.way)
+
+pub returns-clause-ok : goal.returns-clause-ok
+returns-clause-ok c =
+    let es = c.args.book.now.entries in
+    let left = passed_by es c.args.twin.left in
+    let right = passed_by es c.args.twin.right in
+    let way_is =
+    c.deref.ensures.value ∙ c.in_ok-_right.ensures.passed
+    ∙ ap (λ (l : List Lit). l ++ right) (c.in_ok-_left.ensures.passed ∙ ap (λ (l : List Lit). l ++ left) c.in_ok-push.ensures.items)
+    ∙ append_assoc (c.args.way.items ++ positive c.args.twin.node ∷ []) left right
+    ∙ append_assoc c.args.way.items (positive c.args.twin.node ∷ []) (left ++ right) in
+    on_ok_weaker c.merge.result
+    (λ m. subst (λ (l : List Lit). Merges c.args.net.now c.args.book.now c.merge.new.book l c.args.gate.node (positive c.args.twin.node)) way_is m)
+    c.merge.ensures.ok
