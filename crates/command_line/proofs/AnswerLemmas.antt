@@ -1,6 +1,6 @@
 -- What `read` answers, by the kinds of a refusal.
-use Rattle.std.proofs.Common.{◌≡◌, ◌⊎◌, ◌∙◌, true, false, inl, inr, refl, sym, ap, subst, List, [], ◌∷◌, Bool, Option, Some, None, is_some}
-use Rattle.std.specs.Prelude.{option_and_then, Result, Ok, Err, IfOk, IfErr}
+use Rattle.std.proofs.Common.{◌≡◌, ◌⊎◌, ◌∙◌, ℕ, true, false, inl, inr, refl, sym, ap, subst, List, [], ◌∷◌, Bool, Option, Some, None, is_some}
+use Rattle.std.specs.Prelude.{option_and_then, string_bytes, Result, Ok, Err, IfOk, IfErr}
 use Rattle.std.specs.List.{list_any}
 use Rattle.std.proofs.lemmas.Bool.{false_from_ne_true}
 use Rattle.clap.specs.Kinds.{IsAmong, Kinds}
@@ -8,12 +8,12 @@ use Rattle.clap.specs.Simple.{HasMatchesOf}
 use Rattle.clap.specs.Walk.{Row, Text, is_empty}
 use Rattle.clap.specs.declared.parser.matches.ArgMatches.{ArgMatches}
 use Rattle.clap.specs.declared.error.kind.ErrorKind.{ErrorKind}
-use Rattle.clap.specs.declared.error.kind.ErrorKind.TheVariants.{DisplayHelp, OutOfMemory}
-use Rattle.command_line.specs.Answers.{MayRefuse, request}
+use Rattle.clap.specs.declared.error.kind.ErrorKind.TheVariants.{DisplayHelp, DisplayVersion, OutOfMemory}
+use Rattle.command_line.specs.Answers.{Informs, MayRefuse, request, version_text}
 use Rattle.command_line.specs.Parsing.{IsRefusal, RefusesFound, RefusesHelp, RefusesKind, found}
 use Rattle.command_line.specs.declared.asked.Asked.{Asked}
 use Rattle.command_line.specs.Commands.{cec_app}
-use Rattle.command_line.specs.Words.{AreRefused, AskNoKind, Asks, NamesNoKind, Outcome, Requested, WantHelp, faults, is_help, names_help, outcome_in, outcome_of}
+use Rattle.command_line.specs.Words.{AreRefused, AskNoKind, Asks, NamesNoKind, Outcome, Requested, WantHelp, faults, is_info, names_help, outcome_in, outcome_of}
 use Rattle.command_line.specs.declared.reading.Refusal.{Refusal}
 use Rattle.command_line.specs.declared.reading.Refusal.TheVariants.{Help, Usage, NoMemory}
 use Rattle.command_line.proofs.HelpLemmas.{faults_alone}
@@ -29,31 +29,54 @@ among_some : (kinds : Kinds) (k : ErrorKind) → IsAmong k kinds → is_empty ki
 among_some [] k among = absurd among
 among_some (x ∷ xs) k among = some_kinds x xs
 
-among_help : (kinds : Kinds) (k : ErrorKind) → IsAmong k kinds → is_help k ≡ true → list_any is_help kinds ≡ true
-among_help [] k among help = absurd among
-among_help (x ∷ xs) k (inl is) help = or_left _ _ (subst (λ (y : ErrorKind). is_help y ≡ true) is help)
-among_help (x ∷ xs) k (inr rest) help = or_right _ _ (among_help xs k rest help)
+among_info : (kinds : Kinds) (k : ErrorKind) → IsAmong k kinds → is_info k ≡ true → list_any is_info kinds ≡ true
+among_info [] k among info = absurd among
+among_info (x ∷ xs) k (inl is) info = or_left _ _ (subst (λ (y : ErrorKind). is_info y ≡ true) is info)
+among_info (x ∷ xs) k (inr rest) info = or_right _ _ (among_info xs k rest info)
 
-alone_help : (k : ErrorKind) → IsAmong k (DisplayHelp ∷ []) → is_help k ≡ true
-alone_help k (inl is) = ap is_help is
-alone_help k (inr none) = absurd none
+among_one : (j k : ErrorKind) → IsAmong k (j ∷ []) → k ≡ j
+among_one j k (inl is) = is
+among_one j k (inr none) = absurd none
 
--- the words ask for help where that is the kind of the refusal
-help_wanted : (words : List Text) (k : ErrorKind) → names_help words ≡ false → (k ≡ OutOfMemory) ⊎ IsAmong k (faults words)
-    → k ≡ DisplayHelp → WantHelp words
-help_wanted words k named (inl memory) help = let bad : DisplayHelp ≡ OutOfMemory = sym help ∙ memory in cc
-help_wanted words k named (inr among) help =
-    (named, (faults_alone words).alone (among_help (faults words) k among (ap is_help help)))
+-- a request for help or the version is the only kind where it is one
+only_info : (words : List Text) (k : ErrorKind) → IsAmong k (faults words) → is_info k ≡ true → faults words ≡ k ∷ []
+only_info words k among info =
+    let one = (faults_alone words).alone (among_info (faults words) k among info) in
+    let same : k ≡ one.0 = among_one one.0 k (subst (λ (kinds : Kinds). IsAmong k kinds) one.2 among) in
+    one.2 ∙ ap (λ (j : ErrorKind). j ∷ []) (sym same)
+
+wanted : (words : List Text) (k j : ErrorKind) → names_help words ≡ false → (k ≡ OutOfMemory) ⊎ IsAmong k (faults words)
+    → k ≡ j → is_info j ≡ true → (names_help words ≡ false) × (faults words ≡ j ∷ [])
+wanted words k j named (inl memory) is info =
+    let bad : is_info OutOfMemory ≡ true = subst (λ (x : ErrorKind). is_info x ≡ true) (sym is ∙ memory) info in cc
+wanted words k j named (inr among) is info =
+    (named, only_info words j (subst (λ (x : ErrorKind). IsAmong x (faults words)) is among) info)
+
+-- the words ask for help or the version where that is the kind of the refusal
+info_wanted : (words : List Text) (k : ErrorKind) (text : List ℕ) → names_help words ≡ false
+    → (k ≡ OutOfMemory) ⊎ IsAmong k (faults words)
+    → (k ≡ DisplayHelp) ⊎ ((k ≡ DisplayVersion) × (text ≡ version_text)) → Informs words text
+info_wanted words k text named fails (inl help) =
+    let wants : WantHelp words = wanted words k DisplayHelp named fails help refl in
+    record {
+      wanted = inl wants;
+      version = λ other. let bad : DisplayHelp ∷ [] ≡ DisplayVersion ∷ [] = sym wants.1 ∙ other.1 in cc;
+    }
+info_wanted words k text named fails (inr version) = record {
+  wanted = inr (wanted words k DisplayVersion named fails version.0 refl);
+  version = λ wants. version.1;
+}
 
 -- and are refused where it is another one
-words_refused : (words : List Text) (k : ErrorKind) → (k ≡ OutOfMemory) ⊎ IsAmong k (faults words) → is_help k ≡ false
+words_refused : (words : List Text) (k : ErrorKind) → (k ≡ OutOfMemory) ⊎ IsAmong k (faults words) → is_info k ≡ false
     → (k ≡ OutOfMemory → ⊥) → AreRefused words
 words_refused words k (inl memory) other no_memory = absurd (no_memory memory)
 words_refused words k (inr among) other no_memory = inr (inl (
   among_some (faults words) k among,
-  false_from_ne_true _ (λ help.
-      let alone = (faults_alone words).alone help in
-      let is : is_help k ≡ true = alone_help k (subst (λ (kinds : Kinds). IsAmong k kinds) alone among) in
+  false_from_ne_true _ (λ info.
+      let one = (faults_alone words).alone info in
+      let same : k ≡ one.0 = among_one one.0 k (subst (λ (kinds : Kinds). IsAmong k kinds) one.2 among) in
+      let is : is_info k ≡ true = subst (λ (x : ErrorKind). is_info x ≡ true) (sym same) one.1 in
       cc),
 ))
 
@@ -73,7 +96,7 @@ fault_there words k (inr among) no_memory = among_some (faults words) k among
 
 pub refusal_told : (words : List Text) (k : ErrorKind) (refusal : Refusal) → names_help words ≡ false
     → (k ≡ OutOfMemory) ⊎ IsAmong k (faults words) → IsRefusal k refusal → MayRefuse words refusal
-refusal_told words k (Help text) named fails is = help_wanted words k named fails is
+refusal_told words k (Help text) named fails is = info_wanted words k (string_bytes text) named fails is
 refusal_told words k (Usage text) named fails is = (
   words_refused words k fails is.0 is.1,
   record {

@@ -1,10 +1,9 @@
 -- What the matches of a command hold, whose words have no fault.
-use Rattle.std.proofs.Common.{◌≡◌, ◌<◌, ◌&&◌, ◌||◌, ◌++◌, ℕ, Bool, true, false, not, cond, arith, refl, sym, subst, List, [], ◌∷◌, Option, Some, None, length, fold, is_some, find}
+use Rattle.std.proofs.Common.{◌≡◌, ◌<◌, ◌&&◌, ◌||◌, ℕ, Bool, true, false, not, cond, arith, refl, List, [], ◌∷◌, Option, Some, None, length, fold, is_some, find}
 use Rattle.std.specs.List.{list_all, list_any}
 use Rattle.std.specs.Option.{option_map_or}
 use Rattle.std.specs.Str.{bytes_eq}
-use Rattle.std.proofs.lemmas.Bool.{and_parts, ne_eqb, not-false, or_left, or_right}
-use Rattle.std.proofs.lemmas.List.Folds.{list_any-append}
+use Rattle.std.proofs.lemmas.Bool.{and_parts, ne_eqb, not-false}
 use Rattle.std.proofs.lemmas.Slice.Eq.{bytes_eq-Decides}
 use Rattle.clap.specs.Kinds.{check_kinds, or_else, request_kinds, values_kinds}
 use Rattle.clap.specs.Facts.{explicit_source, parser_of_value}
@@ -12,10 +11,8 @@ use Rattle.clap.specs.Faults.{check_fault, default_fault, defaults_fault, level_
 use Rattle.clap.specs.Simple.{Shape}
 use Rattle.clap.specs.Takes.{is_given}
 use Rattle.clap.specs.ValueTests.{is_unsigned_in}
-use Rattle.clap.specs.Walk.{Held, Row, Rule, Text, action_of, arg_by_id, at_row, default_rows, finished, first_of, has_row, is_empty, more_values, nothing_held, reading_by, rows_after, settled, walk, walk_from, with_default, with_values}
-use Rattle.clap.specs.declared.builder.value_parser.Reading.{Reading}
+use Rattle.clap.specs.Walk.{Held, Row, Rule, Text, action_of, arg_by_id, default_rows, finished, first_of, has_row, is_empty, nothing_held, reading_by, rows_after, settled, walk, walk_from, with_default}
 use Rattle.clap.specs.declared.builder.value_parser.ValueParser.{ValueParser}
-use Rattle.clap.specs.declared.parser.matches.ValueSource.{ValueSource}
 use Rattle.clap.specs.declared.parser.matches.ValueSource.TheVariants.{DefaultValue}
 use Rattle.command_line.proofs.FoundLemmas.{found_fails, found_holds, found_test}
 use Rattle.command_line.proofs.RowLemmas.{AreFilled, IsFilled, accepted, first_passed, has_range, in_range, range_of, second_passed, takes_one, with_values_filled}
@@ -66,83 +63,8 @@ module _ (id : Text) (least most : ℕ) where
       defaults_filled (with_default rows a) rules each.1 (second_passed _ _ passed)
       (default_filled rows a each.0 (first_passed _ _ passed) f)
 
--- ---- rows that are there
-
-joined_has : (id : Text) (xs ys : List Row) → has_row id xs ≡ true → has_row id (xs ++ ys) ≡ true
-joined_has id xs ys has = rw list_any-append (or_left _ _ has)
-
 same_bytes : (id : Text) → bytes_eq id id ≡ true
 same_bytes id = (bytes_eq-Decides id id).1 refl
-
--- a change that keeps the id of its row takes none away
-at_row_keeps_row : (id a : Text) (change : Row → List Row) (missing rows : List Row)
-    → ((r : Row) → bytes_eq r.id id ≡ true → has_row id (change r) ≡ true)
-    → has_row id rows ≡ true → has_row id (at_row a change missing rows) ≡ true
-at_row_keeps_row id a change missing [] keeps has = cc
-at_row_keeps_row id a change missing (r ∷ rows) keeps has =
-    go (bytes_eq r.id a) (bytes_eq r.id id) refl (at_row_keeps_row id a change missing rows keeps)
-  where
-    go : (b d : Bool) → bytes_eq r.id id ≡ d → (has_row id rows ≡ true → has_row id (at_row a change missing rows) ≡ true)
-        → has_row id (cond b (change r ++ rows) (r ∷ at_row a change missing rows)) ≡ true
-    go true true here more = joined_has id (change r) rows (keeps r here)
-    go true false here more =
-        let rest : has_row id rows ≡ true = rw here at has in
-        rw list_any-append (or_right _ _ rest)
-    go false true here more = or_left _ _ here
-    go false false here more = or_right _ _ (more (rw here at has))
-
--- values that are given have a row
-values_have_row : (id : Text) (how : Reading) (s : ValueSource) (values : List Text) (rows : List Row)
-    → has_row id (with_values id how s values rows) ≡ true
-values_have_row id how s values [] = or_left _ _ (same_bytes id)
-values_have_row id how s values (r ∷ rows) = go (bytes_eq r.id id) refl (values_have_row id how s values rows)
-  where
-    go : (b : Bool) → bytes_eq r.id id ≡ b → has_row id (with_values id how s values rows) ≡ true
-        → has_row id (cond b (more_values s values r ++ rows) (r ∷ with_values id how s values rows)) ≡ true
-    go true is more = or_left _ _ is
-    go false is more = or_right _ _ more
-
-with_values_keeps_row : (id a : Text) (how : Reading) (s : ValueSource) (values : List Text) (rows : List Row)
-    → has_row id rows ≡ true → has_row id (with_values a how s values rows) ≡ true
-with_values_keeps_row id a how s values rows has =
-    at_row_keeps_row id a (more_values s values) _ rows (λ r is. or_left _ _ is) has
-
-default_keeps_row : (id : Text) (rows : List Row) (a : Rule) → has_row id rows ≡ true → has_row id (with_default rows a) ≡ true
-default_keeps_row id rows a has = go (has_row a.id rows) a.defaults
-  where
-    go : (b : Bool) (values : List Text) → has_row id (cond b rows (default_rows a.id (reading_by a) values rows)) ≡ true
-    go true values = has
-    go false [] = has
-    go false (v ∷ vs) = with_values_keeps_row id a.id (reading_by a) DefaultValue (v ∷ vs) rows has
-
-default_has_row : (rows : List Row) (a : Rule) → is_empty a.defaults ≡ false → has_row a.id (with_default rows a) ≡ true
-default_has_row rows a some = go (has_row a.id rows) refl a.defaults some
-  where
-    go : (b : Bool) → has_row a.id rows ≡ b → (values : List Text) → is_empty values ≡ false
-        → has_row a.id (cond b rows (default_rows a.id (reading_by a) values rows)) ≡ true
-    go true is values some = is
-    go false is [] some = cc
-    go false is (v ∷ vs) some = values_have_row a.id (reading_by a) DefaultValue (v ∷ vs) rows
-
-defaults_keep_row : (id : Text) (rows : List Row) (rules : List Rule) → has_row id rows ≡ true → has_row id (fold with_default rows rules) ≡ true
-defaults_keep_row id rows [] has = has
-defaults_keep_row id rows (a ∷ rules) has = defaults_keep_row id (with_default rows a) rules (default_keeps_row id rows a has)
-
--- an argument with a default has a row
-defaults_have_row : (p : Rule → Bool) (rows : List Row) (rules : List Rule) (a : Rule) → find p rules ≡ Some a → is_empty a.defaults ≡ false
-    → has_row a.id (fold with_default rows rules) ≡ true
-defaults_have_row p rows [] a found some = cc
-defaults_have_row p rows (b ∷ rules) a found some = go (p b) refl (defaults_have_row p (with_default rows b) rules a)
-  where
-    go : (d : Bool) → p b ≡ d
-        → (find p rules ≡ Some a → is_empty a.defaults ≡ false → has_row a.id (fold with_default (with_default rows b) rules) ≡ true)
-        → has_row a.id (fold with_default (with_default rows b) rules) ≡ true
-    go true is more =
-        let first : Some b ≡ Some a = rw is at found in
-        let same : b ≡ a = cc in
-        subst (λ (x : Rule). has_row a.id (fold with_default (with_default rows x) rules) ≡ true) (sym same)
-        (defaults_keep_row a.id (with_default rows a) rules (default_has_row rows a some))
-    go false is more = more (rw is at found) some
 
 -- ---- a command whose words have no fault
 
@@ -163,16 +85,6 @@ given_row id rows given = go (find (λ r. bytes_eq r.id id) rows) given
     go : (found : Option Row) → option_map_or (λ (r : Row). explicit_source r.source) found false ≡ true → is_some found ≡ true
     go None given = cc
     go (Some r) given = refl
-
--- the row of an id that has one
-row_there : (id : Text) (rows : List Row) → has_row id rows ≡ true → is_some (find (λ r. bytes_eq r.id id) rows) ≡ true
-row_there id [] has = cc
-row_there id (r ∷ rows) has = go (bytes_eq r.id id) refl (row_there id rows)
-  where
-    go : (b : Bool) → bytes_eq r.id id ≡ b → (has_row id rows ≡ true → is_some (find (λ (x : Row). bytes_eq x.id id) rows) ≡ true)
-        → is_some (cond b (Some r) (find (λ (x : Row). bytes_eq x.id id) rows)) ≡ true
-    go true is more = refl
-    go false is more = more (rw is at has)
 
 module _ (id : Text) (least most : ℕ) where
   -- the first value of an id that has a row; where it is the given id, it is in the range
@@ -216,7 +128,7 @@ module _ (id : Text) (least most : ℕ) where
     after_settling : or_else (defaults_fault (settled s.rules end).rows s.rules) (check_fault s (finished s.rules end) false) ≡ []
     after_settling = second_passed _ _ after_walk
 
-    rows_filled : AreFilled id least most (rows_after s.rules [] words)
+    pub rows_filled : AreFilled id least most (rows_after s.rules [] words)
     rows_filled =
         defaults_filled id least most (settled s.rules end).rows s.rules takes (first_passed _ _ after_settling)
         (settled_filled id least most s.rules s.args_override_self takes end (first_passed _ _ after_walk)
@@ -241,16 +153,7 @@ module _ (id : Text) (least most : ℕ) where
         let value = first_value a.id rows rows_filled (given_row a.id rows (required_given (λ x. bytes_eq x.id a.id) a found required)) in
         rw value.1 refl
 
-    -- where the given id has a default, its value is in the range
-    pub number_value : (a : Rule) → arg_by_id s.rules a.id ≡ Some a → is_empty a.defaults ≡ false → a.id ≡ id
-        → (t : Text) × (first_of id (rows_after s.rules [] words) ≡ Some t) × (is_unsigned_in least most t ≡ true)
-    number_value a found some is =
-        let has = defaults_have_row (λ x. bytes_eq x.id a.id) (settled s.rules end).rows s.rules a found some in
-        let there : has_row id rows ≡ true = rw is at has in
-        let value = first_value id rows rows_filled (row_there id rows there) in
-        (value.0, value.1, value.2 (same_bytes id))
-
-    -- and where it is required
+    -- and a number, where it is the given id
     pub required_number : (a : Rule) → arg_by_id s.rules a.id ≡ Some a → a.required ≡ true → a.id ≡ id
         → (t : Text) × (first_of a.id (rows_after s.rules [] words) ≡ Some t) × (is_unsigned_in least most t ≡ true)
     required_number a found required is =

@@ -9,3 +9,4 @@ mod GetterLemmas
 mod AnswerLemmas
 mod CaseLemmas
 mod PlainLemmas
+mod RangeLemmas

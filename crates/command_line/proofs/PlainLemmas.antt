@@ -1,6 +1,6 @@
 -- What plain words ask for: words that don't begin with `-` among the names of options.
 use Rattle.std.proofs.Common.{◌≡◌, ℕ, ◌&&◌, Bool, false, true, eqb, ne_eqb, inl, inr, ◌<◌, ◌≤◌, ◌^◌, lit<, nat_lt, arith, refl, ap, subst, sym, ◌∙◌, codes, map, fold, List, [], ◌∷◌, Option, Some, None}
-use Rattle.std.specs.Prelude.{if◌then◌else◌}
+use Rattle.std.specs.Prelude.{if◌then◌else◌, unwrap_or}
 use Rattle.std.specs.Str.Parse.{digits_value, without_leading_plus}
 use Rattle.std.specs.Str.{bytes_eq}
 use Rattle.std.specs.List.{list_all}
@@ -18,8 +18,8 @@ use Rattle.workload_gen.specs.declared.kind.Kind.{Kind}
 use Rattle.workload_gen.specs.declared.kind.Kind.TheVariants.{Adder, Parity, Comparator}
 use Rattle.workload_gen.specs.declared.workload.TheConstants.{MOST_BITS}
 use Rattle.command_line.specs.declared.asked.TheConstants.{BUDGET_LIMIT, WORDS_LIMIT}
-use Rattle.command_line.specs.Words.{CheckIt, LratIt, SelfIt, Outcome, Requested, check_of, faults, number_in, outcome_in, outcome_of, self_of}
-use Rattle.command_line.specs.Plain.{IsPlain, Writes, kind_name, plain_check}
+use Rattle.command_line.specs.Words.{CheckIt, LratIt, SelfIt, CheckCommand, Outcome, Requested, faults, number_in, outcome_in, outcome_of, plain_check, self_of}
+use Rattle.command_line.specs.Plain.{IsPlain, SetsNumber, SetsText, Writes, kind_name}
 
 no_end : (word : Text) → IsPlain word → bytes_eq word (45 ∷ 45 ∷ []) ≡ false
 no_end [] plain = refl
@@ -107,7 +107,7 @@ faults-marked s w (flag word ∷ ms) marked =
     ap (or_else (turn_fault s [] w word)) (faults-marked s (walked s.rules [] w word) ms marked)
 
 -- the commands as `clap` completes them
-abbrev completed : Shape → Shape
+abbrev pub completed : Shape → Shape
 completed s = built_leaf (inherited (on_top with_leaf_noted (on_top marked_built cec_app)).top s)
 
 -- what a command's own words come to: the fault at the end of the walk, and what is asked for
@@ -159,12 +159,6 @@ known_number : (least most : ℕ) (n : Text) (m : ℕ) → most ≤ most_seed �
 known_number least most n m fits writes =
     rw (in_range least most n m fits writes) (ap Some (ap (digits_value 10) (no_plus n writes.digits) ∙ writes.value))
 
-few_words : WORDS_LIMIT ≤ most_seed
-few_words = omega (arith, lit< {m = 64} {n = 18446744073709551615} tt)
-
-small_budget : BUDGET_LIMIT ≤ most_seed
-small_budget = omega (arith, lit< {m = 1000000000} {n = 18446744073709551615} tt)
-
 few_bits : MOST_BITS ≤ most_seed
 few_bits = omega (arith, lit< {m = 4096} {n = 18446744073709551615} tt)
 
@@ -197,75 +191,92 @@ module _ (program a b : Text) (plain_a : IsPlain a) (plain_b : IsPlain b) where
   unfolding outcome_of faults walked walk_fault defaults_fault
   asks-check = outcome-marked (completed check_command) (plain a ∷ plain b ∷ []) (plain_a, refl, (plain_b, refl, tt))
 
-  pub asks-out : (p : Text) → IsPlain p → outcome_of (program ∷ codes "check" ∷ a ∷ b ∷ codes "--out" ∷ p ∷ [])
-      ≡ Some (Requested (CheckIt (record (plain_check a b) { out = Some p })))
+-- ---- an option that is given sets its own field and no other
+
+-- a number in its range is taken where the words have no fault but one of it
+module _ (least most default n : ℕ) (word : Text) (fits : most ≤ most_seed) (writes : Writes least most word n) where
+  number-taken : (passes : Kinds → Bool) (make : ℕ → CheckCommand) → passes [] ≡ true
+      → (if passes (values_kinds false (Unsigned least most) (word ∷ []))
+      then Some (Requested (CheckIt (make (unwrap_or (number_in least most word) default)))) else None)
+      ≡ Some (Requested (CheckIt (make n)))
+  number-taken passes make empty =
+      rw (accepted least most word n fits writes, empty, known_number least most word n fits writes) refl
+
+sets-number : (name : Text) (least most default : ℕ) (set : CheckCommand → ℕ → CheckCommand) → most ≤ most_seed
+    → ((program a b word : Text) → IsPlain a → IsPlain b → IsPlain word
+    → outcome_of (program ∷ codes "check" ∷ a ∷ b ∷ name ∷ word ∷ [])
+    ≡ (if is_empty (or_else (or_else (values_kinds false (Unsigned least most) (word ∷ [])) []) [])
+    then Some (Requested (CheckIt (set (plain_check a b) (unwrap_or (number_in least most word) default)))) else None))
+    → SetsNumber name least most set
+sets-number name least most default set fits walk a b word n plain_a plain_b writes program =
+    walk program a b word plain_a plain_b (digits-plain least most word n writes)
+    ∙ number-taken least most default n word fits writes (λ k. is_empty (or_else (or_else k []) []))
+    (set (plain_check a b)) refl
+
+few_words : WORDS_LIMIT ≤ most_seed
+few_words = omega (arith, lit< {m = 64} {n = 18446744073709551615} tt)
+
+small_budget : BUDGET_LIMIT ≤ most_seed
+small_budget = omega (arith, lit< {m = 1000000000} {n = 18446744073709551615} tt)
+
+pub sets-out : SetsText (codes "--out") (λ c p. record c { out = Some p })
+unfolding outcome_of faults walked walk_fault defaults_fault
+sets-out a b p plain_a plain_b plain_p program =
+    outcome-marked (completed check_command) (plain a ∷ plain b ∷ flag (codes "--out") ∷ plain p ∷ [])
+    (plain_a, refl, (plain_b, refl, (plain_p, refl, tt)))
+
+pub sets-seed : SetsNumber (codes "--seed") 0 most_seed (λ c n. record c { seed = n })
+unfolding outcome_of faults walked walk_fault defaults_fault
+sets-seed = sets-number (codes "--seed") 0 most_seed 1 (λ c n. record c { seed = n }) (omega arith)
+    (λ program a b word plain_a plain_b plain_word.
+    outcome-marked (completed check_command) (plain a ∷ plain b ∷ flag (codes "--seed") ∷ plain word ∷ [])
+    (plain_a, refl, (plain_b, refl, (plain_word, refl, tt))))
+
+pub sets-words : SetsNumber (codes "--words") 1 WORDS_LIMIT (λ c n. record c { words = n })
+unfolding outcome_of faults walked walk_fault defaults_fault
+sets-words = sets-number (codes "--words") 1 WORDS_LIMIT 4 (λ c n. record c { words = n }) few_words
+    (λ program a b word plain_a plain_b plain_word.
+    outcome-marked (completed check_command) (plain a ∷ plain b ∷ flag (codes "--words") ∷ plain word ∷ [])
+    (plain_a, refl, (plain_b, refl, (plain_word, refl, tt))))
+
+pub sets-sweep_budget : SetsNumber (codes "--sweep-budget") 1 BUDGET_LIMIT (λ c n. record c { sweep_budget = n })
+unfolding outcome_of faults walked walk_fault defaults_fault
+sets-sweep_budget =
+    sets-number (codes "--sweep-budget") 1 BUDGET_LIMIT 100 (λ c n. record c { sweep_budget = n }) small_budget
+    (λ program a b word plain_a plain_b plain_word.
+    outcome-marked (completed check_command) (plain a ∷ plain b ∷ flag (codes "--sweep-budget") ∷ plain word ∷ [])
+    (plain_a, refl, (plain_b, refl, (plain_word, refl, tt))))
+
+pub sets-budget : SetsNumber (codes "--budget") 1 BUDGET_LIMIT (λ c n. record c { budget = n })
+unfolding outcome_of faults walked walk_fault defaults_fault
+sets-budget = sets-number (codes "--budget") 1 BUDGET_LIMIT 100000 (λ c n. record c { budget = n }) small_budget
+    (λ program a b word plain_a plain_b plain_word.
+    outcome-marked (completed check_command) (plain a ∷ plain b ∷ flag (codes "--budget") ∷ plain word ∷ [])
+    (plain_a, refl, (plain_b, refl, (plain_word, refl, tt))))
+
+-- two options, in either order
+module _ (program a b p word : Text) (n : ℕ) (plain_a : IsPlain a) (plain_b : IsPlain b) (plain_p : IsPlain p)
+    (writes : Writes 1 BUDGET_LIMIT word n) where
+  plain_n : IsPlain word
+  plain_n = digits-plain 1 BUDGET_LIMIT word n writes
+
+  pub sets-out_budget : outcome_of (program ∷ codes "check" ∷ a ∷ b ∷ codes "--out" ∷ p ∷ codes "--budget" ∷ word ∷ [])
+      ≡ Some (Requested (CheckIt (record (plain_check a b) { out = Some p; budget = n })))
   unfolding outcome_of faults walked walk_fault defaults_fault
-  asks-out p plain_p = outcome-marked (completed check_command) (plain a ∷ plain b ∷ flag (codes "--out") ∷ plain p ∷ [])
-      (plain_a, refl, (plain_b, refl, (plain_p, refl, tt)))
+  sets-out_budget =
+      outcome-marked (completed check_command)
+      (plain a ∷ plain b ∷ flag (codes "--out") ∷ plain p ∷ flag (codes "--budget") ∷ plain word ∷ [])
+      (plain_a, refl, (plain_b, refl, (plain_p, refl, (plain_n, refl, tt))))
+      ∙ number-taken 1 BUDGET_LIMIT 100000 n word small_budget writes (λ k. is_empty (or_else (or_else k []) []))
+      (λ v. record (plain_check a b) { out = Some p; budget = v }) refl
 
-  pub asks-seed : (n : Text) (m : ℕ) → Writes 0 most_seed n m → outcome_of (program ∷ codes "check" ∷ a ∷ b ∷ codes "--seed" ∷ n ∷ [])
-      ≡ Some (Requested (CheckIt (record (plain_check a b) { seed = m })))
+  pub sets-budget_out : outcome_of (program ∷ codes "check" ∷ a ∷ b ∷ codes "--budget" ∷ word ∷ codes "--out" ∷ p ∷ [])
+      ≡ Some (Requested (CheckIt (record (plain_check a b) { out = Some p; budget = n })))
   unfolding outcome_of faults walked walk_fault defaults_fault
-  asks-seed n m writes =
-      outcome-marked (completed check_command) (plain a ∷ plain b ∷ flag (codes "--seed") ∷ plain n ∷ [])
-      (plain_a, refl, (plain_b, refl, (digits-plain 0 most_seed n m writes, refl, tt)))
-      ∙ ap (λ (k : Kinds). if is_empty (or_else (or_else k []) []) then check_of (Some a) (Some b) None (number_in 0 most_seed n) (Some 4) (Some 100) (Some 100000) else None)
-      (accepted 0 most_seed n m (omega arith) writes)
-      ∙ ap (λ (v : Option ℕ). check_of (Some a) (Some b) None v (Some 4) (Some 100) (Some 100000)) (known_number 0 most_seed n m (omega arith) writes)
-
-  pub asks-words : (n : Text) (m : ℕ) → Writes 1 WORDS_LIMIT n m → outcome_of (program ∷ codes "check" ∷ a ∷ b ∷ codes "--words" ∷ n ∷ [])
-      ≡ Some (Requested (CheckIt (record (plain_check a b) { words = m })))
-  unfolding outcome_of faults walked walk_fault defaults_fault
-  asks-words n m writes =
-      outcome-marked (completed check_command) (plain a ∷ plain b ∷ flag (codes "--words") ∷ plain n ∷ [])
-      (plain_a, refl, (plain_b, refl, (digits-plain 1 WORDS_LIMIT n m writes, refl, tt)))
-      ∙ ap (λ (k : Kinds). if is_empty (or_else (or_else k []) []) then check_of (Some a) (Some b) None (Some 1) (number_in 1 WORDS_LIMIT n) (Some 100) (Some 100000) else None)
-      (accepted 1 WORDS_LIMIT n m few_words writes)
-      ∙ ap (λ (v : Option ℕ). check_of (Some a) (Some b) None (Some 1) v (Some 100) (Some 100000)) (known_number 1 WORDS_LIMIT n m few_words writes)
-
-  module _ (n : Text) (m : ℕ) (writes : Writes 1 BUDGET_LIMIT n m) where
-    plain_n : IsPlain n
-    plain_n = digits-plain 1 BUDGET_LIMIT n m writes
-
-    taken : values_kinds false (Unsigned 1 BUDGET_LIMIT) (n ∷ []) ≡ []
-    taken = accepted 1 BUDGET_LIMIT n m small_budget writes
-
-    known : number_in 1 BUDGET_LIMIT n ≡ Some m
-    known = known_number 1 BUDGET_LIMIT n m small_budget writes
-
-    pub asks-sweep_budget : outcome_of (program ∷ codes "check" ∷ a ∷ b ∷ codes "--sweep-budget" ∷ n ∷ [])
-        ≡ Some (Requested (CheckIt (record (plain_check a b) { sweep_budget = m })))
-    unfolding outcome_of faults walked walk_fault defaults_fault
-    asks-sweep_budget =
-        outcome-marked (completed check_command) (plain a ∷ plain b ∷ flag (codes "--sweep-budget") ∷ plain n ∷ [])
-        (plain_a, refl, (plain_b, refl, (plain_n, refl, tt)))
-        ∙ ap (λ (k : Kinds). if is_empty (or_else (or_else k []) []) then check_of (Some a) (Some b) None (Some 1) (Some 4) (number_in 1 BUDGET_LIMIT n) (Some 100000) else None) taken
-        ∙ ap (λ (v : Option ℕ). check_of (Some a) (Some b) None (Some 1) (Some 4) v (Some 100000)) known
-
-    pub asks-budget : outcome_of (program ∷ codes "check" ∷ a ∷ b ∷ codes "--budget" ∷ n ∷ [])
-        ≡ Some (Requested (CheckIt (record (plain_check a b) { budget = m })))
-    unfolding outcome_of faults walked walk_fault defaults_fault
-    asks-budget =
-        outcome-marked (completed check_command) (plain a ∷ plain b ∷ flag (codes "--budget") ∷ plain n ∷ [])
-        (plain_a, refl, (plain_b, refl, (plain_n, refl, tt)))
-        ∙ ap (λ (k : Kinds). if is_empty (or_else (or_else k []) []) then check_of (Some a) (Some b) None (Some 1) (Some 4) (Some 100) (number_in 1 BUDGET_LIMIT n) else None) taken
-        ∙ ap (check_of (Some a) (Some b) None (Some 1) (Some 4) (Some 100)) known
-
-    module _ (p : Text) (plain_p : IsPlain p) where
-      pub asks-out_budget : outcome_of (program ∷ codes "check" ∷ a ∷ b ∷ codes "--out" ∷ p ∷ codes "--budget" ∷ n ∷ [])
-          ≡ Some (Requested (CheckIt (record (plain_check a b) { out = Some p; budget = m })))
-      unfolding outcome_of faults walked walk_fault defaults_fault
-      asks-out_budget =
-          outcome-marked (completed check_command) (plain a ∷ plain b ∷ flag (codes "--out") ∷ plain p ∷ flag (codes "--budget") ∷ plain n ∷ [])
-          (plain_a, refl, (plain_b, refl, (plain_p, refl, (plain_n, refl, tt))))
-          ∙ ap (λ (k : Kinds). if is_empty (or_else (or_else k []) []) then check_of (Some a) (Some b) (Some p) (Some 1) (Some 4) (Some 100) (number_in 1 BUDGET_LIMIT n) else None) taken
-          ∙ ap (check_of (Some a) (Some b) (Some p) (Some 1) (Some 4) (Some 100)) known
-
-      pub asks-budget_out : outcome_of (program ∷ codes "check" ∷ a ∷ b ∷ codes "--budget" ∷ n ∷ codes "--out" ∷ p ∷ [])
-          ≡ Some (Requested (CheckIt (record (plain_check a b) { out = Some p; budget = m })))
-      unfolding outcome_of faults walked walk_fault defaults_fault
-      asks-budget_out =
-          outcome-marked (completed check_command) (plain a ∷ plain b ∷ flag (codes "--budget") ∷ plain n ∷ flag (codes "--out") ∷ plain p ∷ [])
-          (plain_a, refl, (plain_b, refl, (plain_n, refl, (plain_p, refl, tt))))
-          ∙ ap (λ (k : Kinds). if is_empty (or_else (or_else (or_else (or_else k []) []) []) []) then check_of (Some a) (Some b) (Some p) (Some 1) (Some 4) (Some 100) (number_in 1 BUDGET_LIMIT n) else None) taken
-          ∙ ap (check_of (Some a) (Some b) (Some p) (Some 1) (Some 4) (Some 100)) known
+  sets-budget_out =
+      outcome-marked (completed check_command)
+      (plain a ∷ plain b ∷ flag (codes "--budget") ∷ plain word ∷ flag (codes "--out") ∷ plain p ∷ [])
+      (plain_a, refl, (plain_b, refl, (plain_n, refl, (plain_p, refl, tt))))
+      ∙ number-taken 1 BUDGET_LIMIT 100000 n word small_budget writes
+      (λ k. is_empty (or_else (or_else (or_else (or_else k []) []) []) []))
+      (λ v. record (plain_check a b) { out = Some p; budget = v }) refl

@@ -9,13 +9,12 @@ use Rattle.clap.specs.Faults.{built_fault, check_fault, defaults_fault, entered_
 use Rattle.clap.specs.Simple.{App, Shape, argument_words, built, entered, label_of, names_of, rows_at, subcommand_of}
 use Rattle.clap.specs.Takes.{is_given}
 use Rattle.clap.specs.ValueTests.{is_unsigned_in}
-use Rattle.clap.specs.Walk.{Held, Row, Rule, Text, answers_to, arg_by_id, finished, first_of, is_empty, nothing_held, rows_after, settled, walk, walk_from}
-use Rattle.command_line.specs.Commands.{cec_app, most_seed}
-use Rattle.command_line.specs.declared.asked.TheConstants.{BUDGET_LIMIT, WORDS_LIMIT}
+use Rattle.clap.specs.Walk.{Held, Row, Rule, Text, answers_to, arg_by_id, finished, first_of, nothing_held, rows_after, settled, walk, walk_from}
+use Rattle.command_line.specs.Commands.{cec_app}
 use Rattle.workload_gen.specs.declared.workload.TheConstants.{MOST_BITS}
-use Rattle.command_line.specs.Words.{check_of, faults, lrat_of, number_in, number_of, outcome_in, self_of}
+use Rattle.command_line.specs.Words.{check_of, faults, lrat_of, number_in, outcome_in, self_of}
 use Rattle.command_line.proofs.FoundLemmas.{found_holds}
-use Rattle.command_line.proofs.LevelLemmas.{number_value, required_number, required_value}
+use Rattle.command_line.proofs.LevelLemmas.{required_number, required_value}
 use Rattle.command_line.proofs.RowLemmas.{first_passed, second_passed, takes_one}
 
 -- ---- the command that the words name
@@ -67,7 +66,7 @@ module _ (a : App) (words : List Text) where
       (second_passed (settle_fault a.top.rules a.top.args_override_self end) _
       (second_passed (entered_fault a stop) _ (after_walk passed))))
 
-  built_gives : {X : Type 0} (f : Text × List Row → Option X) → a.top.subcommand_required ≡ true
+  pub built_gives : {X : Type 0} (f : Text × List Row → Option X) → a.top.subcommand_required ≡ true
       → AllByRecursion (λ s. (ws : List Text) → level_fault s [] nothing_held ws false [] ≡ [] → is_some (f (rows_at s ws)) ≡ true) a.subs
       → built_fault a nothing_held words ≡ [] → is_some (option_and_then f (entered a stop)) ≡ true
   built_gives f required each passed =
@@ -75,15 +74,11 @@ module _ (a : App) (words : List Text) where
 
 -- ---- the program's commands
 
-check_some : (a b out : Option Text) (seed words sweep budget : Option ℕ) → is_some a ≡ true → is_some b ≡ true → is_some seed ≡ true
-    → is_some words ≡ true → is_some sweep ≡ true → is_some budget ≡ true → is_some (check_of a b out seed words sweep budget) ≡ true
-check_some (Some a) (Some b) out (Some k) (Some l) (Some m) (Some n) ha hb hk hl hm hn = refl
-check_some None b out k l m n ha hb hk hl hm hn = cc
-check_some (Some a) None out k l m n ha hb hk hl hm hn = cc
-check_some (Some a) (Some b) out None l m n ha hb hk hl hm hn = cc
-check_some (Some a) (Some b) out (Some k) None m n ha hb hk hl hm hn = cc
-check_some (Some a) (Some b) out (Some k) (Some l) None n ha hb hk hl hm hn = cc
-check_some (Some a) (Some b) out (Some k) (Some l) (Some m) None ha hb hk hl hm hn = cc
+check_some : (a b : Option Text) (rows : List Row) → is_some a ≡ true → is_some b ≡ true
+    → is_some (check_of a b rows) ≡ true
+check_some (Some a) (Some b) rows ha hb = refl
+check_some None b rows ha hb = cc
+check_some (Some a) None rows ha hb = cc
 
 lrat_some : (cnf proof : Option Text) → is_some cnf ≡ true → is_some proof ≡ true → is_some (lrat_of cnf proof) ≡ true
 lrat_some (Some cnf) (Some proof) hc hp = refl
@@ -103,37 +98,15 @@ named_value id least most s words takes passed name a is required same =
     (required_value id least most s words takes passed a
     (subst (λ (t : Text). arg_by_id s.rules t ≡ Some a) (sym same) is) required)
 
--- a number with a default, under its id
-named_number : (id : Text) (least most : ℕ) (s : Shape) (n : Rule) (words : List Text) → list_all (takes_one id least most) s.rules ≡ true
-    → arg_by_id s.rules id ≡ Some n → is_empty n.defaults ≡ false → n.id ≡ id → level_fault s [] nothing_held words false [] ≡ []
-    → is_some (number_of id least most (rows_after s.rules [] words)) ≡ true
-named_number id least most s n words takes is default same passed =
-    let number = number_value id least most s words takes passed n
-    (subst (λ (t : Text). arg_by_id s.rules t ≡ Some n) (sym same) is) default same in
-    number_some least most _ number.0 number.1 number.2
-
--- an option that is a number with a default
-pub record HasNumber (s : Shape) (id : Text) (least most : ℕ) : Type 0 where
-  pub rule : Rule
-  pub takes : list_all (takes_one id least most) s.rules ≡ true
-  pub is : arg_by_id s.rules id ≡ Some rule
-  pub default : is_empty rule.defaults ≡ false
-  pub same : rule.id ≡ id
-
--- `check` gives two names and four numbers
-check_given : (s : Shape) (a b : Rule) (words : List Text) → HasNumber s (codes "seed") 0 most_seed → HasNumber s (codes "words") 1 WORDS_LIMIT
-    → HasNumber s (codes "sweep-budget") 1 BUDGET_LIMIT → HasNumber s (codes "budget") 1 BUDGET_LIMIT
+-- `check` gives two names
+check_given : (s : Shape) (a b : Rule) (words : List Text) → list_all (takes_one [] 0 0) s.rules ≡ true
     → arg_by_id s.rules (codes "a") ≡ Some a → a.required ≡ true → a.id ≡ codes "a"
     → arg_by_id s.rules (codes "b") ≡ Some b → b.required ≡ true → b.id ≡ codes "b"
     → level_fault s [] nothing_held words false [] ≡ []
     → is_some (outcome_in (codes "check") (rows_after s.rules [] words)) ≡ true
-check_given s a b words seed count sweep budget a_is a_required a_id b_is b_required b_id passed =
-    let value = named_value (codes "budget") 1 BUDGET_LIMIT s words budget.takes passed in
-    check_some _ _ _ _ _ _ _ (value (codes "a") a a_is a_required a_id) (value (codes "b") b b_is b_required b_id)
-    (named_number (codes "seed") 0 most_seed s seed.rule words seed.takes seed.is seed.default seed.same passed)
-    (named_number (codes "words") 1 WORDS_LIMIT s count.rule words count.takes count.is count.default count.same passed)
-    (named_number (codes "sweep-budget") 1 BUDGET_LIMIT s sweep.rule words sweep.takes sweep.is sweep.default sweep.same passed)
-    (named_number (codes "budget") 1 BUDGET_LIMIT s budget.rule words budget.takes budget.is budget.default budget.same passed)
+check_given s a b words takes a_is a_required a_id b_is b_required b_id passed =
+    let value = named_value [] 0 0 s words takes passed in
+    check_some _ _ _ (value (codes "a") a a_is a_required a_id) (value (codes "b") b b_is b_required b_id)
 
 -- `lrat` gives two names
 
@@ -170,12 +143,7 @@ pub some_outcome : (words : List Text) → faults words ≡ []
 unfolding faults
 some_outcome words passed =
     built_gives (built cec_app) (argument_words cec_app words) (λ p. outcome_in p.0 p.1) refl (
-      λ ws none. check_given _ _ _ ws
-          (record { rule = _; takes = refl; is = refl; default = refl; same = refl })
-          (record { rule = _; takes = refl; is = refl; default = refl; same = refl })
-          (record { rule = _; takes = refl; is = refl; default = refl; same = refl })
-          (record { rule = _; takes = refl; is = refl; default = refl; same = refl })
-          refl refl refl refl refl refl none,
+      λ ws none. check_given _ _ _ ws refl refl refl refl refl refl refl none,
       (
         λ ws none. lrat_given _ _ _ ws refl refl refl refl refl refl refl none,
         (λ ws none. self_given _ _ _ ws refl refl refl refl refl refl refl none, tt),

@@ -1,7 +1,7 @@
 -- What `read` answers to words.
 use Rattle.std.specs.Prelude.{◌≡◌, ℕ, true, List, ◌++◌, codes, option_map, string_bytes}
 use Rattle.clap.specs.Walk.{Text}
-use Rattle.command_line.specs.Words.{CheckCommand, LratCommand, SelfCommand, Request, CheckIt, LratIt, SelfIt, WantHelp, AreRefused, AskNoKind, names_help}
+use Rattle.command_line.specs.Words.{CheckCommand, LratCommand, SelfCommand, Request, CheckIt, LratIt, SelfIt, WantInfo, WantVersion, AreRefused, AskNoKind, names_help}
 use Rattle.command_line.specs.declared.asked.Asked.{Asked}
 use Rattle.command_line.specs.declared.asked.Asked.TheVariants.{Check, Lrat, SelfCheck}
 use Rattle.command_line.specs.declared.asked.CheckWords.{CheckWords}
@@ -47,8 +47,17 @@ pub record Names (words : List Text) (text : List ℕ) : Type 0 where
   pub no_help : names_help words ≡ true → text ≡ no_help_text
   pub no_kind : (word : Text) → AskNoKind words word → text ≡ no_kind_text word
 
+-- what is said to words that ask for the version
+abbrev pub version_text : List ℕ
+version_text = codes "cec 0.2.0\n"
+
+-- the text is help or the version, and the version is told of by its own text
+pub record Informs (words : List Text) (text : List ℕ) : Type 0 where
+  pub wanted : WantInfo words
+  pub version : WantVersion words → text ≡ version_text
+
 -- when each refusal may come; want of memory is free
 abbrev pub MayRefuse : List Text → Refusal → Type 0
-MayRefuse words (Help text) = WantHelp words
+MayRefuse words (Help text) = Informs words (string_bytes text)
 MayRefuse words (Usage text) = AreRefused words × Names words (string_bytes text)
 MayRefuse words NoMemory = Unit {0}

@@ -22,10 +22,27 @@ number_place id least most = record (place id) { parser = Some (Unsigned least m
 abbrev pub text_option : Text → Rule
 text_option id = record (new_rule id) { long = Some id; value_names = 1 }
 
--- `--ID` with a number from least to most, which is `default` where the words have no such option
-abbrev pub number_option : Text → ℕ → ℕ → Text → Rule
-number_option id least most default =
-    record (text_option id) { parser = Some (Unsigned least most); defaults = default ∷ [] }
+-- an option that is a number: its name and the numbers that it takes
+pub record NumberOption : Type 0 where
+  pub id : Text
+  pub least : ℕ
+  pub most : ℕ
+
+-- `--ID` with such a number, which may be left out
+abbrev pub number_option : NumberOption → Rule
+number_option o = record (text_option o.id) { parser = Some (Unsigned o.least o.most) }
+
+abbrev pub seed_option : NumberOption
+seed_option = record { id = codes "seed"; least = 0; most = most_seed }
+
+abbrev pub words_option : NumberOption
+words_option = record { id = codes "words"; least = 1; most = WORDS_LIMIT }
+
+abbrev pub sweep_budget_option : NumberOption
+sweep_budget_option = record { id = codes "sweep-budget"; least = 1; most = BUDGET_LIMIT }
+
+abbrev pub budget_option : NumberOption
+budget_option = record { id = codes "budget"; least = 1; most = BUDGET_LIMIT }
 
 -- a command with these arguments
 abbrev pub command : Text → List Rule → Shape
@@ -35,9 +52,8 @@ command name rules = record (new_shape name) { rules = rules }
 abbrev pub check_command : Shape
 check_command = command (codes "check")
     (place (codes "a") ∷ place (codes "b") ∷ text_option (codes "out")
-    ∷ number_option (codes "seed") 0 most_seed (codes "1") ∷ number_option (codes "words") 1 WORDS_LIMIT (codes "4")
-    ∷ number_option (codes "sweep-budget") 1 BUDGET_LIMIT (codes "100")
-    ∷ number_option (codes "budget") 1 BUDGET_LIMIT (codes "100000") ∷ [])
+    ∷ number_option seed_option ∷ number_option words_option ∷ number_option sweep_budget_option
+    ∷ number_option budget_option ∷ [])
 
 -- `cec lrat CNF PROOF`
 abbrev pub lrat_command : Shape
@@ -47,13 +63,14 @@ lrat_command = command (codes "lrat") (place (codes "cnf") ∷ place (codes "pro
 abbrev pub self_command : Shape
 self_command = command (codes "self") (place (codes "kind") ∷ number_place (codes "n") 1 MOST_BITS ∷ [])
 
--- the program with these commands, of which one has to be there; `help` is none of its own
+-- the program with these commands, of which one has to be there, and a version; `help` is none of its own
 abbrev pub program : List Shape → App
 program commands = record {
   top = record (new_shape (codes "cec")) {
     is_leaf = is_empty commands;
     disable_help_subcommand = true;
     subcommand_required = true;
+    has_version = true;
   };
   subs = commands;
 }

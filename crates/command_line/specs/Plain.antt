@@ -1,9 +1,13 @@
 -- Words that say plainly what they ask for, as a user writes them.
-use Rattle.std.specs.Prelude.{◌≡◌, ℕ, ◌≤◌, ◌==◌, Bool, true, false, List, [], ◌∷◌, length, None, nat_lt, codes}
+use Rattle.std.specs.Prelude.{◌≡◌, ℕ, ◌≤◌, ◌==◌, Bool, true, false, List, [], ◌∷◌, Some, length, nat_lt, codes}
 use Rattle.std.specs.List.{list_all}
 use Rattle.std.specs.Char.{digit_value}
 use Rattle.std.specs.Str.Parse.{digits_value}
-use Rattle.command_line.specs.Words.{Asks, CheckCommand, CheckIt}
+use Rattle.clap.specs.Simple.{subcommand_of}
+use Rattle.clap.specs.ValueTests.{is_unsigned_in}
+use Rattle.clap.specs.Walk.{Row, first_of}
+use Rattle.command_line.specs.Commands.{NumberOption, cec_app}
+use Rattle.command_line.specs.Words.{Asks, CheckCommand, CheckIt, faults, plain_check}
 use Rattle.workload_gen.specs.declared.kind.Kind.{Kind}
 use Rattle.workload_gen.specs.declared.kind.Kind.TheVariants.{Adder, Parity, Comparator}
 
@@ -23,13 +27,25 @@ pub record Writes (least most : ℕ) (word : List ℕ) (n : ℕ) : Type 0 where
   pub above : least ≤ n
   pub below : n ≤ most
 
--- the check of a against b without an option
-abbrev pub plain_check : List ℕ → List ℕ → CheckCommand
-plain_check a b = record { a = a; b = b; out = None; seed = 1; words = 4; sweep_budget = 100; budget = 100000 }
-
 -- the words behind the program's name ask for this check
 abbrev pub AskCheck : List (List ℕ) → CheckCommand → Type 0
 AskCheck words command = (program : List ℕ) → Asks (program ∷ words) (CheckIt command)
+
+-- an option behind the names of two files sets its own field and no other, from a text or from a number in its range
+abbrev pub SetsText : List ℕ → (CheckCommand → List ℕ → CheckCommand) → Type 0
+SetsText flag set = (a b word : List ℕ) → IsPlain a → IsPlain b → IsPlain word
+    → AskCheck (codes "check" ∷ a ∷ b ∷ flag ∷ word ∷ []) (set (plain_check a b) word)
+
+abbrev pub SetsNumber : List ℕ → ℕ → ℕ → (CheckCommand → ℕ → CheckCommand) → Type 0
+SetsNumber flag least most set = (a b word : List ℕ) (n : ℕ) → IsPlain a → IsPlain b → Writes least most word n
+    → AskCheck (codes "check" ∷ a ∷ b ∷ flag ∷ word ∷ []) (set (plain_check a b) n)
+
+-- what is given for an option of a check is a number in its range, where the words have no fault: its default stands only
+-- where it is left out
+abbrev pub IsInRange : NumberOption → Type 0
+IsInRange o = (words : List (List ℕ)) (rows : List Row) (text : List ℕ) → faults words ≡ []
+    → subcommand_of cec_app words ≡ Some (codes "check", rows) → first_of o.id rows ≡ Some text
+    → is_unsigned_in o.least o.most text ≡ true
 
 -- the name of a kind of workload
 abbrev pub kind_name : Kind → List ℕ

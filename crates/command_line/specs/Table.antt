@@ -15,7 +15,7 @@ abbrev pub rule_of_takes : Takes → Text → Rule
 rule_of_takes takes.Place id = place id
 rule_of_takes (takes.Count least most) id = number_place id least most
 rule_of_takes takes.Text id = text_option id
-rule_of_takes (takes.Number least most default) id = number_option id least most default.now
+rule_of_takes (takes.Number least most) id = number_option (record { id = id; least = least; most = most })
 
 abbrev pub rule_in : ArgumentRow → Rule
 rule_in row = rule_of_takes row.takes row.name.now

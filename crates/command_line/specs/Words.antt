@@ -1,6 +1,6 @@
 -- What the words of a command line ask for, and which of them are refused. A word is the list of its bytes, and the
 -- first word is the program's name.
-use Rattle.std.specs.Prelude.{◌≡◌, ◌⊎◌, ℕ, Bool, true, false, not, ◌&&◌, List, [], ◌∷◌, Option, Some, None, option_and_then, codes, if◌then◌else◌}
+use Rattle.std.specs.Prelude.{◌≡◌, ◌⊎◌, ℕ, Bool, true, false, not, ◌&&◌, List, [], ◌∷◌, Option, Some, None, option_and_then, codes, unwrap_or, if◌then◌else◌}
 use Rattle.std.specs.List.{list_any}
 use Rattle.std.specs.Str.{bytes_eq}
 use Rattle.std.specs.Str.Parse.{digits_value, without_leading_plus}
@@ -10,9 +10,8 @@ use Rattle.clap.specs.Simple.{subcommand_of}
 use Rattle.clap.specs.ValueTests.{is_unsigned_in}
 use Rattle.clap.specs.Walk.{Row, Text, first_of, is_empty}
 use Rattle.clap.specs.declared.error.kind.ErrorKind.{ErrorKind}
-use Rattle.clap.specs.declared.error.kind.ErrorKind.TheVariants.{DisplayHelp}
-use Rattle.command_line.specs.Commands.{cec_app, most_seed}
-use Rattle.command_line.specs.declared.asked.TheConstants.{BUDGET_LIMIT, WORDS_LIMIT}
+use Rattle.clap.specs.declared.error.kind.ErrorKind.TheVariants.{DisplayHelp, DisplayVersion}
+use Rattle.command_line.specs.Commands.{NumberOption, budget_option, cec_app, seed_option, sweep_budget_option, words_option}
 use Rattle.workload_gen.specs.declared.kind.Kind.{Kind}
 use Rattle.workload_gen.specs.declared.kind.Kind.TheVariants.{Adder, Parity, Comparator}
 use Rattle.workload_gen.specs.declared.workload.TheConstants.{MOST_BITS}
@@ -55,18 +54,6 @@ abbrev pub number_in : ℕ → ℕ → Text → Option ℕ
 number_in least most text =
     if is_unsigned_in least most text then Some (digits_value 10 (without_leading_plus text)) else None
 
-abbrev pub check_of : Option Text → Option Text → Option Text → Option ℕ → Option ℕ → Option ℕ → Option ℕ → Option Outcome
-check_of (Some a) (Some b) out (Some seed) (Some words) (Some sweep_budget) (Some budget) = Some (Requested (CheckIt (record {
-  a = a;
-  b = b;
-  out = out;
-  seed = seed;
-  words = words;
-  sweep_budget = sweep_budget;
-  budget = budget;
-})))
-check_of a b out seed words sweep_budget budget = None
-
 abbrev pub lrat_of : Option Text → Option Text → Option Outcome
 lrat_of (Some cnf) (Some proof) = Some (Requested (LratIt (record { cnf = cnf; proof = proof })))
 lrat_of cnf proof = None
@@ -92,12 +79,31 @@ self_of word n = None
 abbrev pub number_of : Text → ℕ → ℕ → List Row → Option ℕ
 number_of id least most rows = option_and_then (number_in least most) (first_of id rows)
 
+-- a check without an option: the default of each
+abbrev pub plain_check : Text → Text → CheckCommand
+plain_check a b = record { a = a; b = b; out = None; seed = 1; words = 4; sweep_budget = 100; budget = 100000 }
+
+-- the number that is given for an option, or else its default; a given one is in the range where the words have no fault
+abbrev pub number_or : ℕ → NumberOption → List Row → ℕ
+number_or default o rows = unwrap_or (number_of o.id o.least o.most rows) default
+
+-- the check with the options that are given, each of which sets a field of its own
+abbrev pub with_options : List Row → CheckCommand → CheckCommand
+with_options rows c = record c {
+  out = first_of (codes "out") rows;
+  seed = number_or c.seed seed_option rows;
+  words = number_or c.words words_option rows;
+  sweep_budget = number_or c.sweep_budget sweep_budget_option rows;
+  budget = number_or c.budget budget_option rows;
+}
+
 -- what the values of the arguments of each command come to
+abbrev pub check_of : Option Text → Option Text → List Row → Option Outcome
+check_of (Some a) (Some b) rows = Some (Requested (CheckIt (with_options rows (plain_check a b))))
+check_of a b rows = None
+
 abbrev pub check_in : List Row → Option Outcome
-check_in rows =
-    check_of (first_of (codes "a") rows) (first_of (codes "b") rows) (first_of (codes "out") rows)
-    (number_of (codes "seed") 0 most_seed rows) (number_of (codes "words") 1 WORDS_LIMIT rows)
-    (number_of (codes "sweep-budget") 1 BUDGET_LIMIT rows) (number_of (codes "budget") 1 BUDGET_LIMIT rows)
+check_in rows = check_of (first_of (codes "a") rows) (first_of (codes "b") rows) rows
 
 abbrev pub lrat_in : List Row → Option Outcome
 lrat_in rows = lrat_of (first_of (codes "cnf") rows) (first_of (codes "proof") rows)
@@ -123,9 +129,11 @@ names_help words = false
 unfoldable pub faults : List Text → Kinds
 faults words = fault_of cec_app words
 
-abbrev pub is_help : ErrorKind → Bool
-is_help DisplayHelp = true
-is_help kind = false
+-- a fault that is none: the words ask for help or for the version
+abbrev pub is_info : ErrorKind → Bool
+is_info DisplayHelp = true
+is_info DisplayVersion = true
+is_info kind = false
 
 -- what the words come to, where they have no fault
 unfoldable pub outcome_of : List Text → Option Outcome
@@ -140,13 +148,20 @@ Asks words request = outcome_of words ≡ Some (Requested request)
 abbrev pub WantHelp : List Text → Type 0
 WantHelp words = (names_help words ≡ false) × (faults words ≡ DisplayHelp ∷ [])
 
+-- the words ask for the version, by `--version` or `-V`
+abbrev pub WantVersion : List Text → Type 0
+WantVersion words = (names_help words ≡ false) × (faults words ≡ DisplayVersion ∷ [])
+
+abbrev pub WantInfo : List Text → Type 0
+WantInfo words = WantHelp words ⊎ WantVersion words
+
 -- the words ask for a workload, by a word that names no kind
 abbrev pub AskNoKind : List Text → Text → Type 0
 AskNoKind words word = outcome_of words ≡ Some (NamesNoKind word)
 
--- the words ask neither for help nor for what the program does: they name the command `help`, or have another fault than
--- that they ask for help, or name no kind of workload
+-- the words ask neither for help or the version nor for what the program does: they name the command `help`, or have another
+-- fault than that they ask for help or the version, or name no kind of workload
 abbrev pub AreRefused : List Text → Type 0
 AreRefused words = (names_help words ≡ true)
-    ⊎ ((is_empty (faults words) ≡ false) × (list_any is_help (faults words) ≡ false))
+    ⊎ ((is_empty (faults words) ≡ false) × (list_any is_info (faults words) ≡ false))
     ⊎ ((word : Text) × AskNoKind words word)

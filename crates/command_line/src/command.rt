@@ -4,7 +4,9 @@ ghost use Rattle.clap.specs.declared.builder.command.Command.TheViews.{out-Comma
 ghost use Rattle.command_line.specs.Commands.{cec_app, program};
 ghost use Rattle.command_line.specs.Table.{AreCommands, leaf_in, rule_in, shape_in};
 
-use crate::table::{ArgumentRow, COMMANDS, CommandRow, PROGRAM_HELP, PROGRAM_NOTES, Takes};
+use crate::table::{
+    ArgumentRow, COMMANDS, CommandRow, PROGRAM_HELP, PROGRAM_NOTES, Takes, VERSION,
+};
 use clap::builder::ValueParser;
 use clap::{Arg, Command};
 use std::alloc::{AllocError, Global};
@@ -25,6 +27,7 @@ fn program_of<'a>(alloc: Global, rows: &[CommandRow]) -> Result<Command<'a>, All
 {
     let commands = commands_of(alloc, rows)?;
     new_command(alloc, "cec", PROGRAM_HELP, PROGRAM_NOTES)
+        .version(VERSION)
         .subcommand_required(true)
         .disable_help_subcommand(true)
         .subcommands(commands)
@@ -76,13 +79,8 @@ fn argument_of<'a>(alloc: Global, row: &ArgumentRow) -> Arg<'a>
             .required(true)
             .value_parser(ValueParser::Unsigned(least, most)),
         Takes::Text => arg.long(row.name),
-        Takes::Number {
-            least,
-            most,
-            default,
-        } => arg
+        Takes::Number { least, most } => arg
             .long(row.name)
-            .value_parser(ValueParser::Unsigned(least, most))
-            .default_value(default),
+            .value_parser(ValueParser::Unsigned(least, most)),
     }
 }

@@ -1,18 +1,27 @@
 ghost use Rattle.std.specs.Prelude.{◌⊎◌, ℕ, List, [], ◌∷◌, Some, codes};
-ghost use Rattle.command_line.specs.Commands.{most_seed};
-ghost use Rattle.command_line.specs.Plain.{AskCheck, IsPlain, Writes, kind_name, plain_check};
+ghost use Rattle.command_line.specs.Commands.{budget_option, most_seed, seed_option, sweep_budget_option, words_option};
+ghost use Rattle.command_line.specs.Plain.{AskCheck, IsInRange, IsPlain, SetsNumber, SetsText, Writes, kind_name};
 ghost use Rattle.command_line.specs.declared.asked.TheConstants.{BUDGET_LIMIT, WORDS_LIMIT};
-ghost use Rattle.command_line.specs.Words.{AreRefused, Asks, LratIt, Request, SelfIt, WantHelp};
+ghost use Rattle.command_line.specs.Words.{AreRefused, Asks, LratIt, Request, SelfIt, WantHelp, WantInfo, WantVersion, plain_check};
 ghost use Rattle.workload_gen.specs.declared.kind.Kind.{Kind};
 ghost use Rattle.workload_gen.specs.declared.workload.TheConstants.{MOST_BITS};
 
-/// Words ask for something, or for help, or are refused, and no two of these at once.
+/// Words ask for something, or for help, or for the version, or are refused, and no two of these at once.
 pub fn words_are_one_of()
     ensures some { (words : List (List ℕ)) →
-        ((r : Request) × Asks words r) ⊎ (WantHelp words ⊎ AreRefused words) }
+        ((r : Request) × Asks words r) ⊎ (WantInfo words ⊎ AreRefused words) }
     ensures asked { (words : List (List ℕ)) (r : Request) →
-        Asks words r → ¬ (WantHelp words ⊎ AreRefused words) }
-    ensures helped { (words : List (List ℕ)) → WantHelp words → ¬ AreRefused words }
+        Asks words r → ¬ (WantInfo words ⊎ AreRefused words) }
+    ensures informed { (words : List (List ℕ)) → WantInfo words → ¬ AreRefused words }
+    ensures helped { (words : List (List ℕ)) → WantHelp words → ¬ WantVersion words }
+{}
+
+/// A number that is given for an option of a check is in the option's range, where the words have no fault.
+pub fn given_numbers()
+    ensures seed { IsInRange seed_option }
+    ensures words { IsInRange words_option }
+    ensures sweep_budget { IsInRange sweep_budget_option }
+    ensures budget { IsInRange budget_option }
 {}
 
 /// What arguments ask for that a user writes plainly: the names of files and the prefix don't begin with `-`,
@@ -20,21 +29,12 @@ pub fn words_are_one_of()
 pub fn plain_words()
     ensures check { (a b : List ℕ) → IsPlain a → IsPlain b →
         AskCheck (codes "check" ∷ a ∷ b ∷ []) (plain_check a b) }
-    ensures out { (a b p : List ℕ) → IsPlain a → IsPlain b → IsPlain p
-        → AskCheck (codes "check" ∷ a ∷ b ∷ codes "--out" ∷ p ∷ [])
-        (record (plain_check a b) { out = Some p }) }
-    ensures seed { (a b word : List ℕ) (n : ℕ) → IsPlain a → IsPlain b → Writes 0 most_seed word n
-        → AskCheck (codes "check" ∷ a ∷ b ∷ codes "--seed" ∷ word ∷ [])
-        (record (plain_check a b) { seed = n }) }
-    ensures words { (a b word : List ℕ) (n : ℕ) → IsPlain a → IsPlain b → Writes 1 WORDS_LIMIT word n
-        → AskCheck (codes "check" ∷ a ∷ b ∷ codes "--words" ∷ word ∷ [])
-        (record (plain_check a b) { words = n }) }
-    ensures sweep_budget { (a b word : List ℕ) (n : ℕ) → IsPlain a → IsPlain b → Writes 1 BUDGET_LIMIT word n
-        → AskCheck (codes "check" ∷ a ∷ b ∷ codes "--sweep-budget" ∷ word ∷ [])
-        (record (plain_check a b) { sweep_budget = n }) }
-    ensures budget { (a b word : List ℕ) (n : ℕ) → IsPlain a → IsPlain b → Writes 1 BUDGET_LIMIT word n
-        → AskCheck (codes "check" ∷ a ∷ b ∷ codes "--budget" ∷ word ∷ [])
-        (record (plain_check a b) { budget = n }) }
+    ensures out { SetsText (codes "--out") (λ c p. record c { out = Some p }) }
+    ensures seed { SetsNumber (codes "--seed") 0 most_seed (λ c n. record c { seed = n }) }
+    ensures words { SetsNumber (codes "--words") 1 WORDS_LIMIT (λ c n. record c { words = n }) }
+    ensures sweep_budget { SetsNumber (codes "--sweep-budget") 1 BUDGET_LIMIT
+        (λ c n. record c { sweep_budget = n }) }
+    ensures budget { SetsNumber (codes "--budget") 1 BUDGET_LIMIT (λ c n. record c { budget = n }) }
     ensures out_budget { (a b p word : List ℕ) (n : ℕ) → IsPlain a → IsPlain b → IsPlain p
         → Writes 1 BUDGET_LIMIT word n
         → AskCheck (codes "check" ∷ a ∷ b ∷ codes "--out" ∷ p ∷ codes "--budget" ∷ word ∷ [])

@@ -1,10 +1,10 @@
 //! The words of the program's command line, read with `clap`.
 //!
-//! `read` answers with what the words ask for, with the text of help exactly where they ask for that, or
-//! with what is wrong with them. All commands, arguments and options stand in one table, from which the
-//! parser and help are made. The law `words_are_one_of` says that words are exactly one of the three, and
-//! `plain_words` what words ask for as a user writes them (`specs/Plain.antt`): it anchors the definition by
-//! `clap`'s walk.
+//! `read` answers with what the words ask for, with the text of help or the version exactly where they ask
+//! for that, or with what is wrong with them. All commands, arguments and options stand in one table, from
+//! which the parser and help are made. The law `words_are_one_of` says that words are exactly one of these,
+//! and `plain_words` what words ask for as a user writes them (`specs/Plain.antt`): it anchors the
+//! definition by `clap`'s walk.
 //!
 //! Definitions: `specs/Words.antt` (what words ask for, by `clap`'s own definition of what it takes and what
 //! it finds), `specs/Commands.antt` (the commands), `specs/Answers.antt` (what `read` may answer);
@@ -13,7 +13,7 @@
 #![tactic(auto)]
 
 pub use asked::{Asked, BUDGET_LIMIT, CheckWords, LratWords, SelfWords, WORDS_LIMIT};
-pub use laws::{plain_words, words_are_one_of};
+pub use laws::{given_numbers, plain_words, words_are_one_of};
 pub use reading::{Refusal, read};
 
 mod asked;

@@ -1,6 +1,6 @@
-ghost use Rattle.std.specs.Prelude.{◌≡◌, ◌≤◌, Some, true, is_some};
+ghost use Rattle.std.specs.Prelude.{◌≡◌, ◌≤◌, IfSome, Some, true, is_some, unwrap_or};
 ghost use Rattle.clap.specs.Words.{first_of, found_of, rows_of};
-ghost use Rattle.command_line.specs.Words.{CheckIt, LratIt, Requested, check_in, kind_named, lrat_in, number_of, outcome_in, self_in};
+ghost use Rattle.command_line.specs.Words.{CheckIt, LratIt, Requested, check_in, kind_named, lrat_in, number_in, number_of, outcome_in, plain_check, self_in};
 ghost use Rattle.command_line.specs.Answers.{check_texts, lrat_texts};
 ghost use Rattle.command_line.specs.Parsing.{found, outcome, workload};
 
@@ -39,19 +39,38 @@ fn asked_by<'a>(name: &str, matches: &ArgMatches<'a>) -> Result<Asked<'a>, &'a s
     unreachable!()
 }
 
-/// The words of a check, by the names that the table has for them.
+impl<'a> CheckWords<'a> {
+    /// The check of the two files without an option: the default of each.
+    pub fn plain(a: &'a str, b: &'a str) -> CheckWords<'a>
+        ensures { check_texts result ≡ plain_check a.now b.now }
+    {
+        CheckWords {
+            a,
+            b,
+            out: None,
+            seed: 1,
+            words: 4,
+            sweep_budget: 100,
+            budget: 100_000,
+        }
+    }
+}
+
+/// The words of a check, by the names that the table has for them. An option that is left out has its
+/// default.
 fn check_words<'a>(matches: &ArgMatches<'a>) -> CheckWords<'a>
     requires { is_some (check_in (rows_of (found_of matches.now))) ≡ true }
     ensures { check_in (rows_of (found_of matches.now)) ≡ Some (Requested (CheckIt (check_texts result))) }
 {
+    let plain = CheckWords::plain(text(matches, "a"), text(matches, "b"));
     CheckWords {
-        a: text(matches, "a"),
-        b: text(matches, "b"),
+        a: plain.a,
+        b: plain.b,
         out: matches.get_str("out"),
-        seed: number(matches, "seed", 0, u64::MAX),
-        words: number(matches, "words", 1, WORDS_LIMIT),
-        sweep_budget: number(matches, "sweep-budget", 1, BUDGET_LIMIT),
-        budget: number(matches, "budget", 1, BUDGET_LIMIT),
+        seed: number_or(matches, "seed", 0, u64::MAX, plain.seed),
+        words: number_or(matches, "words", 1, WORDS_LIMIT, plain.words),
+        sweep_budget: number_or(matches, "sweep-budget", 1, BUDGET_LIMIT, plain.sweep_budget),
+        budget: number_or(matches, "budget", 1, BUDGET_LIMIT, plain.budget),
     }
 }
 
@@ -91,13 +110,38 @@ fn kind_named(name: &str) -> Option<Kind>
     }
 }
 
+/// The number of an option that is given, or else the default. What is no number in the range, `clap` has
+/// refused before.
+fn number_or(matches: &ArgMatches<'_>, id: &str, least: u64, most: u64, default: u64) -> u64
+    requires { (least ≤ default) × (default ≤ most) }
+    ensures value { result
+        ≡ unwrap_or (number_of id.now least most (rows_of (found_of matches.now))) default }
+    ensures range { (least ≤ result) × (result ≤ most) }
+{
+    match matches.get_str(id) {
+        Some(text) => number_in(text, least, most).unwrap_or(default),
+        None => default,
+    }
+}
+
 /// The number of an argument, which is in its range.
 fn number(matches: &ArgMatches<'_>, id: &str, least: u64, most: u64) -> u64
     requires { is_some (number_of id.now least most (rows_of (found_of matches.now))) ≡ true }
     ensures value { number_of id.now least most (rows_of (found_of matches.now)) ≡ Some result }
     ensures range { (least ≤ result) × (result ≤ most) }
 {
-    text(matches, id).parse::<u64>().unwrap()
+    number_in(text(matches, id), least, most).unwrap()
+}
+
+/// The number that the text spells, if it is in the range.
+fn number_in(text: &str, least: u64, most: u64) -> Option<u64>
+    ensures value { result ≡ number_in least most text.now }
+    ensures range { IfSome result (λ n. (least ≤ n) × (n ≤ most)) }
+{
+    match text.parse::<u64>() {
+        Ok(n) if least <= n && n <= most => Some(n),
+        _ => None,
+    }
 }
 
 /// The value of an argument that has one.

@@ -2,12 +2,13 @@ ghost use Rattle.std.specs.Prelude.{◌≡◌, IfOk, IfErr, Some, is_some, map, 
 ghost use Rattle.clap.specs.Words.{FailsBy, HasMatchesOf, kind_of};
 ghost use Rattle.command_line.specs.Commands.{cec_app};
 ghost use Rattle.command_line.specs.Words.{Asks, Requested, faults, names_help};
-ghost use Rattle.command_line.specs.Answers.{request, no_kind_text, MayRefuse};
-ghost use Rattle.command_line.specs.Parsing.{RefusesFound, RefusesHelp, RefusesKind, IsRefusal, found};
+ghost use Rattle.command_line.specs.Answers.{request, no_kind_text, version_text, MayRefuse};
+ghost use Rattle.command_line.specs.Parsing.{RefusesFound, RefusesHelp, RefusesKind, TellsVersion, IsRefusal, found};
 
 use crate::asked::Asked;
 use crate::command::cec_command;
 use crate::matches::asked_in;
+use crate::table::VERSION;
 use clap::error::ErrorKind;
 use clap::{ArgMatches, Error};
 use std::alloc::{AllocError, Global};
@@ -15,11 +16,11 @@ use std::alloc::{AllocError, Global};
 /// Why words ask for nothing that the program does.
 #[derive(Drop)]
 pub enum Refusal {
-    /// They ask for help, which is this text.
+    /// They ask for help or for the version, which is this text.
     Help(String),
     /// They are of no form that the program knows, as this text says.
     Usage(String),
-    /// Memory was refused.
+    /// Out of memory.
     NoMemory,
 }
 
@@ -37,7 +38,8 @@ pub fn read<'a>(alloc: Global, words: &'a [String]) -> Result<Asked<'a>, Refusal
     }
 }
 
-/// Whether the command is `help`. `clap` has one of its own, which the program hasn't.
+/// Whether the command is `help`. `clap` has one of its own, which the program hasn't: docs/DECISIONS.md,
+/// "`help` isn't a command".
 fn names_help(words: &[String]) -> bool
     ensures { result ≡ names_help (map string_bytes words.now) }
 {
@@ -98,16 +100,42 @@ fn matches_of<'a>(alloc: Global, words: &'a [String]) -> Result<ArgMatches<'a>, 
     cec_command(alloc)?.try_get_matches_from(words)
 }
 
-/// What `clap` says of words that it refuses.
+/// What is answered to words that `clap` refuses.
 fn refusal_of(alloc: Global, error: &Error) -> Refusal
     ensures { IsRefusal (kind_of error.now) result }
 {
-    let Ok(text) = format!(in alloc; "{error}") else {
-        return Refusal::NoMemory;
-    };
     match error.kind() {
-        ErrorKind::DisplayHelp => Refusal::Help(text),
+        ErrorKind::DisplayVersion => version(alloc),
         ErrorKind::OutOfMemory => Refusal::NoMemory,
-        _ => Refusal::Usage(text),
+        ErrorKind::DisplayHelp => match text_of(alloc, error) {
+            Ok(text) => Refusal::Help(text),
+            Err(_) => Refusal::NoMemory,
+        },
+        _ => match text_of(alloc, error) {
+            Ok(text) => Refusal::Usage(text),
+            Err(_) => Refusal::NoMemory,
+        },
     }
+}
+
+/// What `clap` says of words that it refuses.
+fn text_of(alloc: Global, error: &Error) -> Result<String, AllocError> {
+    format!(in alloc; "{error}")
+}
+
+/// The version. It is said as `clap` says it, but by the program itself: `clap` promises no text.
+fn version(alloc: Global) -> Refusal
+    ensures { TellsVersion result }
+{
+    match version_text(alloc) {
+        Ok(text) => Refusal::Help(text),
+        Err(_) => Refusal::NoMemory,
+    }
+}
+
+/// The text of it.
+fn version_text(alloc: Global) -> Result<String, AllocError>
+    ensures { IfOk result (λ s. string_bytes s ≡ version_text) }
+{
+    format!(in alloc; "cec {VERSION}\n")
 }

@@ -1,5 +1,6 @@
-//! All that the command line can say. A new option is a row here, a rule in `specs/Commands.antt` and a field
-//! of what `read` hands out.
+//! All that the command line can say. A new option of `check` is a row here, a rule in
+//! `specs/Commands.antt`, a field of what `read` hands out with its default (`asked.rt`, `matches.rt` and
+//! `specs/Words.antt`), and a line of the law `plain_words`.
 
 use crate::asked::{BUDGET_LIMIT, WORDS_LIMIT};
 use workload_gen::MOST_BITS;
@@ -10,18 +11,11 @@ pub(crate) enum Takes {
     /// Any text, without a name, which has to be there.
     Place,
     /// A number from `least` to `most`, without a name, which has to be there.
-    Count {
-        least: u64,
-        most: u64,
-    },
+    Count { least: u64, most: u64 },
     /// Any text behind `--NAME`, which may be left out.
     Text,
-    /// A number from `least` to `most` behind `--NAME`, and the one in `default` where it is left out.
-    Number {
-        least: u64,
-        most: u64,
-        default: &'static str,
-    },
+    /// A number from `least` to `most` behind `--NAME`, which may be left out.
+    Number { least: u64, most: u64 },
 }
 
 /// An argument of a command.
@@ -46,6 +40,9 @@ pub(crate) struct CommandRow {
     /// In the order of help, and those without a name in the order of the words.
     pub(crate) arguments: &'static [ArgumentRow],
 }
+
+/// The program's version. README.md and CHANGELOG.md name it, too.
+pub(crate) const VERSION: &str = "0.2.0";
 
 /// What the program does, in one line.
 pub(crate) const PROGRAM_HELP: &str =
@@ -81,9 +78,8 @@ pub(crate) static COMMANDS: [CommandRow; 3] = [
                 takes: Takes::Number {
                     least: 0,
                     most: u64::MAX,
-                    default: "1",
                 },
-                help: "Draw the first patterns from N, from 0 to 18446744073709551615",
+                help: "Draw the first patterns from N, from 0 to 18446744073709551615 [default: 1]",
             },
             ArgumentRow {
                 name: "words",
@@ -91,9 +87,8 @@ pub(crate) static COMMANDS: [CommandRow; 3] = [
                 takes: Takes::Number {
                     least: 1,
                     most: WORDS_LIMIT,
-                    default: "4",
                 },
-                help: "Draw 64 times N first patterns, N from 1 to 64",
+                help: "Draw 64 times N first patterns, N from 1 to 64 [default: 4]",
             },
             ArgumentRow {
                 name: "sweep-budget",
@@ -101,9 +96,9 @@ pub(crate) static COMMANDS: [CommandRow; 3] = [
                 takes: Takes::Number {
                     least: 1,
                     most: BUDGET_LIMIT,
-                    default: "100",
                 },
-                help: "Give up on a pair of nodes after N learned clauses, from 1 to 1000000000",
+                help: "Give up on a pair of nodes after N learned clauses, \
+                       from 1 to 1000000000 [default: 100]",
             },
             ArgumentRow {
                 name: "budget",
@@ -111,9 +106,9 @@ pub(crate) static COMMANDS: [CommandRow; 3] = [
                 takes: Takes::Number {
                     least: 1,
                     most: BUDGET_LIMIT,
-                    default: "100000",
                 },
-                help: "Give up on an output after N learned clauses, from 1 to 1000000000",
+                help: "Give up on an output after N learned clauses, \
+                       from 1 to 1000000000 [default: 100000]",
             },
         ],
     },
@@ -163,14 +158,14 @@ pub(crate) static COMMANDS: [CommandRow; 3] = [
 /// The statuses that are the same for each command, at the end of the program's help.
 pub(crate) const PROGRAM_NOTES: &str = "\
 Status:
-  0  EQUIVALENT or VERIFIED was said, or help
+  0  EQUIVALENT or VERIFIED was said, or help or the version
   1  DIFFERENT or REFUSED was said
   2  UNDECIDED was said
   3  the words are not as above
   4  a file is not of its format, or the circuits are not alike
   5  a file cannot be read
   6  a file cannot be written, or an answer cannot be said
-  7  memory was refused";
+  7  out of memory";
 
 const CHECK_NOTES: &str = "\
 Says, and ends with the status before it:
