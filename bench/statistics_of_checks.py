@@ -14,12 +14,12 @@ from pathlib import Path
 sys.path.insert(0, str(Path(__file__).resolve().parents[1] / "tools"))
 from crates import replaced, unproved_answers
 
-USES = ["lits", "netlist", "aiger_file", "lemma_book", "strash_pass", "check_session"]
+USES = ["lits", "desk_port", "netlist", "aiger_file", "lemma_book", "strash_pass", "check_session"]
 SECONDS = 1000
 NAMES = ["rounds", "merges by structure", "by search", "by cone", "aparts by scratch", "by search", "by cone", "spents", "conflicts",
          "decisions", "entries dropped"]
 
-SEARCH, SETTLING, SESSION = "circuit_search/src/search.rt", "check_session/src/settling.rt", "check_session/src/session.rt"
+SEARCH, ENGINE, SESSION = "circuit_search/src/search.rt", "check_session/src/engine.rt", "check_session/src/session.rt"
 
 # file, what stands there, what is put in its place. The counters: rounds, scratch, conflicts, decisions, merges and Aparts that the
 # search found (those by scratch too), entries that were dropped.
@@ -43,24 +43,28 @@ CHANGES = [
      "        match entry {\n            Entry::Merge { .. } => self.tally[4] += 1,\n"
      "            Entry::Apart { .. } => self.tally[5] += 1,\n            _ => {}\n        }\n    }\n\n"
      "    /// The entry of a pair that a pattern tells apart."),
-    (SETTLING, "    pub(crate) verdict: Verdict,", "    pub(crate) verdict: Verdict,\n    pub(crate) tally: [u64; 7],"),
-    (SETTLING, "    is_within(net, &book);\n    Ok(Settled { book, verdict })",
-     "    is_within(net, &book);\n    Ok(Settled { book, verdict, tally: search.tally })"),
-    (SETTLING, "    Ok(Settled { book, verdict })", "    Ok(Settled { book, verdict, tally: [0; 7] })"),
-    (SESSION, "    options: Options,\n    book: Book,", "    options: Options,\n    book: Book,\n    pub tally: [u64; 7],"),
-    (SESSION, "Ok(Session { net, options, book })", "Ok(Session { net, options, book, tally: [0; 7] })"),
-    (SESSION, "        self.book = settled.book;", "        self.tally = settled.tally;\n        self.book = settled.book;"),
+    (ENGINE, "    search: Search,\n    solver: WatchSolver,\n}", "    pub(crate) search: Search,\n    solver: WatchSolver,\n}"),
+    (SESSION, "    verdict: Verdict,\n}", "    verdict: Verdict,\n    tally: [u64; 7],\n}"),
+    (SESSION, "    let (book, pool) = sweep.into_parts();",
+     "    let tally = sweep.engine.search.tally;\n    let (book, pool) = sweep.into_parts();"),
+    (SESSION, "        found,\n        verdict,\n", "        found,\n        verdict,\n        tally,\n"),
+    (SESSION, "    found: Option<Verdict>,\n}", "    found: Option<Verdict>,\n    pub tally: [u64; 7],\n}"),
+    (SESSION, "            found: None,\n        })", "            found: None,\n            tally: [0; 7],\n        })"),
+    (SESSION, "        self.book = checked.book;", "        self.tally = checked.tally;\n        self.book = checked.book;"),
 ]
 
 PROGRAM = """//! The counts of checks of the pairs in a file, one a line: the names of two files, parted by a tab.
 #![tactic(auto)]
 
 use check_session::{Options, Session};
+use desk_port::OpenGate;
 use lemma_book::{Book, Entry};
 use std::alloc::Global;
 use std::env;
 use std::fs::{self, Files};
 use std::io::{self, Write};
+use std::sync::Wait;
+use std::thread::Threads;
 
 const OPTIONS: Options = Options {
     seed: 1,
@@ -83,7 +87,7 @@ fn counts(book: &Book) -> [u64; 3] {
     found
 }
 
-fn answer<R: Files + Alloc>(rt: &R, alloc: Global, line: &str, text: &mut String) -> io::Result<()> {
+fn answer<R: Files + Alloc + Threads + Wait>(rt: &R, alloc: Global, line: &str, text: &mut String) -> io::Result<()> {
     let Some((first, second)) = line.split_once("\\t") else {
         return Ok(());
     };
@@ -97,7 +101,7 @@ fn answer<R: Files + Alloc>(rt: &R, alloc: Global, line: &str, text: &mut String
     };
     let mut book = Book::new(alloc, 1, 1);
     let structural = strash_pass::run(alloc, session.net(), &mut book)?;
-    let _verdict = session.check(alloc)?;
+    let _verdict = session.check(rt, alloc, &OpenGate)?;
     let [merges, aparts, spents] = counts(session.book());
     let [rounds, scratch, conflicts, decisions, merged, apart, dropped] = session.tally;
     let cone = merges.saturating_sub(structural).saturating_sub(merged);

@@ -25,7 +25,7 @@ from pairs import evaluated, random_circuit, rewritten, text
 from rounds import SEED
 
 EDITS = Path(__file__).resolve().parent / "wrong_search"
-USES = ["check_session", "aiger_file", "lemma_book"]
+USES = ["check_session", "desk_port", "aiger_file", "lemma_book"]
 
 
 def expanded(circuit):

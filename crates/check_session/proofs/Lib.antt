@@ -1,6 +1,8 @@
 pub mod Facts
 mod OutputLemmas
 mod RoundLemmas
+mod PatternLemmas
 mod MeansLemmas
 mod SweptLemmas
 mod WithinLemmas
+mod FilesLemmas

@@ -5,17 +5,16 @@ use Rattle.std.specs.List.{find, AllByRecursion}
 use Rattle.std.proofs.lemmas.Option.{none-some, same_Some}
 use Rattle.lits.specs.Assignment.{IsSatisfiable}
 use Rattle.lits.specs.Same.{opposite_dim}
-use Rattle.netlist.specs.Net.{AigPair, Differ}
+use Rattle.netlist.specs.Net.{AigPair, AgreesOn, Differ}
 use Rattle.netlist.specs.Miter.{miter_of}
 use Rattle.unit_prop.specs.Log.{InTurn}
 use Rattle.lemma_book.specs.declared.entry.Entry.{Entry}
 use Rattle.lemma_book.specs.declared.entry.Entry.TheVariants.{Merge, Apart, Spent, Out, OutApart, OutSpent}
 use Rattle.lemma_book.specs.declared.entry.Subject.TheVariants.{Output}
-use Rattle.lemma_book.specs.Entry.{Entries, is_on, about}
-use Rattle.lemma_book.specs.Good.{IsGood, NoNode, NotApart}
+use Rattle.lemma_book.specs.Entry.{Entries, is_on, about, has_out}
+use Rattle.lemma_book.specs.Good.{IsGood, NotApart}
 use Rattle.lemma_book.specs.Book.{IsLegal}
-use Rattle.lemma_book.specs.Agreement.{IsTrue, IsSame}
-use Rattle.proof_stitch.specs.Stitch.{has_out}
+use Rattle.lemma_book.specs.Agreement.{IsTrue}
 use Rattle.check_session.specs.Finding.{Finding, Equivalent, Different, Undecided, Finds, Means, DiffersAt}
 use Rattle.check_session.proofs.OutputLemmas.{about-subject}
 
@@ -39,19 +38,20 @@ found-turn P p before (x ∷ xs) e turn found = go (p x) refl found (found-turn 
 
 module _ (net : AigPair) (book : Entries) (legal : IsLegal net book) (true_all : AllByRecursion (IsTrue net) book.entries)
     (exact : IsSatisfiable opposite_dim (miter_of net) ↔ Differ net) where
-  out-same : (j : ℕ) → has_out book.entries j ≡ true → IsSame net j
+  out-same : (j : ℕ) → has_out book.entries j ≡ true → AgreesOn net j
   out-same j out = go (about book.entries j) refl
     where
-      go : (o : Option Entry) → about book.entries j ≡ o → IsSame net j
+      go : (o : Option Entry) → about book.entries j ≡ o → AgreesOn net j
       go None is = let t : false ≡ true = rw is at out in cc
       go (Some (Merge node lit steps)) is = let t : false ≡ true = rw is at out in cc
       go (Some (Apart node lit input)) is = let t : false ≡ true = rw is at out in cc
       go (Some (Spent node lit seen log)) is = let t : false ≡ true = rw is at out in cc
       go (Some (Out k steps)) is =
-          let same : IsSame net k = found-all (IsTrue net) (is_on (Output j)) book.entries (Out k steps) true_all is in
+          let same : AgreesOn net k =
+          found-all (IsTrue net) (is_on (Output j)) book.entries (Out k steps) true_all is in
           let subject : Some (Output k) ≡ Some (Output j) = about-subject book.entries j (Out k steps) is in
           let number : k ≡ j = cc in
-          subst (λ (i : ℕ). IsSame net i) number same
+          subst (λ (i : ℕ). AgreesOn net i) number same
       go (Some (OutApart k input)) is = let t : false ≡ true = rw is at out in cc
       go (Some (OutSpent k seen log)) is = let t : false ≡ true = rw is at out in cc
 
@@ -60,10 +60,10 @@ module _ (net : AigPair) (book : Entries) (legal : IsLegal net book) (true_all :
       let good = found-turn
       (λ before e. IsGood net (record { sweep_budget = book.sweep_budget; out_budget = book.out_budget; entries = before }) e)
       (is_on (Output j)) [] book.entries (OutApart j input) legal is in
-      record { within = good.1 NoNode; apart = good.1 NotApart }
+      good.1 NotApart
 
   -- what the finding means
   pub means-finding : (finding : Finding) → Finds net book.entries finding → Means net book.entries finding
-  means-finding Equivalent finds = record { agree = λ bits whole j below. out-same j (finds j below) bits whole; exact = exact }
+  means-finding Equivalent finds = record { agree = λ j below. out-same j (finds j below); exact = exact }
   means-finding (Different j input) finds = apart-differs j input finds.0
   means-finding Undecided finds = λ j below spent. out-same j (finds.others j below spent)

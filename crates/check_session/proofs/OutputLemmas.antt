@@ -14,15 +14,16 @@ use Rattle.lemma_book.specs.declared.entry.Entry.TheVariants.{Merge, Apart, Spen
 use Rattle.lemma_book.specs.declared.entry.Subject.{Subject}
 use Rattle.lemma_book.specs.declared.entry.Subject.TheVariants.{Merged, Output}
 use Rattle.lemma_book.specs.Entry.{Entries, subject_of, is_on, about, settled_at, first_entries, with_last}
+use Rattle.lemma_book.specs.Entry.{has_out, has_spent, has_apart, is_merge}
 use Rattle.lemma_book.specs.Good.{IsGood, Already}
 use Rattle.lemma_book.proofs.Facts.{exact-subject, same-subject_self}
 use Rattle.lemma_book.specs.Book.{book_after}
 use Rattle.cone_query.specs.Query.{SeesAll}
-use Rattle.proof_stitch.specs.Stitch.{has_out}
-use Rattle.proof_stitch.specs.Derivation.{has_spent}
-use Rattle.check_session.specs.Finding.{Finds, has_apart, is_merge, SeesMerges}
+use Rattle.check_session.specs.Finding.{Finds, SeesMerges}
 use Rattle.check_session.specs.Growth.{Grows}
-use Rattle.check_session.specs.Outputs.{AreSettled, AreSettledBelow, SeeMerges, finding_of, verdict_of}
+use Rattle.check_session.specs.declared.verdict.Verdict.{Verdict}
+use Rattle.check_session.specs.declared.verdict.Verdict.TheVariants as verdict
+use Rattle.check_session.specs.Outputs.{AreSettled, AreSettledBelow, Looks, SeeMerges, finding_of, verdict_of}
 use Rattle.lits.proofs.Facts.{range-more}
 
 -- ---- the whole book as its own first part
@@ -45,7 +46,7 @@ on-subject s (Out j steps) on = ap (λ (t : Subject). Some t) (exact-subject (Ou
 on-subject s (OutApart j input) on = ap (λ (t : Subject). Some t) (exact-subject (Output j) s on)
 on-subject s (OutSpent j seen log) on = ap (λ (t : Subject). Some t) (exact-subject (Output j) s on)
 
-is_on-subject : (s : Subject) (e : Entry) → subject_of e ≡ Some s → is_on s e ≡ true
+pub is_on-subject : (s : Subject) (e : Entry) → subject_of e ≡ Some s → is_on s e ≡ true
 is_on-subject s e subject = rw subject (same-subject_self s)
 
 -- ---- the entry on an output
@@ -246,3 +247,12 @@ different-here es j k given input e there is same =
     let subject : Some (Output k) ≡ Some (Output j) = about-subject es j (OutApart k given) found in
     let number : k ≡ j = cc in
     (refl, found ∙ cc)
+
+-- an output whose entry tells an input is the first such one, where no smaller output has one
+pub finds-at : (net : AigPair) (es : List Entry) (j : ℕ) (old new : List ℕ) (v : Verdict) → Looks es j old new (Some v)
+    → ((k : ℕ) → k < j → has_apart es k ≡ false) → Finds net es (finding_of v)
+finds-at net es j old new verdict.Equivalent looks none = absurd looks
+finds-at net es j old new (verdict.Different k input) looks none =
+    subst (λ (n : ℕ). (about es n ≡ Some (OutApart n input)) × ((m : ℕ) → m < n → has_apart es m ≡ false)) (sym looks.0)
+    (looks.1, none)
+finds-at net es j old new (verdict.Undecided outputs) looks none = absurd looks

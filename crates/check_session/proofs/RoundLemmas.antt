@@ -1,5 +1,5 @@
 -- What a settled pair changes of the pairs behind it.
-use Rattle.std.proofs.Common.{◌≡◌, ◌≢◌, ℕ, ◌+◌, Bool, true, false, List, [], ◌∷◌, ◌++◌, length, Option, Some, None, refl, sym, ap, ◌∙◌, subst, arith, Result, Ok, Err, OnOk, take, append_assoc, length-append}
+use Rattle.std.proofs.Common.{◌≡◌, ◌≢◌, ℕ, zero, suc, ◌+◌, ◌<◌, Bool, true, false, List, [], ◌∷◌, ◌++◌, length, Option, Some, None, refl, sym, ap, ◌∙◌, subst, arith, Result, Ok, Err, OnOk, take, append_assoc, length-append, get_or}
 use Rattle.std.specs.List.{AllByRecursion}
 use Rattle.std.specs.Option.{option_and_then}
 use Rattle.std.specs.Prelude.{slice_get}
@@ -21,8 +21,12 @@ use Rattle.lemma_book.specs.Good.{IsBefore, IsEarlier, IsGood, NotApart}
 use Rattle.lemma_book.specs.Book.{IsLegal}
 use Rattle.lemma_book.proofs.Facts.{root-unsettled}
 use Rattle.check_session.specs.Growth.{is_of_pair}
-use Rattle.check_session.specs.Rounds.{Extends, Fits, HasWholeInput, Joins, MayAsk, AreAsked, Settles}
-use Rattle.std.proofs.lemmas.Option.{same_Some}
+use Rattle.check_session.specs.Pool.{Extends, Fits}
+use Rattle.check_session.specs.Rounds.{HasEntry, HasWholeInput, Joins, MayAsk, AreAsked, Settles}
+use Rattle.std.proofs.lemmas.Option.{none-some, same_Some}
+use Rattle.std.proofs.lemmas.List.{take_more}
+use Rattle.lits.proofs.Facts.{all-append}
+use Rattle.netlist.proofs.Facts.{all-weaker}
 use Rattle.cone_query.specs.Query.{task_of}
 use Rattle.check_session.proofs.OutputLemmas.{on-subject}
 
@@ -38,7 +42,7 @@ place-last test (x ∷ xs) e none other = go (test x) refl none (place_of test x
     go false is n None rest_is rest = rw (is, rest rest_is) refl
     go false is n (Some k) rest_is rest = let t : Some (k + 1) ≡ None = rw (is, rest_is) at n in cc
 
-off-subject : (s : Subject) (e : Entry) → subject_of e ≢ Some s → is_on s e ≡ false
+pub off-subject : (s : Subject) (e : Entry) → subject_of e ≢ Some s → is_on s e ≡ false
 off-subject s e other = go (is_on s e) refl
   where
     go : (b : Bool) → is_on s e ≡ b → is_on s e ≡ false
@@ -109,6 +113,33 @@ pair-subject t (Out j steps) n about other = cc
 pair-subject t (OutApart j input) n about other = cc
 pair-subject t (OutSpent j seen log) n about other = cc
 
+-- ---- entries about pairs
+
+get-last : (es : List Entry) (e : Entry) → slice_get (es ++ e ∷ []) (length es) ≡ Some e
+get-last [] e = refl
+get-last (x ∷ xs) e = get-last xs e
+
+get-more : (es fs : List Entry) (k : ℕ) (e : Entry) → slice_get es k ≡ Some e → slice_get (es ++ fs) k ≡ Some e
+get-more [] fs k e at = absurd (none-some e at)
+get-more (x ∷ xs) fs zero e at = at
+get-more (x ∷ xs) fs (suc k) e at = get-more xs fs k e at
+
+has-more : (es fs : List Entry) (t : Task) → HasEntry es t → HasEntry (es ++ fs) t
+has-more es fs t has =
+    record { place = has.place; entry = has.entry; at = get-more es fs has.place has.entry has.at; about = has.about }
+
+-- when one more pair is settled the pairs up to it have entries
+pub answered-next : (net : AigPair) (ts : List Task) (i : ℕ) (d : Task) (old new : Entries) → i < length ts
+    → Settles net (get_or ts i d) old new → AllByRecursion (HasEntry old.entries) (take i ts)
+    → AllByRecursion (HasEntry new.entries) (take (i + 1) ts)
+answered-next net ts i d old new below settles before =
+    subst (λ (us : List Task). AllByRecursion (HasEntry new.entries) us) (sym (take_more ts i d below))
+    (all-append (HasEntry new.entries) (take i ts) (get_or ts i d ∷ [])
+    (all-weaker (HasEntry old.entries) (HasEntry new.entries)
+    (λ t has. subst (λ (es : List Entry). HasEntry es t) (sym settles.grows.begins) (has-more old.entries settles.grows.added t has))
+    (take i ts) before)
+    (settles.about, tt))
+
 pub settles-last : (net : AigPair) (t : Task) (old : Entries) (e : Entry) → task_of e ≡ Some t → IsLegal net (with_last old e)
     → Settles net t old (with_last old e)
 settles-last net t old e about legal = record {
@@ -120,6 +151,7 @@ settles-last net t old e about legal = record {
     kinds = rw (pair-kind t e about) refl;
     legal = legal;
   };
+  about = record { place = length old.entries; entry = e; at = get-last old.entries e; about = about };
   others = λ n other root. root-stays old.entries e n (pair-subject t e n about other) root;
 }
 
@@ -141,7 +173,7 @@ whole-input net book inputs (Out j steps) same good = tt
 whole-input net book inputs (OutApart j input) same good = tt
 whole-input net book inputs (OutSpent j seen log) same good = tt
 
-whole-last : (n : ℕ) (xs : List (List Bool)) (x : List Bool) → AllByRecursion (λ bits. length bits ≡ n) xs → length x ≡ n
+pub whole-last : (n : ℕ) (xs : List (List Bool)) (x : List Bool) → AllByRecursion (λ bits. length bits ≡ n) xs → length x ≡ n
     → AllByRecursion (λ bits. length bits ≡ n) (xs ++ x ∷ [])
 whole-last n [] x all last = (last, tt)
 whole-last n (y ∷ ys) x all last = (all.0, whole-last n ys x all.1 last)

@@ -1,7 +1,8 @@
 -- What a round without tasks, and a sweep, leave.
-use Rattle.std.proofs.Common.{◌≡◌, ℕ, ◌+◌, ◌*◌, ◌<◌, suc, get_or, drop-cons, add-one, Bool, true, false, ◌||◌, List, [], ◌∷◌, ◌++◌, length, map, drop, Option, Some, None, inl, inr, refl, sym, ap, ◌∙◌, subst, arith, Result, Ok, Err, IfOk, OnOk}
+use Rattle.std.proofs.Common.{◌≡◌, ◌≢◌, ℕ, ◌+◌, ◌*◌, ◌<◌, suc, append_assoc, get_or, drop-cons, add-one, Bool, true, false, ◌||◌, List, [], ◌∷◌, ◌++◌, length, map, drop, Option, Some, None, inl, inr, refl, sym, ap, ◌∙◌, subst, arith, Result, Ok, Err, IfOk}
 use Rattle.std.specs.Prelude.{◌==◌}
-use Rattle.std.specs.List.{AllByRecursion, list_all, list_any, range_with_len}
+use Rattle.std.specs.List.{AllByRecursion, find, list_all, list_any, range_with_len}
+use Rattle.std.proofs.lemmas.List.{append-nil}
 use Rattle.std.proofs.lemmas.List.FromFn.{length-map-range_with_len}
 use Rattle.std.proofs.lemmas.Bool.Decides.{nat_tests}
 use Rattle.std.specs.Option.{option_and_then}
@@ -13,23 +14,25 @@ use Rattle.netlist.specs.Net.{AigPair}
 use Rattle.word_sim.specs.Patterns.{Patterns, seeded, seeded_pattern}
 use Rattle.lemma_book.specs.declared.entry.Entry.{Entry}
 use Rattle.lemma_book.specs.declared.entry.Entry.TheVariants.{Merge, Apart, Spent, Out, OutApart, OutSpent}
-use Rattle.lemma_book.specs.declared.entry.Subject.TheVariants.{Merged}
+use Rattle.lemma_book.specs.declared.entry.Subject.TheVariants.{Merged, Output}
 use Rattle.lemma_book.specs.declared.entry.Task.{Task}
-use Rattle.lemma_book.specs.Entry.{Entries, is_on, is_spent_on}
+use Rattle.lemma_book.specs.Entry.{Entries, about, has_apart, is_on, is_spent_on, subject_of, with_last}
 use Rattle.lemma_book.specs.Root.{IsRoot, merge_in}
 use Rattle.lemma_book.specs.Book.{IsLegal}
 use Rattle.lemma_book.proofs.Facts.{root-unsettled}
-use Rattle.sig_classes.specs.Leader.{IsDue, AreTasks, IsSwept}
+use Rattle.sig_classes.specs.Leader.{IsDue, AreTasks, IsReduced, IsSwept}
 use Rattle.strash_pass.specs.Strash.{IsMerge, AddsMerges}
 use Rattle.check_session.specs.declared.options.Options.{Options}
 use Rattle.check_session.specs.declared.verdict.Verdict.{Verdict}
+use Rattle.check_session.specs.declared.verdict.Verdict.TheVariants as verdict
 use Rattle.check_session.specs.Finding.{Finding, Equivalent, Different, Undecided, Finds, Means, SeesMerges}
 use Rattle.check_session.specs.Growth.{Grows, is_of_pair}
 use Rattle.check_session.specs.Outputs.{SeeMerges, ListsOpen, is_of_output, finding_of}
-use Rattle.check_session.specs.Rounds.{Fits, MayAsk, AreAsked, Settles}
+use Rattle.check_session.specs.Pool.{Extends, Fits, IsFirstApart, IsPoolOf, NoneApart, first_pool, tells_apart}
+use Rattle.check_session.specs.Rounds.{MayAsk, AreAsked, Settles}
 use Rattle.check_session.specs.Check.{IsSweptFor, IsWithinFor, IsFound, empty_book}
-use Rattle.check_session.proofs.RoundLemmas.{asked-next}
-use Rattle.check_session.proofs.OutputLemmas.{grows-twice}
+use Rattle.check_session.proofs.RoundLemmas.{asked-next, extends-twice, off-subject, root-stays}
+use Rattle.check_session.proofs.OutputLemmas.{is_on-subject}
 
 -- ---- patterns that are drawn
 
@@ -38,17 +41,39 @@ all-patterns n f [] each = tt
 all-patterns n f (x ∷ xs) each = (each x, all-patterns n f xs each)
 
 -- the first pool fits
-pub fits-seeded : (net : AigPair) (seed words inputs : ℕ) → inputs ≡ length net.a.inputs → Fits net (seeded seed words inputs)
+fits-seeded : (net : AigPair) (seed words inputs : ℕ) → inputs ≡ length net.a.inputs → Fits net (seeded seed words inputs)
 fits-seeded net seed words inputs same = record {
   inputs = same;
   whole = all-patterns (length net.a.inputs) (seeded_pattern seed words inputs) (range_with_len 0 (64 * words))
       (λ p. length-map-range_with_len _ 0 inputs ∙ same);
 }
 
-pub fits-if_ok : (r : Result Patterns AllocError) (net : AigPair) (seed words inputs : ℕ) → inputs ≡ length net.a.inputs
-    → IfOk r (λ p. p ≡ seeded seed words inputs) → IfOk r (Fits net)
-fits-if_ok (Ok p) net seed words inputs same is = subst (λ (q : Patterns). Fits net q) (sym is) (fits-seeded net seed words inputs same)
-fits-if_ok (Err e) net seed words inputs same is = tt
+pub pool-seeded : (r : Result Patterns AllocError) (net : AigPair) (o : Options) (inputs : ℕ) → inputs ≡ length net.a.inputs
+    → IfOk r (λ p. p ≡ seeded o.seed o.words inputs) → IfOk r (IsPoolOf net o)
+pool-seeded (Ok p) net o inputs same is =
+    subst (λ (q : Patterns). IsPoolOf net o q) (sym is) (record {
+      fits = fits-seeded net o.seed o.words inputs same;
+      begins = record {
+        added = [];
+        is = ap (λ (n : ℕ). (seeded o.seed o.words n).patterns) same ∙ sym (append-nil (first_pool net o).patterns);
+      };
+    })
+pool-seeded (Err e) net o inputs same is = tt
+
+find-front : (test : List Bool → Bool) (xs ys : List (List Bool)) → find test (xs ++ ys) ≡ None → find test xs ≡ None
+find-front test [] ys none = refl
+find-front test (x ∷ xs) ys none = go (test x) refl none (find-front test xs ys)
+  where
+    go : (b : Bool) → test x ≡ b → find test (x ∷ xs ++ ys) ≡ None → (find test (xs ++ ys) ≡ None → find test xs ≡ None)
+        → find test (x ∷ xs) ≡ None
+    go true is n rest = let t : Some x ≡ None = rw is at n in cc
+    go false is n rest = rw is (rest (rw is at n))
+
+-- where no pattern of a longer pool tells an output apart, none of the first ones does
+none-first : (net : AigPair) (old new : Patterns) → Extends old new → NoneApart net new.patterns → NoneApart net old.patterns
+none-first net old new extends none j below =
+    find-front (tells_apart net j) old.patterns extends.added
+    (subst (λ (ps : List (List Bool)). find (tells_apart net j) ps ≡ None) extends.is (none j below))
 
 -- ---- a round
 
@@ -124,38 +149,131 @@ any-front test (x ∷ xs) fs some = go (test x) refl some (any-front test xs fs)
     go true is s rest = rw is refl
     go false is s rest = rw is (rest (rw is at s))
 
--- what is swept stays swept, whatever comes behind
-pub swept-more : (net : AigPair) (es fs : List Entry) → IsSwept net es → IsSwept net (es ++ fs)
-swept-more net es fs swept n gate =
-    elim (swept n (record { side = gate.side; var = gate.var; gate = gate.gate; there = gate.there; root = root-front es fs n gate.root })) [
-      | inl spent ↦ inl (record { lit = spent.lit; spent = any-front (is_spent_on n spent.lit) es fs spent.spent })
-      | inr lone ↦ inr (λ m earlier root. lone m earlier (root-front es fs m.node root))
-    ]
+-- an entry about an output merges nothing
+output-subject : (e : Entry) (n : Node) → is_of_output e ≡ true → subject_of e ≢ Some (Merged n)
+output-subject (Merge node lit steps) n output = cc
+output-subject (Apart node lit input) n output = cc
+output-subject (Spent node lit seen log) n output = cc
+output-subject (Out j steps) n output = λ e. cc
+output-subject (OutApart j input) n output = λ e. cc
+output-subject (OutSpent j seen log) n output = λ e. cc
+
+roots-stay : (es fs : List Entry) (n : Node) → list_all is_of_output fs ≡ true → IsRoot es n → IsRoot (es ++ fs) n
+roots-stay es [] n all root = subst (λ (gs : List Entry). IsRoot gs n) (sym (append-nil es)) root
+roots-stay es (f ∷ fs) n all root = go (is_of_output f) refl all (λ more mid. roots-stay (es ++ f ∷ []) fs n more mid)
+  where
+    go : (b : Bool) → is_of_output f ≡ b → list_all is_of_output (f ∷ fs) ≡ true
+        → (list_all is_of_output fs ≡ true → IsRoot (es ++ f ∷ []) n → IsRoot ((es ++ f ∷ []) ++ fs) n) → IsRoot (es ++ f ∷ fs) n
+    go true is all rest =
+        subst (λ (gs : List Entry). IsRoot gs n) (append_assoc es (f ∷ []) fs)
+        (rest (rw is at all) (root-stays es f n (output-subject f n is) root))
+    go false is all rest = let t : false ≡ true = rw is at all in cc
+
+-- what is reduced stays reduced, whatever is found of the outputs
+pub reduced-more : (net : AigPair) (es fs : List Entry) (patterns : List (List Bool)) → list_all is_of_output fs ≡ true
+    → IsReduced net es patterns → IsReduced net (es ++ fs) patterns
+reduced-more net es fs patterns outputs reduced t gate leader earlier =
+    any-front (is_spent_on t.node t.lit) es fs
+    (reduced t
+    (record { side = gate.side; var = gate.var; gate = gate.gate; there = gate.there; root = root-front es fs t.node gate.root })
+    (record {
+      candidate = record {
+        there = leader.candidate.there;
+        root = root-front es fs t.lit.node leader.candidate.root;
+        alike = leader.candidate.alike;
+      };
+      least = λ m before candidate. leader.least m before (record {
+        there = candidate.there;
+        root = roots-stay es fs m.node outputs candidate.root;
+        alike = candidate.alike;
+      });
+    })
+    earlier)
 
 swept-for : (net : AigPair) (es : List Entry) (f : Finding) → IsSwept net es → IsSweptFor net es f
 swept-for net es Equivalent swept = swept
-swept-for net es (Different j input) swept = tt
+swept-for net es (Different j input) swept = inl swept
 swept-for net es Undecided swept = swept
 
 -- what a sweep and the queries about the outputs find
-pub found-by_sweep : (net : AigPair) (o : Options) (first mid last : Entries) (v : Verdict) → first ≡ empty_book o
-    → Grows net is_of_pair first mid → IsSwept net mid.entries → Grows net is_of_output mid last
+pub found-by_sweep : (net : AigPair) (o : Options) (pool seen : Patterns) (first mid swept last : Entries) (v : Verdict)
+    → first ≡ empty_book o → IsPoolOf net o pool → NoneApart net pool.patterns
+    → Grows net is_of_pair first mid → Grows net is_of_pair mid swept → Fits net seen → Extends pool seen
+    → IsReduced net swept.entries seen.patterns → Grows net is_of_output swept last
     → Finds net last.entries (finding_of v) → ListsOpen net last.entries v
     → ((f : Finding) → Finds net last.entries f → Means net last.entries f)
-    → ((f : Finding) → Finds net last.entries f → IsWithinFor net last.out_budget f) → IsFound net o last v
-found-by_sweep net o first mid last v first_is sweep swept outs finds opens means within = record {
+    → ((f : Finding) → Finds net last.entries f → IsWithinFor net last.out_budget f)
+    → ((es : List Entry) (ps : List (List Bool)) → AllByRecursion (λ bits. length bits ≡ length net.a.inputs) ps
+    → IsReduced net es ps → IsSwept net es)
+    → IsFound net o (Some seen) last v
+found-by_sweep net o pool seen first mid swept last v begun pool_of none structure rounds fits extends reduced outputs finds opens means within sweeps = record {
   settled = record {
-    sweep_is = outs.sweep_budget ∙ (sweep.sweep_budget ∙ ap (λ (b : Entries). b.sweep_budget) first_is);
-    budget_is = outs.out_budget ∙ (sweep.out_budget ∙ ap (λ (b : Entries). b.out_budget) first_is);
-    legal = outs.legal;
+    sweep_is = outputs.sweep_budget ∙ rounds.sweep_budget ∙ structure.sweep_budget ∙ ap (λ (b : Entries). b.sweep_budget) begun;
+    budget_is = outputs.out_budget ∙ rounds.out_budget ∙ structure.out_budget ∙ ap (λ (b : Entries). b.out_budget) begun;
+    legal = outputs.legal;
     finds = finds;
     means = means (finding_of v) finds;
-    swept = swept-for net last.entries (finding_of v)
-        (subst (λ (es : List Entry). IsSwept net es) (sym outs.begins) (swept-more net mid.entries outs.added swept));
+    swept = swept-for net last.entries (finding_of v) (sweeps last.entries seen.patterns fits.whole reduced-last);
     within = within (finding_of v) finds;
   };
   open_are = opens;
+  patterns = seen;
+  pool_is = refl;
+  pool_of = record { fits = fits; begins = extends-twice (first_pool net o) pool seen pool_of.begins extends };
+  way = inr (record { none = none-first net (first_pool net o) pool pool_of.begins none; reduced = reduced-last });
 }
+  where
+    reduced-last : IsReduced net last.entries seen.patterns
+    reduced-last =
+        subst (λ (es : List Entry). IsReduced net es seen.patterns) (sym outputs.begins)
+        (reduced-more net swept.entries outputs.added seen.patterns outputs.kinds reduced)
+
+-- ---- at once
+
+module _ (net : AigPair) (j : ℕ) (input : List Bool) where
+  about-one : about (OutApart j input ∷ []) j ≡ Some (OutApart j input)
+  about-one = rw (is_on-subject (Output j) (OutApart j input) refl) refl
+
+  lesser-none : (k : ℕ) → k < j → has_apart (OutApart j input ∷ []) k ≡ false
+  lesser-none k less = rw (off-subject (Output k) (OutApart j input) other) refl
+    where
+      other : subject_of (OutApart j input) ≢ Some (Output k)
+      other e = let same : j ≡ k = cc in absurd (omega (arith, same, less))
+
+-- what a pattern shows at once
+pub found-at_once : (net : AigPair) (o : Options) (pool : Patterns) (first last : Entries) (j : ℕ) (input told : List Bool)
+    → first ≡ empty_book o → IsPoolOf net o pool → IsFirstApart net pool.patterns j input
+    → last ≡ with_last first (OutApart j input) → IsLegal net last → told ≡ input
+    → ((f : Finding) → Finds net last.entries f → Means net last.entries f)
+    → IsFound net o (Some pool) last (verdict.Different j told)
+found-at_once net o pool first last j input told begun pool_of apart put legal same means =
+    subst (λ (bits : List Bool). IsFound net o (Some pool) last (verdict.Different j bits)) (sym same) (record {
+      settled = record {
+        sweep_is = ap (λ (b : Entries). b.sweep_budget) book-is;
+        budget_is = ap (λ (b : Entries). b.out_budget) book-is;
+        legal = legal;
+        finds = finds;
+        means = means (Different j input) finds;
+        swept = inr entries-are;
+        within = tt;
+      };
+      open_are = tt;
+      patterns = pool;
+      pool_is = refl;
+      pool_of = pool_of;
+      way = inl (record { output = j; input = input; finding_is = refl; first = apart; entries_are = entries-are });
+    })
+  where
+    book-is : last ≡ with_last (empty_book o) (OutApart j input)
+    book-is = put ∙ ap (λ (b : Entries). with_last b (OutApart j input)) begun
+
+    entries-are : last.entries ≡ OutApart j input ∷ []
+    entries-are = ap (λ (b : Entries). b.entries) book-is
+
+    finds : Finds net last.entries (Different j input)
+    finds =
+        subst (λ (es : List Entry). Finds net es (Different j input)) (sym entries-are)
+        (about-one net j input, lesser-none net j input)
 
 -- when the pair at a place is settled those behind it may be asked for
 pub asked-drop : (net : AigPair) (ts : List Task) (i : ℕ) (d : Task) (old new : Entries) → i < length ts → Settles net (get_or ts i d) old new
@@ -167,8 +285,3 @@ asked-drop net ts i d old new below settles asked =
 pub none-items : (ts : List Task) → (length ts == 0) ≡ true → ts ≡ []
 none-items [] none = refl
 none-items (t ∷ ts) none = let z : length (t ∷ ts) ≡ 0 = grind (arith, nat_tests) in absurd (omega arith)
-
-pub grows-on : (r : Result (Unit {0}) AllocError) (net : AigPair) (old mid new : Entries) → Grows net is_of_pair old mid
-    → OnOk r (Grows net is_of_pair mid new) → OnOk r (Grows net is_of_pair old new)
-grows-on (Ok x) net old mid new first second = grows-twice net is_of_pair old mid new first second
-grows-on (Err e) net old mid new first second = tt

@@ -16,11 +16,10 @@ use Rattle.unit_prop.specs.Variables.{variables}
 use Rattle.unit_prop.proofs.Facts.{in_turn-append}
 use Rattle.lemma_book.specs.declared.entry.Entry.{Entry}
 use Rattle.lemma_book.specs.declared.entry.Entry.TheVariants.{Merge, Apart, Spent, Out, OutApart, OutSpent}
-use Rattle.lemma_book.specs.Entry.{Entries, about}
+use Rattle.lemma_book.specs.Entry.{Entries, about, is_spent, has_spent, outputs_of}
 use Rattle.lemma_book.specs.Good.{Count, NoStep, NotNew, IsGood}
 use Rattle.lemma_book.specs.Book.{IsLegal}
 use Rattle.lemma_book.proofs.Facts.{IsGoodAfter, about-all, cone-one, cone-over, in_turn-each}
-use Rattle.proof_stitch.specs.Derivation.{is_spent, has_spent, outputs_of}
 use Rattle.check_session.specs.Finding.{Finding, Equivalent, Different, Undecided, Finds}
 use Rattle.check_session.specs.Check.{IsWithinFor}
 

@@ -1,18 +1,13 @@
 -- What a check finds, as the entries of its book show it, and what that means for the circuits.
 use Rattle.std.specs.Prelude.{◌≡◌, ◌≢◌, ◌↔◌, ℕ, ◌<◌, Bool, true, false, ⊤, List, [], drop, filter, length, Some}
-use Rattle.std.specs.Option.{option_map_or}
 use Rattle.std.specs.List.{list_any, AllByRecursion}
 use Rattle.lits.specs.Assignment.{IsSatisfiable}
 use Rattle.lits.specs.Same.{opposite_dim}
-use Rattle.lemma_book.specs.Agreement.{IsSame}
-use Rattle.netlist.specs.Net.{AigPair, Agree, Differ}
+use Rattle.netlist.specs.Net.{AigPair, DiffersOn, AgreesOn, Agree, Differ}
 use Rattle.netlist.specs.Miter.{miter_of}
 use Rattle.lemma_book.specs.declared.entry.Entry.{Entry}
 use Rattle.lemma_book.specs.declared.entry.Entry.TheVariants.{Merge, Apart, Spent, Out, OutApart, OutSpent}
-use Rattle.lemma_book.specs.Good.{IsOutApart}
-use Rattle.lemma_book.specs.Entry.{about}
-use Rattle.proof_stitch.specs.Stitch.{has_out}
-use Rattle.proof_stitch.specs.Derivation.{has_spent, outputs_of}
+use Rattle.lemma_book.specs.Entry.{about, has_out, has_spent, has_apart, is_merge, outputs_of}
 
 pub data Finding : Type 0 where
   -- the circuits agree on every input
@@ -21,28 +16,6 @@ pub data Finding : Type 0 where
   Different : ℕ → List Bool → Finding
   -- no output differs as far as is known, and the queries of some spent their budgets
   Undecided : Finding
-
--- the entry has an input on which its output differs
-abbrev pub is_apart : Entry → Bool
-is_apart (Merge node lit steps) = false
-is_apart (Apart node lit input) = false
-is_apart (Spent node lit seen log) = false
-is_apart (Out j steps) = false
-is_apart (OutApart j input) = true
-is_apart (OutSpent j seen log) = false
-
--- the output's entry does
-abbrev pub has_apart : List Entry → ℕ → Bool
-has_apart entries j = option_map_or is_apart (about entries j) false
-
--- the entry says that two nodes have one value
-abbrev pub is_merge : Entry → Bool
-is_merge (Merge node lit steps) = true
-is_merge (Apart node lit input) = false
-is_merge (Spent node lit seen log) = false
-is_merge (Out j steps) = false
-is_merge (OutApart j input) = false
-is_merge (OutSpent j seen log) = false
 
 -- an open output's query saw all the entries that say that two nodes have one value
 abbrev pub SeesMerges : List Entry → Entry → Type 0
@@ -77,12 +50,11 @@ pub record IsAgreed (net : AigPair) : Type 0 where
   pub exact : IsSatisfiable opposite_dim (miter_of net) ↔ Differ net
 
 -- output j is there, and differs on the input, one truth value for each of the circuits' inputs
-pub record DiffersAt (net : AigPair) (j : ℕ) (input : List Bool) : Type 0 where
-  pub within : j < length net.a.outputs
-  pub apart : IsOutApart net j input
+abbrev pub DiffersAt : AigPair → ℕ → List Bool → Type 0
+DiffersAt net j input = DiffersOn net j input
 
 -- what a finding means for the circuits; where outputs are open, for those that aren't
 abbrev pub Means : AigPair → List Entry → Finding → Type 0
 Means net entries Equivalent = IsAgreed net
 Means net entries (Different j input) = DiffersAt net j input
-Means net entries Undecided = (j : ℕ) → j < length net.a.outputs → has_spent entries j ≡ false → IsSame net j
+Means net entries Undecided = (j : ℕ) → j < length net.a.outputs → has_spent entries j ≡ false → AgreesOn net j

@@ -4,11 +4,10 @@ use Rattle.std.specs.List.{AllByRecursion}
 use Rattle.netlist.specs.Net.{AigPair}
 use Rattle.lemma_book.specs.declared.entry.Entry.TheVariants.{OutApart}
 use Rattle.lemma_book.specs.declared.entry.Entry.{Entry}
-use Rattle.lemma_book.specs.Entry.{about}
+use Rattle.lemma_book.specs.Entry.{about, has_apart, has_spent}
 use Rattle.check_session.specs.declared.verdict.Verdict.{Verdict}
 use Rattle.check_session.specs.declared.verdict.Verdict.TheVariants as verdict
-use Rattle.check_session.specs.Finding.{Finding, Equivalent, Different, Undecided, has_apart, SeesMerges, open_outputs}
-use Rattle.proof_stitch.specs.Derivation.{has_spent}
+use Rattle.check_session.specs.Finding.{Finding, Equivalent, Different, Undecided, SeesMerges, open_outputs}
 use Rattle.check_session.specs.Growth.{is_of_pair}
 
 -- the entry is about an output

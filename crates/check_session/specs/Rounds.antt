@@ -1,5 +1,5 @@
 -- A round of the sweep: its tasks are settled one after the other, and counterexamples join the patterns.
-use Rattle.std.specs.Prelude.{◌≡◌, ◌≢◌, ℕ, Bool, ⊤, List, [], ◌∷◌, ◌++◌, length}
+use Rattle.std.specs.Prelude.{◌≡◌, ◌≢◌, ℕ, Some, ⊤, List, [], ◌∷◌, ◌++◌, length, slice_get}
 use Rattle.std.specs.List.{AllByRecursion}
 use Rattle.lits.specs.declared.node.Node.{Node}
 use Rattle.netlist.specs.Net.{AigPair}
@@ -10,13 +10,9 @@ use Rattle.lemma_book.specs.declared.entry.Task.{Task}
 use Rattle.lemma_book.specs.Entry.{Entries}
 use Rattle.lemma_book.specs.Root.{IsRoot}
 use Rattle.lemma_book.specs.Good.{IsEarlier}
+use Rattle.cone_query.specs.Query.{task_of}
 use Rattle.sig_classes.specs.Leader.{IsOpenGate, AreRising}
 use Rattle.check_session.specs.Growth.{Grows, is_of_pair}
-
--- each pattern has one truth value for each input of the pair
-pub record Fits (net : AigPair) (pool : Patterns) : Type 0 where
-  pub inputs : pool.inputs ≡ length net.a.inputs
-  pub whole : AllByRecursion (λ bits. length bits ≡ length net.a.inputs) pool.patterns
 
 -- the pair may be asked for: a gate that isn't merged, and an earlier literal
 pub record MayAsk (net : AigPair) (entries : List Entry) (task : Task) : Type 0 where
@@ -28,9 +24,17 @@ pub record AreAsked (net : AigPair) (entries : List Entry) (tasks : List Task) :
   pub each : AllByRecursion (MayAsk net entries) tasks
   pub rising : AreRising net tasks
 
--- the pair is settled: the book has one more entry about it, and no other node is merged
+-- some entry is about the pair
+pub record HasEntry (entries : List Entry) (task : Task) : Type 0 where
+  pub place : ℕ
+  pub entry : Entry
+  pub at : slice_get entries place ≡ Some entry
+  pub about : task_of entry ≡ Some task
+
+-- the pair is settled: the book has one more entry, which is about it, and no other node is merged
 pub record Settles (net : AigPair) (task : Task) (old new : Entries) : Type 0 where
   pub grows : Grows net is_of_pair old new
+  pub about : HasEntry new.entries task
   pub others : (n : Node) → n ≢ task.node → IsRoot old.entries n → IsRoot new.entries n
 
 -- a counterexample has so many truth values
@@ -50,8 +54,3 @@ Joins (Spent node lit seen log) old new = new ≡ old
 Joins (Out j steps) old new = new ≡ old
 Joins (OutApart j input) old new = new ≡ old
 Joins (OutSpent j seen log) old new = new ≡ old
-
--- patterns joined the pool, if any
-pub record Extends (old new : Patterns) : Type 0 where
-  pub added : List (List Bool)
-  pub is : new.patterns ≡ old.patterns ++ added

@@ -1,4 +1,8 @@
+ghost use Rattle.std.specs.Prelude.{◌≡◌, Bool, List, length};
+ghost use Rattle.std.specs.List.{AllByRecursion};
 ghost use Rattle.lemma_book.specs.Book.{IsLegal};
+ghost use Rattle.lemma_book.specs.declared.entry.Entry.{Entry};
+ghost use Rattle.sig_classes.specs.Leader.{IsReduced, IsSwept};
 ghost use Rattle.check_session.specs.Check.{IsWithinFor};
 ghost use Rattle.check_session.specs.Finding.{Finding, Finds, Means};
 
@@ -26,4 +30,14 @@ pub(crate) fn is_within(net: &Net, book: &Book)
     netlist::laws::is_net(net);
     unit_prop::laws::budget::budget_log_length();
     unit_prop::laws::budget::variables_among();
+}
+
+/// A law: a book that is reduced over patterns, each with a truth value for each input, is swept.
+pub(crate) fn is_swept(net: &Net)
+    ensures { (entries : List Entry) (patterns : List (List Bool))
+        → AllByRecursion (λ bits. length bits ≡ length net.now.a.inputs) patterns
+        → IsReduced net.now entries patterns → IsSwept net.now entries }
+{
+    netlist::laws::is_net(net);
+    sig_classes::laws::reduced_is_swept();
 }

@@ -1,11 +1,15 @@
-ghost use Rattle.std.specs.Prelude.{◌≡◌, ◌<◌, length, IfOk, IfSome};
-ghost use Rattle.netlist.specs.Circuit.{output_value};
-ghost use Rattle.netlist.specs.Net.{nodes_of};
-ghost use Rattle.check_session.specs.Finding.{DiffersAt};
-ghost use Rattle.check_session.specs.Rounds.{Fits};
+ghost use Rattle.std.specs.Prelude.{◌≡◌, ◌<◌, Some, [], length, Bool, List, IfOk, OnOk, MatchOption, bit_xor};
+ghost use Rattle.std.specs.List.{slice_index_or};
+ghost use Rattle.lits.specs.declared.literal.Lit.{Lit};
+ghost use Rattle.netlist.specs.Net.{differs, nodes_of, output_of};
+ghost use Rattle.word_sim.specs.Patterns.{is_set, words_of};
+ghost use Rattle.word_sim.specs.Rows.{AreSignatures, IsRow, mask_of};
+ghost use Rattle.check_session.specs.Pool.{Fits, HasBitsOf, IsFirstApart, IsFirstOf, IsPoolOf, NoneApart, bit_of, tells_apart};
+ghost use Rattle.check_session.specs.Sweep.{Stays};
 
+use crate::sweep::Sweep;
 use lits::{Listed, Side};
-use netlist::{Circuit, Net};
+use netlist::Net;
 use std::alloc::{AllocError, Global};
 use word_sim::{Pool, Sigs, signatures};
 
@@ -16,23 +20,69 @@ pub(crate) struct Difference {
     pub(crate) input: Listed<bool>,
 }
 
-/// The first output that a pattern of the pool tells apart, with the first such pattern.
+impl Sweep<'_> {
+    /// The least output that a pattern tells apart, with the first such pattern: one of the pool's, or else
+    /// one of the search's own, which then joins the pool.
+    pub(crate) fn patterns(&mut self) -> Result<Option<Difference>, AllocError>
+        requires { IsPoolOf self.old.net.now self.old.options self.old.pool }
+        ensures stays { OnOk result (Stays self.old self.new) }
+        ensures book { OnOk result (self.new.book ≡ self.old.book) }
+        ensures pool { OnOk result (IsPoolOf self.new.net.now self.new.options self.new.pool) }
+        ensures first { IfOk result (λ d. MatchOption d (NoneApart self.new.net.now self.new.pool.patterns)
+            (λ x. IsFirstApart self.new.net.now self.new.pool.patterns x.output x.input)) }
+    {
+        match difference_in(self.alloc, self.net, &self.pool)? {
+            Some(difference) => Ok(Some(difference)),
+            None => self.own_patterns(),
+        }
+    }
+
+    /// The same where no pattern of the pool tells an output apart.
+    fn own_patterns(&mut self) -> Result<Option<Difference>, AllocError>
+        requires pool { IsPoolOf self.old.net.now self.old.options self.old.pool }
+        requires none { NoneApart self.old.net.now self.old.pool.patterns }
+        ensures stays { OnOk result (Stays self.old self.new) }
+        ensures book { OnOk result (self.new.book ≡ self.old.book) }
+        ensures pool { OnOk result (IsPoolOf self.new.net.now self.new.options self.new.pool) }
+        ensures first { IfOk result (λ d. MatchOption d (NoneApart self.new.net.now self.new.pool.patterns)
+            (λ x. IsFirstApart self.new.net.now self.new.pool.patterns x.output x.input)) }
+    {
+        let Some(input) = self.engine.difference(self.alloc, self.net)? else {
+            return Ok(None);
+        };
+        self.join(input.as_slice())?;
+        difference_in(self.alloc, self.net, &self.pool)
+    }
+
+    /// Lets a pattern with a truth value for each input join the pool.
+    fn join(&mut self, input: &[bool]) -> Result<(), AllocError>
+        requires { IsPoolOf self.old.net.now self.old.options self.old.pool }
+        ensures stays { OnOk result (Stays self.old self.new) }
+        ensures book { OnOk result (self.new.book ≡ self.old.book) }
+        ensures pool { OnOk result (IsPoolOf self.new.net.now self.new.options self.new.pool) }
+    {
+        if input.len() == self.pool.inputs() as usize {
+            self.pool.add(input)
+        } else {
+            Ok(())
+        }
+    }
+}
+
+/// The least output that a pattern of the pool tells apart, with the first such pattern.
 ///
-/// The rows of signatures are searched word by word; what is found is evaluated on both circuits before
-/// it is told, as Berkeley's ABC does with each counterexample.
-pub(crate) fn difference_in(
-    alloc: Global,
-    net: &Net,
-    pool: &Pool,
-) -> Result<Option<Difference>, AllocError>
+/// The rows of signatures are searched word by word.
+fn difference_in(alloc: Global, net: &Net, pool: &Pool) -> Result<Option<Difference>, AllocError>
     requires { Fits net.now pool.now }
-    ensures { IfOk result (λ d. IfSome d (λ x. DiffersAt net.now x.output x.input)) }
+    ensures { IfOk result (λ d. MatchOption d (NoneApart net.now pool.now.patterns)
+        (λ x. IsFirstApart net.now pool.now.patterns x.output x.input)) }
 {
+    netlist::laws::is_net(net);
     let sigs = signatures(alloc, net, pool)?;
     for output in 0..net.outputs() {
         if let Some(place) = first_apart(net, &sigs, output) {
-            let input = pattern_at(alloc, net, &sigs, place)?;
-            return evaluated(alloc, net, output, input);
+            let input = Listed::of(pattern_at(alloc, &sigs, place, pool.inputs())?);
+            return Ok(Some(Difference { output, input }));
         }
     }
     Ok(None)
@@ -40,107 +90,108 @@ pub(crate) fn difference_in(
 
 /// The number of the first pattern that tells an output apart.
 fn first_apart(net: &Net, sigs: &Sigs, output: u32) -> Option<u64>
-    requires { length sigs.now.rows ≡ length (nodes_of net.now) }
+    requires rows { length sigs.now.rows ≡ length (nodes_of net.now) }
+    requires output { output < length net.now.a.outputs }
+    ensures { (patterns : List (List Bool)) → AreSignatures net.now patterns sigs.now
+        → IsFirstOf (length patterns)
+        (λ p. tells_apart net.now output (slice_index_or patterns p [])) result }
 {
-    let (first, first_neg) = row_of(net, sigs, Side::A, output)?;
-    let (second, second_neg) = row_of(net, sigs, Side::B, output)?;
-    let place = first_bit_apart(first, second, first_neg != second_neg)?;
-    if place < sigs.patterns() {
-        Some(place)
-    } else {
-        None
-    }
+    netlist::laws::is_net(net);
+    let (first, first_neg) = output_row(net, sigs, Side::A, output);
+    let (second, second_neg) = output_row(net, sigs, Side::B, output);
+    first_bit_apart(
+        first,
+        second,
+        are_opposite(first_neg, second_neg),
+        sigs.patterns(),
+    )
 }
 
-/// The number of the first bit in which two rows differ, one of which is turned first where they are those of
-/// opposite signs.
-fn first_bit_apart(first: &[u64], second: &[u64], are_opposite: bool) -> Option<u64> {
-    let turned = if are_opposite { u64::MAX } else { 0 };
-    for word in 0..first.len().min(second.len()) {
-        let apart = first[word] ^ second[word] ^ turned;
-        if apart != 0 {
-            let bit = u64::from(apart.trailing_zeros());
-            return Some((word as u64).saturating_mul(64).saturating_add(bit));
+/// The row of an output's node on one side, and whether the output is its negation.
+fn output_row<'a>(net: &Net, sigs: &'a Sigs, side: Side, output: u32) -> (&'a [u64], bool)
+    requires rows { length sigs.now.rows ≡ length (nodes_of net.now) }
+    requires output { output < length net.now.a.outputs }
+    ensures size { length result.0.now ≡ words_of sigs.now.patterns }
+    ensures row { (patterns : List (List Bool)) (lit : Lit) → AreSignatures net.now patterns sigs.now
+        → output_of net.now side output ≡ Some lit → IsRow net.now patterns lit.node result.0.now }
+    ensures sign { (lit : Lit) → output_of net.now side output ≡ Some lit → result.1 ≡ lit.neg }
+{
+    netlist::laws::is_net(net);
+    let lit = net.output(side, output).unwrap();
+    let position = net.position(lit.node).unwrap();
+    (sigs.row(position), lit.neg)
+}
+
+/// The number of the first of so many bits in which two rows differ, one of which is turned first where they
+/// are those of opposite signs.
+fn first_bit_apart(first: &[u64], second: &[u64], are_opposite: bool, count: u64) -> Option<u64>
+    requires first { length first.now ≡ words_of count }
+    requires second { length second.now ≡ words_of count }
+    ensures { IsFirstOf count
+        (λ p. differs are_opposite (differs (bit_of first.now p) (bit_of second.now p))) result }
+{
+    for word in 0..first.len() {
+        if let Some(bit) = first_set(word_apart(first, second, are_opposite, word)) {
+            let before = 64 * word as u64;
+            return if u64::from(bit) < count - before {
+                Some(before + u64::from(bit))
+            } else {
+                None
+            };
         }
     }
     None
 }
 
-/// The row of an output's node on one side, and whether the output is its negation.
-fn row_of<'a>(net: &Net, sigs: &'a Sigs, side: Side, output: u32) -> Option<(&'a [u64], bool)>
-    requires { length sigs.now.rows ≡ length (nodes_of net.now) }
+/// Whether one of two signs is set alone.
+fn are_opposite(first: bool, second: bool) -> bool
+    ensures { result ≡ differs first second }
 {
-    let lit = net.output(side, output)?;
-    let position = net.position(lit.node)?;
-    if position < net.positions() {
-        Some((sigs.row(position), lit.neg))
-    } else {
+    first != second
+}
+
+/// The bits of a word in which two rows differ, one of which is turned first where they are those of opposite
+/// signs.
+fn word_apart(first: &[u64], second: &[u64], are_opposite: bool, word: usize) -> u64
+    requires first { word < length first.now }
+    requires second { word < length second.now }
+    ensures { result ≡ bit_xor (bit_xor (slice_index_or first.now word 0) (slice_index_or second.now word 0))
+        (mask_of are_opposite) }
+{
+    let turned = if are_opposite { u64::MAX } else { 0 };
+    first[word] ^ second[word] ^ turned
+}
+
+/// The lowest bit of a word that is set.
+fn first_set(word: u64) -> Option<u32>
+    ensures { IsFirstOf 64 (λ b. is_set word b) result }
+{
+    if word == 0 {
         None
+    } else {
+        Some(word.trailing_zeros())
     }
 }
 
-/// The inputs' truth values in a pattern. Input i stands at position i + 1.
-fn pattern_at(alloc: Global, net: &Net, sigs: &Sigs, place: u64) -> Result<Vec<bool>, AllocError>
-    requires { length sigs.now.rows ≡ length (nodes_of net.now) }
-    ensures { IfOk result (λ v. length v.items ≡ length net.now.a.inputs) }
+/// The truth values of so many inputs in a pattern. Input i stands at position i + 1.
+fn pattern_at(alloc: Global, sigs: &Sigs, place: u64, inputs: u32) -> Result<Vec<bool>, AllocError>
+    requires rows { inputs < length sigs.now.rows }
+    requires place { place < sigs.now.patterns }
+    ensures { IfOk result (λ v. HasBitsOf sigs.now place inputs v.items) }
 {
-    let mut input = Vec::new(alloc);
-    for (index, _) in net.circuit(Side::A).inputs().iter().enumerate() {
-        input.push(is_set(net, sigs, index, place))?;
+    let mut values = Vec::new(alloc);
+    for input in 0..inputs {
+        values.push(is_true(sigs, input + 1, place))?;
     }
-    Ok(input)
+    Ok(values)
 }
 
-/// The truth value of an input in a pattern.
-fn is_set(net: &Net, sigs: &Sigs, input: usize, place: u64) -> bool
-    requires { length sigs.now.rows ≡ length (nodes_of net.now) }
+/// The value of the node at a position on a pattern.
+fn is_true(sigs: &Sigs, position: u32, place: u64) -> bool
+    requires position { position < length sigs.now.rows }
+    requires place { place < sigs.now.patterns }
+    ensures { result ≡ bit_of (slice_index_or sigs.now.rows position []) place }
 {
-    match u32::try_from(input.saturating_add(1)) {
-        Ok(position) if position < net.positions() => {
-            match sigs.row(position).get((place / 64) as usize) {
-                Some(word) => (word >> (place % 64)) & 1 == 1,
-                None => false,
-            }
-        }
-        _ => false,
-    }
-}
-
-/// The output and the input, if both circuits' outputs differ on it.
-fn evaluated(
-    alloc: Global,
-    net: &Net,
-    output: u32,
-    input: Vec<bool>,
-) -> Result<Option<Difference>, AllocError>
-    requires { length input.items ≡ length net.now.a.inputs }
-    ensures { IfOk result (λ d. IfSome d (λ x. DiffersAt net.now x.output x.input)) }
-{
-    let first = value_of(alloc, net.circuit(Side::A), output, input.as_slice())?;
-    let second = value_of(alloc, net.circuit(Side::B), output, input.as_slice())?;
-    match (first, second) {
-        (Some(first), Some(second)) if first != second => {
-            let input = Listed::of(input);
-            Ok(Some(Difference { output, input }))
-        }
-        _ => Ok(None),
-    }
-}
-
-/// The value of an output of a circuit; none where there is no such output.
-fn value_of(
-    alloc: Global,
-    circuit: &Circuit,
-    output: u32,
-    input: &[bool],
-) -> Result<Option<bool>, AllocError>
-    requires { length input.now ≡ length circuit.now.inputs }
-    ensures { IfOk result (λ o. IfSome o (λ b. (output < length circuit.now.outputs)
-        × (b ≡ output_value circuit.now input.now output))) }
-{
-    let Some(lit) = circuit.outputs().get(output as usize) else {
-        return Ok(None);
-    };
-    let mut buf = vec![in alloc; false; circuit.gates().len()]?;
-    Ok(Some(circuit.value(input, *lit, buf.as_mut_slice())))
+    let row = sigs.row(position);
+    (row[(place / 64) as usize] >> (place % 64)) & 1 == 1
 }

@@ -1,155 +1,91 @@
-ghost use Rattle.std.specs.Prelude.{◌≡◌, ◌<◌, Some, IfOk, OnOk};
+ghost use Rattle.std.specs.Prelude.{◌≡◌, OnOk};
+ghost use Rattle.std.specs.List.{AllByRecursion};
 ghost use Rattle.lemma_book.specs.Book.{IsLegal};
-ghost use Rattle.lemma_book.specs.Good.{IsGood};
-ghost use Rattle.cone_query.specs.Query.{task_of};
-ghost use Rattle.sig_classes.specs.Leader.{IsSwept};
+ghost use Rattle.sig_classes.specs.Leader.{IsReduced};
 ghost use Rattle.check_session.specs.Growth.{Grows, is_of_pair};
-ghost use Rattle.check_session.specs.Rounds.{Extends, Fits, MayAsk, AreAsked, HasWholeInput, Joins, Settles};
+ghost use Rattle.check_session.specs.Pool.{Extends, Fits};
+ghost use Rattle.check_session.specs.Rounds.{MayAsk, AreAsked, HasEntry, HasWholeInput, Joins, Settles};
+ghost use Rattle.check_session.specs.Sweep.{Stays};
 
-use crate::outputs::put;
-use circuit_search::{Caps, Search};
-use cone_query::pair;
-use lemma_book::{Book, Entry, Task};
-use netlist::Net;
+use crate::sweep::{Sweep, put};
+use lemma_book::{Entry, Task};
 use sig_classes::{KeptClasses, laws};
-use std::alloc::{AllocError, Global};
-use unit_prop::Refuter;
+use std::alloc::AllocError;
 use word_sim::Pool;
 
-/// Merges nodes that are equal: first those that the structure alone shows to be, then those of which
-/// queries show it.
-pub(crate) fn sweep<R: Refuter + Send>(
-    alloc: Global,
-    net: &Net,
-    book: &mut Book,
-    pool: &mut Pool,
-    search: &mut Search,
-    refuter: &mut R,
-) -> Result<(), AllocError>
-    requires legal { IsLegal net.now book.old }
-    requires fits { Fits net.now pool.old }
-    ensures grows { OnOk result (Grows net.now is_of_pair book.old book.new) }
-    ensures swept { OnOk result (IsSwept net.now book.new.entries) }
-{
-    strash_pass::run(alloc, net, book)?;
-    settle_rounds(alloc, net, book, pool, search, refuter)
-}
+impl Sweep<'_> {
+    /// Merges the nodes that the structure alone shows to be equal.
+    pub(crate) fn structure(&mut self) -> Result<(), AllocError>
+        requires { IsLegal self.old.net.now self.old.book }
+        ensures stays { OnOk result (Stays self.old self.new) }
+        ensures pool { OnOk result (self.new.pool ≡ self.old.pool) }
+        ensures grows { OnOk result (Grows self.new.net.now is_of_pair self.old.book self.new.book) }
+    {
+        strash_pass::run(self.alloc, self.net, &mut self.book)?;
+        Ok(())
+    }
 
-/// Settles pairs of nodes that no pattern tells apart, round after round, until simulation has no
-/// candidates left.
-///
-/// A counterexample joins the pool, so the next round has other candidates; a pair whose budget was
-/// spent is no candidate again. Each round puts an entry into the book at least, and simulates what joined
-/// the pool in the one before.
-fn settle_rounds<R: Refuter + Send>(
-    alloc: Global,
-    net: &Net,
-    book: &mut Book,
-    pool: &mut Pool,
-    search: &mut Search,
-    refuter: &mut R,
-) -> Result<(), AllocError>
-    requires legal { IsLegal net.now book.old }
-    requires fits { Fits net.now pool.old }
-    ensures grows { OnOk result (Grows net.now is_of_pair book.old book.new) }
-    ensures swept { OnOk result (IsSwept net.now book.new.entries) }
-{
-    netlist::laws::is_net(net);
-    let mut classes = KeptClasses::new(alloc, net)?;
-    for _ in 0..u64::MAX {
-        let due = classes.tasks(alloc, net, pool, book)?;
-        let pairs = due.as_slice();
-        if pairs.is_empty() {
-            laws::reduced_without_tasks();
-            laws::reduced_is_swept();
-            return Ok(());
+    /// Asks for pairs of nodes that no pattern tells apart, round after round, until simulation has no
+    /// candidates left.
+    ///
+    /// A counterexample joins the pool, so the next round has other candidates; a pair whose budget was
+    /// spent is no candidate again. Each round puts an entry for each of its pairs into the book, and
+    /// simulates what joined the pool in the one before.
+    pub(crate) fn rounds(&mut self) -> Result<(), AllocError>
+        requires legal { IsLegal self.old.net.now self.old.book }
+        requires fits { Fits self.old.net.now self.old.pool }
+        ensures stays { OnOk result (Stays self.old self.new) }
+        ensures grows { OnOk result (Grows self.new.net.now is_of_pair self.old.book self.new.book) }
+        ensures fits { OnOk result (Fits self.new.net.now self.new.pool) }
+        ensures pool { OnOk result (Extends self.old.pool self.new.pool) }
+        ensures reduced { OnOk result
+            (IsReduced self.new.net.now self.new.book.entries self.new.pool.patterns) }
+    {
+        let mut classes = KeptClasses::new(self.alloc, self.net)?;
+        for _ in 0..u64::MAX {
+            let due = classes.tasks(self.alloc, self.net, &self.pool, &self.book)?;
+            let pairs = due.as_slice();
+            if pairs.is_empty() {
+                laws::reduced_without_tasks();
+                return Ok(());
+            }
+            self.round(pairs)?;
         }
-        search.sift(net, pairs)?;
-        settle_all(alloc, net, pairs, book, pool, search, refuter)?;
+        Err(AllocError)
     }
-    Err(AllocError)
-}
 
-/// Settles the pairs of a round, in order.
-fn settle_all<R: Refuter + Send>(
-    alloc: Global,
-    net: &Net,
-    tasks: &[Task],
-    book: &mut Book,
-    pool: &mut Pool,
-    search: &mut Search,
-    refuter: &mut R,
-) -> Result<(), AllocError>
-    requires legal { IsLegal net.now book.old }
-    requires fits { Fits net.now pool.old }
-    requires tasks { AreAsked net.now book.old.entries tasks.now }
-    ensures grows { OnOk result (Grows net.now is_of_pair book.old book.new) }
-    ensures fits { OnOk result (Fits net.now pool.new) }
-    ensures pool { OnOk result (Extends pool.old pool.new) }
-{
-    for task in tasks {
-        settle(alloc, net, *task, book, pool, search, refuter)?;
+    /// Asks for the pairs of a round, in order.
+    fn round(&mut self, tasks: &[Task]) -> Result<(), AllocError>
+        requires legal { IsLegal self.old.net.now self.old.book }
+        requires fits { Fits self.old.net.now self.old.pool }
+        requires tasks { AreAsked self.old.net.now self.old.book.entries tasks.now }
+        ensures stays { OnOk result (Stays self.old self.new) }
+        ensures grows { OnOk result (Grows self.new.net.now is_of_pair self.old.book self.new.book) }
+        ensures fits { OnOk result (Fits self.new.net.now self.new.pool) }
+        ensures pool { OnOk result (Extends self.old.pool self.new.pool) }
+        ensures answered { OnOk result (AllByRecursion (HasEntry self.new.book.entries) tasks.now) }
+    {
+        self.engine.sift(self.net, tasks)?;
+        for task in tasks {
+            self.ask_pair(*task)?;
+        }
+        Ok(())
     }
-    Ok(())
-}
 
-/// Settles one pair, and keeps a counterexample as a pattern.
-fn settle<R: Refuter + Send>(
-    alloc: Global,
-    net: &Net,
-    task: Task,
-    book: &mut Book,
-    pool: &mut Pool,
-    search: &mut Search,
-    refuter: &mut R,
-) -> Result<(), AllocError>
-    requires legal { IsLegal net.now book.old }
-    requires fits { Fits net.now pool.old }
-    requires task { MayAsk net.now book.old.entries task }
-    ensures settles { OnOk result (Settles net.now task book.old book.new) }
-    ensures fits { OnOk result (Fits net.now pool.new) }
-    ensures pool { OnOk result (Extends pool.old pool.new) }
-{
-    let entry = entry_on(alloc, net, book, &task, search, refuter)?;
-    note_input(net, &entry, search)?;
-    keep_input(&entry, pool)?;
-    put(alloc, net, book, entry)
-}
-
-/// A good entry about a pair: what the lazy search finds, or else what the query of the whole cone answers.
-fn entry_on<R: Refuter + Send>(
-    alloc: Global,
-    net: &Net,
-    book: &Book,
-    task: &Task,
-    search: &mut Search,
-    refuter: &mut R,
-) -> Result<Entry, AllocError>
-    requires legal { IsLegal net.now book.now }
-    requires task { MayAsk net.now book.now.entries task.now }
-    ensures about { IfOk result (λ e. task_of e ≡ Some task.now) }
-    ensures good { IfOk result (λ e. IsGood net.now book.now e) }
-{
-    match search.pair(alloc, net, book, task, caps(book.sweep_budget()))? {
-        Some(entry) => Ok(entry),
-        None => pair(alloc, net, book, task, refuter),
-    }
-}
-
-/// How far the lazy search goes for a query of this budget. More conflicts are left to the solver, and deep
-/// candidates that are false would take many thousand choices.
-pub(crate) fn caps(budget: u64) -> Caps {
-    Caps {
-        conflicts: budget.min(100),
-        decisions: 2000,
-    }
-}
-
-/// Lets the search use the input of a counterexample for the round's later pairs.
-fn note_input(net: &Net, entry: &Entry, search: &mut Search) -> Result<(), AllocError> {
-    match entry {
-        Entry::Apart { input, .. } => search.note(net, input.as_slice()),
-        _ => Ok(()),
+    /// Asks for one pair, and keeps a counterexample as a pattern.
+    fn ask_pair(&mut self, task: Task) -> Result<(), AllocError>
+        requires legal { IsLegal self.old.net.now self.old.book }
+        requires fits { Fits self.old.net.now self.old.pool }
+        requires task { MayAsk self.old.net.now self.old.book.entries task }
+        ensures stays { OnOk result (Stays self.old self.new) }
+        ensures settles { OnOk result (Settles self.new.net.now task self.old.book self.new.book) }
+        ensures fits { OnOk result (Fits self.new.net.now self.new.pool) }
+        ensures pool { OnOk result (Extends self.old.pool self.new.pool) }
+    {
+        let entry = self.engine.pair(self.alloc, self.net, &self.book, &task)?;
+        self.engine.note(self.net, &entry)?;
+        keep_input(&entry, &mut self.pool)?;
+        put(self.alloc, self.net, &mut self.book, entry)
     }
 }
 

@@ -37,6 +37,26 @@ impl Verdict {
         Ok(Verdict::of_open(open))
     }
 
+    /// A copy.
+    pub(crate) fn copied(&self, alloc: Global) -> Result<Verdict, AllocError>
+        ensures { IfOk result (λ v. v ≡ self.now) }
+    {
+        match self {
+            Verdict::Equivalent => Ok(Verdict::Equivalent),
+            Verdict::Different { output, input } => {
+                let input = Listed::of(Vec::from_slice(alloc, input.as_slice())?);
+                Ok(Verdict::Different {
+                    output: *output,
+                    input,
+                })
+            }
+            Verdict::Undecided { outputs } => {
+                let outputs = Listed::of(Vec::from_slice(alloc, outputs.as_slice())?);
+                Ok(Verdict::Undecided { outputs })
+            }
+        }
+    }
+
     /// What the entry of one output tells by itself; an output that it leaves open is put behind those
     /// before.
     fn at(

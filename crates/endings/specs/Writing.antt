@@ -4,6 +4,7 @@ use Rattle.std.specs.Option.{option_map}
 use Rattle.desk_port.specs.Desk.{DeskState, WriteFault, OfSomePrefix, put, after_emptying, after_write, after_say}
 use Rattle.desk_port.specs.declared.errors.PutErr.{PutErr}
 use Rattle.desk_port.specs.declared.errors.PutErr.TheVariants as not_put
+use Rattle.endings.specs.Stops.{stop_of_put}
 use Rattle.endings.specs.declared.stop.Stop.{Stop}
 use Rattle.endings.specs.declared.stop.Stop.TheVariants.{CannotRead, TooLong, BadFile, NotAlike, CannotWrite, OutOfMemory}
 
@@ -37,9 +38,20 @@ StopsIn o old new (BadFile file text) = ⊥
 StopsIn o old new (NotAlike text) = ⊥
 
 -- the file is written whole and closed, or not
-abbrev pub WritesFile : {A : Type 0} → Output → DeskState → DeskState → Result A Stop → Type 0
+abbrev pub WritesFile : {A : Type 0} → Output → DeskState → DeskState → Result A PutErr → Type 0
 WritesFile o old new (Ok a) = new ≡ after_file old o
-WritesFile o old new (Err stop) = StopsIn o old new stop
+WritesFile o old new (Err e) = StopsIn o old new (stop_of_put e)
+
+-- the desk after the files were written and closed, one after the other
+abbrev pub after_files : DeskState → List Output → DeskState
+after_files s [] = s
+after_files s (o ∷ os) = after_files (after_file s o) os
+
+-- the files are written in order, each closed before the next is started, up to one that isn't written whole; none behind it is
+-- touched
+abbrev pub StopsAmong : List Output → DeskState → DeskState → Stop → Type 0
+StopsAmong [] old new stop = ⊥
+StopsAmong (o ∷ os) old new stop = StopsIn o old new stop ⊎ StopsAmong os (after_file old o) new stop
 
 -- the bytes are put at the end of the started file, in any number of pieces, also in none where there are no bytes
 abbrev pub Puts : {A : Type 0} → List ℕ → DeskState → DeskState → Result A PutErr → Type 0

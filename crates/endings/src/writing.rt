@@ -31,7 +31,7 @@ pub fn write_file<D: Desk, C: Content>(
     desk: &mut D,
     name: &str,
     content: &C,
-) -> Result<C::Told, Stop>
+) -> Result<C::Told, PutErr>
     requires started { (D.state desk.old).started ≡ None }
     requires ready { C.is_ready content.now }
     ensures writes { WritesFile (record { name = name.now; bytes = C.bytes content.now }) (D.state desk.old)

@@ -1,6 +1,6 @@
--- One truth value for each input so far.
-use Rattle.std.proofs.Common.{◌≡◌, length}
+-- The truth values of the inputs so far.
+use Rattle.check_session.specs.Pool.{HasBitsOf}
 use Rattle.check_session.proofs.patterns.pattern_at.Given as goal
 
-abbrev pub invariant-loop-index : goal.invariant-loop-index
-invariant-loop-index l = length l.input.items ≡ l.index
+abbrev pub invariant-loop-input : goal.invariant-loop-input
+invariant-loop-input l = HasBitsOf l.sigs l.place l.input l.values.items

@@ -1,10 +1,10 @@
 use Rattle.std.proofs.Common.{◌≡◌, ℕ, Option, length, filter, arith, sym, subst}
 use Rattle.std.specs.List.{range_with_len}
 use Rattle.check_session.specs.declared.verdict.Verdict.{Verdict}
-use Rattle.proof_stitch.specs.Derivation.{has_spent}
+use Rattle.lemma_book.specs.Entry.{has_spent}
 use Rattle.check_session.specs.Finding.{Finds}
 use Rattle.check_session.specs.Outputs.{Looks, finding_of}
-use Rattle.check_session.proofs.OutputLemmas.{finds-rest, kept-next, none-next}
+use Rattle.check_session.proofs.OutputLemmas.{finds-at, finds-rest, kept-next, none-next}
 use Rattle.check_session.proofs.verdict.Verdict.of.Goals as goal
 
 pub loop-output-preserved : goal.loop-output-preserved
@@ -26,3 +26,11 @@ returns-clause-finds c =
     (finds-rest net es c.requires.settled c.requires.seen c.loop-output.open.items
     (subst (λ (n : ℕ). c.loop-output.open.items ≡ filter (has_spent es) (range_with_len 0 n)) end c.loop-output.invariant.open_is)
     (λ k below. c.loop-output.invariant.none k (omega (arith, end))))
+
+pub returns-in-Some-clause-finds : goal.returns-in-Some-clause-finds
+returns-in-Some-clause-finds c =
+    let es = c.args.book.now.entries in
+    let j = c.loop-output.output in
+    finds-at c.args.net.now es j c.loop-output.open.items c.at.new.opens.items c.in-Some.verdict
+    (subst (λ (o : Option Verdict). Looks es j c.loop-output.open.items c.at.new.opens.items o) c.in-Some.is c.in_ok-verdict.ensures)
+    c.loop-output.invariant.none

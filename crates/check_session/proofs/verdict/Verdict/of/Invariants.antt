@@ -1,7 +1,6 @@
 use Rattle.std.proofs.Common.{◌≡◌, ℕ, ◌<◌, false, filter}
 use Rattle.std.specs.List.{range_with_len}
-use Rattle.check_session.specs.Finding.{has_apart}
-use Rattle.proof_stitch.specs.Derivation.{has_spent}
+use Rattle.lemma_book.specs.Entry.{has_apart, has_spent}
 use Rattle.check_session.proofs.verdict.Verdict.of.Given as goal
 
 abbrev pub invariant-loop-output : goal.invariant-loop-output

@@ -1,0 +1,38 @@
+use Rattle.std.proofs.Common.{rules, ◌≡◌, ap₂}
+use Rattle.std.specs.Global.{Vec}
+use Rattle.std.proofs.lemmas.Result.{err_from_is_err_and}
+use Rattle.netlist.specs.Net.{AigPair}
+use Rattle.lemma_book.specs.Entry.{Entries}
+use Rattle.proof_stitch.specs.declared.logs.Span.{Span}
+use Rattle.check_session.specs.Files.{proof_bytes}
+use Rattle.check_session.specs.Outputs.{finding_of}
+use Rattle.check_session.proofs.FilesLemmas.{stops-cnf, stops-proof, leaves-both}
+use Rattle.check_session.proofs.session.Session.write.Goals as goal
+
+pub returns-in_err-write_file-clause-files : goal.returns-in_err-write_file-clause-files
+returns-in_err-write_file-clause-files g c =
+    let p = err_from_is_err_and c.from_residual-in_err-write_file.result c.from_residual-in_err-write_file.ensures.1 in
+    rw (p.1, p.2)
+    (stops-cnf c.args.self.now (finding_of c.in-Some.verdict) (search rules) c.args.prefix.now c.args.check
+    (g.D.Desk.state c.args.desk.now) (g.D.Desk.state c.write_file.new.desk) _ _ (search rules) (search rules) (Vec Span) c.in_err-write_file.field-0.0
+    c.in_err-write_file.ensures.writes)
+
+pub returns-in_err-write_file-2-clause-files : goal.returns-in_err-write_file-2-clause-files
+returns-in_err-write_file-2-clause-files g c =
+    let net : c.self.inside.net ≡ c.args.self.now.net = search rules in
+    let book : c.self.inside.book ≡ c.args.self.now.book = search rules in
+    let p = err_from_is_err_and c.from_residual-in_err-write_file-2.result c.from_residual-in_err-write_file-2.ensures.1 in
+    rw (p.1, p.2)
+    (stops-proof c.args.self.now (finding_of c.in-Some.verdict) (search rules) c.args.prefix.now c.args.check
+    (g.D.Desk.state c.args.desk.now) (g.D.Desk.state c.write_file.new.desk) _ _ (search rules) (search rules) c.in_ok-write_file.ensures.writes
+    (g.D.Desk.state c.write_file-2.new.desk) _ _ (search rules) (ap₂ (λ (n : AigPair) (b : Entries). proof_bytes n b.entries (finding_of c.in-Some.verdict)) net book) (Vec Span) c.in_err-write_file-2.field-0.0
+    c.in_err-write_file-2.ensures.writes)
+
+pub returns-clause-files : goal.returns-clause-files
+returns-clause-files g c =
+    let net : c.self.inside.net ≡ c.args.self.now.net = search rules in
+    let book : c.self.inside.book ≡ c.args.self.now.book = search rules in
+    leaves-both c.args.self.now (finding_of c.in-Some.verdict) (search rules) c.args.prefix.now c.args.check
+    (g.D.Desk.state c.args.desk.now) (g.D.Desk.state c.write_file.new.desk) _ _ (search rules) (search rules) c.in_ok-write_file.ensures.writes
+    (g.D.Desk.state c.write_file-2.new.desk) _ _ (search rules) (ap₂ (λ (n : AigPair) (b : Entries). proof_bytes n b.entries (finding_of c.in-Some.verdict)) net book) c.in_ok-write_file-2.field-0
+    c.in_ok-write_file-2.ensures.writes

@@ -1,0 +1,91 @@
+//! What stands in the two files of a check, and how they are named.
+ghost use Rattle.std.specs.Prelude.{◌≡◌, ◌++◌, IfOk, codes, decimal, string_bytes};
+
+use crate::verdict::Verdict;
+use desk_port::{Desk, PutErr};
+use endings::Content;
+use itoa::Buffer;
+use lemma_book::Book;
+use netlist::Net;
+use proof_stitch::{Span, StitchErr};
+use std::alloc::{AllocError, Global};
+
+/// The CNF of the circuits' miter.
+#[derive(Clone, Copy)]
+pub(crate) struct Miter<'a>(pub(crate) &'a Net);
+
+impl Content for Miter<'_> {
+    ghost use Rattle.check_session.specs.Files.{cnf_text_of};
+
+    type Told = ();
+
+    ghost is_ready = { λ _. Unit {0} };
+
+    ghost bytes = { λ m. cnf_text_of m.0.now };
+
+    ghost tells = { λ _ _. Unit {0} };
+
+    #[tactic(auto, unfolding(crate::specs::Files::cnf_text_of))]
+    fn put<D: Desk>(&self, alloc: Global, desk: &mut D) -> Result<(), PutErr> {
+        let Ok(miter) = self.0.miter(alloc) else {
+            return Err(PutErr::NoMemory);
+        };
+        dimacs_text::print(alloc, desk, self.0.variables(), miter.as_slice())
+    }
+}
+
+/// The proof of a check that has its verdict: a refutation, nothing, or what is derived; with it the ids of
+/// the logs.
+#[derive(Clone, Copy)]
+pub(crate) struct Proof<'a> {
+    pub(crate) net: &'a Net,
+    pub(crate) book: &'a Book,
+    pub(crate) verdict: &'a Verdict,
+}
+
+impl Content for Proof<'_> {
+    ghost use Rattle.check_session.specs.Files.{AreSpansIn, HasProof, proof_bytes};
+    ghost use Rattle.check_session.specs.Outputs.{finding_of};
+
+    type Told = Vec<Span>;
+
+    ghost is_ready = { λ p. HasProof p.net.now p.book.now (finding_of p.verdict.now) };
+
+    ghost bytes = { λ p. proof_bytes p.net.now p.book.now.entries (finding_of p.verdict.now) };
+
+    ghost tells = { λ p spans.
+        AreSpansIn p.net.now p.book.now.entries (finding_of p.verdict.now) spans.items };
+
+    fn put<D: Desk>(&self, alloc: Global, desk: &mut D) -> Result<Vec<Span>, PutErr> {
+        let Proof { net, book, verdict } = *self;
+        match verdict {
+            Verdict::Equivalent => match proof_stitch::refutation(alloc, net, book, desk) {
+                Ok(_) => Ok(Vec::new(alloc)),
+                Err(StitchErr::Write) => Err(PutErr::Failed),
+                Err(StitchErr::NoMemory) => Err(PutErr::NoMemory),
+            },
+            Verdict::Different { .. } => Ok(Vec::new(alloc)),
+            Verdict::Undecided { .. } => match proof_stitch::derivation(alloc, net, book, desk) {
+                Ok(spans) => Ok(spans),
+                Err(StitchErr::Write) => Err(PutErr::Failed),
+                Err(StitchErr::NoMemory) => Err(PutErr::NoMemory),
+            },
+        }
+    }
+}
+
+/// The name of the file with this ending of the check with this number.
+pub(crate) fn named(
+    alloc: Global,
+    prefix: &str,
+    number: u64,
+    ending: &str,
+) -> Result<String, AllocError>
+    ensures { IfOk result (λ s. string_bytes s ≡ prefix.now ++ codes "." ++ decimal number ++ ending.now) }
+{
+    let mut name = String::from_str(alloc, prefix)?;
+    name.push_str(".")?;
+    name.push_str(Buffer::new().format(number))?;
+    name.push_str(ending)?;
+    Ok(name)
+}
