@@ -15,7 +15,7 @@ import sys
 TOP = os.path.dirname(os.path.dirname(os.path.abspath(__file__)))
 HOME = 'cec_top/specs/Headline'
 PROMISES = ['IsEquivalent', 'IsDifferent', 'IsUndecided', 'IsVerified']
-FILES = 'LeavesRefutation'
+FILES = ('LeavesFiles', 'RefutesMiter')
 FORMATS = 'SpellsAiger'
 SAID = ('EQUIVALENT without the written files {}, of which {} are the two forms of AIGER, and with them {}; DIFFERENT {}; '
         'UNDECIDED {}; VERIFIED {}.')
@@ -189,8 +189,8 @@ def main(args):
         for kind, where, name in sorted(k for k in seen if seen[k]):
             print(f'{len(seen[(kind, where, name)]):4} {where} {name}')
         return 0
-    without = lines(reach(files, 'IsEquivalent', (FILES,)))
-    formats = without - lines(reach(files, 'IsEquivalent', (FILES, FORMATS)))
+    without = lines(reach(files, 'IsEquivalent', FILES))
+    formats = without - lines(reach(files, 'IsEquivalent', (*FILES, FORMATS)))
     said = SAID.format(without, formats, *(lines(reach(files, root)) for root in PROMISES))
     print(said)
     if args[:1] == ['--check']:

@@ -13,19 +13,20 @@ use Rattle.endings.specs.declared.status.Status.{Status}
 use Rattle.endings.specs.Status.{code_of}
 use Rattle.endings.specs.declared.stop.Stop.{Stop}
 use Rattle.endings.specs.declared.stop.Stop.TheVariants.{CannotRead, TooLong, BadFile, NotAlike, CannotWrite, OutOfMemory}
-use Rattle.endings.specs.Reading.{FileIs, StopsAt, ReadsUpTo, after_reads, limit}
+use Rattle.endings.specs.Reading.{FileIs, StopsAt, ReadsUpTo, limit}
 use Rattle.endings.specs.Writing.{Output, Leaves, after_file}
 use Rattle.endings.specs.Stops.{IsWarned, Warns, status_of, stop_line}
-use Rattle.command_line.specs.Words.{CheckCommand, Request, CheckIt, LratIt, SelfIt, Asks, WantHelp, AreRefused}
+use Rattle.command_line.specs.Words.{CheckCommand, Request, CheckIt, LratIt, SelfIt, Asks, WantInfo, AreRefused}
 use Rattle.cec_top.specs.declared.kept.Kept.{Kept}
-use Rattle.cec_top.specs.Headline.{FileSpells, SpellPair}
+use Rattle.cec_top.specs.Headline.{SpellPair}
 use Rattle.check_session.specs.Finding.{Finding, Equivalent, Different, Undecided}
 use Rattle.check_session.specs.Check.{IsWithinFor}
-use Rattle.cec_top.specs.Check.{Made, status_of_finding, AreTold, outputs_of as files_of, text_of_check}
-use Rattle.cec_top.specs.Answers.{fault_in, Answers, AnswersCheck, AreUnlike, BreaksOff, Stops, IsAtOnce, circuit_file, inputs_of}
+use Rattle.cec_top.specs.Check.{How, Made, status_of_finding, AreTold, BreaksOff, StopsChecks, outputs_of as files_of, text_of_check}
+use Rattle.cec_top.specs.Answers.{fault_in, Answers, AnswersCheck, AreUnlike, Stops, IsAtOnce, circuit_file, pair_of, how_of, at_start}
 use Rattle.cec_top.specs.Complete.{NoFault, IsWithinLimit, CanCheck, IsAmple, HasVerdict}
+use Rattle.cec_top.proofs.OwnLemmas.{taken}
 use Rattle.cec_top.proofs.VerdictLemmas.{only-check}
-use Rattle.cec_top.proofs.HeadlineLemmas.{ends-code, spells-pair}
+use Rattle.cec_top.proofs.HeadlineLemmas.{FileSpells, ends-code, spells-pair}
 use Rattle.cec_top.proofs.WordsLemmas.{check_or, same_request}
 
 -- memory ran out, or a fault was counted
@@ -57,13 +58,37 @@ leaves-stops (o ∷ os) text s t (TooLong file) (inl p) = absurd p
 leaves-stops (o ∷ os) text s t (BadFile file why) (inl p) = absurd p
 leaves-stops (o ∷ os) text s t (NotAlike why) (inl p) = absurd p
 
+-- what stops the one check that is asked for
+module _ (how : How) (net : AigPair) (old new : DeskState) (kept : List Kept) (stop : Stop) where
+  breaks-stop : BreaksOff how (record { checks = net ∷ []; refused = None }) old new kept stop
+      → (stop ≡ OutOfMemory) ⊎ Rose old.write_faults new.write_faults
+  breaks-stop p = go p.made p.before.checks p.before.told
+      (leaves-stops (files_of how.out (length p.made) p.half) (text_of_check how.out p.half) p.mid new stop p.breaks)
+    where
+      same : p.mid.write_faults ≡ old.write_faults → (stop ≡ OutOfMemory) ⊎ Rose p.mid.write_faults new.write_faults
+          → (stop ≡ OutOfMemory) ⊎ Rose old.write_faults new.write_faults
+      same is (inl e) = inl e
+      same is (inr r) = inr (subst (λ (n : ℕ). Rose n new.write_faults) is r)
+
+      go : (made : List Made) → map (λ (m : Made). m.net) made ++ (p.half.net ∷ p.others) ≡ net ∷ [] → AreTold how 0 made old p.mid
+          → (stop ≡ OutOfMemory) ⊎ Rose p.mid.write_faults new.write_faults → (stop ≡ OutOfMemory) ⊎ Rose old.write_faults new.write_faults
+      go [] checks told q = same (ap (λ (s : DeskState). s.write_faults) told) q
+      go (m ∷ []) checks told q = cc
+      go (m ∷ n ∷ ms) checks told q = cc
+
+  pub checks-stop : StopsChecks how (record { checks = net ∷ []; refused = None }) old kept new stop
+      → (stop ≡ OutOfMemory) ⊎ Rose old.write_faults new.write_faults
+  checks-stop (inl p) = breaks-stop p
+  checks-stop (inr (inl p)) = inl p.out
+  checks-stop (inr (inr p)) = absurd (none-some p.text p.refused)
+
 -- no bytes are both longer than the limit and within it
 pub too-long : (o : Option (List ℕ)) → IsSomeAnd o (λ b. limit < length b) → IfSome o (λ b. length b ≤ limit) → ⊥
 too-long None p q = p
 too-long (Some b) p q = absurd (omega (arith, p, q))
 
 -- the file of a circuit
-module _ (s : DeskState) (files : Files) (told : s.files ≡ Some files) (name : List ℕ) (c : Aig) (spells : FileSpells files name c) (within : IsWithinLimit files name) where
+module _ (s : DeskState) (files : Files) (told : s.files ≡ Some files) (name : List ℕ) (c : Aig) (spells : FileSpells files name c) (plain : c.constraints ≡ []) (within : IsWithinLimit files name) where
   spelt-at : (o : Option (List ℕ)) → IsSomeAnd o (λ b. SpellsAiger b c) → (bytes : List ℕ) → o ≡ Some bytes → SpellsAiger bytes c
   spelt-at None p bytes e = absurd p
   spelt-at (Some b) p bytes e = subst (λ (x : List ℕ). SpellsAiger x c) (same_Some b bytes e) p
@@ -78,7 +103,7 @@ module _ (s : DeskState) (files : Files) (told : s.files ≡ Some files) (name :
   stops-file k earlier t (TooLong j) p =
       absurd (too-long (files name) (subst (λ (o : Option Files). IfSome o (λ f. HasMore f name limit)) told p.1) within)
   stops-file k earlier t (BadFile j text) p =
-      absurd (none-some _ (sym (ap fault_in (spelt p.1.0 p.1.1)) ∙ p.1.2))
+      absurd (none-some _ (sym (ap fault_in (taken p.1.0 c (spelt p.1.0 p.1.1) plain)) ∙ p.1.2))
   stops-file k earlier t OutOfMemory p = inl refl
   stops-file k earlier t (NotAlike text) p = absurd p
   stops-file k earlier t CannotWrite p = absurd p
@@ -98,19 +123,19 @@ alike-from : (a b : Aig) → length a.inputs ≡ length b.inputs → length a.ou
 alike-from a b i o = rw (eq-eqb (length a.inputs) (length b.inputs) i, eq-eqb (length a.outputs) (length b.outputs) o) refl
 
 module _ (c : CheckCommand) (old : DeskState) (can : CanCheck c old) (kept : List Kept) where
-  reads-stop : (new : DeskState) (stop : Stop) → ReadsUpTo 0 [] (inputs_of c) old new stop → IsExcused old new stop
-  reads-stop new stop (inl p) = excused-read old new stop (stops-file old can.files can.told c.a can.net.a can.pair.a can.a 0 [] new stop p)
+  reads-stop : (new : DeskState) (stop : Stop) → ReadsUpTo 0 [] (pair_of c) old new stop → IsExcused old new stop
+  reads-stop new stop (inl p) = excused-read old new stop (stops-file old can.files can.told c.a can.net.a can.pair.spells_a can.plain_a can.a 0 [] new stop p)
   reads-stop new stop (inr p) = second p.3
     where
       second : ReadsUpTo 1 (p.0 ∷ []) (circuit_file c.b ∷ []) (after_read old c.a) new stop → IsExcused old new stop
-      second (inl q) = excused-read old new stop (stops-file (after_read old c.a) can.files can.told c.b can.net.b can.pair.b can.b 1 (p.0 ∷ []) new stop q)
+      second (inl q) = excused-read old new stop (stops-file (after_read old c.a) can.files can.told c.b can.net.b can.pair.spells_b can.plain_b can.b 1 (p.0 ∷ []) new stop q)
       second (inr q) = absurd q.3
 
   -- circuits that fit aren't refused
   not-unlike : (new : DeskState) (stop : Stop) → AreUnlike c old new stop → IsExcused old new stop
   not-unlike new stop p =
-      let a = (spelt old can.files can.told c.a can.net.a can.pair.a can.a p.reads.a p.reads.read.0) in
-      let b = (spelt old can.files can.told c.b can.net.b can.pair.b can.b p.reads.b p.reads.read.2.0) in
+      let a = (spelt old can.files can.told c.a can.net.a can.pair.spells_a can.plain_a can.a p.reads.a p.reads.read.0) in
+      let b = (spelt old can.files can.told c.b can.net.b can.pair.spells_b can.plain_b can.b p.reads.b p.reads.read.2.0) in
       let same_a : p.net.a ≡ can.net.a = ok-equal p.net.a can.net.a (sym p.reads.spells_a ∙ a) in
       let same_b : p.net.b ≡ can.net.b = ok-equal p.net.b can.net.b (sym p.reads.spells_b ∙ b) in
       let alike : unlike_of p.net.a p.net.b ≡ None =
@@ -119,25 +144,15 @@ module _ (c : CheckCommand) (old : DeskState) (can : CanCheck c old) (kept : Lis
       (ap (λ (x : Aig). length x.outputs) same_a ∙ can.pair.outputs ∙ sym (ap (λ (x : Aig). length x.outputs) same_b)) in
       absurd (none-some p.unlike (sym alike ∙ p.differ))
 
-  breaks-stop : (new : DeskState) (stop : Stop) → BreaksOff c old new kept stop → IsExcused old new stop
-  breaks-stop new stop p = go p.made p.before.checks p.before.told
-      (leaves-stops (files_of c.out (length p.made) p.half) (text_of_check c.out p.half) p.mid new stop p.breaks)
-    where
-      excused : p.mid.write_faults ≡ old.write_faults → (stop ≡ OutOfMemory) ⊎ Rose p.mid.write_faults new.write_faults → IsExcused old new stop
-      excused same (inl e) = inl e
-      excused same (inr r) = inr (inr (subst (λ (n : ℕ). Rose n new.write_faults) same r))
-
-      go : (made : List Made) → map (λ (m : Made). m.net) made ++ (p.half.net ∷ p.others) ≡ p.before.net ∷ []
-          → AreTold c 0 made (after_reads old (inputs_of c)) p.mid → (stop ≡ OutOfMemory) ⊎ Rose p.mid.write_faults new.write_faults → IsExcused old new stop
-      go [] checks told q = excused (ap (λ (s : DeskState). s.write_faults) told) q
-      go (m ∷ []) checks told q = cc
-      go (m ∷ n ∷ ms) checks told q = cc
-
   pub stops-excused : (new : DeskState) (stop : Stop) → Stops c old kept new stop → IsExcused old new stop
   stops-excused new stop (inl p) = reads-stop new stop p.1
   stops-excused new stop (inr (inl p)) = not-unlike new stop p.1
-  stops-excused new stop (inr (inr (inl p))) = breaks-stop new stop p
-  stops-excused new stop (inr (inr (inr p))) = inl p.out
+  stops-excused new stop (inr (inr (inl p))) = absurd p.1.stops
+  stops-excused new stop (inr (inr (inr p))) = go (checks-stop (how_of c) p.net (at_start c old) new kept stop p.stops)
+    where
+      go : (stop ≡ OutOfMemory) ⊎ Rose old.write_faults new.write_faults → IsExcused old new stop
+      go (inl e) = inl e
+      go (inr r) = inr (inr r)
 
 -- the warning changes no count of reads or writes
 pub warned-counts : (mid new : DeskState) (line : List ℕ) → IsWarned mid new line
@@ -164,7 +179,7 @@ excused-verdict line old mid new stop status none (inl w) (inr (inr writes)) =
 pub check-complete : (c : CheckCommand) (old new : DeskState) (status : Status) (kept : List Kept) → CanCheck c old → NoFault old new
     → AnswersCheck c old new status kept → HasVerdict status
 check-complete c old new status kept can none (inl p) =
-    let only = only-check c old new status kept p in
+    let only = only-check (how_of c) p.net (at_start c old) new status kept p.ends in
     inl (subst (λ (s : Status). code_of s ≤ 2) only.status_is (finding-code only.check.finding))
 check-complete c old new status kept can none (inr p) =
     excused-verdict _ old p.mid new p.stop status none p.warns (stops-excused c old can kept p.mid p.stop p.cause)
@@ -180,9 +195,9 @@ spells-one files name x y p q = go (files name) p q
     go (Some b) p q = ok-equal x y (sym p ∙ q)
 
 -- so two files spell one pair at most
-pair-one : (c : CheckCommand) (files : Files) (m n : AigPair) → SpellPair c files m → SpellPair c files n → m ≡ n
+pair-one : (c : CheckCommand) (files : Files) (m n : AigPair) → SpellPair c.a c.b files m → SpellPair c.a c.b files n → m ≡ n
 pair-one c files m n p q =
-    ap₂ (λ (x y : Aig). record { a = x; b = y }) (spells-one files c.a m.a n.a p.a q.a) (spells-one files c.b m.b n.b p.b q.b)
+    ap₂ (λ (x y : Aig). record { a = x; b = y }) (spells-one files c.a m.a n.a p.spells_a q.spells_a) (spells-one files c.b m.b n.b p.spells_b q.spells_b)
 
 within-code : (net : AigPair) (budget : ℕ) (f : Finding) → IsWithinFor net budget f → code_of (status_of_finding f) ≡ 2
     → budget ≤ 3 ^ length (variables_of net)
@@ -193,12 +208,12 @@ within-code net budget (Different j input) within code = cc
 check-decided : (c : CheckCommand) (old new : DeskState) (status : Status) (kept : List Kept) → IsAmple c old
     → AnswersCheck c old new status kept → code_of status ≢ 2
 check-decided c old new status kept ample (inl p) = λ code.
-    let only = only-check c old new status kept p in
+    let only = only-check (how_of c) p.net (at_start c old) new status kept p.ends in
     let settled = only.is_made.settled in
     let within : only.check.book.out_budget ≤ 3 ^ length (variables_of only.check.net) =
     within-code only.check.net only.check.book.out_budget only.check.finding settled.within (ap code_of only.status_is ∙ code) in
     let same : only.check.net ≡ ample.net =
-    pair-one c ample.files only.check.net ample.net (spells-pair c old ample.files ample.told only.check.net only.reads only.alike) ample.pair in
+    only.same ∙ pair-one c ample.files p.net ample.net (spells-pair c old ample.files ample.told p.net p.pair) ample.pair in
     let count : 3 ^ length (variables_of only.check.net) ≡ 3 ^ length (variables_of ample.net) =
     ap (λ (n : AigPair). 3 ^ length (variables_of n)) same in
     absurd (omega (arith, within, count, settled.budget_is, ample.ample))
@@ -211,7 +226,7 @@ at-once old new status stop mid cause (inl w) = inr (ap code_of w.0 ∙ ap (λ (
 at-once old new status stop mid cause (inr w) = inr (ap code_of w.0)
 
 module _ (words : List (List ℕ)) (old new : DeskState) (status : Status) (kept : List Kept)
-    (asked : (words : List (List ℕ)) (r : Request) → Asks words r → ¬ (WantHelp words ⊎ AreRefused words))
+    (asked : (words : List (List ℕ)) (r : Request) → Asks words r → ¬ (WantInfo words ⊎ AreRefused words))
     (answers : Answers words old new status kept) where
   pub complete : (c : CheckCommand) → Asks words (CheckIt c) → CanCheck c old → NoFault old new → HasVerdict status
   complete c asks can none = elim answers [

@@ -1,8 +1,8 @@
--- What each verdict promises, from what a check answers.
+-- What a verdict promises of the files, from what the desk holds once a check was told.
 use Rattle.std.proofs.Common.{◌≡◌, ◌≢◌, ℕ, ◌<◌, inl, inr, Bool, true, false, ◌==◌, List, [], ◌∷◌, ◌++◌, length, option_map, Option, Some, None, Ok, refl, sym, ap, ◌∙◌, subst, arith}
 use Rattle.std.specs.Prelude.{codes, decimal, IfSome, IsSomeAnd}
 use Rattle.std.specs.Str.{bytes_eq}
-use Rattle.std.proofs.lemmas.List.{length-append}
+use Rattle.std.proofs.lemmas.List.{append-nil, length-append}
 use Rattle.std.proofs.lemmas.Slice.Eq.{bytes_eq-Decides}
 use Rattle.desk_port.specs.Desk.{Files, DeskState, put, after_say}
 use Rattle.netlist.specs.Circuit.{Aig}
@@ -10,19 +10,22 @@ use Rattle.netlist.specs.Net.{AigPair}
 use Rattle.netlist.specs.Unlike.{unlike_of}
 use Rattle.netlist.proofs.Facts.{equal-number}
 use Rattle.aiger_file.specs.File.{SpellsAiger}
+use Rattle.check_session.specs.Files.{cnf_name, proof_name, cnf_text_of, proof_bytes}
 use Rattle.command_line.specs.Words.{CheckCommand}
 use Rattle.endings.specs.declared.status.Status.{Status}
 use Rattle.endings.specs.Status.{code_of}
 use Rattle.endings.specs.declared.stop.Stop.{Stop}
 use Rattle.endings.specs.declared.stop.Stop.TheVariants.{CannotRead, TooLong, BadFile, NotAlike, CannotWrite, OutOfMemory}
 use Rattle.endings.specs.Stops.{EndsBy, Warns, status_of, stop_line}
-use Rattle.endings.specs.Reading.{FileIs, after_reads}
-use Rattle.endings.specs.Writing.{Output, Leaves}
-use Rattle.cec_top.specs.Names.{cnf_name, proof_name}
-use Rattle.cec_top.specs.Headline.{FileSpells, SpellPair, cnf_text_of, LeavesBoth, Left}
-use Rattle.cec_top.specs.Check.{Made, outputs_of as files_of, proof_bytes, text_of_check}
-use Rattle.cec_top.specs.Answers.{ReadsCircuits, inputs_of}
-use Rattle.cec_top.specs.Steps.{after_outputs}
+use Rattle.endings.specs.Reading.{FileIs}
+use Rattle.endings.specs.Writing.{Output, Leaves, after_files}
+use Rattle.cec_top.specs.Headline.{Told, SpellPair, LeavesUnder, OfFiles, Left}
+use Rattle.cec_top.specs.Check.{Made, outputs_of, text_of_check}
+use Rattle.cec_top.specs.Answers.{AreAlike}
+
+-- the named file spells the circuit
+abbrev pub FileSpells : Files → List ℕ → Aig → Type 0
+FileSpells files name c = IsSomeAnd (files name) (λ bytes. SpellsAiger bytes c)
 
 -- ---- a status without a verdict
 
@@ -60,13 +63,13 @@ file-spells s files told name bytes c is spells =
     let there : files name ≡ Some bytes = subst (λ (o : Option Files). IfSome o (λ f. f name ≡ Some bytes)) told is.0 in
     subst (λ (o : Option (List ℕ)). IsSomeAnd o (λ b. SpellsAiger b c)) (sym there) spells
 
-pub spells-pair : (c : CheckCommand) (s : DeskState) (files : Files) → s.files ≡ Some files → (net : AigPair) → ReadsCircuits c s net
-    → unlike_of net.a net.b ≡ None → SpellPair c files net
-spells-pair c s files told net reads alike =
-    let counts = alike-counts net.a net.b alike in
+pub spells-pair : (c : CheckCommand) (s : DeskState) (files : Files) → s.files ≡ Some files → (net : AigPair) → AreAlike c s net
+    → SpellPair c.a c.b files net
+spells-pair c s files told net pair =
+    let counts = alike-counts net.a net.b pair.alike in
     record {
-      a = file-spells s files told c.a reads.a net.a reads.read.0 reads.spells_a;
-      b = file-spells s files told c.b reads.b net.b reads.read.2.0 reads.spells_b;
+      spells_a = file-spells s files told c.a pair.reads.a net.a pair.reads.read.0 pair.reads.spells_a;
+      spells_b = file-spells s files told c.b pair.reads.b net.b pair.reads.read.2.0 pair.reads.spells_b;
       inputs = counts.0;
       outputs = counts.1;
     }
@@ -75,19 +78,19 @@ spells-pair c s files told net reads alike =
 
 -- what is left and said whole
 pub left-whole : (os : List Output) (text : List ℕ) (old new : DeskState) → Leaves os text old new (Ok tt)
-    → new ≡ after_say (after_outputs old os) text
+    → new ≡ after_say (after_files old os) text
 left-whole [] text old new p = p
 left-whole (o ∷ os) text old new p = left-whole os text _ new p
 
 -- the two files of a check have different names
-names-differ : (prefix : List ℕ) → bytes_eq (proof_name prefix 0) (cnf_name prefix 0) ≡ false
-names-differ prefix = go (bytes_eq (proof_name prefix 0) (cnf_name prefix 0)) refl
+names-differ : (prefix : List ℕ) (number : ℕ) → bytes_eq (proof_name prefix number) (cnf_name prefix number) ≡ false
+names-differ prefix number = go (bytes_eq (proof_name prefix number) (cnf_name prefix number)) refl
   where
-    go : (b : Bool) → bytes_eq (proof_name prefix 0) (cnf_name prefix 0) ≡ b → b ≡ false
+    go : (b : Bool) → bytes_eq (proof_name prefix number) (cnf_name prefix number) ≡ b → b ≡ false
     go false e = refl
     go true e =
-        let same : proof_name prefix 0 ≡ cnf_name prefix 0 = (bytes_eq-Decides (proof_name prefix 0) (cnf_name prefix 0)).0 e in
-        let stem : List ℕ = prefix ++ codes "." ++ decimal 0 in
+        let same : proof_name prefix number ≡ cnf_name prefix number = (bytes_eq-Decides (proof_name prefix number) (cnf_name prefix number)).0 e in
+        let stem : List ℕ = prefix ++ codes "." ++ decimal number in
         let longer : length (stem ++ codes ".lrat") ≡ length (stem ++ codes ".cnf") = ap length same in
         absurd (omega (arith, longer, length-append stem (codes ".lrat"), length-append stem (codes ".cnf")))
 
@@ -101,49 +104,80 @@ eq-other n q other = go (bytes_eq n q) refl
     go false e = refl
     go true e = absurd (other (sym ((bytes_eq-Decides n q).0 e)))
 
--- the files after both were written
-abbrev pub with_both : List ℕ → AigPair → List ℕ → Files → Files
-with_both prefix net proof before = put (proof_name prefix 0) proof (put (cnf_name prefix 0) (cnf_text_of net) before)
-
--- the files that are left, by whether there is a prefix for them
-abbrev pub left_by : Option (List ℕ) → AigPair → List ℕ → Files → Files
-left_by None net proof before = before
-left_by (Some prefix) net proof before = with_both prefix net proof before
-
-pub leaves-both : (prefix : List ℕ) (net : AigPair) (proof : List ℕ) (before : Files) → LeavesBoth prefix net proof before (with_both prefix net proof before)
-leaves-both prefix net proof before = record {
-  cnf = rw (names-differ prefix, eq-same (cnf_name prefix 0)) refl;
-  proof_is = rw (eq-same (proof_name prefix 0)) refl;
-  others = λ q other_cnf other_proof. rw (eq-other (proof_name prefix 0) q other_proof, eq-other (cnf_name prefix 0) q other_cnf) refl;
+-- a check as it was told
+abbrev pub told_of : Option (List ℕ) → ℕ → Made → Told
+told_of out number m = record {
+  number = number;
+  net = m.net;
+  said = text_of_check out m;
+  proof = proof_bytes m.net m.book.entries m.finding;
 }
 
-module _ (c : CheckCommand) (old new : DeskState) (before : Files) (earlier : List ℕ) (told : old.files ≡ Some before) (heard : old.said ≡ Some earlier)
-    (m : Made) (pair : SpellPair c before m.net)
-    (whole : new ≡ after_say (after_outputs (after_reads old (inputs_of c)) (files_of c.out 0 m)) (text_of_check c.out m)) where
-  said-is : (out : Option (List ℕ)) (text : List ℕ) → new ≡ after_say (after_outputs (after_reads old (inputs_of c)) (files_of out 0 m)) text
+-- the files after its two were written, if there is a prefix for them
+abbrev pub with_both : List ℕ → Told → Files → Files
+with_both prefix t before = put (proof_name prefix t.number) t.proof (put (cnf_name prefix t.number) (cnf_text_of t.net) before)
+
+abbrev pub left_by : Option (List ℕ) → Told → Files → Files
+left_by None t before = before
+left_by (Some prefix) t before = with_both prefix t before
+
+pub leaves-one : (out : Option (List ℕ)) (t : Told) (before : Files) → LeavesUnder out (t ∷ []) before (left_by out t before)
+leaves-one None t before = refl
+leaves-one (Some prefix) t before = record {
+  each = (
+    (
+      rw (names-differ prefix t.number, eq-same (cnf_name prefix t.number)) refl,
+      rw (eq-same (proof_name prefix t.number)) refl,
+    ),
+    tt,
+  );
+  others = λ q other.
+      rw (eq-other (proof_name prefix t.number) q other.0.1, eq-other (cnf_name prefix t.number) q other.0.0) refl;
+}
+
+module _ (old new : DeskState) (before : Files) (earlier : List ℕ) (told : old.files ≡ Some before) (heard : old.said ≡ Some earlier)
+    (out : Option (List ℕ)) (m : Made)
+    (whole : new ≡ after_say (after_files old (outputs_of out 0 m)) (text_of_check out m)) where
+  said-is : (o : Option (List ℕ)) (text : List ℕ) → new ≡ after_say (after_files old (outputs_of o 0 m)) text
       → new.said ≡ Some (earlier ++ text)
   said-is None text e = ap (λ (s : DeskState). s.said) e ∙ ap (option_map (λ x. x ++ text)) heard
   said-is (Some prefix) text e = ap (λ (s : DeskState). s.said) e ∙ ap (option_map (λ x. x ++ text)) heard
 
-  quiet-is : (out : Option (List ℕ)) (text : List ℕ) → new ≡ after_say (after_outputs (after_reads old (inputs_of c)) (files_of out 0 m)) text
+  quiet-is : (o : Option (List ℕ)) (text : List ℕ) → new ≡ after_say (after_files old (outputs_of o 0 m)) text
       → new.warned ≡ old.warned
   quiet-is None text e = ap (λ (s : DeskState). s.warned) e
   quiet-is (Some prefix) text e = ap (λ (s : DeskState). s.warned) e
 
-  files-are : (out : Option (List ℕ)) (text : List ℕ) → new ≡ after_say (after_outputs (after_reads old (inputs_of c)) (files_of out 0 m)) text
-      → new.files ≡ Some (left_by out m.net (proof_bytes m) before)
+  files-are : (o : Option (List ℕ)) (text : List ℕ) → new ≡ after_say (after_files old (outputs_of o 0 m)) text
+      → new.files ≡ Some (left_by o (told_of o 0 m) before)
   files-are None text e = ap (λ (s : DeskState). s.files) e ∙ told
   files-are (Some prefix) text e =
       ap (λ (s : DeskState). s.files) e
-      ∙ ap (λ (o : Option Files). option_map (put (proof_name prefix 0) (proof_bytes m)) (option_map (put (cnf_name prefix 0) (cnf_text_of m.net)) o)) told
+      ∙ ap (λ (o : Option Files). option_map (put (proof_name prefix 0) (proof_bytes m.net m.book.entries m.finding))
+      (option_map (put (cnf_name prefix 0) (cnf_text_of m.net)) o)) told
 
-  -- the promise of that text and those files is kept
-  pub left-check : (Promise : Files → Files → List ℕ → Type 0) → Promise before (left_by c.out m.net (proof_bytes m) before) (text_of_check c.out m) → Left Promise old new before earlier
-  left-check Promise promise = record {
-    after = left_by c.out m.net (proof_bytes m) before;
-    said = text_of_check c.out m;
-    left = files-are c.out (text_of_check c.out m) whole;
-    heard = said-is c.out (text_of_check c.out m) whole;
-    quiet = quiet-is c.out (text_of_check c.out m) whole;
+  -- the promise of that text and those files is kept, and nothing was warned since the state `first`
+  pub left-check : (first : DeskState) → old.warned ≡ first.warned → (Promise : Files → Files → List ℕ → Type 0)
+      → Promise before (left_by out (told_of out 0 m) before) (text_of_check out m) → Left Promise first new before earlier
+  left-check first silent Promise promise = record {
+    after = left_by out (told_of out 0 m) before;
+    said = text_of_check out m;
+    left = files-are out (text_of_check out m) whole;
+    heard = said-is out (text_of_check out m) whole;
+    quiet = quiet-is out (text_of_check out m) whole ∙ silent;
     promise = promise;
   }
+
+-- what holds of the one check holds of the files
+pub of-files : (a b : List ℕ) (out : Option (List ℕ)) (Holds : Told → Type 0) (before : Files) (m : Made) → SpellPair a b before m.net
+    → Holds (told_of out 0 m) → OfFiles a b out Holds before (left_by out (told_of out 0 m) before) (text_of_check out m)
+of-files a b out Holds before m pair holds = record {
+  net = m.net;
+  pair = pair;
+  earlier = [];
+  last = told_of out 0 m;
+  checks = refl;
+  says = sym (append-nil (text_of_check out m));
+  files = leaves-one out (told_of out 0 m) before;
+  holds = holds;
+}

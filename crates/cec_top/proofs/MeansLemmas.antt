@@ -2,7 +2,8 @@
 use Rattle.std.proofs.Common.{◌≡◌, ℕ, ◌<◌, true, List, length}
 use Rattle.netlist.specs.Net.{AigPair}
 use Rattle.lemma_book.specs.declared.entry.Entry.{Entry}
-use Rattle.proof_stitch.specs.Stitch.{has_out, IsRefutation, refutation_of}
+use Rattle.lemma_book.specs.Entry.{has_out}
+use Rattle.proof_stitch.specs.Stitch.{IsRefutation, refutation_of}
 use Rattle.proof_stitch.specs.Derivation.{IsDerivation, AreSpans, derivation_of, spans_of}
 use Rattle.check_session.specs.Finding.{Finding, Equivalent, Different, Undecided, Finds}
 use Rattle.cec_top.specs.Check.{IsProof}

@@ -1,11 +1,23 @@
 -- The session of the circuits that the program makes.
-use Rattle.std.proofs.Common.{◌≡◌, ℕ, List, sym, subst}
+use Rattle.std.proofs.Common.{◌≡◌, ℕ, inl, inr, List, [], None, Ok, Err, refl, sym, subst}
+use Rattle.std.specs.Prelude.{Result, IfOk, IfErr}
+use Rattle.desk_port.specs.Desk.{DeskState}
+use Rattle.endings.specs.declared.status.Status.{Status}
+use Rattle.endings.specs.declared.stop.Stop.{Stop}
+use Rattle.check_session.specs.declared.options.Options.{Options}
+use Rattle.check_session.specs.Check.{State}
 use Rattle.netlist.specs.Circuit.{Aig}
 use Rattle.netlist.specs.Net.{AigPair}
 use Rattle.aiger_file.specs.File.{SpellsAiger}
-use Rattle.workload_gen.specs.Workload.{first_bytes, second_bytes}
+use Rattle.workload_gen.specs.Workload.{first_bytes, second_bytes, first_circuit, second_circuit}
+use Rattle.workload_gen.specs.declared.kind.Kind.{Kind}
+use Rattle.workload_gen.specs.declared.kind.Kind.TheVariants.{Adder, Parity, Comparator}
 use Rattle.command_line.specs.Words.{SelfCommand}
-use Rattle.cec_top.specs.SelfCheck.{AreWorkload}
+use Rattle.cec_top.specs.declared.kept.Kept.{Kept}
+use Rattle.cec_top.specs.Answers.{circuit_in}
+use Rattle.cec_top.specs.SelfCheck.{AreWorkload, EndsSelf, StopsSelf, after_workload, own_how}
+use Rattle.cec_top.specs.Steps.{Checks, how_in}
+use Rattle.cec_top.proofs.CheckLemmas.{one-ends, one-stops}
 
 -- it is of the circuits that were read back
 pub made-own : (c : SelfCommand) (x y : List ℕ) (a b : Aig) (net : AigPair) → x ≡ first_bytes c.kind c.n → y ≡ second_bytes c.kind c.n
@@ -14,3 +26,59 @@ made-own c x y a b net x_is y_is a_is b_is is = subst (AreWorkload c) (sym is) (
   a = subst (λ (bytes : List ℕ). SpellsAiger bytes a) x_is a_is;
   b = subst (λ (bytes : List ℕ). SpellsAiger bytes b) y_is b_is;
 })
+
+-- the circuits that are made have no constraint
+pub plain-first : (kind : Kind) (n : ℕ) → (first_circuit kind n).constraints ≡ []
+unfolding first_circuit
+plain-first Adder n = refl
+plain-first Parity n = refl
+plain-first Comparator n = refl
+
+pub plain-second : (kind : Kind) (n : ℕ) → (second_circuit kind n).constraints ≡ []
+unfolding second_circuit
+plain-second Adder n = refl
+plain-second Parity n = refl
+plain-second Comparator n = refl
+
+-- bytes that spell a circuit without constraints are taken
+pub taken : (bytes : List ℕ) (c : Aig) → SpellsAiger bytes c → c.constraints ≡ [] → circuit_in bytes ≡ Ok c
+taken bytes c spells plain = rw (spells, plain) refl
+
+-- what was said of one pair was said of the same
+pub at-workload : (c : SelfCommand) (one net : AigPair) (old mid : DeskState) → one ≡ net → mid ≡ after_workload c one old
+    → mid ≡ after_workload c net old
+at-workload c one net old mid is at = subst (λ (n : AigPair). mid ≡ after_workload c n old) is at
+
+-- the check of it, behind what was said of the circuits
+module _ (c : SelfCommand) (s : State) (circuits : AreWorkload c s.net) (options : s.options ≡ own_how.options) (old mid new : DeskState)
+    (at : mid ≡ after_workload c s.net old) (kept : List Kept) where
+  behind : (r : Result Status Stop) → Checks (how_in s None) 0 s.net mid new [] kept r
+      → Checks own_how 0 s.net (after_workload c s.net old) new [] kept r
+  behind r p =
+      subst (λ (o : Options). Checks (record { options = o; out = None }) 0 s.net (after_workload c s.net old) new [] kept r) options
+      (subst (λ (t : DeskState). Checks (how_in s None) 0 s.net t new [] kept r) at p)
+
+  pub own-ends : (status : Status) → Checks (how_in s None) 0 s.net mid new [] kept (Ok status) → EndsSelf c old new status kept
+  own-ends status p = record {
+    net = s.net;
+    circuits = circuits;
+    ends = one-ends own_how s.net (after_workload c s.net old) new kept status (behind (Ok status) p);
+  }
+
+  pub own-stops : (stop : Stop) → Checks (how_in s None) 0 s.net mid new [] kept (Err stop) → StopsSelf c old kept new stop
+  own-stops stop p = inr (inl (record {
+    net = s.net;
+    circuits = circuits;
+    stops = one-stops own_how s.net (after_workload c s.net old) new kept stop (behind (Err stop) p);
+  }))
+
+  -- by what the check answers
+  pub own-ok : (r : Result Status Stop) → Checks (how_in s None) 0 s.net mid new [] kept r
+      → IfOk r (λ status. EndsSelf c old new status kept)
+  own-ok (Ok status) p = own-ends status p
+  own-ok (Err stop) p = tt
+
+  pub own-err : (r : Result Status Stop) → Checks (how_in s None) 0 s.net mid new [] kept r
+      → IfErr r (StopsSelf c old kept new)
+  own-err (Ok status) p = tt
+  own-err (Err stop) p = own-stops stop p

@@ -1,7 +1,7 @@
 -- What each verdict promises of circuits that the program makes, and that the check of them comes to one.
-use Rattle.std.proofs.Common.{◌≡◌, ℕ, ◌<◌, ◌≤◌, inl, inr, List, [], ◌++◌, Option, Some, None, refl, sym, ap, ◌∙◌, subst, arith, append_assoc}
+use Rattle.std.proofs.Common.{◌≡◌, ℕ, ◌<◌, ◌≤◌, inl, inr, List, [], ◌∷◌, ◌++◌, Option, Some, None, refl, sym, ap, ◌∙◌, subst, arith, append_assoc}
 use Rattle.std.specs.Prelude.{◌⊎◌, option_map}
-use Rattle.desk_port.specs.Desk.{Files, DeskState, Rose, after_say}
+use Rattle.desk_port.specs.Desk.{DeskState, Rose, after_say}
 use Rattle.netlist.specs.Net.{AigPair}
 use Rattle.endings.specs.declared.status.Status.{Status}
 use Rattle.endings.specs.Status.{code_of}
@@ -10,42 +10,40 @@ use Rattle.endings.specs.declared.stop.Stop.TheVariants.{OutOfMemory}
 use Rattle.endings.specs.Stops.{EndsBy, Warns, status_of, stop_line}
 use Rattle.command_line.specs.Words.{SelfCommand}
 use Rattle.cec_top.specs.declared.kept.Kept.{Kept}
-use Rattle.cec_top.specs.Headline.{AreEquivalent, AreDifferent, AreUndecided, OfWorkload, Shows}
-use Rattle.cec_top.specs.Check.{status_of_finding, text_of_check}
+use Rattle.cec_top.specs.Headline.{Told, AreEquivalent, AreDifferent, AreUndecided, OfWorkload, Shows}
+use Rattle.cec_top.specs.Check.{Made, IsMade, status_of_finding, text_of_check, kept_of}
 use Rattle.cec_top.specs.Answers.{IsAtOnce}
-use Rattle.cec_top.specs.SelfCheck.{AnswersSelf, EndsSelf, StopsSelf, after_workload, own_check}
+use Rattle.cec_top.specs.SelfCheck.{AreWorkload, AnswersSelf, EndsSelf, StopsSelf, after_workload, own_how}
 use Rattle.cec_top.specs.Complete.{NoFault, HasVerdict}
 use Rattle.cec_top.specs.Texts.{workload_text}
-use Rattle.cec_top.proofs.HeadlineLemmas.{ends-code}
-use Rattle.cec_top.proofs.VerdictLemmas.{are-equivalent, are-different, are-undecided}
-use Rattle.cec_top.proofs.CompleteLemmas.{IsExcused, finding-code, leaves-stops, excused-verdict}
+use Rattle.cec_top.proofs.HeadlineLemmas.{ends-code, told_of}
+use Rattle.cec_top.proofs.VerdictLemmas.{only-check, are-equivalent, are-different, are-undecided}
+use Rattle.cec_top.proofs.CompleteLemmas.{IsExcused, finding-code, leaves-stops, checks-stop, excused-verdict}
 
 module _ (c : SelfCommand) (old new : DeskState) (status : Status) (kept : List Kept) where
-  whole : (p : EndsSelf c old new status kept) → new ≡ after_say (after_workload c p.made.net old) (text_of_check None p.made)
-  whole p = p.told
-
   -- what holds of the check is promised
-  promised : (Holds : AigPair → Files → Files → List ℕ → Type 0) (p : EndsSelf c old new status kept)
-      → ((before : Files) → Holds p.made.net before before (text_of_check None p.made)) → Shows (OfWorkload c Holds) old new
-  promised Holds p holds before earlier told heard =
-      let first = workload_text c p.made.net in
-      let verdict = text_of_check None p.made in
+  promised : (Holds : Told → Type 0) (m : Made) → AreWorkload c m.net
+      → new ≡ after_say (after_workload c m.net old) (text_of_check None m) → Holds (told_of None 0 m) → Shows (OfWorkload c Holds) old new
+  promised Holds m circuits whole holds before earlier told heard =
+      let first = workload_text c m.net in
+      let verdict = text_of_check None m in
       record {
         after = before;
         said = first ++ verdict;
-        left = ap (λ (s : DeskState). s.files) (whole p) ∙ told;
+        left = ap (λ (s : DeskState). s.files) whole ∙ told;
         heard =
-            ap (λ (s : DeskState). s.said) (whole p)
+            ap (λ (s : DeskState). s.said) whole
             ∙ ap (λ (o : Option (List ℕ)). option_map (λ x. x ++ verdict) (option_map (λ x. x ++ first) o)) heard
             ∙ ap (λ (x : List ℕ). Some x) (append_assoc earlier first verdict);
-        quiet = ap (λ (s : DeskState). s.warned) (whole p);
+        quiet = ap (λ (s : DeskState). s.warned) whole;
         promise = record {
-          net = p.made.net;
-          spells_a = p.circuits.a;
-          spells_b = p.circuits.b;
-          verdict = verdict;
+          check = told_of None 0 m;
+          number_is = refl;
+          spells_a = circuits.a;
+          spells_b = circuits.b;
           says = refl;
-          holds = holds before;
+          files = refl;
+          holds = holds;
         };
       }
 
@@ -57,27 +55,29 @@ module _ (c : SelfCommand) (old new : DeskState) (status : Status) (kept : List 
       | inr p ↦ absurd (omega (arith, below, ends-code _ _ new status p))
     ]
 
-    shows : (Holds : AigPair → Files → Files → List ℕ → Type 0) (code : ℕ) → code_of status ≡ code → code < 4
-        → ((p : EndsSelf c old new status kept) (before : Files) → code_of (status_of_finding p.made.finding) ≡ code
-        → Holds p.made.net before before (text_of_check None p.made))
+    shows : (Holds : Told → Type 0) (code : ℕ) → code_of status ≡ code → code < 4
+        → ((m : Made) → IsMade own_how m → kept ≡ kept_of 0 m ∷ [] → code_of (status_of_finding m.finding) ≡ code → Holds (told_of None 0 m))
         → Shows (OfWorkload c Holds) old new
     shows Holds code is below holds =
         let p = ends-whole (omega (arith, is, below)) in
-        promised Holds p (λ before. holds p before (sym (ap code_of p.status_is) ∙ is))
+        let o = only-check own_how p.net (after_workload c p.net old) new status kept p.ends in
+        promised Holds o.check (subst (λ (n : AigPair). AreWorkload c n) (sym o.same) p.circuits)
+        (subst (λ (n : AigPair). new ≡ after_say (after_workload c n old) (text_of_check None o.check)) (sym o.same) o.whole)
+        (holds o.check o.is_made o.keeps (ap code_of o.status_is ∙ is))
 
     pub own-equivalent : code_of status ≡ 0 → Shows (OfWorkload c (AreEquivalent None)) old new
     own-equivalent is = shows (AreEquivalent None) 0 is (omega arith)
-        (λ p before code. are-equivalent None p.made.net own_check.sweep_budget own_check.budget p.made.book before p.made.finding p.is_made.settled
-        p.is_made.proof code)
+        (λ m made kept_is code. are-equivalent None 0 m.net own_how.options.sweep_budget own_how.options.out_budget m.book m.finding made.settled
+        made.proof code)
 
     pub own-different : code_of status ≡ 1 → Shows (OfWorkload c (AreDifferent None)) old new
     own-different is = shows (AreDifferent None) 1 is (omega arith)
-        (λ p before code. are-different None p.made.net own_check.sweep_budget own_check.budget p.made.book before p.made.finding p.is_made.settled code)
+        (λ m made kept_is code. are-different None 0 m.net own_how.options.sweep_budget own_how.options.out_budget m.book m.finding made.settled code)
 
-    pub own-undecided : code_of status ≡ 2 → Shows (OfWorkload c (AreUndecided None own_check.budget)) old new
-    own-undecided is = shows (AreUndecided None own_check.budget) 2 is (omega arith)
-        (λ p before code. are-undecided None p.made.net own_check.sweep_budget own_check.budget p.made.book before p.made.finding p.is_made.settled
-        p.is_made.proof code)
+    pub own-undecided : code_of status ≡ 2 → Shows (OfWorkload c (AreUndecided None own_how.options.out_budget kept)) old new
+    own-undecided is = shows (AreUndecided None own_how.options.out_budget kept) 2 is (omega arith)
+        (λ m made kept_is code. are-undecided None 0 m.net own_how.options.sweep_budget own_how.options.out_budget m.book kept kept_is m.finding
+        made.settled made.proof code)
 
   -- ---- a verdict, or want of memory
 
@@ -90,12 +90,14 @@ module _ (c : SelfCommand) (old new : DeskState) (status : Status) (kept : List 
   excused mid stop (inl p) =
       excused-said old mid stop refl (leaves-stops [] (workload_text c p.net) old mid stop p.breaks)
   excused mid stop (inr (inl p)) =
-      let s = after_workload c p.half.net old in
-      excused-said s mid stop refl (leaves-stops [] (text_of_check None p.half) s mid stop p.breaks)
+      let s = after_workload c p.net old in
+      excused-said s mid stop refl (checks-stop own_how p.net s mid kept stop p.stops)
   excused mid stop (inr (inr p)) = inl p.out
 
   pub own-complete : NoFault old new → AnswersSelf c old new status kept ⊎ EndsBy [] (IsAtOnce old) new status → HasVerdict status
-  own-complete none (inl (inl p)) = inl (subst (λ (s : Status). code_of s ≤ 2) (sym p.status_is) (finding-code p.made.finding))
+  own-complete none (inl (inl p)) =
+      let o = only-check own_how p.net (after_workload c p.net old) new status kept p.ends in
+      inl (subst (λ (s : Status). code_of s ≤ 2) o.status_is (finding-code o.check.finding))
   own-complete none (inl (inr p)) = excused-verdict _ old p.mid new p.stop status none p.warns (excused p.mid p.stop p.cause)
   own-complete none (inr p) = go p.warns
     where

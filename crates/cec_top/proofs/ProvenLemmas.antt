@@ -14,7 +14,7 @@ use Rattle.endings.specs.Stops.{EndsBy}
 use Rattle.lrat_run.specs.Files.{cnf_fault, proof_fault, clauses_of, clauses_in, cnf_input, proof_input, inputs_of}
 use Rattle.lrat_run.specs.Texts.{verdict_line}
 use Rattle.lrat_run.specs.Answers.{AnswersLrat, Stops}
-use Rattle.command_line.specs.Words.{LratCommand, Request, CheckIt, LratIt, SelfIt, Asks, WantHelp, AreRefused}
+use Rattle.command_line.specs.Words.{LratCommand, Request, CheckIt, LratIt, SelfIt, Asks, WantInfo, AreRefused}
 use Rattle.cec_top.specs.declared.kept.Kept.{Kept}
 use Rattle.cec_top.specs.Answers.{Answers}
 use Rattle.cec_top.specs.Complete.{NoFault, IsWithinLimit, CanVerify, HasVerdict}
@@ -83,7 +83,7 @@ module _ (c : LratCommand) (old : DeskState) (can : CanVerify c old) where
   lrat-complete new ends.OutOfMemory none p = ends-lrat new ends.OutOfMemory none p
 
 module _ (words : List (List ℕ)) (old new : DeskState) (status : Status) (kept : List Kept)
-    (asked : (words : List (List ℕ)) (r : Request) → Asks words r → ¬ (WantHelp words ⊎ AreRefused words))
+    (asked : (words : List (List ℕ)) (r : Request) → Asks words r → ¬ (WantInfo words ⊎ AreRefused words))
     (answers : Answers words old new status kept) where
   pub complete-lrat : (c : LratCommand) → Asks words (LratIt c) → CanVerify c old → NoFault old new → HasVerdict status
   complete-lrat c asks can none = elim answers [

@@ -13,7 +13,7 @@ use Rattle.endings.specs.Reading.{ReadsAs, StopsAt, FileIs, after_reads}
 use Rattle.command_line.specs.Words.{CheckCommand}
 use Rattle.check_session.specs.Check.{State}
 use Rattle.cec_top.specs.Lines.{unlike_text}
-use Rattle.cec_top.specs.Answers.{ReadsCircuits, circuit_file, inputs_of}
+use Rattle.cec_top.specs.Answers.{ReadsCircuits, circuit_file, pair_of}
 use Rattle.cec_top.specs.Steps.{ReadsPair}
 
 module _ (c : CheckCommand) (old : DeskState) where
@@ -46,7 +46,7 @@ module _ (c : CheckCommand) (old : DeskState) where
             spells_b = y.0.3;
           }
 
-      at-end : new ≡ after_reads old (inputs_of c)
+      at-end : new ≡ after_reads old (pair_of c)
       at-end =
           let x = read_a [] in
           let y = read_b [] in
@@ -54,8 +54,10 @@ module _ (c : CheckCommand) (old : DeskState) where
 
       pub reads-both : (net : AigPair) → net ≡ record { a = a; b = b } → unlike_of a b ≡ None → ReadsPair c old new (Ok net)
       reads-both net is alike = (
-        subst (λ (n : AigPair). ReadsCircuits c old n) (sym is) here,
-        ap (λ (n : AigPair). unlike_of n.a n.b) is ∙ alike,
+        record {
+          reads = subst (λ (n : AigPair). ReadsCircuits c old n) (sym is) here;
+          alike = ap (λ (n : AigPair). unlike_of n.a n.b) is ∙ alike;
+        },
         at-end,
       )
 

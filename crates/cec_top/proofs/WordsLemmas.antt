@@ -9,7 +9,7 @@ use Rattle.endings.specs.Status.{code_of}
 use Rattle.endings.specs.Stops.{EndsBy}
 use Rattle.lrat_run.specs.Answers.{AnswersLrat}
 use Rattle.endings.specs.Reading.{FileIs}
-use Rattle.command_line.specs.Words.{CheckCommand, LratCommand, SelfCommand, Request, CheckIt, LratIt, SelfIt, Asks, WantHelp, AreRefused, Outcome, Requested, NamesNoKind}
+use Rattle.command_line.specs.Words.{CheckCommand, LratCommand, SelfCommand, Request, CheckIt, LratIt, SelfIt, Asks, WantInfo, AreRefused, Outcome, Requested, NamesNoKind}
 use Rattle.cec_top.specs.declared.kept.Kept.{Kept}
 use Rattle.cec_top.specs.Headline.{IsVerified, Shows}
 use Rattle.cec_top.specs.Answers.{Answers, AnswersCheck, IsAtOnce}
@@ -41,7 +41,7 @@ self_or d (LratIt c) = d
 self_or d (SelfIt c) = c
 
 module _ (words : List (List ℕ)) (old new : DeskState) (status : Status) (kept : List Kept)
-    (asked : (words : List (List ℕ)) (r : Request) → Asks words r → ¬ (WantHelp words ⊎ AreRefused words))
+    (asked : (words : List (List ℕ)) (r : Request) → Asks words r → ¬ (WantInfo words ⊎ AreRefused words))
     (answers : Answers words old new status kept) where
   pub answers-check : (c : CheckCommand) → Asks words (CheckIt c) → code_of status < 4 → AnswersCheck c old new status kept
   answers-check c asks below = elim answers [
@@ -69,7 +69,7 @@ module _ (words : List (List ℕ)) (old new : DeskState) (status : Status) (kept
 
 -- the same of arguments that ask for a check of circuits that the program makes, whatever the status
 pub answers-self : (words : List (List ℕ)) (old new : DeskState) (status : Status) (kept : List Kept)
-    → ((words : List (List ℕ)) (r : Request) → Asks words r → ¬ (WantHelp words ⊎ AreRefused words))
+    → ((words : List (List ℕ)) (r : Request) → Asks words r → ¬ (WantInfo words ⊎ AreRefused words))
     → Answers words old new status kept → (c : SelfCommand) → Asks words (SelfIt c)
     → AnswersSelf c old new status kept ⊎ EndsBy [] (IsAtOnce old) new status
 answers-self words old new status kept asked answers c asks = elim answers [

@@ -1,14 +1,16 @@
 -- What a run of the program answers.
-use Rattle.std.specs.Prelude.{◌≡◌, ◌⊎◌, ℕ, List, [], ◌∷◌, ◌++◌, length, map, option_map, None, Some, Err, string_bytes, Option, Result, Ok}
+use Rattle.std.specs.Prelude.{◌≡◌, ◌⊎◌, ℕ, List, [], ◌∷◌, length, None, Some, Err, string_bytes, Option, Result, Ok, ◌==◌, if◌then◌else◌}
 use Rattle.desk_port.specs.Desk.{DeskState, after_say}
 use Rattle.netlist.specs.declared.unlike.Unlike.{Unlike}
 use Rattle.netlist.specs.Net.{AigPair}
 use Rattle.netlist.specs.Unlike.{unlike_of}
 use Rattle.byte_scan.specs.declared.errors.AigerErr.{AigerErr}
+use Rattle.byte_scan.specs.declared.errors.AigerErr.TheVariants.{HasProperty}
+use Rattle.byte_scan.specs.Reading.{◌>>=◌}
 use Rattle.netlist.specs.Circuit.{Aig}
 use Rattle.aiger_file.specs.File.{aiger_in, SpellsAiger}
-use Rattle.command_line.specs.Words.{CheckCommand, LratCommand, SelfCommand, CheckIt, LratIt, SelfIt, Asks, WantHelp, AreRefused}
-use Rattle.command_line.specs.Answers.{Names}
+use Rattle.command_line.specs.Words.{CheckCommand, LratCommand, SelfCommand, CheckIt, LratIt, SelfIt, Asks, WantInfo, WantVersion, AreRefused}
+use Rattle.command_line.specs.Answers.{Names, version_text}
 use Rattle.endings.specs.Reading.{Input, AreRead, ReadsUpTo, after_reads}
 use Rattle.endings.specs.Writing.{Says}
 use Rattle.endings.specs.Stops.{EndsBy, Warns}
@@ -19,7 +21,7 @@ use Rattle.endings.specs.declared.stop.Stop.TheVariants.{NotAlike, OutOfMemory}
 use Rattle.lrat_run.specs.Answers.{AnswersLrat}
 use Rattle.cec_top.specs.declared.kept.Kept.{Kept}
 use Rattle.cec_top.specs.Lines.{aiger_text, unlike_text}
-use Rattle.cec_top.specs.Check.{Made, IsMade, Tells, AreTold, status_of_finding, last_finding, kept_from, AreSome, KeepsOn}
+use Rattle.cec_top.specs.Check.{How, Plan, Ends, StopsChecks}
 use Rattle.cec_top.specs.SelfCheck.{AnswersSelf}
 
 -- ---- a check
@@ -29,44 +31,65 @@ abbrev pub fault_in : Result Aig AigerErr → Option (List ℕ)
 fault_in (Ok c) = None
 fault_in (Err e) = Some (aiger_text e)
 
+-- constraints are refused, as the section `C` (67)
+abbrev pub unconstrained : Aig → Result Aig AigerErr
+unconstrained c = if length c.constraints == 0 then Ok c else Err (HasProperty 67)
+
+-- the circuit without constraints that the bytes spell, or their first fault
+abbrev pub circuit_in : List ℕ → Result Aig AigerErr
+circuit_in bytes = aiger_in bytes >>= unconstrained
+
 -- a circuit's file, and the text of its first fault, whatever files were read before it
 abbrev pub circuit_file : List ℕ → Input
-circuit_file name = record { name = name; fault = λ earlier bytes. fault_in (aiger_in bytes) }
+circuit_file name = record { name = name; fault = λ earlier bytes. fault_in (circuit_in bytes) }
 
--- the files that the command reads, in order
-abbrev pub inputs_of : CheckCommand → List Input
-inputs_of c = circuit_file c.a ∷ circuit_file c.b ∷ []
+-- the files that the command reads, in order: those of the pair, and behind them, before check 0, a script's, of which there
+-- is none so far
+abbrev pub pair_of : CheckCommand → List Input
+pair_of c = circuit_file c.a ∷ circuit_file c.b ∷ []
+
+abbrev pub script_of : CheckCommand → List Input
+script_of c = []
 
 abbrev pub names_of : CheckCommand → List (List ℕ)
 names_of c = c.a ∷ c.b ∷ []
 
--- they are read, and spell these circuits
+-- under which numbers the command makes its checks, and with which prefix for their files
+abbrev pub how_of : CheckCommand → How
+how_of c = record {
+  options = record { seed = c.seed; words = c.words; sweep_budget = c.sweep_budget; out_budget = c.budget };
+  out = c.out;
+}
+
+-- the pair is read, and the files spell these circuits
 pub record ReadsCircuits (c : CheckCommand) (old : DeskState) (net : AigPair) : Type 0 where
   pub a : List ℕ
   pub b : List ℕ
-  pub read : AreRead old [] (inputs_of c) (a ∷ b ∷ [])
+  pub read : AreRead old [] (pair_of c) (a ∷ b ∷ [])
   pub spells_a : SpellsAiger a net.a
   pub spells_b : SpellsAiger b net.b
 
--- the circuits of the checks that are asked for, in order: check 0 is of those that were read, and there are no more so far
-abbrev pub asked_for : AigPair → List AigPair
-asked_for net = net ∷ []
+-- what is asked for where the pair is these circuits: check 0 is of them, and a script would ask for more
+abbrev pub plan_of : AigPair → Plan
+plan_of net = record { checks = net ∷ []; refused = None }
 
--- the circuits can be compared, and of the checks that are asked for these are made and told, each whole before the next,
--- and the others aren't begun
-pub record GoesOn (c : CheckCommand) (old : DeskState) (made : List Made) (others : List AigPair) (new : DeskState) : Type 0 where
-  pub net : AigPair
+-- the circuits can be compared
+pub record AreAlike (c : CheckCommand) (old : DeskState) (net : AigPair) : Type 0 where
   pub reads : ReadsCircuits c old net
   pub alike : unlike_of net.a net.b ≡ None
-  pub checks : map (λ m. m.net) made ++ others ≡ asked_for net
-  pub told : AreTold c 0 made (after_reads old (inputs_of c)) new
 
--- all checks are made and told, and the status goes with the last one's verdict
-pub record Ends (c : CheckCommand) (old new : DeskState) (status : Status) (kept : List Kept) : Type 0 where
-  pub made : List Made
-  pub whole : GoesOn c old made [] new
-  pub status_is : option_map status_of_finding (last_finding made) ≡ Some status
-  pub keeps : kept ≡ kept_from 0 made
+-- the desk after the pair was read, and before check 0
+abbrev pub after_pair : CheckCommand → DeskState → DeskState
+after_pair c old = after_reads old (pair_of c)
+
+abbrev pub at_start : CheckCommand → DeskState → DeskState
+at_start c old = after_reads (after_pair c old) (script_of c)
+
+-- all checks are made and told
+pub record EndsCheck (c : CheckCommand) (old new : DeskState) (status : Status) (kept : List Kept) : Type 0 where
+  pub net : AigPair
+  pub pair : AreAlike c old net
+  pub ends : Ends (how_of c) (plan_of net) (at_start c old) new status kept
 
 -- the text of the cause says how the circuits differ
 abbrev pub NamesUnlike : Unlike → Stop → Type 0
@@ -80,38 +103,31 @@ pub record AreUnlike (c : CheckCommand) (old new : DeskState) (stop : Stop) : Ty
   pub unlike : Unlike
   pub differ : unlike_of net.a net.b ≡ Some unlike
   pub stop_is : NamesUnlike unlike stop
-  pub new_is : new ≡ after_reads old (inputs_of c)
+  pub new_is : new ≡ after_pair c old
 
--- some checks are told whole, and the next one has its verdict and is told in part
-pub record BreaksOff (c : CheckCommand) (old new : DeskState) (kept : List Kept) (stop : Stop) : Type 0 where
-  pub made : List Made
-  pub half : Made
-  pub others : List AigPair
-  pub mid : DeskState
-  pub before : GoesOn c old made (half.net ∷ others) mid
-  pub is_made : IsMade c half
-  pub breaks : Tells c (length made) half mid new (Err stop)
-  pub keeps : KeepsOn stop kept (kept_from 0 (made ++ half ∷ []))
+-- the circuits can be compared, and the script isn't read
+pub record NoScript (c : CheckCommand) (old new : DeskState) (stop : Stop) : Type 0 where
+  pub net : AigPair
+  pub pair : AreAlike c old net
+  pub stops : ReadsUpTo 2 (pair.reads.a ∷ pair.reads.b ∷ []) (script_of c) (after_pair c old) new stop
 
--- memory runs out before the next check has its verdict
-pub record RunsOut (c : CheckCommand) (old new : DeskState) (kept : List Kept) (stop : Stop) : Type 0 where
-  pub out : stop ≡ OutOfMemory
-  pub made : List Made
-  pub others : List AigPair
-  pub before : GoesOn c old made others new
-  pub keeps : AreSome kept (kept_from 0 made)
+-- the checks are begun, and end without the last verdict or with more than it
+pub record StopsLater (c : CheckCommand) (old : DeskState) (kept : List Kept) (new : DeskState) (stop : Stop) : Type 0 where
+  pub net : AigPair
+  pub pair : AreAlike c old net
+  pub stops : StopsChecks (how_of c) (plan_of net) (at_start c old) kept new stop
 
 -- why a check ends without a verdict that was said whole
 abbrev pub Stops : CheckCommand → DeskState → List Kept → DeskState → Stop → Type 0
 Stops c old kept new stop =
-    ((kept ≡ []) × ReadsUpTo 0 [] (inputs_of c) old new stop)
+    ((kept ≡ []) × ReadsUpTo 0 [] (pair_of c) old new stop)
     ⊎ ((kept ≡ []) × AreUnlike c old new stop)
-    ⊎ BreaksOff c old new kept stop
-    ⊎ RunsOut c old new kept stop
+    ⊎ ((kept ≡ []) × NoScript c old new stop)
+    ⊎ StopsLater c old kept new stop
 
 -- what the program answers to arguments that ask for a check
 abbrev pub AnswersCheck : CheckCommand → DeskState → DeskState → Status → List Kept → Type 0
-AnswersCheck c old new status kept = Ends c old new status kept ⊎ EndsBy (names_of c) (Stops c old kept) new status
+AnswersCheck c old new status kept = EndsCheck c old new status kept ⊎ EndsBy (names_of c) (Stops c old kept) new status
 
 -- ---- the program
 
@@ -139,11 +155,12 @@ abbrev pub SaysHelp : List ℕ → DeskState → DeskState → Status → Type 0
 SaysHelp text old new status =
     ((status ≡ ends.Done) × (new ≡ after_say old text)) ⊎ EndsBy [] (λ mid stop. Says text old mid (Err stop)) new status
 
--- they want help, which is said
+-- they want help or the version, which is said
 pub record HelpsWords (words : List (List ℕ)) (old new : DeskState) (status : Status) (kept : List Kept) : Type 0 where
-  pub wanted : WantHelp words
+  pub wanted : WantInfo words
   pub none : kept ≡ []
   pub text : List ℕ
+  pub version : WantVersion words → text ≡ version_text
   pub says : SaysHelp text old new status
 
 -- they are refused, by a text that is warned and tells of a command `help` and of a word that names no kind of workload
@@ -163,7 +180,7 @@ pub record KnowsNothing (old new : DeskState) (status : Status) (kept : List Kep
   pub ends : EndsBy [] (IsAtOnce old) new status
 
 -- What the program answers to its arguments. They ask for a check, of files or of circuits that the program makes, or for a
--- proof to be checked, or want help, or are refused, and only one of these (`command_line::words_are_one_of`); or memory ran
+-- proof to be checked, or want help or the version, or are refused, and only one of these (`command_line::words_are_one_of`); or memory ran
 -- out before it was known which.
 abbrev pub Answers : List (List ℕ) → DeskState → DeskState → Status → List Kept → Type 0
 Answers words old new status kept =

@@ -1,24 +1,21 @@
 -- One check: what it found, the files that it leaves under its number, and what it says; and checks one after another.
-use Rattle.std.specs.Prelude.{◌≡◌, ◌⊎◌, ℕ, ◌+◌, Bool, true, false, List, [], ◌∷◌, codes, Option, None, Some, Result, Ok, if◌then◌else◌}
+use Rattle.std.specs.Prelude.{◌≡◌, ◌⊎◌, ℕ, ◌+◌, Bool, true, false, List, [], ◌∷◌, ◌++◌, length, map, option_map, codes, Option, None, Some, Result, Ok, Err, if◌then◌else◌, string_bytes}
 use Rattle.desk_port.specs.Desk.{DeskState}
 use Rattle.endings.specs.Writing.{Output, Leaves}
 use Rattle.endings.specs.declared.status.Status.{Status}
 use Rattle.endings.specs.declared.stop.Stop.{Stop}
-use Rattle.endings.specs.declared.stop.Stop.TheVariants.{OutOfMemory}
+use Rattle.endings.specs.declared.stop.Stop.TheVariants.{BadFile, OutOfMemory}
 use Rattle.endings.specs.declared.status.Status.TheVariants.{Done, No, Undecided as Open}
 use Rattle.netlist.specs.Net.{AigPair}
-use Rattle.lrat_text.specs.declared.step.LratStep.{LratStep}
 use Rattle.lemma_book.specs.declared.entry.Entry.{Entry}
 use Rattle.lemma_book.specs.Entry.{Entries}
-use Rattle.proof_stitch.specs.Text.{proof_text}
 use Rattle.proof_stitch.specs.Stitch.{IsRefutation, refutation_of}
 use Rattle.proof_stitch.specs.Derivation.{IsDerivation, AreSpans, derivation_of, spans_of}
-use Rattle.command_line.specs.Words.{CheckCommand}
-use Rattle.cec_top.specs.declared.kept.Kept.{Kept}
+use Rattle.check_session.specs.declared.options.Options.{Options}
 use Rattle.check_session.specs.Finding.{Finding, Equivalent, Different, Undecided, open_outputs}
 use Rattle.check_session.specs.Check.{IsSettled}
-use Rattle.cec_top.specs.Headline.{cnf_text_of}
-use Rattle.cec_top.specs.Names.{cnf_name, proof_name}
+use Rattle.check_session.specs.Files.{files_of}
+use Rattle.cec_top.specs.declared.kept.Kept.{Kept}
 use Rattle.cec_top.specs.Texts.{different_text, open_text, open_text_with}
 
 -- the status with which the program ends where the finding was said
@@ -27,28 +24,22 @@ status_of_finding Equivalent = Done
 status_of_finding (Different j input) = No
 status_of_finding Undecided = Open
 
+-- how checks are made: under which numbers, and with which prefix for the names of their files, if they leave any
+pub record How : Type 0 where
+  pub options : Options
+  pub out : Option (List ℕ)
+
 -- a check that has its verdict: its circuits, its book and what that shows
 pub record Made : Type 0 where
   pub net : AigPair
   pub book : Entries
   pub finding : Finding
 
--- the lines of the proof: a refutation where the circuits are equivalent, none where an output differs, and where some are
--- open what the book derives, their logs among it
-abbrev pub proof_lines : AigPair → List Entry → Finding → List LratStep
-proof_lines net entries Equivalent = refutation_of net entries
-proof_lines net entries (Different j input) = []
-proof_lines net entries Undecided = derivation_of net entries
-
--- those lines refute the miter, or derive from it, each log standing at the lines that are said
+-- the lines of its proof refute the miter, or derive from it, each log standing at the lines that are said
 abbrev pub IsProof : AigPair → List Entry → Finding → Type 0
 IsProof net entries Equivalent = IsRefutation net (refutation_of net entries)
 IsProof net entries (Different j input) = Unit {0}
 IsProof net entries Undecided = IsDerivation net (derivation_of net entries) × AreSpans net entries (spans_of net entries)
-
--- the bytes of its proof's file
-abbrev pub proof_bytes : Made → List ℕ
-proof_bytes m = proof_text m.net (proof_lines m.net m.book.entries m.finding)
 
 -- what is said of a finding, with that text where outputs are open
 abbrev pub text_of : Finding → List ℕ → List ℕ
@@ -69,29 +60,36 @@ verdict_text out net entries finding = text_of finding (open_part_of out net ent
 abbrev pub text_of_check : Option (List ℕ) → Made → List ℕ
 text_of_check out m = verdict_text out m.net m.book.entries m.finding
 
--- the check is right under the command's budgets
-pub record IsMade (c : CheckCommand) (m : Made) : Type 0 where
-  pub settled : IsSettled m.net c.sweep_budget c.budget m.book m.finding
+-- the check is right under the budgets
+pub record IsMade (how : How) (m : Made) : Type 0 where
+  pub settled : IsSettled m.net how.options.sweep_budget how.options.out_budget m.book m.finding
   pub proof : IsProof m.net m.book.entries m.finding
 
 -- the files that it leaves under its number, if there is a prefix for them
 abbrev pub outputs_of : Option (List ℕ) → ℕ → Made → List Output
 outputs_of None number m = []
-outputs_of (Some prefix) number m =
-    record { name = cnf_name prefix number; bytes = cnf_text_of m.net }
-    ∷ record { name = proof_name prefix number; bytes = proof_bytes m }
-    ∷ []
+outputs_of (Some prefix) number m = files_of prefix number m.net m.book.entries m.finding
 
 -- its files are left and closed, and then its verdict is said; or that stops, as the result says
-abbrev pub Tells : CheckCommand → ℕ → Made → DeskState → DeskState → Result (Unit {0}) Stop → Type 0
-Tells c number m old new result =
-    Leaves (outputs_of c.out number m) (text_of_check c.out m) old new result
+abbrev pub Tells : How → ℕ → Made → DeskState → DeskState → Result (Unit {0}) Stop → Type 0
+Tells how number m old new result =
+    Leaves (outputs_of how.out number m) (text_of_check how.out m) old new result
 
 -- the checks from this number on are right, and each is told whole before the next begins
-abbrev pub AreTold : CheckCommand → ℕ → List Made → DeskState → DeskState → Type 0
-AreTold c number [] old new = new ≡ old
-AreTold c number (m ∷ ms) old new =
-    (mid : DeskState) × IsMade c m × Tells c number m old mid (Ok tt) × AreTold c (number + 1) ms mid new
+abbrev pub AreTold : How → ℕ → List Made → DeskState → DeskState → Type 0
+AreTold how number [] old new = new ≡ old
+AreTold how number (m ∷ ms) old new =
+    (mid : DeskState) × IsMade how m × Tells how number m old mid (Ok tt) × AreTold how (number + 1) ms mid new
+
+-- what a check takes over from the one before it: nothing so far
+abbrev pub TakesOver : Made → Made → Type 0
+TakesOver m n = Unit {0}
+
+-- each check takes that over from its neighbour
+abbrev pub AreNeighbours : List Made → Type 0
+AreNeighbours [] = Unit {0}
+AreNeighbours (m ∷ []) = Unit {0}
+AreNeighbours (m ∷ n ∷ ms) = TakesOver m n × AreNeighbours (n ∷ ms)
 
 -- the last verdict, with whose status the program ends where all checks were told
 abbrev pub last_finding : List Made → Option Finding
@@ -104,12 +102,16 @@ is_undecided Equivalent = false
 is_undecided (Different j input) = false
 is_undecided Undecided = true
 
+-- the book that is handed back for a check
+abbrev pub kept_of : ℕ → Made → Kept
+kept_of number m = record { check = number; book = m.book }
+
 -- the books that are handed back: those of the checks that left outputs open, and the last one
 abbrev pub kept_from : ℕ → List Made → List Kept
 kept_from number [] = []
-kept_from number (m ∷ []) = record { check = number; book = m.book } ∷ []
+kept_from number (m ∷ []) = kept_of number m ∷ []
 kept_from number (m ∷ n ∷ ms) =
-    if is_undecided m.finding then record { check = number; book = m.book } ∷ kept_from (number + 1) (n ∷ ms)
+    if is_undecided m.finding then kept_of number m ∷ kept_from (number + 1) (n ∷ ms)
     else kept_from (number + 1) (n ∷ ms)
 
 -- the books are some of those
@@ -122,3 +124,63 @@ AreSome (j ∷ js) (k ∷ ks) = ((j ≡ k) × AreSome js ks) ⊎ AreSome (j ∷ 
 abbrev pub KeepsOn : Stop → List Kept → List Kept → Type 0
 KeepsOn OutOfMemory kept all = AreSome kept all
 KeepsOn stop kept all = kept ≡ all
+
+-- ---- the checks that are asked for
+
+-- What is asked for: the circuits of the checks, in order, and the text of a line behind the last of them that is refused, if
+-- there is one.
+pub record Plan : Type 0 where
+  pub checks : List AigPair
+  pub refused : Option (List ℕ)
+
+-- of the checks that are asked for these are made and told, each whole before the next, and the others aren't begun
+pub record GoesOn (how : How) (plan : Plan) (old : DeskState) (made : List Made) (others : List AigPair) (new : DeskState) : Type 0 where
+  pub checks : map (λ m. m.net) made ++ others ≡ plan.checks
+  pub told : AreTold how 0 made old new
+  pub neighbours : AreNeighbours made
+
+-- all checks are made and told, no line is refused, and the status goes with the last one's verdict
+pub record Ends (how : How) (plan : Plan) (old new : DeskState) (status : Status) (kept : List Kept) : Type 0 where
+  pub made : List Made
+  pub whole : GoesOn how plan old made [] new
+  pub accepted : plan.refused ≡ None
+  pub status_is : option_map status_of_finding (last_finding made) ≡ Some status
+  pub keeps : kept ≡ kept_from 0 made
+
+-- some checks are told whole, and the next one has its verdict and is told in part
+pub record BreaksOff (how : How) (plan : Plan) (old new : DeskState) (kept : List Kept) (stop : Stop) : Type 0 where
+  pub made : List Made
+  pub half : Made
+  pub others : List AigPair
+  pub mid : DeskState
+  pub before : GoesOn how plan old made (half.net ∷ others) mid
+  pub is_made : IsMade how half
+  pub breaks : Tells how (length made) half mid new (Err stop)
+  pub keeps : KeepsOn stop kept (kept_from 0 (made ++ half ∷ []))
+
+-- memory runs out before the next check has its verdict
+pub record RunsOut (how : How) (plan : Plan) (old new : DeskState) (kept : List Kept) (stop : Stop) : Type 0 where
+  pub out : stop ≡ OutOfMemory
+  pub made : List Made
+  pub others : List AigPair
+  pub before : GoesOn how plan old made others new
+  pub keeps : AreSome kept (kept_from 0 made)
+
+-- the text is that of a fault of a file
+abbrev pub SaysFault : List ℕ → Stop → Type 0
+SaysFault text (BadFile file why) = string_bytes why ≡ text
+SaysFault text stop = ⊥
+
+-- all checks are made and told, and the line behind them is refused
+pub record RefusesLine (how : How) (plan : Plan) (old new : DeskState) (kept : List Kept) (stop : Stop) : Type 0 where
+  pub made : List Made
+  pub whole : GoesOn how plan old made [] new
+  pub text : List ℕ
+  pub refused : plan.refused ≡ Some text
+  pub stop_is : SaysFault text stop
+  pub keeps : kept ≡ kept_from 0 made
+
+-- why the checks end without the last verdict, or with more than it
+abbrev pub StopsChecks : How → Plan → DeskState → List Kept → DeskState → Stop → Type 0
+StopsChecks how plan old kept new stop =
+    BreaksOff how plan old new kept stop ⊎ RunsOut how plan old new kept stop ⊎ RefusesLine how plan old new kept stop

@@ -1,62 +1,80 @@
 -- What each verdict promises: of the files that the arguments name, of the circuits that they spell, of the files that are
 -- left, and of what is said. `before` and `after` are what the file system holds, by names, before and after the run.
-use Rattle.std.specs.Prelude.{◌≡◌, ◌≢◌, ◌↔◌, ℕ, ◌+◌, ◌<◌, Bool, true, false, All, List, [], ◌++◌, length, map, filter, codes, Option, None, Some, IsSomeAnd}
-use Rattle.std.specs.List.{range_with_len}
+use Rattle.std.specs.Prelude.{◌≡◌, ◌≢◌, ◌↔◌, ℕ, ◌+◌, ◌<◌, Bool, true, false, All, List, [], ◌∷◌, ◌++◌, length, map, filter, codes, Option, None, Some, IfSome, IsSomeAnd}
+use Rattle.std.specs.List.{AllByRecursion, flat_map, range_with_len}
 use Rattle.lits.specs.Assignment.{IsSatisfiable}
 use Rattle.lits.specs.Same.{opposite_dim}
 use Rattle.lits.specs.declared.step.Step.{Step}
 use Rattle.desk_port.specs.Desk.{Files, DeskState}
-use Rattle.netlist.specs.Circuit.{Aig, output_value}
-use Rattle.netlist.specs.Net.{AigPair, Agree, Differ}
-use Rattle.netlist.specs.Miter.{miter_of, variables_of}
+use Rattle.netlist.specs.Net.{AigPair, DiffersOn, AgreesOn, Agree, Differ}
+use Rattle.netlist.specs.Miter.{miter_of}
 use Rattle.dimacs_text.specs.declared.cnf.Cnf.{Cnf}
-use Rattle.dimacs_text.specs.CnfText.{cnf_text}
 use Rattle.dimacs_text.specs.Reading.{SpellsCnf}
 use Rattle.aiger_file.specs.File.{SpellsAiger}
+use Rattle.lemma_book.specs.declared.entry.Entry.{Entry}
 use Rattle.lemma_book.specs.declared.entry.Entry.TheVariants.{OutSpent}
 use Rattle.lemma_book.specs.Entry.{Entries}
 use Rattle.lemma_book.specs.Good.{IsGood}
 use Rattle.lemma_book.specs.Book.{IsLegal}
-use Rattle.lemma_book.specs.Agreement.{IsSame}
 use Rattle.lrat_text.specs.declared.step.Line.{Line}
 use Rattle.lrat_text.specs.Reading.{SpellsLrat}
 use Rattle.lrat_text.specs.Derivation.{Derives, Refutes}
 use Rattle.proof_stitch.specs.Steps.{additions_from}
-use Rattle.proof_stitch.specs.Derivation.{with_ids}
+use Rattle.proof_stitch.specs.Written.{shown_ids}
+use Rattle.proof_stitch.specs.Derivation.{derivation_of, with_ids}
 use Rattle.proof_stitch.specs.declared.logs.Span.{Span}
-use Rattle.command_line.specs.Words.{CheckCommand, LratCommand, SelfCommand}
+use Rattle.check_session.specs.Files.{cnf_name, proof_name, cnf_text_of}
+use Rattle.command_line.specs.Words.{LratCommand, SelfCommand}
 use Rattle.workload_gen.specs.Workload.{first_bytes, second_bytes}
-use Rattle.cec_top.specs.Names.{cnf_name, proof_name}
+use Rattle.cec_top.specs.declared.kept.Kept.{Kept}
 use Rattle.cec_top.specs.Texts.{different_text, open_text, open_text_with, workload_text}
 
--- ---- EQUIVALENT
+-- ---- a check that was told
 
--- the named file is there and spells the circuit
-abbrev pub FileSpells : Files → List ℕ → Aig → Type 0
-FileSpells files name c = IsSomeAnd (files name) (λ bytes. SpellsAiger bytes c)
+-- A check that was told: its number, its circuits, what was said of them, and the bytes of its proof's file, where files are
+-- left.
+pub record Told : Type 0 where
+  pub number : ℕ
+  pub net : AigPair
+  pub said : List ℕ
+  pub proof : List ℕ
+
+-- its two files stand under the prefix and its number: the CNF of its circuits' miter, and its proof
+abbrev pub HasFiles : List ℕ → Files → Told → Type 0
+HasFiles prefix after t =
+    (after (cnf_name prefix t.number) ≡ Some (cnf_text_of t.net)) × (after (proof_name prefix t.number) ≡ Some t.proof)
+
+-- each check has its files, and every file that is none of theirs is as before
+pub record LeavesFiles (prefix : List ℕ) (told : List Told) (before after : Files) : Type 0 where
+  pub each : AllByRecursion (HasFiles prefix after) told
+  pub others : (q : List ℕ) → AllByRecursion (λ t. (q ≢ cnf_name prefix t.number) × (q ≢ proof_name prefix t.number)) told
+      → after q ≡ before q
+
+-- without a prefix no file is another
+abbrev pub LeavesUnder : Option (List ℕ) → List Told → Files → Files → Type 0
+LeavesUnder None told before after = after ≡ before
+LeavesUnder (Some prefix) told before after = LeavesFiles prefix told before after
 
 -- the two named files spell circuits with equally many inputs and equally many outputs
-pub record SpellPair (c : CheckCommand) (before : Files) (net : AigPair) : Type 0 where
-  pub a : FileSpells before c.a net.a
-  pub b : FileSpells before c.b net.b
+pub record SpellPair (a b : List ℕ) (before : Files) (net : AigPair) : Type 0 where
+  pub spells_a : IsSomeAnd (before a) (λ bytes. SpellsAiger bytes net.a)
+  pub spells_b : IsSomeAnd (before b) (λ bytes. SpellsAiger bytes net.b)
   pub inputs : length net.a.inputs ≡ length net.b.inputs
   pub outputs : length net.a.outputs ≡ length net.b.outputs
 
--- the named files spell two circuits of which this holds
-pub record OfFiles (c : CheckCommand) (Holds : AigPair → Files → Files → List ℕ → Type 0) (before after : Files) (said : List ℕ) : Type 0 where
+-- Checks were told, one after another: check 0 of the circuits that the named files spell, and no other so far. What was said
+-- is what was said of each, the files that are left are theirs, and of the last one this holds.
+pub record OfFiles (a b : List ℕ) (out : Option (List ℕ)) (Holds : Told → Type 0) (before after : Files) (said : List ℕ) : Type 0 where
   pub net : AigPair
-  pub pair : SpellPair c before net
-  pub holds : Holds net before after said
+  pub pair : SpellPair a b before net
+  pub earlier : List Told
+  pub last : Told
+  pub checks : map {B = ℕ × AigPair} (λ t. (t.number, t.net)) (earlier ++ last ∷ []) ≡ (0, net) ∷ []
+  pub says : said ≡ flat_map (λ t. t.said) (earlier ++ last ∷ [])
+  pub files : LeavesUnder out (earlier ++ last ∷ []) before after
+  pub holds : Holds last
 
--- the CNF of the circuits' miter
-unfoldable pub cnf_text_of : AigPair → List ℕ
-cnf_text_of net = cnf_text (length (variables_of net)) (miter_of net)
-
--- under the prefix the miter's CNF is left, and a proof with these bytes; every other file is as before
-pub record LeavesBoth (prefix : List ℕ) (net : AigPair) (proof : List ℕ) (before after : Files) : Type 0 where
-  pub cnf : after (cnf_name prefix 0) ≡ Some (cnf_text_of net)
-  pub proof_is : after (proof_name prefix 0) ≡ Some proof
-  pub others : (q : List ℕ) → q ≢ cnf_name prefix 0 → q ≢ proof_name prefix 0 → after q ≡ before q
+-- ---- EQUIVALENT
 
 -- the bytes spell lines that refute the CNF, which has a model exactly if the circuits differ on some input
 pub record RefutesMiter (net : AigPair) (bytes : List ℕ) : Type 0 where
@@ -65,109 +83,98 @@ pub record RefutesMiter (net : AigPair) (bytes : List ℕ) : Type 0 where
   pub refutes : Refutes (miter_of net) lines
   pub exact : IsSatisfiable opposite_dim (miter_of net) ↔ Differ net
 
--- the files of EQUIVALENT under a prefix
-pub record LeavesRefutation (prefix : List ℕ) (net : AigPair) (before after : Files) : Type 0 where
-  pub proof : List ℕ
-  pub both : LeavesBoth prefix net proof before after
-  pub refutes : RefutesMiter net proof
-
--- without a prefix no file is another
-abbrev pub EquivalentFiles : Option (List ℕ) → AigPair → Files → Files → Type 0
-EquivalentFiles None net before after = after ≡ before
-EquivalentFiles (Some prefix) net before after = LeavesRefutation prefix net before after
-
--- the circuits agree on every input
-pub record AreEquivalent (out : Option (List ℕ)) (net : AigPair) (before after : Files) (said : List ℕ) : Type 0 where
-  pub agree : Agree net
-  pub says : said ≡ codes "EQUIVALENT\n"
-  pub files : EquivalentFiles out net before after
+-- the circuits agree on every input, and a proof that is left refutes that they differ
+pub record AreEquivalent (out : Option (List ℕ)) (t : Told) : Type 0 where
+  pub agree : Agree t.net
+  pub says : t.said ≡ codes "EQUIVALENT\n"
+  pub proof : IfSome out (λ prefix. RefutesMiter t.net t.proof)
 
 -- EQUIVALENT: the files spell two such circuits
-abbrev pub IsEquivalent : CheckCommand → Files → Files → List ℕ → Type 0
-IsEquivalent c = OfFiles c (AreEquivalent c.out)
+abbrev pub IsEquivalent : List ℕ → List ℕ → Option (List ℕ) → Files → Files → List ℕ → Type 0
+IsEquivalent a b out = OfFiles a b out (AreEquivalent out)
 
 -- ---- DIFFERENT
 
-abbrev pub DifferentFiles : Option (List ℕ) → AigPair → Files → Files → Type 0
-DifferentFiles None net before after = after ≡ before
-DifferentFiles (Some prefix) net before after = LeavesBoth prefix net [] before after
-
--- the output that is said differs on the input that is said
-pub record AreDifferent (out : Option (List ℕ)) (net : AigPair) (before after : Files) (said : List ℕ) : Type 0 where
+-- the output that is said differs on the input that is said, and a proof that is left is empty
+pub record AreDifferent (out : Option (List ℕ)) (t : Told) : Type 0 where
   pub output : ℕ
-  pub within : output < length net.a.outputs
   pub input : List Bool
-  pub whole : length input ≡ length net.a.inputs
-  pub apart : output_value net.a input output ≢ output_value net.b input output
-  pub says : said ≡ different_text output input
-  pub files : DifferentFiles out net before after
+  pub differs : DiffersOn t.net output input
+  pub says : t.said ≡ different_text output input
+  pub proof : IfSome out (λ prefix. t.proof ≡ [])
 
 -- DIFFERENT: the files spell two such circuits
-abbrev pub IsDifferent : CheckCommand → Files → Files → List ℕ → Type 0
-IsDifferent c = OfFiles c (AreDifferent c.out)
+abbrev pub IsDifferent : List ℕ → List ℕ → Option (List ℕ) → Files → Files → List ℕ → Type 0
+IsDifferent a b out = OfFiles a b out (AreDifferent out)
 
 -- ---- UNDECIDED
 
--- the log of a query of the output that spent its whole budget: over some legal book it is a good entry, so it has as many
--- proof steps over the output's cone, one after the other, each with a clause that unit propagation alone doesn't find
-pub record SpendsBudget (net : AigPair) (budget j : ℕ) (log : List Step) : Type 0 where
-  pub book : Entries
-  pub legal : IsLegal net book
-  pub budget_is : book.out_budget ≡ budget
+-- the log of a query of the output that spent its whole budget: the book has it in an entry that is good over the entries
+-- before it, so it has as many proof steps as the budget has units, over the output's cone, one after the other, each with a
+-- clause that unit propagation alone doesn't find
+pub record SpendsBudget (net : AigPair) (book : Entries) (j : ℕ) (log : List Step) : Type 0 where
+  pub before : List Entry
+  pub behind : List Entry
   pub seen : ℕ
-  pub good : IsGood net book (OutSpent j seen log)
+  pub there : book.entries ≡ before ++ OutSpent j seen log ∷ behind
+  pub good : IsGood net (record book { entries = before }) (OutSpent j seen log)
 
 -- the lines with the ids from the first to the last are the additions of such a log, which cites entries by the ids of the
 -- clauses that these show
-pub record HasLog (net : AigPair) (budget : ℕ) (lines : List Line) (s : Span) : Type 0 where
+pub record HasLog (net : AigPair) (book : Entries) (lines : List Line) (s : Span) : Type 0 where
   pub log : List Step
-  pub spends : SpendsBudget net budget s.output log
-  pub shown : List ℕ
-  pub there : with_ids s.first s.last (map (λ line. line.step) lines) ≡ additions_from net shown s.first s.first log
-  pub whole : s.last + 1 ≡ s.first + budget
+  pub spends : SpendsBudget net book s.output log
+  pub there : with_ids s.first s.last (map (λ line. line.step) lines) ≡ additions_from net (shown_ids net book.entries) s.first s.first log
+  pub whole : s.last + 1 ≡ s.first + book.out_budget
 
--- the files of UNDECIDED under a prefix: the proof spells lines that derive from the CNF, and the logs among them stand where
--- it is said
-pub record LeavesDerivation (prefix : List ℕ) (net : AigPair) (budget : ℕ) (opens : List ℕ) (before after : Files) (said : List ℕ) : Type 0 where
-  pub proof : List ℕ
-  pub both : LeavesBoth prefix net proof before after
+-- the proof of UNDECIDED: it spells lines that derive from the CNF, which are the book's entries, and the logs among them
+-- stand where it is said
+pub record LeavesDerivation (book : Entries) (opens : List ℕ) (t : Told) : Type 0 where
   pub lines : List Line
-  pub spells : SpellsLrat (length (miter_of net)) proof lines
-  pub derives : Derives (miter_of net) lines
+  pub spells : SpellsLrat (length (miter_of t.net)) t.proof lines
+  pub derives : Derives (miter_of t.net) lines
+  pub written : map (λ line. line.step) lines ≡ derivation_of t.net book.entries
   pub spans : List Span
   pub outputs : map (λ s. s.output) spans ≡ opens
-  pub logs : All (HasLog net budget lines) spans
-  pub says : said ≡ open_text_with spans
+  pub logs : All (HasLog t.net book lines) spans
+  pub says : t.said ≡ open_text_with spans
 
-abbrev pub UndecidedFiles : Option (List ℕ) → AigPair → ℕ → List ℕ → Files → Files → List ℕ → Type 0
-UndecidedFiles None net budget opens before after said = (after ≡ before) × (said ≡ open_text opens)
-UndecidedFiles (Some prefix) net budget opens before after said = LeavesDerivation prefix net budget opens before after said
+abbrev pub SaysOpen : Option (List ℕ) → Entries → List ℕ → Told → Type 0
+SaysOpen None book opens t = t.said ≡ open_text opens
+SaysOpen (Some prefix) book opens t = LeavesDerivation book opens t
 
--- for each output that is said a query spent its whole budget, and each other output has one value in both circuits
-pub record AreUndecided (out : Option (List ℕ)) (budget : ℕ) (net : AigPair) (before after : Files) (said : List ℕ) : Type 0 where
+-- for each output that is said a query spent its whole budget, and each other output has one value in both circuits, as the
+-- book shows that is handed back for the check
+pub record AreUndecided (out : Option (List ℕ)) (budget : ℕ) (kept : List Kept) (t : Told) : Type 0 where
+  pub book : Entries
+  pub others_kept : List Kept
+  pub handed : kept ≡ others_kept ++ record { check = t.number; book = book } ∷ []
+  pub legal : IsLegal t.net book
+  pub budget_is : book.out_budget ≡ budget
   pub is_open : ℕ → Bool
   pub opens : List ℕ
-  pub opens_are : opens ≡ filter is_open (range_with_len 0 (length net.a.outputs))
+  pub opens_are : opens ≡ filter is_open (range_with_len 0 (length t.net.a.outputs))
   pub some_open : opens ≢ []
-  pub spent : (j : ℕ) → j < length net.a.outputs → is_open j ≡ true → (log : List Step) × SpendsBudget net budget j log
-  pub others : (j : ℕ) → j < length net.a.outputs → is_open j ≡ false → IsSame net j
-  pub files : UndecidedFiles out net budget opens before after said
+  pub spent : (j : ℕ) → j < length t.net.a.outputs → is_open j ≡ true → (log : List Step) × SpendsBudget t.net book j log
+  pub others : (j : ℕ) → j < length t.net.a.outputs → is_open j ≡ false → AgreesOn t.net j
+  pub says : SaysOpen out book opens t
 
 -- UNDECIDED: the files spell two such circuits
-abbrev pub IsUndecided : CheckCommand → Files → Files → List ℕ → Type 0
-IsUndecided c = OfFiles c (AreUndecided c.out c.budget)
+abbrev pub IsUndecided : List ℕ → List ℕ → Option (List ℕ) → ℕ → List Kept → Files → Files → List ℕ → Type 0
+IsUndecided a b out budget kept = OfFiles a b out (AreUndecided out budget kept)
 
 -- ---- the same of two circuits that the program makes
 
--- the circuits are those that the generator's bytes spell, and of them this holds, with what is said behind the lines that
--- tell of them
-pub record OfWorkload (c : SelfCommand) (Holds : AigPair → Files → Files → List ℕ → Type 0) (before after : Files) (said : List ℕ) : Type 0 where
-  pub net : AigPair
-  pub spells_a : SpellsAiger (first_bytes c.kind c.n) net.a
-  pub spells_b : SpellsAiger (second_bytes c.kind c.n) net.b
-  pub verdict : List ℕ
-  pub says : said ≡ workload_text c net ++ verdict
-  pub holds : Holds net before after verdict
+-- check 0 is told, of the circuits that the generator's bytes spell, behind the lines that tell of them; no file is another,
+-- and of the check this holds
+pub record OfWorkload (c : SelfCommand) (Holds : Told → Type 0) (before after : Files) (said : List ℕ) : Type 0 where
+  pub check : Told
+  pub number_is : check.number ≡ 0
+  pub spells_a : SpellsAiger (first_bytes c.kind c.n) check.net.a
+  pub spells_b : SpellsAiger (second_bytes c.kind c.n) check.net.b
+  pub says : said ≡ workload_text c check.net ++ check.said
+  pub files : after ≡ before
+  pub holds : Holds check
 
 -- ---- VERIFIED
 

@@ -12,7 +12,7 @@ ghost use Rattle.cec_top.specs.Check.{IsProof};
 ghost use Rattle.cec_top.specs.Complete.{CanCheck, CanVerify, NoFault, IsAmple, HasVerdict};
 ghost use Rattle.cec_top.specs.Headline.{IsEquivalent, IsDifferent, IsUndecided, IsVerified, Shows};
 ghost use Rattle.cec_top.specs.Headline.{AreEquivalent, AreDifferent, AreUndecided, OfWorkload};
-ghost use Rattle.cec_top.specs.SelfCheck.{own_check};
+ghost use Rattle.cec_top.specs.SelfCheck.{own_how};
 
 use lemma_book::Book;
 use netlist::Net;
@@ -22,15 +22,15 @@ pub fn verdicts()
     ensures equivalent { (words : List (List ℕ)) (c : CheckCommand)
         (old new : DeskState) (status : Status) (kept : List Kept) →
         Asks words (CheckIt c) → Answers words old new status kept
-        → code_of status ≡ 0 → Shows (IsEquivalent c) old new }
+        → code_of status ≡ 0 → Shows (IsEquivalent c.a c.b c.out) old new }
     ensures different { (words : List (List ℕ)) (c : CheckCommand)
         (old new : DeskState) (status : Status) (kept : List Kept) →
         Asks words (CheckIt c) → Answers words old new status kept
-        → code_of status ≡ 1 → Shows (IsDifferent c) old new }
+        → code_of status ≡ 1 → Shows (IsDifferent c.a c.b c.out) old new }
     ensures undecided { (words : List (List ℕ)) (c : CheckCommand)
         (old new : DeskState) (status : Status) (kept : List Kept) →
         Asks words (CheckIt c) → Answers words old new status kept
-        → code_of status ≡ 2 → Shows (IsUndecided c) old new }
+        → code_of status ≡ 2 → Shows (IsUndecided c.a c.b c.out c.budget kept) old new }
     ensures verified { (words : List (List ℕ)) (c : LratCommand)
         (old new : DeskState) (status : Status) (kept : List Kept) →
         Asks words (LratIt c) → Answers words old new status kept
@@ -49,7 +49,8 @@ pub fn verdicts()
     ensures own_undecided { (words : List (List ℕ)) (c : SelfCommand)
         (old new : DeskState) (status : Status) (kept : List Kept) →
         Asks words (SelfIt c) → Answers words old new status kept
-        → code_of status ≡ 2 → Shows (OfWorkload c (AreUndecided None own_check.budget)) old new }
+        → code_of status ≡ 2
+        → Shows (OfWorkload c (AreUndecided None own_how.options.out_budget kept)) old new }
 {
     command_line::words_are_one_of();
 }

@@ -7,10 +7,10 @@
 //! `specs/Complete.antt`, and `laws::completeness` shows it.
 //!
 //! Definitions on which the answers stand: `specs/Check.antt` (one check, from what it found to its files
-//! and its verdict), `specs/SelfCheck.antt` (that of two circuits that the program makes),
-//! `specs/Names.antt` (of the files that are left), `specs/Texts.antt` (what is said), `specs/Lines.antt`
-//! (what is warned of circuits and their files); `specs/Steps.antt` is for the crate's own functions. Begin
-//! to read at `program.rt`, then `checking.rt`.
+//! and its verdict, and checks one after another), `specs/SelfCheck.antt` (that of two circuits that the
+//! program makes), `specs/Texts.antt` (what is said), `specs/Lines.antt` (what is warned of circuits and
+//! their files); `specs/Steps.antt` is for the crate's own functions. Begin to read at `program.rt`, then
+//! `checking.rt`.
 #![tactic(auto)]
 
 pub use endings::Status;
@@ -18,12 +18,10 @@ pub use kept::Kept;
 pub use program::run;
 
 mod checking;
-mod content;
 mod kept;
 pub mod laws;
 mod lines;
 mod own;
 mod program;
 mod reading;
-mod settled;
 mod texts;

@@ -1,28 +1,33 @@
 ghost use Rattle.std.specs.Prelude.{◌≡◌, [], IfOk, IfErr, None, Ok};
 ghost use Rattle.netlist.specs.Circuit.{Aig};
-ghost use Rattle.aiger_file.specs.File.{SpellsAiger};
-ghost use Rattle.command_line.specs.Answers.{check_texts, self_texts};
+ghost use Rattle.cec_top.specs.Answers.{circuit_in};
+ghost use Rattle.check_session.specs.Check.{AreInRange};
+ghost use Rattle.command_line.specs.Answers.{self_texts};
 ghost use Rattle.endings.specs.Writing.{Says};
 ghost use Rattle.cec_top.specs.Texts.{workload_text};
-ghost use Rattle.cec_top.specs.SelfCheck.{EndsSelf, StopsSelf, own_check};
+ghost use Rattle.cec_top.specs.SelfCheck.{EndsSelf, StopsSelf, own_how};
 ghost use Rattle.cec_top.specs.Steps.{MakesSession, ReadsBack};
 
-use crate::checking::settle;
+use crate::checking::check;
 use crate::kept::Kept;
-use crate::reading::options_of;
+use crate::reading::circuit_in;
 use crate::texts::workload_text;
 use byte_scan::AigerErr;
-use check_session::Session;
-use command_line::{CheckWords, SelfWords};
-use desk_port::Desk;
+use check_session::{Options, Session};
+use command_line::SelfWords;
+use desk_port::{Desk, Gate};
 use endings::{Status, Stop, say};
 use netlist::{Circuit, Net, Unlike};
 use std::alloc::Global;
+use std::sync::Wait;
+use std::thread::Threads;
 
 /// Makes two circuits, says which they are, settles them and says the verdict.
-pub(crate) fn check_own<D: Desk>(
+pub(crate) fn check_own<D: Desk, G: Gate + Sync>(
+    rt: &(impl Threads + Wait),
     alloc: Global,
     desk: &mut D,
+    gate: &G,
     words: SelfWords,
     kept: &mut Vec<Kept>,
 ) -> Result<Status, Stop>
@@ -34,13 +39,15 @@ pub(crate) fn check_own<D: Desk>(
         (StopsSelf (self_texts words) (D.state desk.old) kept.new.items (D.state desk.new)) }
 {
     let mut session = own_session(alloc, words)?;
-    say_and_settle(alloc, desk, words, &mut session, kept)
+    say_and_settle(rt, alloc, desk, gate, words, &mut session, kept)
 }
 
 /// Says which circuits the session has, settles them and says the verdict.
-fn say_and_settle<D: Desk>(
+fn say_and_settle<D: Desk, G: Gate + Sync>(
+    rt: &(impl Threads + Wait),
     alloc: Global,
     desk: &mut D,
+    gate: &G,
     words: SelfWords,
     session: &mut Session,
     kept: &mut Vec<Kept>,
@@ -54,7 +61,7 @@ fn say_and_settle<D: Desk>(
         (StopsSelf (self_texts words) (D.state desk.old) kept.new.items (D.state desk.new)) }
 {
     say_workload(alloc, desk, words, session.net())?;
-    settle(alloc, desk, without_options(), session, kept)
+    check(rt, alloc, desk, gate, session, None, 0, kept)
 }
 
 /// Says which circuits were made.
@@ -71,18 +78,16 @@ fn say_workload<D: Desk>(
     say(desk, text.as_slice())
 }
 
-/// A check without an option, of no files.
-fn without_options() -> CheckWords<'static>
-    ensures { check_texts result ≡ own_check }
+/// The numbers of a check without an option.
+fn default_options() -> Options
+    ensures options { result ≡ own_how.options }
+    ensures range { AreInRange result }
 {
-    CheckWords {
-        a: "",
-        b: "",
-        out: None,
+    Options {
         seed: 1,
         words: 4,
         sweep_budget: 100,
-        budget: 100_000,
+        out_budget: 100_000,
     }
 }
 
@@ -94,7 +99,7 @@ fn own_session(alloc: Global, words: SelfWords) -> Result<Session, Stop>
     let (first, second) = workload_gen::make(alloc, words.kind, words.n)?;
     let a = read_back(alloc, first.as_slice())?;
     let b = read_back(alloc, second.as_slice())?;
-    match Session::open(alloc, a, b, options_of(without_options())) {
+    match Session::open(alloc, a, b, default_options()) {
         Ok(session) => Ok(session),
         Err(Unlike::NoMemory) => Err(Stop::OutOfMemory),
         Err(_) => unreachable!(),
@@ -103,10 +108,11 @@ fn own_session(alloc: Global, words: SelfWords) -> Result<Session, Stop>
 
 /// The circuit that the bytes spell, which spell one.
 fn read_back(alloc: Global, bytes: &[u8]) -> Result<Circuit, Stop>
-    requires { (c : Aig) × SpellsAiger bytes.now c }
-    ensures { ReadsBack bytes.now result }
+    requires { (c : Aig) × (circuit_in bytes.now ≡ Ok c) }
+    ensures reads { ReadsBack bytes.now result }
+    ensures plain { IfOk result (λ c. c.constraints ≡ []) }
 {
-    match aiger_file::read(alloc, bytes) {
+    match circuit_in(alloc, bytes) {
         Ok(circuit) => Ok(circuit),
         Err(AigerErr::NoMemory) => Err(Stop::OutOfMemory),
         Err(_) => unreachable!(),

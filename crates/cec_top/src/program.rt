@@ -1,4 +1,4 @@
-ghost use Rattle.std.specs.Prelude.{◌≡◌, [], None, map, string_bytes};
+ghost use Rattle.std.specs.Prelude.{◌≡◌, None, map, string_bytes};
 ghost use Rattle.command_line.specs.Answers.{check_texts, self_texts};
 ghost use Rattle.cec_top.specs.Answers.{Answers, AnswersCheck, SaysHelp};
 ghost use Rattle.cec_top.specs.SelfCheck.{AnswersSelf};
@@ -7,6 +7,7 @@ ghost use Rattle.cec_top.specs.Steps.{AnswersRefusal};
 use crate::checking::check;
 use crate::kept::Kept;
 use crate::own::check_own;
+use crate::reading::read_session;
 use command_line::{Asked, CheckWords, Refusal, SelfWords};
 use desk_port::{Desk, Gate, PutErr};
 use endings::{Status, end, warn};
@@ -14,69 +15,74 @@ use std::alloc::Global;
 use std::sync::Wait;
 use std::thread::Threads;
 
-/// Does all that the program does, and answers with the status and the book of the check that was made.
+/// Does all that the program does, and answers with the status and the books of the checks that were made:
+/// of each that left outputs open, and of the last one.
 ///
 /// The first argument is the program's name. A fault is warned of as one line before the status is
 /// answered, and refused arguments with the text of `clap`; where the warning fails the status stays.
 pub fn run<D: Desk, G: Gate + Sync>(
-    _rt: &(impl Threads + Wait),
+    rt: &(impl Threads + Wait),
     alloc: Global,
     words: &[String],
     desk: &mut D,
-    _gate: &G,
+    gate: &G,
 ) -> (Status, Vec<Kept>)
     requires { (D.state desk.old).started ≡ None }
     ensures { Answers (map string_bytes words.now) (D.state desk.old)
         (D.state desk.new) result.0 result.1.items }
 {
-    let mut kept = Vec::new(alloc);
-    let status = answer(alloc, words, desk, &mut kept);
-    (status, kept)
-}
-
-/// Does what the arguments ask for.
-fn answer<D: Desk>(alloc: Global, words: &[String], desk: &mut D, kept: &mut Vec<Kept>) -> Status
-    requires started { (D.state desk.old).started ≡ None }
-    requires empty { kept.old.items ≡ [] }
-    ensures { Answers (map string_bytes words.now) (D.state desk.old)
-        (D.state desk.new) result kept.new.items }
-{
     match command_line::read(alloc, words) {
-        Ok(Asked::Check(words)) => run_check(alloc, desk, words, kept),
-        Ok(Asked::Lrat(words)) => lrat_run::run(alloc, desk, words.cnf, words.proof),
-        Ok(Asked::SelfCheck(words)) => run_self(alloc, desk, words, kept),
-        Err(refusal) => answer_refusal(desk, &refusal),
+        Ok(Asked::Check(words)) => check_files(rt, alloc, desk, gate, words),
+        Ok(Asked::Lrat(words)) => {
+            let status = lrat_run::run(alloc, desk, words.cnf, words.proof);
+            (status, Vec::new(alloc))
+        }
+        Ok(Asked::SelfCheck(words)) => check_workload(rt, alloc, desk, gate, words),
+        Err(refusal) => (answer_refusal(desk, &refusal), Vec::new(alloc)),
     }
 }
 
-/// Makes the check, and warns of what ends it without a verdict.
-fn run_check<D: Desk>(
+/// Makes the checks that are asked for of two files' circuits, and warns of what ends them without a
+/// verdict: check 0, of the circuits as they were read. A script's checks will follow it here, each made
+/// after the lines before it.
+fn check_files<D: Desk, G: Gate + Sync>(
+    rt: &(impl Threads + Wait),
     alloc: Global,
     desk: &mut D,
+    gate: &G,
     words: CheckWords<'_>,
-    kept: &mut Vec<Kept>,
-) -> Status
-    requires started { (D.state desk.old).started ≡ None }
-    requires empty { kept.old.items ≡ [] }
+) -> (Status, Vec<Kept>)
+    requires { (D.state desk.old).started ≡ None }
     ensures { AnswersCheck (check_texts words.entry) (D.state desk.old)
-        (D.state desk.new) result kept.new.items }
+        (D.state desk.new) result.0 result.1.items }
 {
-    match check(alloc, desk, words, kept) {
-        Ok(status) => status,
-        Err(stop) => end(alloc, desk, &[words.a, words.b], &stop),
+    let mut kept = Vec::new(alloc);
+    let mut session = match read_session(alloc, desk, words) {
+        Ok(session) => session,
+        Err(stop) => return (end(alloc, desk, &[words.a, words.b], &stop), kept),
+    };
+    match check(rt, alloc, desk, gate, &mut session, words.out, 0, &mut kept) {
+        Ok(status) => (status, kept),
+        Err(stop) => (end(alloc, desk, &[words.a, words.b], &stop), kept),
     }
 }
 
 /// Makes the check of two circuits that the program makes, and warns of what ends it without a verdict.
-fn run_self<D: Desk>(alloc: Global, desk: &mut D, words: SelfWords, kept: &mut Vec<Kept>) -> Status
-    requires started { (D.state desk.old).started ≡ None }
-    requires empty { kept.old.items ≡ [] }
+fn check_workload<D: Desk, G: Gate + Sync>(
+    rt: &(impl Threads + Wait),
+    alloc: Global,
+    desk: &mut D,
+    gate: &G,
+    words: SelfWords,
+) -> (Status, Vec<Kept>)
+    requires { (D.state desk.old).started ≡ None }
     ensures { AnswersSelf (self_texts words) (D.state desk.old)
-        (D.state desk.new) result kept.new.items }
+        (D.state desk.new) result.0 result.1.items }
 {
-    match check_own(alloc, desk, words, kept) {
-        Ok(ended) => ended,
-        Err(stop) => end(alloc, desk, &[], &stop),
+    let mut kept = Vec::new(alloc);
+    match check_own(rt, alloc, desk, gate, words, &mut kept) {
+        Ok(status) => (status, kept),
+        Err(stop) => (end(alloc, desk, &[], &stop), kept),
     }
 }
 

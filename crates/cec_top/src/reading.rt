@@ -1,10 +1,11 @@
-ghost use Rattle.std.specs.Prelude.{◌≡◌, ℕ, List};
+ghost use Rattle.std.specs.Prelude.{◌≡◌, ℕ, List, [], IfOk};
+ghost use Rattle.byte_scan.specs.Reading.{Gives};
 ghost use Rattle.endings.specs.Reading.{ReadsAs};
 ghost use Rattle.aiger_file.specs.File.{SpellsAiger};
 ghost use Rattle.command_line.specs.Answers.{check_texts};
-ghost use Rattle.cec_top.specs.Answers.{circuit_file};
+ghost use Rattle.cec_top.specs.Answers.{circuit_file, circuit_in, how_of};
 ghost use Rattle.check_session.specs.Check.{AreInRange};
-ghost use Rattle.cec_top.specs.Steps.{ReadsSession, options_of};
+ghost use Rattle.cec_top.specs.Steps.{ReadsSession};
 
 use crate::lines::{aiger_fault, unlike_fault};
 use byte_scan::AigerErr;
@@ -15,6 +16,20 @@ use endings::{Stop, read_file};
 use netlist::{Circuit, Unlike};
 use std::alloc::Global;
 
+/// The circuit that the bytes spell. Constraints are refused.
+pub(crate) fn circuit_in(alloc: Global, bytes: &[u8]) -> Result<Circuit, AigerErr>
+    ensures reads { Gives result (circuit_in bytes.now) }
+    ensures spells { IfOk result (λ c. SpellsAiger bytes.now c) }
+    ensures plain { IfOk result (λ c. c.constraints ≡ []) }
+{
+    let circuit = aiger_file::read(alloc, bytes)?;
+    if circuit.constraints().is_empty() {
+        Ok(circuit)
+    } else {
+        Err(AigerErr::HasProperty(b'C'))
+    }
+}
+
 /// The circuit of the named file, which is this one of those that are read.
 fn read_circuit<D: Desk>(
     alloc: Global,
@@ -22,12 +37,13 @@ fn read_circuit<D: Desk>(
     name: &str,
     file: usize,
 ) -> Result<Circuit, Stop>
-    ensures { (earlier : List (List ℕ)) →
+    ensures plain { IfOk result (λ c. c.constraints ≡ []) }
+    ensures reads { (earlier : List (List ℕ)) →
         ReadsAs SpellsAiger file (circuit_file name.now) earlier
         (D.state desk.old) (D.state desk.new) result }
 {
     let bytes = read_file(alloc, desk, name, file)?;
-    match aiger_file::read(alloc, bytes.as_slice()) {
+    match circuit_in(alloc, bytes.as_slice()) {
         Ok(circuit) => Ok(circuit),
         Err(AigerErr::NoMemory) => Err(Stop::OutOfMemory),
         Err(fault) => {
@@ -58,8 +74,8 @@ pub(crate) fn read_session<D: Desk>(
 }
 
 /// The numbers that the arguments give.
-pub(crate) fn options_of(words: CheckWords<'_>) -> Options
-    ensures options { result ≡ options_of (check_texts words.entry) }
+fn options_of(words: CheckWords<'_>) -> Options
+    ensures options { result ≡ (how_of (check_texts words.entry)).options }
     ensures range { AreInRange result }
 {
     Options {
