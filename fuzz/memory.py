@@ -5,7 +5,7 @@ Usage: memory.py [PROGRAM] [--runs N] [--seed N]
 
 PROGRAM is the repository's own where it is left out. tools/fail_alloc.c is compiled and preloaded. Each command below is run
 once with memory enough. Then each of its allocations is refused in turn, of a run that has more of them N that are drawn
-(200), and for some that are drawn all from them on. Such a run must answer what the whole run does, in status, streams and
+(1000, which is more than any of them has today), and for some that are drawn all from them on. Such a run must answer what the whole run does, in status, streams and
 files; or it ends with status 7, says nothing (or, of `cec self`, what its circuits are), warns `cec: out of memory` or, where
 there is none for the line, nothing at all, and leaves of each file that it writes nothing or a first part, and of the proof only what stands beside a whole CNF.
 Files that are read stay as they are. Status 1 where anything is wrong.
@@ -52,6 +52,7 @@ COMMANDS = [
     "lrat and lrat",
     "self comparator 3",
     "--help",
+    "--version",
     "check and",
     "check and swapped --budget 0",
 ]
@@ -109,7 +110,7 @@ def cases(rng, calls, most):
 
 
 def main():
-    words = words_of(__doc__, 200)
+    words = words_of(__doc__, 1000)
     rng, tally = random.Random(words.seed), Tally(words.seed)
     with tempfile.TemporaryDirectory() as tools, tempfile.TemporaryDirectory() as folder:
         library = os.path.join(tools, "fail_alloc.so")

@@ -30,6 +30,7 @@ MEASURING = {
 }
 
 JUDGING = {
+    "fuzz/hostile.py": FIRST,
     "fuzz/wrong_search.py": NONE,
     "fuzz/workloads.py": FIRST,
     "fuzz/books.py": NONE,
@@ -40,6 +41,7 @@ JUDGING = {
     "fuzz/reader.py": FIRST,
     "fuzz/proofs.py": FIRST,
     "fuzz/pairs.py": FIRST,
+    "fuzz/structure.py": FIRST,
     "tools/real_aiger.py": FIRST,
     "tools/examples.py": FIRST,
     "tools/believe.py": ("--check",),

@@ -4,7 +4,7 @@ ghost use Rattle.lemma_book.specs.Book.{IsLegal};
 ghost use Rattle.lemma_book.specs.Good.{IsGood};
 
 use lemma_book::{Book, Entry, Judgement};
-use lits::{Clause, Listed, Lit, Literal, Node, Ref, Side, Step};
+use lits::{Clause, Listed, Lit, Node, Ref, Side, Step};
 use netlist::Net;
 use std::alloc::Global;
 
@@ -31,20 +31,64 @@ fn step(alloc: Global, lits: &[Lit], hints: &[Ref]) -> Option<Step> {
     Some(Step { clause, hints })
 }
 
+const TARGET: Lit = Lit {
+    node: A,
+    neg: false,
+};
+
+const NOT_TARGET: Lit = Lit { node: A, neg: true };
+
+const MERGED: Lit = Lit {
+    node: B,
+    neg: false,
+};
+
+const NOT_MERGED: Lit = Lit { node: B, neg: true };
+
+/// The clauses that say that both gates have one value, each with its hints.
+const STEPS: [([Lit; 2], [Ref; 3]); 2] = [
+    (
+        [NOT_MERGED, TARGET],
+        [Ref::Axiom(B, 0), Ref::Axiom(B, 1), Ref::Axiom(A, 2)],
+    ),
+    (
+        [MERGED, NOT_TARGET],
+        [Ref::Axiom(A, 0), Ref::Axiom(A, 1), Ref::Axiom(B, 2)],
+    ),
+];
+
 /// The entry that merges one gate to the other; none where memory is refused.
 fn merge(alloc: Global) -> Option<Entry> {
-    let plus = |node| Lit { node, neg: false };
-    let (a, b) = (plus(A), plus(B));
-    let below = [Ref::Axiom(B, 0), Ref::Axiom(B, 1), Ref::Axiom(A, 2)];
-    let above = [Ref::Axiom(A, 0), Ref::Axiom(A, 1), Ref::Axiom(B, 2)];
     let mut steps = Vec::new(alloc);
-    steps.push(step(alloc, &[b.not(), a], &below)?).ok()?;
-    steps.push(step(alloc, &[b, a.not()], &above)?).ok()?;
+    for (lits, hints) in &STEPS {
+        steps.push(step(alloc, lits, hints)?).ok()?;
+    }
     Some(Entry::Merge {
         node: B,
-        lit: a,
+        lit: TARGET,
         steps: Listed::of(steps),
     })
+}
+
+fn is_step(step: &Step, (lits, hints): &([Lit; 2], [Ref; 3])) -> bool {
+    step.clause.lits() == lits.as_slice() && step.hints.as_slice() == hints.as_slice()
+}
+
+fn are_steps(steps: &[Step]) -> bool {
+    match steps {
+        [below, above] => is_step(below, &STEPS[0]) && is_step(above, &STEPS[1]),
+        _ => false,
+    }
+}
+
+/// Whether the book's first entry is the one that merges the gates, with its steps.
+pub(crate) fn begins_with_merge(book: &Book) -> bool {
+    match book.entry(0) {
+        Some(Entry::Merge { node, lit, steps }) => {
+            *node == B && *lit == TARGET && are_steps(steps.as_slice())
+        }
+        _ => false,
+    }
 }
 
 /// The entry where one gate and the first input differ; none where memory is refused.

@@ -5,20 +5,22 @@ ghost use Rattle.board_lock.specs.Pass.{share_of};
 ghost use Rattle.board_rows.specs.Work.{MayWork, IsOpened, IsSplit};
 
 use crate::calls::{draw, look_once, offer_once};
-use crate::circuits::{Kind, swapped_ands};
+use crate::circuits::{Kind, begins_with_merge, swapped_ands};
 use board_lock::{Board, Pass, Record};
-use lemma_book::{Book, Entry, Offered};
+use lemma_book::{Book, Offered};
 use netlist::Net;
 use std::alloc::Global;
 use std::sync::Wait;
 use std::test::*;
 
-/// What the calls of the walk answered.
+/// What the calls behind the split answered: the second pass's draw, both offers and both looks, and whether
+/// the first pass sees the merge then.
 #[derive(Clone, Copy)]
 struct Told {
-    tasks: (Option<u64>, Option<u64>),
+    task: Option<u64>,
     offers: (Option<Offered>, Option<Offered>),
     looks: (Option<u64>, Option<u64>),
+    is_seen: bool,
 }
 
 fn open(alloc: Global, net: &Net, book: Book) -> Option<(Board, Pass)>
@@ -39,7 +41,7 @@ fn split(alloc: Global, net: &Net, board: &Board, pass: &mut Pass) -> Option<Pas
     pass.split(alloc, board, 1 << 40).ok()
 }
 
-/// The first pass draws the task, and the second finds none; both offer one entry, and both look.
+/// The second pass draws, and finds no task; both offer one entry, and both look.
 fn answers<R: Wait>(
     rt: &R,
     alloc: Global,
@@ -56,7 +58,7 @@ fn answers<R: Wait>(
     ensures second_share { share_of q.new ≡ share_of q.old }
 {
     Told {
-        tasks: (draw(net, board, p), draw(net, board, q)),
+        task: draw(net, board, q),
         offers: (
             offer_once(rt, alloc, net, board, p, Kind::Merge),
             offer_once(rt, alloc, net, board, q, Kind::Merge),
@@ -65,15 +67,19 @@ fn answers<R: Wait>(
             look_once(rt, alloc, net, board, q),
             look_once(rt, alloc, net, board, p),
         ),
+        is_seen: begins_with_merge(p.seen()),
     }
 }
 
-/// The whole walk, with what the board leaves.
+/// The whole walk, with what the board leaves. The first pass draws before it is split.
 fn walked<R: Wait>(rt: &R, alloc: Global, net: &Net, book: Book) -> Option<(Told, Book, Record)>
     requires { IsLegal net.now book }
     ensures { IfSome result (λ r. IsLegal net.now r.1) }
 {
     let (board, mut p) = open(alloc, net, book)?;
+    if draw(net, &board, &mut p) != Some(0) {
+        return None;
+    }
     let mut q = split(alloc, net, &board, &mut p)?;
     let answers = answers(rt, alloc, net, &board, &mut p, &mut q);
     p.join(&board, q);
@@ -82,14 +88,15 @@ fn walked<R: Wait>(rt: &R, alloc: Global, net: &Net, book: Book) -> Option<(Told
 }
 
 fn is_told(told: &Told) -> bool {
-    told.tasks == (Some(0), None)
+    told.task.is_none()
         && told.offers == (Some(Offered::At(0)), Some(Offered::Already(0)))
         && told.looks == (Some(1), Some(1))
+        && told.is_seen
 }
 
 /// Whether the merge stands alone in the book, after four turns and two draws.
 fn has_merge(book: &Book, record: &Record) -> bool {
-    matches!(book.entry(0), Some(Entry::Merge { .. }))
+    begins_with_merge(book)
         && book.len() == 1
         && record.turns.len() == 4
         && record.missed == 0

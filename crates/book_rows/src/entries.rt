@@ -82,7 +82,8 @@ fn input(rt: &impl Abort, alloc: Global, text: &str) -> Listed<bool> {
     Listed::of(values)
 }
 
-fn steps(rt: &impl Abort, alloc: Global, text: &str) -> Listed<Step> {
+/// The steps of a text, which semicolons part.
+pub(crate) fn steps(rt: &impl Abort, alloc: Global, text: &str) -> Listed<Step> {
     let mut steps = Vec::new(alloc);
     for part in text.split(';') {
         if let Some((clause, hints)) = part.split_once(" by") {
@@ -98,6 +99,43 @@ fn step(rt: &impl Abort, alloc: Global, clause: &str, hints: &str) -> Step {
     Step {
         clause: of_clause(rt, alloc, clause),
         hints: of_hints(rt, alloc, hints),
+    }
+}
+
+/// Whether both steps add one clause by the same hints.
+fn is_same(step: &Step, other: &Step) -> bool {
+    step.clause.lits() == other.clause.lits() && step.hints.as_slice() == other.hints.as_slice()
+}
+
+/// Whether they are the same steps.
+fn are_same(steps: &[Step], others: &[Step]) -> bool {
+    if steps.len() != others.len() {
+        return false;
+    }
+    for i in 0..steps.len() {
+        if !is_same(&steps[i], &others[i]) {
+            return false;
+        }
+    }
+    true
+}
+
+/// Whether the entry is the merge of that line.
+pub(crate) fn is_merge(rt: &impl Abort, alloc: Global, entry: &Entry, line: &str) -> bool {
+    let (head, body) = line.split_once(':').expect(rt, line);
+    let (_, about) = halves(head);
+    let (merged, target) = halves(about);
+    match entry {
+        Entry::Merge {
+            node,
+            lit: found,
+            steps: of_entry,
+        } => {
+            *node == lit(rt, merged).node
+                && *found == lit(rt, target)
+                && are_same(of_entry.as_slice(), steps(rt, alloc, body).as_slice())
+        }
+        _ => false,
     }
 }
 

@@ -5,13 +5,16 @@ ghost use Rattle.std.specs.Bool.{OnTrue};
 
 use crate::entries;
 use crate::pairs::{Case, check, expect, expect_text, swapped_ands, two_xors};
-use lemma_book::{Book, Entry, Offered, Refused};
-use lits::{Lit, Named, Node, Ref, Side};
+use lemma_book::{Book, Offered, Refused, Subject};
+use lits::{Lit, Named, Node, Side, Step};
 use netlist::Net;
 use std::alloc::Global;
 use std::process::Abort;
 
-/// Merges b3 to a3, two ANDs of the same inputs, as the first entry of a book.
+/// Merges b3 to a3, two ANDs of the same inputs.
+pub(crate) const MERGE: &str = "merge b3 a3: -b3 a3 by b3.0 b3.1 a3.2; b3 -a3 by a3.0 a3.1 b3.2";
+
+/// The same, as the first entry of a book.
 pub(crate) const MERGED: &str =
     "merge b3 a3: -b3 a3 by b3.0 b3.1 a3.2; b3 -a3 by a3.0 a3.1 b3.2 => Ok(At(0))";
 
@@ -284,20 +287,36 @@ fn is_there(net: &Net, lit: Lit) -> bool
     net.cnf_number(lit).is_some()
 }
 
-const NAMES_IN_CONE: [Ref; 5] = [
-    Ref::Axiom(A3, 0),
-    Ref::Axiom(A3, 1),
-    Ref::Axiom(A3, 2),
-    Ref::Entry(0, 0),
-    Ref::Entry(0, 1),
-];
+/// The cone of b3 in the book of its merge, in order of position: each clause with its name behind it.
+const CONE: &str = "\
+    -a3 i0 by a3.0; -a3 i1 by a3.1; a3 -i0 -i1 by a3.2; -b3 a3 by e0.0; b3 -a3 by e0.1";
 
-fn names_of(rt: &impl Abort, alloc: Global, clauses: &[Named]) -> Vec<Ref> {
-    let mut names = Vec::new(alloc);
-    for named in clauses {
-        names.push(named.by).expect(rt, "memory");
+/// The clauses of b3 alone, where its merge is seen, and where it isn't.
+const OF_MERGED: &str = "-b3 a3 by e0.0; b3 -a3 by e0.1";
+
+const OF_GATE: &str = "-b3 i1 by b3.0; -b3 i0 by b3.1; b3 -i1 -i0 by b3.2";
+
+/// Whether the clause of the name is that of the step, which has the name as its one hint.
+fn is_named(named: &Named, step: &Step) -> bool {
+    named.clause.lits() == step.clause.lits() && step.hints.as_slice() == [named.by].as_slice()
+}
+
+/// Whether they are the clauses of the steps, in order.
+fn are_named(found: &[Named], steps: &[Step]) -> bool {
+    if found.len() != steps.len() {
+        return false;
     }
-    names
+    for i in 0..found.len() {
+        if !is_named(&found[i], &steps[i]) {
+            return false;
+        }
+    }
+    true
+}
+
+/// Whether they are the clauses of the text.
+fn are_of(rt: &impl Abort, alloc: Global, found: &[Named], text: &str) -> bool {
+    are_named(found, entries::steps(rt, alloc, text).as_slice())
 }
 
 fn has_cone(rt: &impl Abort, alloc: Global, net: &Net, book: &Book) -> bool
@@ -305,32 +324,76 @@ fn has_cone(rt: &impl Abort, alloc: Global, net: &Net, book: &Book) -> bool
 {
     assert!(rt; is_there(net, B3));
     let cone = book.cone(alloc, net, 1, &[B3]).expect(rt, "memory");
-    names_of(rt, alloc, cone.as_slice()).as_slice() == NAMES_IN_CONE.as_slice()
+    are_of(rt, alloc, cone.as_slice(), CONE)
+}
+
+/// Whether b3 has the clauses of the text where so many entries are seen.
+fn has_clauses(
+    rt: &impl Abort,
+    alloc: Global,
+    net: &Net,
+    book: &Book,
+    seen: u64,
+    text: &str,
+) -> bool
+    requires { IsLegal net.now book.now }
+{
+    assert!(rt; is_there(net, B3));
+    let clauses = book.clauses_on(alloc, net, seen, &[B3]);
+    are_of(rt, alloc, clauses.expect(rt, "memory").as_slice(), text)
 }
 
 const PATH: [u64; 1] = [0];
+
+const PASSED: [Lit; 1] = [B3];
 
 fn has_root(rt: &impl Abort, alloc: Global, book: &Book) -> bool {
     let path = book.path(alloc, B3).expect(rt, "memory");
     book.root(B3) == TARGET && path.as_slice() == PATH.as_slice()
 }
 
-/// Whether the copy has the one entry, its root, and the numbers of clauses.
-fn is_copy(copy: &Book) -> bool {
-    copy.len() == 1
-        && copy.sweep_budget() == 1
-        && copy.out_budget() == 2
-        && copy.root(B3) == TARGET
-        && matches!(copy.entry(0), Some(Entry::Merge { .. }))
+/// Whether the way to the root is put into a list.
+fn has_root_by(rt: &impl Abort, alloc: Global, book: &Book) -> bool {
+    let mut passed = Vec::new(alloc);
+    let root = book.root_by(B3, &mut passed).expect(rt, "memory");
+    root == TARGET && passed.as_slice() == PASSED.as_slice()
+}
+
+/// Whether the one entry is found by its node, and nothing by another subject.
+fn has_place(book: &Book) -> bool {
+    book.place_on(Subject::Merged(B3.node)) == Some(0)
+        && book.place_on(Subject::Merged(A3)).is_none()
+        && book.place_on(Subject::Output(0)).is_none()
+        && book.is_merged(B3.node)
+        && !book.is_merged(A3)
+        && !book.is_spent(B3.node, TARGET)
+}
+
+/// Whether the book has the one entry, its root, and the numbers of clauses.
+fn has_merge(rt: &impl Abort, alloc: Global, book: &Book) -> bool {
+    let entry = book.entry(0).expect(rt, "an entry");
+    book.len() == 1
+        && book.sweep_budget() == 1
+        && book.out_budget() == 2
+        && book.root(B3) == TARGET
+        && entries::is_merge(rt, alloc, entry, MERGE)
 }
 
 fn is_copied(rt: &impl Abort, alloc: Global, book: &Book) -> bool {
-    is_copy(&book.copy(alloc).expect(rt, "memory"))
+    has_merge(rt, alloc, &book.copy(alloc).expect(rt, "memory"))
+}
+
+/// Whether an empty book that catches up with it is the same.
+fn is_caught_up(rt: &impl Abort, alloc: Global, book: &Book) -> bool {
+    let mut other = Book::new(alloc, book.sweep_budget(), book.out_budget());
+    other.catch_up(alloc, book).expect(rt, "memory");
+    has_merge(rt, alloc, &other)
 }
 
 /// What is read of a book with the one entry that merges the swapped ANDs, and two clauses for outputs: the
 /// cone of the merged gate, which has its merge's clauses and those of the gate that it stands for, and none
-/// of its own; the gate's root, and the entries that lead to it; a copy.
+/// of its own; the gate's root, and the entries and the literals that lead to it; where its entry stands; a
+/// copy, and a book that catches up.
 struct Readers;
 
 impl Case for Readers {
@@ -339,11 +402,62 @@ impl Case for Readers {
         expect(rt, "the cone", has_cone(rt, alloc, net, &book));
         expect(rt, "root and path", has_root(rt, alloc, &book));
         expect(rt, "a copy", is_copied(rt, alloc, &book));
+        check_more(rt, alloc, net, &book);
     }
+}
+
+fn check_more(rt: &impl Abort, alloc: Global, net: &Net, book: &Book)
+    requires { IsLegal net.now book.now }
+{
+    let is_so = has_clauses(rt, alloc, net, book, 1, OF_MERGED);
+    expect(rt, "the clauses of a merged gate", is_so);
+    let is_so = has_clauses(rt, alloc, net, book, 0, OF_GATE);
+    expect(rt, "the clauses of a gate", is_so);
+    expect(rt, "root by a list", has_root_by(rt, alloc, book));
+    expect(rt, "the place", has_place(book));
+    expect(rt, "caught up", is_caught_up(rt, alloc, book));
 }
 
 #[test]
 fn book_readers(rt: HostRuntime) {
     let alloc = rt.alloc();
     check(&rt, alloc, swapped_ands(&rt, alloc), &Readers);
+}
+
+const A5: Node = Node::Gate(Side::A, 5);
+
+const B5: Node = Node::Gate(Side::B, 5);
+
+/// A pair of two XORs whose budget of one clause was spent.
+const SPENT: &str = "spent b5 -a5 0: -b5 -a5 i0 by b5.1 b4.2 a5.1 a4.2 => Ok(At(0))";
+
+/// Whether the pair is known to be spent, and no other.
+fn has_spent(book: &Book) -> bool {
+    let (lit, other) = (
+        Lit {
+            node: A5,
+            neg: true,
+        },
+        Lit {
+            node: A5,
+            neg: false,
+        },
+    );
+    book.is_spent(B5, lit) && !book.is_spent(B5, other) && !book.is_merged(B5)
+}
+
+/// What is read of a book with one pair that is spent.
+struct SpentPair;
+
+impl Case for SpentPair {
+    fn check<A: Abort>(&self, rt: &A, alloc: Global, net: &Net) {
+        let book = book_of(rt, alloc, net, 1, SPENT);
+        expect(rt, "the spent pair", has_spent(&book));
+    }
+}
+
+#[test]
+fn spent_pair(rt: HostRuntime) {
+    let alloc = rt.alloc();
+    check(&rt, alloc, two_xors(&rt, alloc), &SpentPair);
 }

@@ -1,10 +1,12 @@
 ghost use Rattle.std.specs.Prelude.{◌≡◌, [], ◌∷◌};
 ghost use Rattle.std.specs.Bool.{OnTrue};
 ghost use Rattle.lemma_book.specs.Book.{IsLegal};
+ghost use Rattle.lemma_book.specs.Entry.{first_entries};
 ghost use Rattle.lemma_book.specs.Good.{IsGood};
 ghost use Rattle.lemma_book.specs.Machine.{opened};
 
 use crate::entries;
+use crate::lemmas::MERGE;
 use crate::pairs::{Case, check, expect, swapped_ands};
 use lemma_book::{Book, Entry, Judgement, Offered};
 use netlist::Net;
@@ -18,9 +20,6 @@ fn is_good(alloc: Global, net: &Net, book: &Book, entry: &Entry) -> bool
 {
     matches!(book.judge(alloc, net, entry), Ok(Judgement::Good),)
 }
-
-/// Merges b3 to a3, two ANDs of the same inputs.
-const MERGE: &str = "merge b3 a3: -b3 a3 by b3.0 b3.1 a3.2; b3 -a3 by a3.0 a3.1 b3.2";
 
 /// The entry that merges one gate to the other, once it is known to be good over the book.
 fn good_merge(rt: &impl Abort, alloc: Global, net: &Net, book: &Book) -> Entry
@@ -86,4 +85,73 @@ impl Case for Replies {
 fn core_events(rt: HostRuntime) {
     let alloc = rt.alloc();
     check(&rt, alloc, swapped_ands(&rt, alloc), &Replies);
+}
+
+/// What the core answers to a draw, made as its only event.
+fn reply_to_draw(rt: &impl Abort, alloc: Global, net: &Net, book: Book) -> Reply
+    requires { IsLegal net.now book }
+{
+    core(rt, alloc, book)
+        .step(alloc, net, Event::Draw(0))
+        .expect(rt, "memory")
+}
+
+/// The answer of the book to an entry that is good over an empty one, without judging it again.
+fn appended(rt: &impl Abort, alloc: Global, net: &Net, book: &mut Book, entry: Entry) -> Offered
+    requires legal { IsLegal net.now book.old }
+    requires good { IsGood net.now (first_entries 0 book.old) entry }
+    ensures legal { IsLegal net.now book.new }
+    ensures first { first_entries 0 book.new ≡ first_entries 0 book.old }
+{
+    match book.append(alloc, net, 0, entry) {
+        Ok(offered) => offered,
+        Err(_) => rt.panic("memory"),
+    }
+}
+
+/// The answers of the empty book to two entries that are good over it.
+fn answers_to_both(
+    rt: &impl Abort,
+    alloc: Global,
+    net: &Net,
+    book: Book,
+    first: Entry,
+    again: Entry,
+) -> [Offered; 2]
+    requires empty { book ≡ record { sweep_budget = 1; out_budget = 1; entries = [] } }
+    requires legal { IsLegal net.now book }
+    requires first { IsGood net.now book first }
+    requires again { IsGood net.now book again }
+{
+    let mut book = book;
+    let one = appended(rt, alloc, net, &mut book, first);
+    let two = appended(rt, alloc, net, &mut book, again);
+    [one, two]
+}
+
+const ANSWERS: [Offered; 2] = [Offered::At(0), Offered::Already(0)];
+
+/// One event, and an entry that is appended twice.
+struct OneByOne;
+
+impl Case for OneByOne {
+    fn check<A: Abort>(&self, rt: &A, alloc: Global, net: &Net) {
+        let reply = reply_to_draw(rt, alloc, net, Book::new(alloc, 1, 1));
+        expect(rt, "the first task", reply == Reply::Task(Some(0)));
+        let book = Book::new(alloc, 1, 1);
+        let first = good_merge(rt, alloc, net, &book);
+        let again = good_merge(rt, alloc, net, &book);
+        let answers = answers_to_both(rt, alloc, net, book, first, again);
+        expect(
+            rt,
+            "appended twice",
+            answers.as_slice() == ANSWERS.as_slice(),
+        );
+    }
+}
+
+#[test]
+fn step_and_append(rt: HostRuntime) {
+    let alloc = rt.alloc();
+    check(&rt, alloc, swapped_ands(&rt, alloc), &OneByOne);
 }

@@ -1,7 +1,7 @@
 ghost use Rattle.std.specs.Prelude.{◌≡◌};
 ghost use Rattle.worked_circuits.specs.Worked.{one_gate};
 
-use crate::pairs::{self, Case, check, expect, expect_text, swapped_ands};
+use crate::pairs::{self, Case, check, expect, expect_text, plain, swapped_ands};
 use lits::{Clause, Dim, Lit, Node, Side};
 use netlist::{Circuit, Definition, Fanins, Net, Placed, Unlike, VariableTable, laws};
 use std::alloc::{AllocError, Global};
@@ -37,10 +37,18 @@ fn miter_of(rt: &impl Abort, alloc: Global, net: &Net) -> String {
 /// The clauses of a miter, as lines of a DIMACS file.
 struct Miter(&'static str);
 
+/// Compares the net's clauses.
+fn check_miter(rt: &impl Abort, alloc: Global, net: &Net, expected: &str) {
+    let text = miter_of(rt, alloc, net);
+    expect_text(rt, "the miter", text.as_str(), expected);
+}
+
 impl Case for Miter {
+    /// Compares those of a copy too.
     fn check<A: Abort>(&self, rt: &A, alloc: Global, net: &Net) {
-        let text = miter_of(rt, alloc, net);
-        expect_text(rt, "the miter", text.as_str(), self.0);
+        check_miter(rt, alloc, net, self.0);
+        let copy = net.copy(alloc).expect(rt, "memory");
+        check_miter(rt, alloc, &copy, self.0);
     }
 }
 
@@ -191,25 +199,29 @@ fn is_so(net: &Net, fact: &Fact) -> bool {
 /// What is so of a net, each with a name.
 struct Facts(&'static [(&'static str, Fact)]);
 
-impl Case for Facts {
-    fn check<A: Abort>(&self, rt: &A, alloc: Global, net: &Net) {
-        for (name, fact) in self.0 {
-            expect(rt, name, is_so(net, fact));
-        }
-        let copy = net.copy(alloc).expect(rt, "memory");
-        expect(rt, "a copy", is_copy(net, &copy));
+fn check_facts(rt: &impl Abort, net: &Net, facts: &[(&'static str, Fact)]) {
+    for (name, fact) in facts {
+        expect(rt, name, is_so(net, fact));
     }
 }
 
-/// Whether the copy has the gates and the numbers of the net.
-fn is_copy(net: &Net, copy: &Net) -> bool {
-    has_gates(copy, net, Side::A)
-        && has_gates(copy, net, Side::B)
-        && copy.clause_number(GATE, 2) == Some(7)
+impl Case for Facts {
+    /// Checks them of a copy too, which has the same circuits.
+    fn check<A: Abort>(&self, rt: &A, alloc: Global, net: &Net) {
+        check_facts(rt, net, self.0);
+        let copy = net.copy(alloc).expect(rt, "memory");
+        check_facts(rt, &copy, self.0);
+        let are_same = has_same(&copy, net, Side::A) && has_same(&copy, net, Side::B);
+        expect(rt, "a copy", are_same);
+    }
 }
 
-fn has_gates(copy: &Net, net: &Net, side: Side) -> bool {
-    copy.circuit(side).gates() == net.circuit(side).gates()
+/// Whether a copy has the circuit of this side.
+fn has_same(copy: &Net, net: &Net, side: Side) -> bool {
+    let (found, circuit) = (copy.circuit(side), net.circuit(side));
+    found.inputs() == circuit.inputs()
+        && found.gates() == circuit.gates()
+        && found.outputs() == circuit.outputs()
 }
 
 const GATE: Node = Node::Gate(Side::B, 3);
@@ -375,8 +387,9 @@ fn is_refused(
     b: Result<Circuit, AllocError>,
     unlike: Unlike,
 ) -> bool {
-    let a = a.expect(rt, "memory");
-    match Net::of(alloc, a, b.expect(rt, "memory")) {
+    let a = plain(rt, a.expect(rt, "memory"));
+    let b = plain(rt, b.expect(rt, "memory"));
+    match Net::of(alloc, a, b) {
         Ok(_) => false,
         Err(found) => found == unlike,
     }

@@ -3,6 +3,8 @@
 //! Whatever a test can't go on without fails it at once, memory too (`expect(rt, "memory")`): so no test
 //! hands an error up, and the prover goes through no exits on which all values are dropped.
 
+ghost use Rattle.std.specs.Prelude.{◌≡◌, []};
+
 use netlist::{Circuit, Net};
 use std::alloc::{AllocError, Global};
 use std::process::Abort;
@@ -17,6 +19,15 @@ pub(crate) fn expect_text(rt: &impl Abort, what: &str, found: &str, expected: &s
     assert!(rt; found == expected, "{what}: {found}");
 }
 
+/// The circuit, if it has no constraint: only of such ones there are nets.
+pub(crate) fn plain(rt: &impl Abort, circuit: Circuit) -> Circuit
+    ensures same { result ≡ circuit }
+    ensures plain { result.constraints ≡ [] }
+{
+    assert!(rt; circuit.constraints().is_empty(), "no constraint");
+    circuit
+}
+
 /// The net of two circuits that are alike, which a case makes in the call.
 pub(crate) fn net_of(
     rt: &impl Abort,
@@ -24,8 +35,9 @@ pub(crate) fn net_of(
     a: Result<Circuit, AllocError>,
     b: Result<Circuit, AllocError>,
 ) -> Net {
-    let a = a.expect(rt, "memory");
-    Net::of(alloc, a, b.expect(rt, "memory")).expect(rt, "a net")
+    let a = plain(rt, a.expect(rt, "memory"));
+    let b = plain(rt, b.expect(rt, "memory"));
+    Net::of(alloc, a, b).expect(rt, "a net")
 }
 
 /// What a test checks of a net.

@@ -45,7 +45,7 @@ fn check_part(rt: &impl Abort, alloc: Global, pool: &mut Pool)
 {
     pool.add(&INPUT).expect(rt, "memory");
     assert!(rt; pool.patterns() == 129);
-    let part = pool.part(alloc, 128).expect(rt, "memory");
+    let part = pool.part(alloc, 128, 1).expect(rt, "memory");
     expect(rt, "a word and a pattern", part.patterns() == 65);
 }
 

@@ -7,6 +7,7 @@ ghost use Rattle.cone_query.specs.Query.{IsGate};
 use crate::lemmas::{MERGED, book_of};
 use crate::pairs::{Case, check, expect, swapped_ands, two_xors};
 use cone_query::{output, pair};
+use equal_outputs::equal_output;
 use lemma_book::{Book, Entry, Task};
 use lits::{Lit, Node, Ref, Side, Step};
 use netlist::Net;
@@ -65,9 +66,12 @@ fn answer_within(rt: &impl Abort, alloc: Global, net: &Net, budget: u64) -> Entr
     answer_of_output(rt, alloc, net, &Book::new(alloc, 1, budget))
 }
 
-/// The answer about the swapped ANDs over the book of their merge.
+/// What the merge of the swapped ANDs alone shows of their output.
 fn answer_of_merged(rt: &impl Abort, alloc: Global, net: &Net) -> Entry {
-    answer_of_output(rt, alloc, net, &book_of(rt, alloc, net, 1, MERGED))
+    let book = book_of(rt, alloc, net, 1, MERGED);
+    assert!(rt; net.outputs() > 0 && book.about(0).is_none());
+    let entry = equal_output(alloc, net, &book, 0).expect(rt, "memory");
+    entry.expect(rt, "equal roots")
 }
 
 fn is_step(step: &Step, lits: &[Lit], hints: &[Ref]) -> bool {
@@ -133,7 +137,9 @@ fn answer(rt: &impl Abort, alloc: Global, net: &Net, asked: &Asked) -> Entry {
 fn words_of(entry: &Entry) -> &'static str {
     match entry {
         Entry::Merge { node, lit, .. } => words_of_merge(*node, *lit),
-        Entry::Apart { input, .. } if matches!(input.as_slice(), [true, false]) => "apart by 10",
+        Entry::Apart { node, lit, input } if matches!(input.as_slice(), [true, false]) => {
+            words_of_apart(*node, *lit)
+        }
         Entry::Out { output: 0, steps } => words_of_steps(steps.as_slice()),
         Entry::OutSpent { seen: 0, log, .. } if log.len() == 1 => "a log of one clause",
         _ => "another answer",
@@ -145,6 +151,14 @@ fn words_of_merge(node: Node, lit: Lit) -> &'static str {
         "the last gates are merged"
     } else {
         "another merge"
+    }
+}
+
+fn words_of_apart(node: Node, lit: Lit) -> &'static str {
+    if node == AND_AND_INPUT.node && lit == AND_AND_INPUT.lit {
+        "apart by 10"
+    } else {
+        "another pair apart"
     }
 }
 

@@ -9,14 +9,14 @@ use worked_circuits::{and, one_gate, two_input_circuit};
 
 /// Whether the inputs are equal, on both sides: in A neither is true without the other, in B it isn't so
 /// that one alone is true (gate 5 has one of them, and not both).
-fn equal(rt: &impl Abort, alloc: Global) -> Net {
+pub(crate) fn equal(rt: &impl Abort, alloc: Global) -> Net {
     let a = two_input_circuit(alloc, &[and(3, 2, 5), and(4, 3, 4), and(5, 7, 9)], 10);
     let b = two_input_circuit(alloc, &[and(3, 3, 5), and(4, 2, 4), and(5, 7, 9)], 11);
     net_of(rt, alloc, a, b)
 }
 
 /// The AND of the inputs, and the first input without the second.
-fn different(rt: &impl Abort, alloc: Global) -> Net {
+pub(crate) fn different(rt: &impl Abort, alloc: Global) -> Net {
     net_of(rt, alloc, one_gate(alloc, 2, 4), one_gate(alloc, 5, 2))
 }
 

@@ -1,16 +1,20 @@
 ghost use Rattle.std.specs.Prelude.{◌≡◌, None, length};
 ghost use Rattle.desk_port.specs.MemDesk.{state_of};
 ghost use Rattle.lemma_book.specs.Book.{IsLegal};
+ghost use Rattle.check_session.specs.Check.{IsFound};
 
 use crate::lemmas::book_of;
-use crate::pairs::{Case, check, expect, net_of, swapped_ands, two_xors};
-use desk_port::{Desk, MemDesk};
+use crate::pairs::{Case, check, expect, net_of, plain, swapped_ands, two_xors};
+use check_session::{Options, Session, Verdict};
+use desk_port::{Desk, MemDesk, OpenGate};
 use lemma_book::Book;
-use netlist::Net;
+use netlist::{Circuit, Net};
 use proof_stitch::{Span, StitchErr, derivation, refutation};
 use std::alloc::Global;
 use std::collections::BTreeMap;
 use std::process::Abort;
+use std::sync::Wait;
+use std::thread::Threads;
 use worked_circuits::circuit;
 
 /// A desk without files.
@@ -122,6 +126,74 @@ static SPENT: Derivation = Derivation {
     spans: &[SPAN],
     text: b"25 -10 6 2 0 21 11 19 15 6 10 2 0\n",
 };
+
+/// A check of two XORs with one clause for each query.
+const ONE_CLAUSE: Options = Options {
+    seed: 1,
+    words: 4,
+    sweep_budget: 1,
+    out_budget: 1,
+};
+
+/// Checks the session.
+fn verdict_of(rt: &(impl Abort + Threads + Wait), alloc: Global, session: &mut Session) -> Verdict
+    ensures { IsFound session.new.net session.new.options session.new.pool session.new.book result }
+{
+    session.check(rt, alloc, &OpenGate).expect(rt, "memory")
+}
+
+/// Whether output 0 alone was left open.
+fn is_open(verdict: &Verdict) -> bool {
+    match verdict {
+        Verdict::Undecided { outputs } => outputs.as_slice() == [0].as_slice(),
+        _ => false,
+    }
+}
+
+/// The session of two XORs that was checked within that budget, and left output 0 open.
+fn left_open(rt: &(impl Abort + Threads + Wait), alloc: Global) -> Session
+    ensures { IsLegal result.net result.book }
+{
+    let (a, b) = circuits(rt, alloc);
+    let opened = Session::open(alloc, plain(rt, a), plain(rt, b), ONE_CLAUSE);
+    let mut session = opened.expect(rt, "a session");
+    let verdict = verdict_of(rt, alloc, &mut session);
+    expect(rt, "open", is_open(&verdict));
+    session
+}
+
+fn circuits(rt: &impl Abort, alloc: Global) -> (Circuit, Circuit) {
+    worked_circuits::two_xors(alloc).expect(rt, "memory")
+}
+
+/// Whether the derivation from its book has one span of one line.
+fn has_span(rt: &impl Abort, alloc: Global, session: &Session) -> bool
+    requires { IsLegal session.now.net session.now.book }
+{
+    let mut desk = desk(rt, alloc);
+    let spans = derived(alloc, session.net(), session.book(), &mut desk);
+    spans.expect(rt, "a derivation").as_slice() == [SPAN].as_slice() && has_one_line(&desk)
+}
+
+/// Whether the proof is a line with the number of the span.
+fn has_one_line(desk: &MemDesk) -> bool {
+    match desk.file("p") {
+        Some(proof) => {
+            proof.starts_with(b"25 ") && proof.iter().filter(|byte| **byte == b'\n').count() == 1
+        }
+        None => false,
+    }
+}
+
+#[test]
+fn stitched_of_session(rt: HostRuntime) {
+    let alloc = rt.alloc();
+    expect(
+        &rt,
+        "the span",
+        has_span(&rt, alloc, &left_open(&rt, alloc)),
+    );
+}
 
 #[test]
 fn stitched(rt: HostRuntime) {

@@ -1,6 +1,7 @@
-use crate::entries::lit;
+use crate::entries::{entry, lit};
 use crate::pairs::{Case, check, expect, net_of, swapped_ands, two_xors};
 use lemma_book::{Book, Entry};
+use lits::Step;
 use netlist::Net;
 use std::alloc::Global;
 use std::process::Abort;
@@ -19,36 +20,63 @@ fn passed(rt: &impl Abort, alloc: Global, net: &Net, merges: u64) -> Book {
     book
 }
 
-fn has_root(rt: &impl Abort, book: &Book, row: &Row<'_>) -> bool {
-    book.root(lit(rt, row.0)) == lit(rt, row.1)
+/// Whether the steps have the same clauses by the same hints, each in the same order.
+fn are_same(steps: &[Step], others: &[Step]) -> bool {
+    steps.len() == others.len()
+        && steps.iter().zip(others).all(|(step, other)| {
+            step.clause.lits() == other.clause.lits()
+                && step.hints.as_slice() == other.hints.as_slice()
+        })
 }
 
-/// Whether the book is empty, or its first entry is a merge of two steps.
-fn begins_with_two_steps(book: &Book) -> bool {
-    match book.entry(0) {
-        Some(Entry::Merge { steps, .. }) => steps.len() == 2,
-        Some(_) => false,
-        None => true,
+/// Whether the book's entry at the place is this merge, step by step and hint by hint.
+fn has_merge(book: &Book, place: u64, merge: &Entry) -> bool {
+    match (book.entry(place), merge) {
+        (
+            Some(Entry::Merge { node, lit, steps }),
+            Entry::Merge {
+                node: same_node,
+                lit: same_lit,
+                steps: same_steps,
+            },
+        ) => {
+            *node == *same_node
+                && *lit == *same_lit
+                && are_same(steps.as_slice(), same_steps.as_slice())
+        }
+        _ => false,
     }
 }
 
-/// So many gates are merged, and literals have these roots.
-struct Roots(u64, &'static [Row<'static>]);
+/// So many gates are merged, by the entries of these lines in order, and literals have these roots.
+struct Added(u64, &'static str, &'static [Row<'static>]);
 
-impl Case for Roots {
+impl Case for Added {
     fn check<A: Abort>(&self, rt: &A, alloc: Global, net: &Net) {
         let book = passed(rt, alloc, net, self.0);
-        expect(rt, "two steps", begins_with_two_steps(&book));
-        for row in self.1 {
-            expect(rt, row.0, has_root(rt, &book, row));
+        for (place, line) in self.1.split_terminator('\n').enumerate() {
+            expect(
+                rt,
+                line,
+                has_merge(&book, place as u64, &entry(rt, alloc, line)),
+            );
+        }
+        for row in self.2 {
+            expect(rt, row.0, book.root(lit(rt, row.0)) == lit(rt, row.1));
         }
     }
 }
 
-static OF_ANDS: Roots = Roots(1, &[("b3", "a3")]);
+/// The clauses of a3 come first, so its last one shows a fanin of b3 false before the second one of b3 is
+/// asked.
+static OF_ANDS: Added = Added(
+    1,
+    "merge b3 a3: -b3 a3 by b3.0 a3.2 b3.1; b3 -a3 by a3.0 a3.1 b3.2\n",
+    &[("b3", "a3")],
+);
 
 /// Two XORs by other gates: no gate has a twin.
-static OF_XORS: Roots = Roots(0, &[("b5", "b5")]);
+static OF_XORS: Added = Added(0, "", &[("b5", "b5")]);
 
 #[test]
 fn strash(rt: HostRuntime) {
@@ -66,17 +94,19 @@ fn folds(rt: &impl Abort, alloc: Global) -> Net {
     net_of(rt, alloc, a, circuit(alloc, &[1], &gates, &[5, 6]))
 }
 
-/// Gates that merge are merged to what they fold to.
-static OF_FOLDS: Roots = Roots(
+/// Gates that merge are merged to what they fold to. The constant's clause is the first of a list that has
+/// it, so it is asked first unless what is given makes it true.
+static OF_FOLDS: Added = Added(
     6,
-    &[
-        ("a2", "i0"),
-        ("a3", "-t"),
-        ("a4", "i0"),
-        ("b2", "-i0"),
-        ("b3", "-t"),
-        ("b4", "-t"),
-    ],
+    "\
+merge a2 i0: -a2 i0 by a2.0; a2 -i0 by a2.2
+merge a3 -t: -a3 -t by a3.0 a3.1; a3 t by t.0
+merge a4 i0: -a4 i0 by t.0 a4.1; a4 -i0 by t.0 a4.2
+merge b2 -i0: -b2 -i0 by t.0 b2.0; b2 i0 by t.0 b2.2
+merge b3 -t: -b3 -t by b3.0; b3 t by t.0
+merge b4 -t: -b4 -t by b4.0 b4.1; b4 t by t.0
+",
+    &[],
 );
 
 /// Gates 4 are twins, over gates 3 that are twins too.
@@ -87,12 +117,37 @@ fn two_levels(rt: &impl Abort, alloc: Global) -> Net {
 }
 
 /// A gate whose fanins are merged is seen by their roots: B's second gate is a twin of A's by way of
-/// its first.
-static OF_LEVELS: Roots = Roots(2, &[("-b4", "-a4")]);
+/// its first, and the clauses of that merge stand between those of the two gates.
+static OF_LEVELS: Added = Added(
+    2,
+    "\
+merge b3 a3: -b3 a3 by b3.0 a3.2 b3.1; b3 -a3 by a3.0 a3.1 b3.2
+merge b4 a4: -b4 a4 by b4.0 a4.2 e0.1 b4.1; b4 -a4 by a4.0 a4.1 e0.0 b4.2
+",
+    &[("-b4", "-a4")],
+);
+
+/// A gate of A, and its twin twice in B.
+fn two_twins(rt: &impl Abort, alloc: Global) -> Net {
+    let a = two_input_circuit(alloc, &[and(3, 2, 4)], 6);
+    let b = two_input_circuit(alloc, &[and(3, 2, 4), and(4, 4, 2)], 8);
+    net_of(rt, alloc, a, b)
+}
+
+/// Both are merged to the earliest.
+static OF_TWO_TWINS: Added = Added(
+    2,
+    "\
+merge b3 a3: -b3 a3 by b3.0 a3.2 b3.1; b3 -a3 by a3.0 a3.1 b3.2
+merge b4 a3: -b4 a3 by b4.0 a3.2 b4.1; b4 -a3 by a3.0 a3.1 b4.2
+",
+    &[],
+);
 
 #[test]
 fn folds_and_twins_by_their_roots(rt: HostRuntime) {
     let alloc = rt.alloc();
     check(&rt, alloc, folds(&rt, alloc), &OF_FOLDS);
     check(&rt, alloc, two_levels(&rt, alloc), &OF_LEVELS);
+    check(&rt, alloc, two_twins(&rt, alloc), &OF_TWO_TWINS);
 }

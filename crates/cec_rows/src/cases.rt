@@ -3,9 +3,12 @@ use crate::desk::Holds::{Begins, Bytes, Ends, Lines, Missing};
 use crate::desk::{
     BAD_INPUT, Case, DIFFERENT, EQUIVALENT, Ran, check_case, check_cases, run_words,
 };
-use crate::files::{SWAPPED, SWAPPED_A, SWAPPED_B, SWAPPED_CNF, TIGHT, WORDS, XORS};
-use cec_top::{Kept, Status};
-use lemma_book::Entry;
+use crate::files::{
+    AGAINST_FALSE, EMPTY_CNF, FOLDS, SWAPPED, SWAPPED_A, SWAPPED_B, SWAPPED_BINARY, SWAPPED_CNF,
+    TIGHT, WORDS, XORS,
+};
+use crate::proofs::check_swapped;
+use cec_top::Status;
 use std::alloc::AllocError;
 use std::process::Abort;
 use std::sync::Wait;
@@ -13,8 +16,6 @@ use std::test::*;
 use std::thread::Threads;
 
 const EMPTY: &[u8] = b"aag 0 0 0 0 0\n";
-
-const EMPTY_CNF: &[u8] = b"p cnf 1 2\n1 0\n0\n";
 
 const AGAINST_FALSE_CNF: &[u8] =
     b"p cnf 5 9\n1 0\n-4 2 0\n-4 3 0\n4 -2 -3 0\n-5 4 -1 0\n-5 -4 1 0\n5 -4 -1 0\n5 4 1 0\n5 0\n";
@@ -39,16 +40,18 @@ fn swapped_and(rt: HostRuntime) {
     check_case(&rt, &SWAPPED_AND);
 }
 
-static BINARY_AND: Case<'_> = Case {
-    files: &[("A", SWAPPED_A), ("B", b"aig 3 2 0 1 1\n6\n\x02\x02")],
-    left: &[("p.0.cnf", Bytes(SWAPPED_CNF))],
-    ..EQUIVALENT
-};
+const BINARY_FORMS: [&[u8]; 2] = [
+    SWAPPED_BINARY,
+    // A delta that isn't as short as can be.
+    b"aig 3 2 0 1 1\n6\n\x82\x00\x02",
+];
 
 /// The second circuit in the binary form.
 #[test]
 fn binary_and(rt: HostRuntime) {
-    check_case(&rt, &BINARY_AND);
+    for file in &BINARY_FORMS {
+        check_swapped(&rt, &[("A", SWAPPED_A), ("B", file)]);
+    }
 }
 
 static CYCLE_AND_ORDER: Case<'_> = Case {
@@ -93,7 +96,7 @@ fn greatest_header(rt: HostRuntime) {
 }
 
 static AND_AGAINST_FALSE: Case<'_> = Case {
-    files: &[("A", SWAPPED_A), ("B", b"aag 2 2 0 1 0\n2\n4\n0\n")],
+    files: &AGAINST_FALSE,
     said: "DIFFERENT\noutput 0\ninput 11\n",
     left: &[
         ("p.0.cnf", Bytes(AGAINST_FALSE_CNF)),
@@ -106,6 +109,40 @@ static AND_AGAINST_FALSE: Case<'_> = Case {
 #[test]
 fn and_against_false(rt: HostRuntime) {
     check_case(&rt, &AND_AGAINST_FALSE);
+}
+
+/// The first of eight inputs.
+const FIRST_OF_EIGHT: &[u8] = b"aag 8 8 0 1 0\n2\n4\n6\n8\n10\n12\n14\n16\n2\n";
+
+/// False, of eight inputs.
+const FALSE_OF_EIGHT: &[u8] = b"aag 8 8 0 1 0\n2\n4\n6\n8\n10\n12\n14\n16\n0\n";
+
+const EIGHT_INPUTS: Case<'_> = Case {
+    files: &[("A", FIRST_OF_EIGHT), ("B", FALSE_OF_EIGHT)],
+    words: &["check", "A", "B"],
+    said: "DIFFERENT\noutput 0\ninput 10100110\n",
+    ..DIFFERENT
+};
+
+static SEEDS_AND_WORDS: [Case<'_>; 3] = [
+    EIGHT_INPUTS,
+    Case {
+        words: &["check", "A", "B", "--seed", "2"],
+        said: "DIFFERENT\noutput 0\ninput 10000101\n",
+        ..EIGHT_INPUTS
+    },
+    Case {
+        words: &["check", "A", "B", "--words", "1"],
+        said: "DIFFERENT\noutput 0\ninput 11010011\n",
+        ..EIGHT_INPUTS
+    },
+];
+
+/// The first pattern in which the first input is true is told, as the seed and the words draw it: the inputs
+/// are computed from what `tools/draws.py` prints.
+#[test]
+fn seeds_and_words(rt: HostRuntime) {
+    check_cases(&rt, &SEEDS_AND_WORDS);
 }
 
 static TWO_XORS: [Case<'_>; 2] = [
@@ -129,10 +166,7 @@ fn two_xors(rt: HostRuntime) {
 }
 
 static MERGED_TO_INPUT_AND_FALSE: Case<'_> = Case {
-    files: &[
-        ("A", b"aag 3 1 0 2 2\n2\n4\n6\n4 2 2\n6 2 3\n"),
-        ("B", b"aag 1 1 0 2 0\n2\n2\n0\n"),
-    ],
+    files: &FOLDS,
     left: &[
         (
             "p.0.cnf",
@@ -181,31 +215,6 @@ static TIGHT_BUDGETS: Case<'_> = Case {
 #[test]
 fn tight_budgets(rt: HostRuntime) {
     check_case(&rt, &TIGHT_BUDGETS);
-}
-
-/// How many lines the log of the first output has, which is open.
-fn logged(kept: &[Kept]) -> usize {
-    match kept.first() {
-        Some(kept) => match kept.book.about(0) {
-            Some(Entry::OutSpent { log, .. }) => log.len(),
-            _ => 0,
-        },
-        None => 0,
-    }
-}
-
-/// Whether the log of the first output has one line in the book that a run handed back.
-fn has_logged_one(ran: Result<Ran, AllocError>) -> bool {
-    match ran {
-        Ok(ran) => logged(ran.kept.as_slice()) == 1,
-        Err(AllocError) => false,
-    }
-}
-
-/// The log of an open output stands in the book that the run hands back.
-#[test]
-fn log_of_tight_budgets(rt: HostRuntime) {
-    assert!(rt; has_logged_one(run_words(&rt, &XORS, &TIGHT, &[])));
 }
 
 static ONE_OUTPUT_EQUAL_AND_ONE_OPEN: Case<'_> = Case {
@@ -304,16 +313,26 @@ fn failing_proof_write(rt: HostRuntime) {
     check_case(&rt, &FAILING_PROOF_WRITE);
 }
 
-static MISSING_FILE: Case<'_> = Case {
+const MISSING: Case<'_> = Case {
     files: &[("A", SWAPPED_A)],
     status: Status::CannotRead,
     warned: "cec: B: cannot read\n",
     ..BAD_INPUT
 };
 
+static MISSING_FILE: [Case<'_>; 2] = [
+    MISSING,
+    // The warning fails too, and the status stays.
+    Case {
+        fails: &[2],
+        warned: "",
+        ..MISSING
+    },
+];
+
 #[test]
 fn missing_file(rt: HostRuntime) {
-    check_case(&rt, &MISSING_FILE);
+    check_cases(&rt, &MISSING_FILE);
 }
 
 /// Whether a run on words that are no request ends so: it reads nothing, and says help or warns of how it is
@@ -336,7 +355,7 @@ fn check_words(rt: &(impl Threads + Wait + Abort + AllocGlobal), rows: &[&[&str]
     }
 }
 
-const REFUSED: [&[&str]; 12] = [
+const REFUSED: [&[&str]; 13] = [
     &[],
     &["help"],
     &["check", "A"],
@@ -347,6 +366,7 @@ const REFUSED: [&[&str]; 12] = [
     &["check", "A", "B", "--sweep-budget", "0"],
     &["check", "A", "B", "--sweep-budget", "1000000001"],
     &["check", "A", "B", "--words", "65"],
+    &["check", "A", "B", "--workers", "65"],
     &["check", "A", "B", "C"],
     &["lrat", "A"],
 ];
@@ -369,11 +389,25 @@ fn no_such_command(rt: HostRuntime) {
     check_case(&rt, &NO_SUCH_COMMAND);
 }
 
-const HELP: [&[&str]; 3] = [&["--help"], &["check", "--help"], &["lrat", "-h"]];
+const HELP: [&[&str]; 4] = [&["--help"], &["check", "--help"], &["lrat", "-h"], &["-V"]];
 
 #[test]
 fn words_that_want_help(rt: HostRuntime) {
     check_words(&rt, &HELP, Status::Done);
+}
+
+static VERSION: Case<'_> = Case {
+    words: &["--version"],
+    status: Status::Done,
+    said: "cec 0.2.0\n",
+    warned: "",
+    asked: &[],
+    ..BAD_INPUT
+};
+
+#[test]
+fn words_that_want_the_version(rt: HostRuntime) {
+    check_case(&rt, &VERSION);
 }
 
 static HELP_THAT_CANNOT_BE_SAID: Case<'_> = Case {

@@ -122,7 +122,7 @@ fn is_met(file: Option<&[u8]>, wanted: Holds) -> bool {
 }
 
 /// Whether the files that were read have these names, in turn.
-fn has_asked(desk: &MemDesk, names: &[&str]) -> bool {
+pub(crate) fn has_asked(desk: &MemDesk, names: &[&str]) -> bool {
     let asked = desk.asked();
     if asked.len() != names.len() {
         return false;
@@ -151,6 +151,11 @@ fn check_end(rt: &impl Abort, ran: &Ran, case: &Case<'_>) {
     for (name, wanted) in case.left {
         check(rt, case, name, is_met(desk.file(name), *wanted));
     }
+}
+
+/// Fails the test, with these words, unless it is so.
+pub(crate) fn expect(rt: &impl Abort, what: &str, is_so: bool) {
+    assert!(rt; is_so, "{what}");
 }
 
 /// Runs a case over these files, and asks how it ends and what it leaves.

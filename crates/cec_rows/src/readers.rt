@@ -1,9 +1,16 @@
 //! Files that are refused, each with the one line that says why, and one circuit in other forms.
-use crate::desk::Holds::Bytes;
-use crate::desk::{BAD_INPUT, Case, EQUIVALENT, Ran, check_cases, check_over, run_words};
-use crate::files::{SWAPPED_A, SWAPPED_B, SWAPPED_CNF, WORDS};
-use std::alloc::AllocError;
+ghost use Rattle.std.specs.Prelude.{◌≤◌, length};
+
+use crate::desk::{
+    BAD_INPUT, Case, EQUIVALENT, Ran, check_cases, check_over, has_asked, run_words,
+};
+use crate::files::{SWAPPED_A, SWAPPED_B, SWAPPED_BINARY, WORDS};
+use crate::proofs::check_swapped;
+use cec_top::Status;
+use std::alloc::{AllocError, Global};
+use std::sync::Wait;
 use std::test::*;
+use std::thread::Threads;
 
 /// A file that is whole, beside the one that is tried.
 const WHOLE_B: (&str, &[u8]) = ("B", SWAPPED_A);
@@ -14,7 +21,7 @@ const BAD_A: Case<'_> = Case {
     ..BAD_INPUT
 };
 
-static ASCII_FAULTS: [Case<'_>; 11] = [
+static ASCII_FAULTS: [Case<'_>; 12] = [
     Case {
         files: &[("A", b""), WHOLE_B],
         warned: "cec: A: bad header\n",
@@ -66,6 +73,11 @@ static ASCII_FAULTS: [Case<'_>; 11] = [
         ..BAD_A
     },
     Case {
+        files: &[("A", b"aag 1000000000000000000000 0 0 0 0\n"), WHOLE_B],
+        warned: "cec: A: 1000000000000000000 is above 16777216\n",
+        ..BAD_A
+    },
+    Case {
         files: &[("A", b"aag 3 2 0 1 1\n2\n4\n6\n6 2"), WHOLE_B],
         warned: "cec: A: ends too early at byte 23\n",
         ..BAD_A
@@ -77,72 +89,65 @@ fn ascii_faults(rt: HostRuntime) {
     check_cases(&rt, &ASCII_FAULTS);
 }
 
-/// How many bytes the header of the file has that is cut.
+/// How many bytes the header has of either file that is cut.
 const HEADER: usize = 13;
 
-/// The line of a file that is cut behind its header, where a line is missing that has to be there.
-const LINES_BEHIND_HEADER: [&str; 12] = [
-    "cec: A: ends too early at byte 13\n",
-    "cec: A: ends too early at byte 14\n",
-    "cec: A: ends too early at byte 15\n",
-    "cec: A: ends too early at byte 16\n",
-    "cec: A: ends too early at byte 17\n",
-    "cec: A: ends too early at byte 18\n",
-    "cec: A: ends too early at byte 19\n",
-    "cec: A: ends too early at byte 20\n",
-    "cec: A: ends too early at byte 21\n",
-    "cec: A: ends too early at byte 22\n",
-    "cec: A: ends too early at byte 23\n",
-    "cec: A: ends too early at byte 24\n",
-];
-
-/// The line of a file of which so many bytes are left, or nothing where all that has to be there is.
-fn line_after(bytes: usize) -> &'static str {
+/// The line of a file of which so many bytes are left, where something is missing.
+fn line_after(alloc: Global, bytes: usize) -> Result<String, AllocError> {
     if bytes < HEADER {
-        return "cec: A: bad header\n";
+        return String::from_str(alloc, "cec: A: bad header\n");
     }
-    match LINES_BEHIND_HEADER.get(bytes - HEADER) {
-        Some(line) => line,
-        None => "",
-    }
+    format!(in alloc; "cec: A: ends too early at byte {bytes}\n")
 }
 
-/// Whether a run warned of this line.
-fn has_warned(ran: Result<Ran, AllocError>, line: &str) -> bool {
-    match ran {
-        Ok(ran) => ran.desk.warned() == line.as_bytes(),
-        Err(AllocError) => false,
-    }
+/// Whether a run was refused with this line, and has read one file and left none.
+fn is_refused(ran: &Ran, line: &str) -> bool {
+    ran.status == Status::BadInput
+        && ran.desk.warned() == line.as_bytes()
+        && ran.desk.said().is_empty()
+        && has_asked(&ran.desk, &["A"])
+        && ran.desk.file("p.0.cnf").is_none()
+        && ran.kept.is_empty()
 }
 
+/// Whether the file with so many bytes left is refused for what is missing.
+fn is_cut(
+    rt: &(impl Threads + Wait + AllocGlobal),
+    file: &[u8],
+    bytes: usize,
+) -> Result<bool, AllocError>
+    requires { bytes ≤ length file.now }
+{
+    let line = line_after(rt.alloc(), bytes)?;
+    let ran = run_words(rt, &[("A", &file[..bytes]), ("B", SWAPPED_B)], &WORDS, &[])?;
+    Ok(is_refused(&ran, line.as_str()))
+}
+
+/// The last line feed may be missing, and nothing else.
 #[test]
 fn cut_at_each_byte(rt: HostRuntime) {
-    for n in 0..26usize {
-        let files = [("A", &SWAPPED_A[..n]), WHOLE_B];
-        let is_warned = has_warned(run_words(&rt, &files, &WORDS, &[]), line_after(n));
-        assert!(rt; is_warned, "after {n} bytes");
+    for n in 0..25usize {
+        assert!(rt; is_cut(&rt, SWAPPED_A, n) == Ok(true), "text, {n} bytes");
+    }
+    check_swapped(&rt, &[("A", &SWAPPED_A[..25]), ("B", SWAPPED_B)]);
+    for n in 0..18usize {
+        assert!(rt;
+            is_cut(&rt, SWAPPED_BINARY, n) == Ok(true),
+            "binary, {n} bytes"
+        );
     }
 }
 
-static COMMENT_AND_LAST_NEWLINE: [Case<'_>; 2] = [
-    Case {
-        files: &[
-            ("A", b"aag 3 2 0 1 1\n2\n4\n6\n6 2 4\ncABC"),
-            ("B", SWAPPED_B),
-        ],
-        left: &[("p.0.cnf", Bytes(SWAPPED_CNF))],
-        ..EQUIVALENT
-    },
-    Case {
-        files: &[("A", b"aag 3 2 0 1 1\n2\n4\n6\n6 2 4"), ("B", SWAPPED_B)],
-        left: &[("p.0.cnf", Bytes(SWAPPED_CNF))],
-        ..EQUIVALENT
-    },
-];
+/// The AND with a comment behind its gate, which has no line feed.
+const COMMENTED: &[u8] = b"aag 3 2 0 1 1\n2\n4\n6\n6 2 4\ncABC";
+
+/// The AND without its last line feed.
+const WITHOUT_LAST: &[u8] = b"aag 3 2 0 1 1\n2\n4\n6\n6 2 4";
 
 #[test]
 fn comment_and_last_newline(rt: HostRuntime) {
-    check_cases(&rt, &COMMENT_AND_LAST_NEWLINE);
+    check_swapped(&rt, &[("A", COMMENTED), ("B", SWAPPED_B)]);
+    check_swapped(&rt, &[("A", WITHOUT_LAST), ("B", SWAPPED_B)]);
 }
 
 static BINARY_FAULTS: [Case<'_>; 3] = [
@@ -169,7 +174,7 @@ fn binary_faults(rt: HostRuntime) {
 }
 
 const FORMS: [&[u8]; 4] = [
-    b"aig 3 2 0 1 1\n6\n\x02\x02",
+    SWAPPED_BINARY,
     // A delta that isn't as short as can be.
     b"aig 3 2 0 1 1\n6\n\x82\x00\x02",
     b"aig 3 2 0 1 1\n6\n\x02\x02i0 x\no0 y\nc\n",

@@ -3,7 +3,8 @@
 use crate::clauses::finish;
 use crate::formulas::{CHAINS, CONE_OF_XOR, SMALL};
 use crate::queries::{
-    check_drawn, check_lines, check_model, check_queries, check_spent, check_targets, check_yes,
+    check_drawn, check_enough, check_lines, check_model, check_queries, check_spent, check_targets,
+    check_yes,
 };
 use solver_watch::WatchSolver;
 use std::alloc::Global;
@@ -14,6 +15,7 @@ use unit_prop::Refuter;
 fn check_paid<R: Refuter>(rt: &impl Abort, alloc: Global, solver: Option<R>) -> Option<()> {
     let mut solver = solver?;
     check_spent(rt, alloc, &mut solver)?;
+    check_enough(rt, alloc, &mut solver)?;
     check_targets(rt, alloc, &mut solver, (CONE_OF_XOR, "-d0? yes 3"), false)
 }
 

@@ -101,6 +101,27 @@ pub(crate) fn check_spent<R: Refuter>(
     check_given_up(rt, alloc, solver, base.as_slice(), &target, 1)
 }
 
+/// With 100000 units the outputs are equal; the clauses that are learned are new.
+pub(crate) fn check_enough<R: Refuter>(
+    rt: &impl Abort,
+    alloc: Global,
+    solver: &mut R,
+) -> Option<()> {
+    let base = base_of(alloc, CONE_OF_XOR)?;
+    let target = clause(alloc, EQUAL_OUTPUTS)?;
+    let implied = Some(true);
+    left_of(
+        rt,
+        alloc,
+        solver,
+        base.as_slice(),
+        &target,
+        100_000,
+        implied,
+    )?;
+    Some(())
+}
+
 /// One unit is spent, and then as many as the answer takes; the units that are left of 100000.
 fn left_of_two<R: Refuter>(
     rt: &impl Abort,

@@ -168,6 +168,15 @@ fn implies(alloc: Global) -> Option<bool> {
     Some(is_step(&mut check, lits.as_slice(), hints.as_slice()))
 }
 
+/// Whether an empty hint shows the empty clause, and nothing shows a unit without a hint.
+fn begins_and_ends(alloc: Global) -> bool {
+    let mut check = StepCheck::<Dim>::new(alloc);
+    let is_step = check.begin(&[]).is_ok() && check.hint(&[]).is_ok() && check.end().is_ok();
+    is_step
+        && check.begin(&[Dim::new(1, false)]).is_ok()
+        && check.end().err() == Some(Why::NotFalse)
+}
+
 #[test]
 fn step_check(rt: HostRuntime) {
     let mut steps = StepCheck::new(rt.alloc());
@@ -175,6 +184,7 @@ fn step_check(rt: HostRuntime) {
         check(&rt, line, has_fault(rt.alloc(), &mut steps, line));
     }
     check(&rt, "over nodes", implies(rt.alloc()));
+    expect(&rt, "call by call", begins_and_ends(rt.alloc()));
 }
 
 /// Whether the step adds the literals' clause by these hints.

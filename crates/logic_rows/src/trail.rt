@@ -163,11 +163,11 @@ fn walks(rt: HostRuntime) {
 /// one that is named is wholly negated. The clause that is learned of it forces its literal.
 const WALKS: &str = "\
 new closure
-add 1 -2 1; 2 2 2;
+add 0 -1; 1;
 quiet
-has 2 0 1; 1 0 0;
+has 1 0 1; 0 0 0;
 new closure that clashes
-add 1 1 1; -1 -1 -1;
+add 0; -0;
 clash
 new gate of both inputs, which are decided
 add -3 1 1; -3 2 2; 3 -1 -2;

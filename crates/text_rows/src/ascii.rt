@@ -1,5 +1,5 @@
 use crate::checks::{check, is_told};
-use crate::circuits::{check_fault, is_and};
+use crate::circuits::{check_fault, has_constraints, input_name, is_and, is_named, output_name};
 use crate::tables::{Table, check_rows};
 use aiger_ascii::read;
 use byte_scan::AigerErr;
@@ -20,6 +20,19 @@ fn one_gate(rt: HostRuntime) {
 fn names_of_any_bytes(rt: HostRuntime) {
     let circuit = read(rt.alloc(), b"aag 1 1 0 1 0\n2\n2\no0 \xff\r\nc");
     check(&rt, "a name and no UTF-8", circuit.is_ok());
+}
+
+/// Two constraints, and names: of two for one place the later, of none the empty one, and none in a comment.
+const NAMED: &[u8] =
+    b"aag 3 2 0 1 1 0 2\n2\n4\n6\n2\n7\n6 2 4\ni0 x\ni1 a\ni1 b c\ni0 \no0 z\nc\ni0 q\n";
+
+#[test]
+fn constraints_and_names(rt: HostRuntime) {
+    let found = read(rt.alloc(), NAMED);
+    check(&rt, "constraints", has_constraints(&found, &[2, 7]));
+    check(&rt, "an empty name", is_named(input_name(&found, 0), b""));
+    check(&rt, "a later name", is_named(input_name(&found, 1), b"b c"));
+    check(&rt, "an output", is_named(output_name(&found, 0), b"z"));
 }
 
 #[test]
@@ -53,10 +66,15 @@ const TEXTS: &str = concat!(
     // leading zeros, and all nine numbers
     "aag 03 2 0 1 1\n02\n4\n06\n6 2 0004\n => read;",
     "aag 1 1 0 1 0 0 0 0 0\n2\n3\n => read;",
+    // a constraint
+    "aag 1 1 0 0 0 0 1\n2\n2\n => read;",
+    "aag 0 0 0 0 0 0 2\n0\n1 => read;",
     // the header, and numbers of lines
     "aig 3 2 0 1 1\n6\n\x02\x02 => bad header;",
     "aag 1 0 1 0 0\n2 3\n => 1 latches;",
-    "aag 1 1 0 0 0 0 1\n2\n2\n => section C is not supported;",
+    "aag 0 0 0 0 0 1\n0\n => section B is not supported;",
+    "aag 0 0 0 0 0 0 0 1\n0\n => section J is not supported;",
+    "aag 0 0 0 0 0 0 0 0 1\n0\n => section F is not supported;",
     "aag 16777217 0 0 0 0\n => 16777217 is above 16777216;",
     "aag 1000000000000000000000 0 0 0 0\n => 1000000000000000000 is above 16777216;",
     "aag 16777216 16777216 0 0 0\n => ends too early at byte 28;",
@@ -70,11 +88,13 @@ const TEXTS: &str = concat!(
     "aag 2 1 0 0 1\n2\n4 2 2 2\n => bad number at byte 21;",
     "aag 2 1 0 0 1\n2\n4 2  => ends too early at byte 20;",
     "aag 2 1 0 0 1\n2\n4 2 => ends too early at byte 19;",
+    "aag 1 1 0 0 0 0 1\n2\n => ends too early at byte 20;",
     // literals, line by line, from the left
     "aag 1 1 0 0 0\n3\n => bad literal 3;",
     "aag 1 1 0 0 0\n0\n => bad literal 0;",
     "aag 1 1 0 0 0\n4\n => bad literal 4;",
     "aag 1 1 0 1 0\n2\n4\n => bad literal 4;",
+    "aag 1 1 0 0 0 0 1\n2\n4\n => bad literal 4;",
     "aag 1 1 0 0 0\n18446744073709551618\n => bad literal 1000000000000000000;",
     "aag 3 2 0 0 0\n2\n2\n => literal 2 is defined twice;",
     "aag 2 1 0 0 1\n2\n2 9 9\n => literal 2 is defined twice;",
@@ -85,6 +105,9 @@ const TEXTS: &str = concat!(
     "aag 3 2 0 1 0\n2\n4\n7\nx => literal 7 is undefined;",
     "aag 4 2 0 1 1\n2\n4\n9\n6 8 2\n => literal 9 is undefined;",
     "aag 4 2 0 0 1\n2\n4\n6 8 9\n => literal 8 is undefined;",
+    // a constraint behind the outputs, and before the fanins
+    "aag 4 1 0 1 1 0 1\n2\n6\n8\n4 2 2\n => literal 6 is undefined;",
+    "aag 4 1 0 0 1 0 1\n2\n8\n4 6 2\n => literal 8 is undefined;",
     "aag 4 2 0 1 2\n2\n4\n8\n6 8 2\n8 6 4\n => literal 6 is on or above a cycle;",
     "aag 2 1 0 0 1\n2\n4 5 2\nx => literal 4 is on or above a cycle;",
     // above a cycle, and before it in the file

@@ -1,5 +1,7 @@
 use crate::checks::check;
-use crate::circuits::{check_fault, has_gate, is_and};
+use crate::circuits::{
+    check_fault, has_constraints, has_gate, input_name, is_and, is_named, output_name,
+};
 use aiger_binary::read;
 use byte_scan::AigerErr;
 use netlist::And;
@@ -26,6 +28,16 @@ fn one_gate(rt: HostRuntime) {
 }
 
 #[test]
+fn constraints_and_names(rt: HostRuntime) {
+    let bytes = b"aig 3 2 0 1 1 0 1\n6\n3\n\x02\x02i1 x\ni1 y\no0 z";
+    let found = read(rt.alloc(), bytes);
+    check(&rt, "a constraint", has_constraints(&found, &[3]));
+    check(&rt, "no name", is_named(input_name(&found, 0), b""));
+    check(&rt, "a later name", is_named(input_name(&found, 1), b"y"));
+    check(&rt, "an output", is_named(output_name(&found, 0), b"z"));
+}
+
+#[test]
 fn cut_at_each_byte(rt: HostRuntime) {
     for n in 0..19 {
         let want = match n {
@@ -39,13 +51,20 @@ fn cut_at_each_byte(rt: HostRuntime) {
 }
 
 /// A file, and its fault unless it is read.
-static FILES: [(&[u8], Option<AigerErr>); 22] = [
+static FILES: [(&[u8], Option<AigerErr>); 25] = [
     // the empty circuit, also with a header without line feed
     (b"aig 0 0 0 0 0\n", None),
     (b"aig 0 0 0 0 0", None),
     // constant outputs, and constant fanins
     (b"aig 0 0 0 2 0\n0\n1", None),
     (b"aig 1 0 0 0 1\n\x01\x01", None),
+    // a constraint, which stands behind the outputs
+    (b"aig 3 2 0 1 1 0 1\n6\n3\n\x02\x02", None),
+    (
+        b"aig 3 2 0 1 1 0 1\n6\n8\n\x02\x02",
+        Some(AigerErr::BadLiteral(8)),
+    ),
+    (b"aig 3 2 0 1 1 0 1\n6\n", Some(AigerErr::Truncated(20))),
     // symbols and a comment, and a comment alone
     (b"aig 3 2 0 1 1\n6\n\x02\x02i0 x\no0 y\nc", None),
     (b"aig 3 2 0 1 1\n6\n\x02\x02cABC", None),

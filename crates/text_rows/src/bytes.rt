@@ -78,7 +78,7 @@ const BAD_HEADERS: &str = concat!(
     "aag 1000000000000000000000 0 0 0 0\n => 1000000000000000000 is above 16777216;",
     "aag 1 0 1 0 16777217\n => 16777217 is above 16777216;",
     "aag 1 0 1 0 0 0 1\n => 1 latches;",
-    "aag 1 1 0 0 0 0 1 1\n => section C is not supported;",
+    "aag 1 1 0 0 0 0 1 1\n => section J is not supported;",
     "aag 1 1 0 0 9 0 0 0 1\n => section F is not supported",
 );
 

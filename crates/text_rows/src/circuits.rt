@@ -42,3 +42,35 @@ pub(crate) fn is_and(found: Result<Circuit, AigerErr>, left: u32, right: u32) ->
     };
     has_gate(&found, gate) && has_ends(&found)
 }
+
+/// Whether a circuit was read with these constraints.
+pub(crate) fn has_constraints(found: &Result<Circuit, AigerErr>, want: &[u32]) -> bool {
+    match found {
+        Ok(circuit) => circuit.constraints() == want,
+        Err(_) => false,
+    }
+}
+
+/// The name of an input of a circuit that was read.
+pub(crate) fn input_name(found: &Result<Circuit, AigerErr>, k: u32) -> Option<&[u8]> {
+    match found {
+        Ok(circuit) => circuit.input_name(k),
+        Err(_) => None,
+    }
+}
+
+/// The name of an output of a circuit that was read.
+pub(crate) fn output_name(found: &Result<Circuit, AigerErr>, j: u32) -> Option<&[u8]> {
+    match found {
+        Ok(circuit) => circuit.output_name(j),
+        Err(_) => None,
+    }
+}
+
+/// Whether a name is these bytes, or none where there are no bytes.
+pub(crate) fn is_named(found: Option<&[u8]>, want: &[u8]) -> bool {
+    match found {
+        Some(name) => !want.is_empty() && name == want,
+        None => want.is_empty(),
+    }
+}

@@ -1,8 +1,10 @@
 //! What a desk in memory answers, call by call, and a gate that holds nobody.
 //!
-//! How the counts of faults move is not asked here: the clauses of `MemDesk`'s calls say it exactly.
+//! How many faults of reading are counted is proved where the answers are the expected ones, since no call
+//! tells it.
 ghost use Rattle.std.specs.Prelude.{◌≡◌, None, IfOk};
-ghost use Rattle.desk_port.specs.MemDesk.{state_of};
+ghost use Rattle.std.specs.Bool.{OnTrue};
+ghost use Rattle.desk_port.specs.MemDesk.{next_count, state_of};
 
 use crate::checks::check;
 use desk_port::{Desk, Gate, MemDesk, OpenGate, PutErr, ReadErr};
@@ -53,38 +55,83 @@ pub(crate) fn desk_with(
     files: &[(&str, &str)],
     fails: &[u64],
 ) -> Result<MemDesk, AllocError>
-    ensures { IfOk result (λ desk. (state_of desk).started ≡ None) }
+    ensures started { IfOk result (λ desk. (state_of desk).started ≡ None) }
+    ensures faults { IfOk result (λ desk. (state_of desk).read_faults ≡ 0) }
 {
     let fails = Vec::from_slice(alloc, fails)?;
     MemDesk::new(alloc, files_of(alloc, files)?, fails)
 }
 
-/// A file, the most that is read of it, and what that comes to.
-type Row = (&'static str, u64, Result<&'static [u8], ReadErr>);
-
-/// Whether the file reads so.
-fn reads(alloc: Global, desk: &mut MemDesk, (name, limit, want): &Row) -> bool {
-    match desk.read(alloc, name, *limit) {
-        Ok(bytes) => *want == Ok(bytes.as_slice()),
-        Err(fault) => *want == Err(fault),
+/// Whether the file reads as these bytes; no fault is counted then.
+fn reads_as(alloc: Global, desk: &mut MemDesk, name: &str, limit: u64, want: &[u8]) -> bool
+    ensures { OnTrue result ((state_of desk.new).read_faults ≡ (state_of desk.old).read_faults) }
+{
+    match desk.read(alloc, name, limit) {
+        Ok(bytes) => bytes.as_slice() == want,
+        Err(_) => false,
     }
 }
 
-static READS: [Row; 4] = [
-    ("x", 5, Ok(b"ab")),
-    ("x", 5, Err(ReadErr::Failed)),
-    ("x", 1, Err(ReadErr::TooLong)),
-    ("y", 5, Err(ReadErr::Failed)),
-];
+/// Whether the file is too long; no fault is counted then.
+fn is_too_long(alloc: Global, desk: &mut MemDesk, name: &str, limit: u64) -> bool
+    ensures { OnTrue result ((state_of desk.new).read_faults ≡ (state_of desk.old).read_faults) }
+{
+    match desk.read(alloc, name, limit) {
+        Err(ReadErr::TooLong) => true,
+        _ => false,
+    }
+}
+
+/// Whether the read fails; one fault is counted then.
+fn fails_to_read(alloc: Global, desk: &mut MemDesk, name: &str, limit: u64) -> bool
+    ensures { OnTrue result
+        ((state_of desk.new).read_faults ≡ next_count (state_of desk.old).read_faults) }
+{
+    match desk.read(alloc, name, limit) {
+        Err(ReadErr::Failed) => true,
+        _ => false,
+    }
+}
+
+/// Whether one read is as it should be and the next fails, so that one fault is counted.
+fn reads_first(alloc: Global, desk: &mut MemDesk) -> bool
+    requires { (state_of desk.old).read_faults ≡ 0 }
+    ensures { OnTrue result ((state_of desk.new).read_faults ≡ 1) }
+{
+    if !reads_as(alloc, desk, "x", 5, b"ab") {
+        return false;
+    }
+    fails_to_read(alloc, desk, "x", 5)
+}
+
+/// Whether a file is too long then, with one fault still, and another is missing, so that two are counted.
+fn reads_then(alloc: Global, desk: &mut MemDesk) -> bool
+    requires { (state_of desk.old).read_faults ≡ 1 }
+    ensures { OnTrue result ((state_of desk.new).read_faults ≡ 2) }
+{
+    if !is_too_long(alloc, desk, "x", 1) {
+        return false;
+    }
+    fails_to_read(alloc, desk, "y", 5)
+}
+
+/// The same of both, with two faults in the end.
+fn reads_all(alloc: Global, desk: &mut MemDesk) -> bool
+    requires { (state_of desk.old).read_faults ≡ 0 }
+    ensures { OnTrue result ((state_of desk.new).read_faults ≡ 2) }
+{
+    if !reads_first(alloc, desk) {
+        return false;
+    }
+    reads_then(alloc, desk)
+}
 
 #[test]
 fn faulty_reads(rt: HostRuntime) {
     let Ok(mut desk) = desk_with(rt.alloc(), &[("x", "ab")], &[1]) else {
         return check(&rt, "a desk", false);
     };
-    for row in &READS {
-        check(&rt, row.0, reads(rt.alloc(), &mut desk, row));
-    }
+    check(&rt, "the reads", reads_all(rt.alloc(), &mut desk));
     check(&rt, "asked", has_asked(&desk, &["x", "x", "x", "y"]));
 }
 

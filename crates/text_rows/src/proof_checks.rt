@@ -51,7 +51,8 @@ fn verdict(alloc: Global, formula: &[u8], proof: &str) -> Option<Verdict> {
 /// A formula, a proof text, and what the checker should say.
 type Row = (&'static [u8], &'static str, Want);
 
-static CHECKS: [Row; 26] = [
+static CHECKS: [Row; 27] = [
+    (b"p cnf 1 2\n1 0\n0\n", "3 0 2 0\n", Refuted),
     (WITH_EMPTY, "3 0 2 0\n", Refuted),
     // Proofs that were written by hand: whole, with a hint that is doubled, cut, and with a deletion.
     (

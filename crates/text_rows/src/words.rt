@@ -16,17 +16,18 @@ Commands:
   self   Decide whether two circuits agree that the program makes, in two architectures
 
 Options:
-  -h, --help  Print help
+  -h, --help     Print help
+  -V, --version  Print version
 
 Status:
-  0  EQUIVALENT or VERIFIED was said, or help
+  0  EQUIVALENT or VERIFIED was said, or help or the version
   1  DIFFERENT or REFUSED was said
   2  UNDECIDED was said
   3  the words are not as above
   4  a file is not of its format, or the circuits are not alike
   5  a file cannot be read
   6  a file cannot be written, or an answer cannot be said
-  7  memory was refused
+  7  out of memory
 ";
 
 const CHECK_HELP: &str = "help: \
@@ -111,16 +112,32 @@ error: invalid value 'help' for '<KIND>'
 For more information, try '--help'.
 ";
 
+const VERSION: &str = "help: cec 0.2.0\n";
+
+const NO_VERSION: &str = "usage: \
+error: unexpected argument '--version' found
+
+  tip: to pass '--version' as a value, use '-- --version'
+
+Usage: cec check [OPTIONS] <A> <B>
+
+For more information, try '--help'.
+";
+
 const NO_HELP: &str = "usage: cec: no command help\n";
 
 /// Words, and what they are told.
-static TOLD: [(&str, &str); 10] = [
+static TOLD: [(&str, &str); 14] = [
     ("cec --help", PROGRAM_HELP),
     ("cec -h", PROGRAM_HELP),
     ("cec check --help", CHECK_HELP),
     ("cec check x y -h", CHECK_HELP),
     ("cec lrat --help", LRAT_HELP),
     ("cec self --help", SELF_HELP),
+    ("cec --version", VERSION),
+    ("cec -V", VERSION),
+    ("cec --version check", VERSION),
+    ("cec check --version", NO_VERSION),
     ("cec", NO_COMMAND),
     ("cec self help 1", NO_KIND),
     ("cec help", NO_HELP),
@@ -177,7 +194,6 @@ const REFUSED: &str = concat!(
         invalid value '18446744073709551616' for '--seed <N>': number too large to fit in target type\n;",
     "cec check x y --seed -1 => unexpected argument '-1' found\n;",
     "cec check x y --workers 4 => unexpected argument '--workers' found\n;",
-    "cec --version => unexpected argument '--version' found\n;",
     "cec self adders 4 => \
         invalid value 'adders' for '<KIND>'\n  [possible values: adder, parity, comparator]\n;",
     "cec self adder 0 => invalid value '0' for '<N>': 0 is not in 1..=4096\n;",

@@ -1,0 +1,107 @@
+"""Circuits and a formula whose parts share slots of the program's tables, each beside one of as many others.
+
+The program's hashes have fixed seeds, so whoever makes a file can do this; how each goes is said where it is used.
+"""
+import sys
+from pathlib import Path
+
+sys.path.insert(0, str(Path(__file__).resolve().parents[1] / "bench"))
+sys.path.insert(0, str(Path(__file__).resolve().parents[1] / "tools"))
+from aiger import binary
+from draws import draws
+
+GOLDEN = 0x9E37_79B9_7F4A_7C15
+WORD = 1 << 64
+SLOTS = 1 << 18
+
+
+def ands(inputs, pairs):
+    """A circuit of one AND for each pair of inputs, without outputs."""
+    gates = []
+    for at, pair in enumerate(pairs):
+        left, right = sorted((2 * (k + 1) for k in pair), reverse=True)
+        gates.append((2 * (inputs + at + 1), left, right))
+    return binary(inputs, [], gates)
+
+
+def pairs_of_roots(rng, count):
+    """(sharing, drawn): gates of the structural pass, which looks a pair of inputs up, k and the lower l, by the low bits
+    of 31^4 k + 31 l."""
+    most, inverse = pow(31, 4, SLOTS), pow(31, -1, SLOTS)
+    sharing = []
+    for k in range(SLOTS):
+        lower = (12345 - most * k) * inverse % SLOTS
+        if lower < k:
+            sharing.append((k, lower))
+    drawn = [rng.sample(range(SLOTS), 2) for _ in sharing]
+    return ands(SLOTS, sharing[:count]), ands(SLOTS, drawn[:count])
+
+
+def merged_nodes(count):
+    """(sharing, plain): gates that are merged, whose variables lie 128 apart, so that they are in few slots; and beside
+    one another."""
+    def circuit(step):
+        lines = [f"aag {2 + step * count} 2 0 0 {count}", "2", "4"]
+        last = 2
+        for at in range(1, count + 1):
+            lines.append(f"{2 * (2 + step * at)} {last} 4")
+            last = 2 * (2 + step * at)
+        return ("\n".join(lines) + "\n").encode()
+    return circuit(128), circuit(1)
+
+
+def mixed(number, word):
+    product = (number ^ word) * GOLDEN % WORD
+    return product ^ product >> 32
+
+
+def signatures(rng, count):
+    """(sharing, drawn): gates whose rows of 64 patterns have hashes with one beginning of four bits, by the words that
+    seed 1 draws."""
+    inputs = 2048
+    rows = list(draws(1, inputs))
+
+    def bucket(pair):
+        row = rows[pair[0]] & rows[pair[1]]
+        return mixed(0, row ^ (WORD - 1) if row & 1 else row) >> 60
+
+    sharing, drawn, seen = [], [], set()
+    while len(sharing) < count:
+        pair = tuple(sorted(rng.sample(range(inputs), 2)))
+        if pair in seen:
+            continue
+        seen.add(pair)
+        if len(drawn) < count:
+            drawn.append(pair)
+        if bucket(pair) == 7:
+            sharing.append(pair)
+    return ands(inputs, sharing), ands(inputs, drawn)
+
+
+def codes_in_one_slot(count):
+    """Numbers below 2^32 whose products with the multiplier lie in the first slots of a table, as few as may be."""
+    width = WORD * count // (1 << 32) * 9 // 8
+    steps = [1, 2]
+    while len(steps) < 46:
+        steps.append(steps[-1] + steps[-2])
+    found, code = [], 0
+    while len(found) < count:
+        code += next(step for step in steps if (code + step) * GOLDEN % WORD < width)
+        if code >= 1 << 32:
+            raise SystemExit("too few codes")
+        found.append(code)
+    return found
+
+
+def literals(rng, count):
+    """(sharing, drawn): a clause of literals whose codes, twice the variable and one more where it is negated, share
+    slots."""
+    def clause(codes):
+        seen, words = set(), []
+        for code in codes:
+            if code // 2 and code // 2 not in seen:
+                seen.add(code // 2)
+                words.append(("-" if code % 2 else "") + str(code // 2))
+        return f"p cnf 2147483647 1\n{' '.join(words)} 0\n".encode()
+    sharing = codes_in_one_slot(count)
+    return clause(sharing), clause(rng.sample(range(2, 1 << 32), count))
