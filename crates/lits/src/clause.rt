@@ -68,7 +68,8 @@ impl<L: Literal> Clause<L> {
         ensures tautology { IfErr result
             (λ e. e ≡ ClauseErr.Tautology → has_pair L.PartialEq.eq L.Literal.opposite lits.now ≡ true) }
     {
-        let mut kept = LiteralSet::new(alloc);
+        // A list that grows by pushes has room for four literals, and most clauses of a book have two.
+        let mut kept = LiteralSet::with_capacity(alloc, lits.len())?;
         for lit in lits {
             add(&mut kept, *lit)?;
         }

@@ -45,6 +45,16 @@ impl<L: Literal> LiteralSet<L> {
         }
     }
 
+    /// The empty set, with room for so many literals.
+    pub fn with_capacity(alloc: Global, capacity: usize) -> Result<LiteralSet<L>, AllocError>
+        ensures { IfOk result (λ s. s ≡ []) }
+    {
+        Ok(LiteralSet {
+            order: Vec::with_capacity(alloc, capacity)?,
+            chains: Chains::new(alloc),
+        })
+    }
+
     /// The literals of a list, each at its first place.
     pub fn of(alloc: Global, lits: &[L]) -> Result<LiteralSet<L>, AllocError>
         ensures { IfOk result (λ s. s ≡ firsts L.PartialEq.eq lits.now) }

@@ -7,16 +7,16 @@ use Rattle.lits.proofs.clause.Clause.of.Goals as goal
 
 pub returns-in_err-add-clause-kept : goal.returns-in_err-add-clause-kept
 returns-in_err-add-clause-kept g c =
-    let p = err_from_is_err_and c.from_residual.result c.from_residual.ensures.1 in rw p.1 tt
+    let p = err_from_is_err_and c.from_residual-in_err-add.result c.from_residual-in_err-add.ensures.1 in rw p.1 tt
 
 pub returns-in_err-add-clause-clause : goal.returns-in_err-add-clause-clause
 returns-in_err-add-clause-clause g c =
-    let p = err_from_is_err_and c.from_residual.result c.from_residual.ensures.1 in rw p.1 tt
+    let p = err_from_is_err_and c.from_residual-in_err-add.result c.from_residual-in_err-add.ensures.1 in rw p.1 tt
 
 pub returns-in_err-add-clause-tautology : goal.returns-in_err-add-clause-tautology
 returns-in_err-add-clause-tautology g c =
     let laws = is_literal g.met.L.Eq.laws g.met.L.Literal.exact g.met.L.Literal.twice in
-    let p = err_from_is_err_and c.from_residual.result c.from_residual.ensures.1 in
+    let p = err_from_is_err_and c.from_residual-in_err-add.result c.from_residual-in_err-add.ensures.1 in
     rw (p.1, p.2) (λ t. pair-next laws _ _ _ _ (omega arith) c.lit-item.is c.loop-lit.invariant (c.in_err-add.ensures.pair t))
 
 pub loop-lit-preserved : goal.loop-lit-preserved
