@@ -5,7 +5,7 @@ use native.Mathlib.Nat.{mul_comm}
 use Rattle.std.proofs.Math.Nat.{mul-suc, suc-mul, mul-le-mul_left}
 use Rattle.std.proofs.lemmas.Bool.{cases_lt, lt-ltb}
 use Rattle.std.proofs.lemmas.Bool.Decides.{eqb_tells}
-use Rattle.std.specs.List.{range_with_len, slice_index_or}
+use Rattle.std.specs.List.{AllByRecursion, range_with_len, slice_index_or}
 use Rattle.std.specs.Int.{bit_at, w64}
 use Rattle.std.proofs.lemmas.List.FromFn.{fill_by_all, get_or-map-range_with_len, length-map-range_with_len, map-range_with_len_more}
 use Rattle.std.proofs.lemmas.List.{get_or_past, get_or_append_left, get_or-append_right, length-append}
@@ -129,6 +129,26 @@ patterns-count inputs words drawn count added =
       length-map-range_with_len (λ p. map (λ i. is_set (slice_index_or drawn (i * words + p / 64) 0) (p % 64)) (range_with_len 0 inputs)) 0 (64 * words),
       length-map-range_with_len (λ p. map (λ i. is_set (slice_index_or added (p / 64 * inputs + i) 0) (p % 64)) (range_with_len 0 inputs)) 0 count,
     )
+
+-- lists of one length, and of two such
+as-long : (n : ℕ) (f : ℕ → List Bool) (ks : List ℕ) → ((k : ℕ) → length (f k) ≡ n) → AllByRecursion (λ bits. length bits ≡ n) (map f ks)
+as-long n f [] each = tt
+as-long n f (k ∷ ks) each = (each k, as-long n f ks each)
+
+both-as-long : (n : ℕ) (xs ys : List (List Bool)) → AllByRecursion (λ bits. length bits ≡ n) xs → AllByRecursion (λ bits. length bits ≡ n) ys
+    → AllByRecursion (λ bits. length bits ≡ n) (xs ++ ys)
+both-as-long n [] ys first second = second
+both-as-long n (x ∷ xs) ys first second = (first.0, both-as-long n xs ys first.1 second)
+
+-- each pattern, drawn or added, has one truth value for each input
+pub all-as-long : (inputs words : ℕ) (drawn : List ℕ) (count : ℕ) (added : List ℕ)
+    → AllByRecursion (λ bits. length bits ≡ inputs) (drawn_patterns inputs words drawn ++ added_patterns inputs count added)
+all-as-long inputs words drawn count added =
+    both-as-long inputs (drawn_patterns inputs words drawn) (added_patterns inputs count added)
+    (as-long inputs _ (range_with_len 0 (64 * words))
+    (λ p. length-map-range_with_len (λ i. is_set (slice_index_or drawn (i * words + p / 64) 0) (p % 64)) 0 inputs))
+    (as-long inputs _ (range_with_len 0 count)
+    (λ p. length-map-range_with_len (λ i. is_set (slice_index_or added (p / 64 * inputs + i) 0) (p % 64)) 0 inputs))
 
 pub drawn-size : (seed words inputs : ℕ) (drawn : List ℕ) → drawn ≡ map (draw seed) (range_with_len 0 (inputs * words))
     → length drawn ≡ inputs * words

@@ -1,4 +1,5 @@
 ghost use Rattle.std.specs.Prelude.{◌≡◌, ◌≤◌, ◌<◌, ◌∷◌, ◌++◌, ◌+◌, ◌*◌, ◌&&◌, nat_lt, min, ℕ, [], length, IfOk, OnOk, OnErr};
+ghost use Rattle.std.specs.List.{AllByRecursion};
 ghost use Rattle.word_sim.specs.Patterns.{is_set, part_from, truth_of, words_of};
 ghost use Rattle.word_sim.specs.Patterns.{seeded as seeded_pool};
 ghost use Rattle.word_sim.specs.Storage.{AreBlocks, AreSet, HasRoom, IsBlock};
@@ -73,9 +74,12 @@ impl Pool {
         self.inputs
     }
 
-    /// How many patterns there are.
+    /// How many patterns there are: those that the seed drew, 64 a word, and those that were added. Each has
+    /// one truth value for each input.
     pub fn patterns(&self) -> u64
-        ensures { result ≡ length self.now.patterns }
+        ensures count { result ≡ length self.now.patterns }
+        ensures some { 64 ≤ result }
+        ensures whole { AllByRecursion (λ bits. length bits ≡ self.now.inputs) self.now.patterns }
     {
         64 * u64::from(self.drawn_words) + u64::from(self.added_count)
     }

@@ -41,7 +41,7 @@ loop-k-preserved c =
     let gate = gate-there net c.is_net.ensures c.all_fanins-gate-items.result.now c.loop-k.k none c.all_fanins-gate-items.ensures c.loop-k-test.true in
     subst (λ (n : ℕ). AreFilled net patterns n c.fill_gate.new.buf) next
     (gate-next net patterns gate-here c.words-words.result c.patterns-count.result position c.loop-k.buf c.fill_gate.new.buf
-    (subst (λ (n : ℕ). IsGateAt net n gate-here) same gate) (c.words-words.ensures.words ∙ sym (ap words_of c.patterns-count.ensures)) c.patterns-count.ensures
+    (subst (λ (n : ℕ). IsGateAt net n gate-here) same gate) (c.words-words.ensures.words ∙ sym (ap words_of c.patterns-count.ensures.count)) c.patterns-count.ensures.count
     (subst (λ (n : ℕ). AreFilled net patterns n c.loop-k.buf) same c.loop-k.invariant) c.fill_gate.ensures.put c.fill_gate.ensures.row)
 
 pub returns : goal.returns

@@ -12,4 +12,4 @@ returns c =
     let size : length c.fill.new.buf ≡ c.in_ok-words.words.len = omega (arith, c.fill.auto.buf, c.as_mut_slice.ensures.len) in
     subst (λ (words : List ℕ). AreSignatures net patterns (record { patterns = count; rows = rows-kept count c.positions-positions.result words }))
     (sym (with_items_is c.in_ok-words.words c.fill.new.buf size))
-    (kept-signatures net patterns count c.positions-positions.result c.fill.new.buf c.fill.ensures c.patterns.ensures (omega (arith, c.words.ensures.words, c.words.ensures.some)) c.positions-positions.ensures)
+    (kept-signatures net patterns count c.positions-positions.result c.fill.new.buf c.fill.ensures c.patterns.ensures.count (omega (arith, c.words.ensures.words, c.words.ensures.some)) c.positions-positions.ensures)
