@@ -115,3 +115,7 @@ pub use Rattle.netlist.proofs.ClauseMeaning.{same-values}
 pub use Rattle.netlist.proofs.ClauseMeaning.{meets_from_kept}
 -- a gate's clauses say that it is the AND of its fanins, an XOR's that it is true exactly where its outputs differ
 pub use Rattle.netlist.proofs.ClauseMeaning.{gate_from_meets, xor_from_meets}
+-- ---- a pair whose circuits are matched by position or by name: what so stands is what the pair has, and nothing is against it
+pub use Rattle.netlist.proofs.PairingLemmas.{matched-is, none-against}
+-- both circuits have equal numbers of inputs and outputs, and the second one keeps its constraints
+pub use Rattle.netlist.proofs.PairingLemmas.{matched-counts, matched-constraints}

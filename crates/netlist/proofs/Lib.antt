@@ -21,3 +21,17 @@ mod AxiomLemmas
 mod StartLemmas
 mod MiterLemmas
 mod GateLemmas
+mod EditLemmas
+mod RoomLemmas
+mod EditedTables
+mod TableRoom
+mod PlacedLemmas
+mod CountLemmas
+mod EditedCircuits
+mod LeastLemmas
+mod IndexLemmas
+mod ArrangedLemmas
+mod UnlikeLemmas
+mod NamedNet
+mod NamesakeValues
+mod PairingLemmas

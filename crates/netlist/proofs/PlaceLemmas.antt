@@ -65,7 +65,7 @@ pub place_none : {X : Type 0} (test : X → Bool) (xs : List X) → list_any tes
 place_none test xs e = none_from_is_some (place_of test xs) (is_some-place test xs ∙ e)
 
 -- what a place k of `x ∷ xs` can be: that of x, or one behind it
-next_place : (P : ℕ → Type 0) (b : Bool) (o : Option ℕ) (k : ℕ) → cond b (Some 0) (option_map (λ j. j + 1) o) ≡ Some k
+pub next_place : (P : ℕ → Type 0) (b : Bool) (o : Option ℕ) (k : ℕ) → cond b (Some 0) (option_map (λ j. j + 1) o) ≡ Some k
     → (b ≡ true → P 0) → ((j : ℕ) → b ≡ false → o ≡ Some j → P (suc j)) → P k
 next_place P true o k e here later = subst P (same_Some 0 k e) (here refl)
 next_place P false None k e here later = absurd (none-some k e)

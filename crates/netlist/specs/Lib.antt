@@ -7,5 +7,10 @@ pub mod Miter
 pub mod Short
 pub mod Pair
 pub mod Starts
+pub mod Tables
 pub mod Numbered
 pub mod Unlike
+pub mod Edit
+pub mod ByName
+pub mod NameIndex
+pub mod Pairing

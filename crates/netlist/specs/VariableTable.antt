@@ -1,7 +1,7 @@
 -- What the table of a circuit's variables keeps.
-use Rattle.std.specs.Prelude.{◌≡◌, ℕ, ◌==◌, nat_le, true, Option, None, Some, List, ◌∷◌, ◌++◌, length, slice_index, if◌then◌else◌}
+use Rattle.std.specs.Prelude.{◌≡◌, ℕ, ◌<◌, ◌==◌, nat_le, true, Option, None, Some, List, ◌∷◌, ◌++◌, length, slice_index, if◌then◌else◌}
 use Rattle.std.specs.List.{list_all}
-use Rattle.lits.specs.Clause.{no_repeat}
+use Rattle.lits.specs.Clause.{has, no_repeat}
 use Rattle.netlist.specs.declared.gate.And.{And}
 use Rattle.netlist.specs.Place.{place_of}
 use Rattle.netlist.specs.Circuit.{gate_vars, most}
@@ -26,3 +26,7 @@ pub record IsTable (t : Places) (vars : List ℕ) : Type 0 where
 pub record AreVariables (inputs : List ℕ) (gates : List And) : Type 0 where
   pub distinct : no_repeat ◌==◌ (0 ∷ (inputs ++ gate_vars gates)) ≡ true
   pub range : list_all (λ v. nat_le v most) (0 ∷ (inputs ++ gate_vars gates)) ≡ true
+
+-- the table reaches as far as each of these variables
+abbrev pub HasRoom : Places → List ℕ → Type 0
+HasRoom t vars = (v : ℕ) → has ◌==◌ vars v ≡ true → v < length t.by_variable

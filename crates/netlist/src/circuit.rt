@@ -1,8 +1,9 @@
-ghost use Rattle.std.specs.Prelude.{◌≡◌, ◌≤◌, ◌<◌, ◌&&◌, ◌==◌, true, IfOk, IfSome, length};
+ghost use Rattle.std.specs.Prelude.{◌≡◌, ◌≤◌, ◌<◌, ◌&&◌, ◌==◌, true, IfOk, IfSome, OnOk, OnErr, length, take, drop};
 ghost use Rattle.std.specs.Option.{option_copied};
 ghost use Rattle.symbol_names.specs.NameList.{name_at};
 ghost use Rattle.symbol_names.specs.Names.{AreNames};
 ghost use Rattle.netlist.specs.Circuit.{IsCircuit, is_over, variables_in, value_in, lit_value};
+ghost use Rattle.netlist.specs.Edit.{CanSet, CanPut, CanDrop, has_gate, gates_before, gates_since, with_gate, with_new, without_gate, with_output};
 ghost use Rattle.netlist.specs.Place.{place_of};
 ghost use Rattle.netlist.specs.VariableTable.{IsTable};
 ghost use Rattle.netlist.specs.Pair.{gate_from};
@@ -143,6 +144,22 @@ impl Circuit {
         self.parts.constraints()
     }
 
+    /// The names of the inputs and outputs, in order.
+    pub fn names(&self) -> &Names
+        ensures names { result.now ≡ self.now.names }
+        ensures circuit { IsCircuit self.now }
+    {
+        self.parts.names()
+    }
+
+    /// What the circuit is made of.
+    pub fn into_parts(self) -> Parts
+        ensures { result ≡ self }
+    {
+        let Circuit { parts, table: _ } = self;
+        parts
+    }
+
     /// The name of input k, from 0; none also where there is no such input.
     pub fn input_name(&self, k: u32) -> Option<&[u8]>
         ensures { option_copied result ≡ name_at self.now.names.inputs k }
@@ -176,6 +193,64 @@ impl Circuit {
     {
         let _circuit = &self.parts;
         gate_from(self.source(var))
+    }
+
+    /// Gives the gate of a variable these fanins. Its place stays.
+    pub(crate) fn set_gate(&mut self, gate: And)
+        requires { CanSet self.old gate }
+        ensures gate { self.new ≡ with_gate self.old gate }
+        ensures circuit { IsCircuit self.new }
+    {
+        let index = self.gate(gate.var).unwrap();
+        self.parts.replace_gate(index, gate);
+    }
+
+    /// Puts a new gate right before the gate of a variable, or last.
+    pub(crate) fn put_gate(&mut self, gate: And, before: Option<u32>) -> Result<(), AllocError>
+        requires { CanPut self.old gate before }
+        ensures ok { OnOk result (self.new ≡ with_new self.old gate before) }
+        ensures err { OnErr result (self.new ≡ self.old) }
+        ensures circuit { IsCircuit self.new }
+    {
+        let index = self.gates_before(before);
+        self.table.make_room(gate.var)?;
+        self.parts.insert_gate(index, gate)?;
+        self.table.refill(self.parts.inputs(), self.parts.gates());
+        Ok(())
+    }
+
+    /// How many gates stand before the gate of a variable; all where none is named.
+    fn gates_before(&self, place: Option<u32>) -> u32
+        requires { IfSome place (λ v. has_gate self.now v ≡ true) }
+        ensures before { take result self.now.gates ≡ gates_before self.now place }
+        ensures since { drop result self.now.gates ≡ gates_since self.now place }
+        ensures within { result ≤ length self.now.gates }
+    {
+        match place {
+            Some(var) => self.gate(var).unwrap(),
+            None => self.gates().len() as u32,
+        }
+    }
+
+    /// Takes the gate of a variable away.
+    pub(crate) fn drop_gate(&mut self, var: u32)
+        requires { CanDrop self.old var }
+        ensures gate { self.new ≡ without_gate self.old var }
+        ensures circuit { IsCircuit self.new }
+    {
+        let index = self.gate(var).unwrap();
+        self.parts.remove_gate(index);
+        self.table.refill(self.parts.inputs(), self.parts.gates());
+    }
+
+    /// Gives an output another literal.
+    pub(crate) fn set_output(&mut self, j: u32, lit: u32)
+        requires output { j < length self.old.outputs }
+        requires lit { is_over (variables_in self.old) lit ≡ true }
+        ensures output { self.new ≡ with_output self.old j lit }
+        ensures circuit { IsCircuit self.new }
+    {
+        self.parts.replace_output(j, lit);
     }
 
     /// The value of a literal for the inputs' truth values; `buf` has room for those of the gates.

@@ -1,16 +1,19 @@
-ghost use Rattle.std.specs.Prelude.{◌≡◌, [], ◌<◌, IfOk, IfSome, IfNone, MatchResult, length};
+ghost use Rattle.std.specs.Prelude.{◌≡◌, ◌⊎◌, [], ◌<◌, true, IfOk, IfSome, IfNone, IsOk, OnOk, OnErr, MatchResult, length};
+ghost use Rattle.netlist.specs.Circuit.{is_over, variables_in};
+ghost use Rattle.netlist.specs.Edit.{CanSet, CanPut, CanDrop, with_gate, with_new, without_gate, with_output, with_side};
 ghost use Rattle.netlist.specs.Net.{IsNet, all_fanins, circuit_of, defined_by, fanins_at, lit_of, node_at, nodes_of, output_of, position_of};
 ghost use Rattle.netlist.specs.Miter.{axiom_of, axioms_of, clause_number_of, cnf_number_of, miter_of, variables_of};
-ghost use Rattle.netlist.specs.Starts.{AreStarts};
 ghost use Rattle.netlist.specs.Unlike.{unlike_of};
+ghost use Rattle.netlist.specs.ByName.{arranged, unlike_by_name};
 
 use crate::axioms::Axioms;
+use crate::by_name;
 use crate::circuit::Circuit;
-use crate::gate::{Definition, Fanins};
+use crate::gate::{And, Definition, Fanins};
 use crate::miter::miter;
 use crate::pair::CircuitPair;
 use crate::short::Short;
-use crate::starts::ClauseStarts;
+use crate::tables::Tables;
 use crate::unlike::Unlike;
 use lits::{Clause, Dim, Lit, Node, Side};
 use std::alloc::{AllocError, Global};
@@ -23,31 +26,25 @@ use std::marker::Model;
 /// per output.
 pub struct Net {
     pair: CircuitPair,
-    fanins: Vec<Fanins>,
-    starts: ClauseStarts,
+    tables: Tables,
 }
 
 // Written out, so that a drop is one call and not one for each field at each exit of a function.
 impl Drop for Net {
     fn drop(self) {
-        let Net {
-            pair: _,
-            fanins: _,
-            starts: _,
-        } = self;
+        let Net { pair: _, tables: _ } = self;
     }
 }
 
 impl Model for Net {
-    ghost use Rattle.std.specs.Prelude.{◌≡◌};
-    ghost use Rattle.netlist.specs.Net.{AigPair, all_fanins};
-    ghost use Rattle.netlist.specs.Starts.{AreStarts};
+    ghost use Rattle.netlist.specs.Net.{AigPair};
+    ghost use Rattle.netlist.specs.Tables.{AreTables};
 
     ghost Value = { AigPair };
 
     ghost view = { λ n. n.pair };
 
-    ghost invariant = { λ n. (n.fanins.items ≡ all_fanins n.pair) × AreStarts n.pair n.starts };
+    ghost invariant = { λ n. AreTables n.pair n.tables };
 }
 
 impl Net {
@@ -65,30 +62,39 @@ impl Net {
         Net::of_pair(alloc, CircuitPair::of(a, b))
     }
 
+    /// The net of A and of B by their names: B has its inputs and outputs in A's order. Neither circuit has
+    /// constraints. The circuits are given up where there is no net.
+    pub fn of_named(alloc: Global, a: Circuit, b: Circuit) -> Result<Net, Unlike>
+        requires a { a.constraints ≡ [] }
+        requires b { b.constraints ≡ [] }
+        ensures counts { IfSome (unlike_of a b) (λ u. result ≡ Err u) }
+        ensures unlike { IfSome (unlike_by_name a b)
+            (λ u. (result ≡ Err u) ⊎ (result ≡ Err Unlike.NoMemory)) }
+        ensures like { IfNone (unlike_by_name a b)
+            (MatchResult result (λ n. n ≡ record { a = a; b = arranged a b }) (λ e. e ≡ Unlike.NoMemory)) }
+    {
+        if let Some(unlike) = unlike_of(&a, &b) {
+            return Err(unlike);
+        }
+        let b = by_name::arranged(alloc, &a, b)?;
+        Net::of_pair(alloc, CircuitPair::of(a, b))
+    }
+
     /// The net of a pair.
     fn of_pair(alloc: Global, pair: CircuitPair) -> Result<Net, Unlike>
         ensures { MatchResult result (λ n. n ≡ pair) (λ e. e ≡ Unlike.NoMemory) }
     {
-        let (fanins, starts) = tables(alloc, &pair)?;
-        Ok(Net {
-            pair,
-            fanins,
-            starts,
-        })
+        let tables = Tables::of(alloc, &pair)?;
+        Ok(Net { pair, tables })
     }
 
     /// The same net once more, for who works on it while another keeps its own.
     pub fn copy(&self, alloc: Global) -> Result<Net, AllocError>
         ensures { IfOk result (λ n. n ≡ self.now) }
     {
-        let starts = self.starts.copy(alloc)?;
-        let fanins = Vec::from_slice(alloc, self.fanins.as_slice())?;
+        let tables = self.tables.copy(alloc)?;
         let pair = self.pair.copy(alloc)?;
-        Ok(Net {
-            pair,
-            fanins,
-            starts,
-        })
+        Ok(Net { pair, tables })
     }
 
     /// The circuit of one side.
@@ -141,7 +147,7 @@ impl Net {
     pub fn fanins(&self, k: u32) -> Option<Fanins>
         ensures { result ≡ fanins_at self.now k }
     {
-        self.fanins.get(k as usize).copied()
+        self.tables.fanins.get(k as usize).copied()
     }
 
     /// The fanins of all gates, in the order of positions: what goes over every gate finds no variable by its
@@ -149,7 +155,7 @@ impl Net {
     pub fn all_fanins(&self) -> &[Fanins]
         ensures { result.now ≡ all_fanins self.now }
     {
-        self.fanins.as_slice()
+        self.tables.fanins.as_slice()
     }
 
     /// The clauses that define the node.
@@ -173,8 +179,8 @@ impl Net {
     {
         match self.pair.variable(node) {
             Some(variable) => {
-                let number = self.starts.first(variable - 1) + u32::from(k);
-                if number < self.starts.first(variable) {
+                let number = self.tables.first(variable - 1) + u32::from(k);
+                if number < self.tables.first(variable) {
                     Some(number)
                 } else {
                     None
@@ -207,7 +213,7 @@ impl Net {
         ensures count { result ≡ length (miter_of self.now) }
         ensures net { IsNet self.now }
     {
-        self.starts.first(self.pair.variables())
+        self.tables.first(self.pair.variables())
     }
 
     /// How many outputs each circuit has.
@@ -223,6 +229,53 @@ impl Net {
         ensures { result ≡ output_of self.now side j }
     {
         self.pair.output(side, j)
+    }
+
+    /// Gives a gate of one side these fanins. Its place stays. No memory is taken, and the answer is Ok.
+    pub fn set_gate(&mut self, side: Side, gate: And) -> Result<(), AllocError>
+        requires { CanSet (circuit_of self.old side) gate }
+        ensures ok { IsOk result }
+        ensures net { self.new ≡ with_side self.old side (with_gate (circuit_of self.old side) gate) }
+    {
+        self.pair.set_gate(side, gate);
+        self.tables.fill(&self.pair);
+        Ok(())
+    }
+
+    /// Puts a new gate into one side, right before the gate of a variable, or last where none is named.
+    pub fn put_gate(&mut self, side: Side, gate: And, before: Option<u32>) -> Result<(), AllocError>
+        requires { CanPut (circuit_of self.old side) gate before }
+        ensures ok { OnOk result
+            (self.new ≡ with_side self.old side (with_new (circuit_of self.old side) gate before)) }
+        ensures err { OnErr result (self.new ≡ self.old) }
+    {
+        self.tables.reserve()?;
+        self.pair.put_gate(side, gate, before)?;
+        self.tables.fill(&self.pair);
+        Ok(())
+    }
+
+    /// Takes a gate that nothing reads away from one side. No memory is taken, and the answer is Ok.
+    pub fn drop_gate(&mut self, side: Side, var: u32) -> Result<(), AllocError>
+        requires { CanDrop (circuit_of self.old side) var }
+        ensures ok { IsOk result }
+        ensures net { self.new ≡ with_side self.old side (without_gate (circuit_of self.old side) var) }
+    {
+        self.pair.drop_gate(side, var);
+        self.tables.fill(&self.pair);
+        Ok(())
+    }
+
+    /// Gives output j of one side another literal. No memory is taken, and the answer is Ok.
+    pub fn set_output(&mut self, side: Side, j: u32, lit: u32) -> Result<(), AllocError>
+        requires output { j < length (circuit_of self.old side).outputs }
+        requires lit { is_over (variables_in (circuit_of self.old side)) lit ≡ true }
+        ensures ok { IsOk result }
+        ensures net { self.new ≡ with_side self.old side (with_output (circuit_of self.old side) j lit) }
+    {
+        self.pair.set_output(side, j, lit);
+        self.tables.fill(&self.pair);
+        Ok(())
     }
 
     /// The clauses of the miter, in order, by their numbers.
@@ -247,13 +300,4 @@ fn unlike_of(a: &Circuit, b: &Circuit) -> Option<Unlike>
         return Some(Unlike::Outputs(outputs.0, outputs.1));
     }
     None
-}
-
-/// What a net keeps beside its pair.
-fn tables(alloc: Global, pair: &CircuitPair) -> Result<(Vec<Fanins>, ClauseStarts), AllocError>
-    ensures { IfOk result (λ t. (t.0.items ≡ all_fanins pair.now) × AreStarts pair.now t.1) }
-{
-    let starts = ClauseStarts::of(alloc, pair)?;
-    let fanins = pair.all_fanins(alloc)?;
-    Ok((fanins, starts))
 }

@@ -1,8 +1,10 @@
-ghost use Rattle.std.specs.Prelude.{◌≡◌, ◌+◌, ◌*◌, ◌<◌, ◌≤◌, true, Some, IfOk, IfSome, length, slice_get};
+ghost use Rattle.std.specs.Prelude.{◌≡◌, ◌==◌, ◌+◌, ◌*◌, ◌/◌, ◌<◌, ◌≤◌, ◌&&◌, not, true, Some, IfOk, IfSome, OnOk, OnErr, length, slice_get};
+ghost use Rattle.std.specs.Vec.{vec_capacity};
 ghost use Rattle.std.specs.Option.{option_map};
 ghost use Rattle.lits.specs.Clause.{has};
 ghost use Rattle.netlist.specs.Circuit.{most, is_over, variables_in};
-ghost use Rattle.netlist.specs.Net.{IsNet, all_fanins, circuit_of, defined_by, definition_of, difference, fanins_at, fanins_of, placed, lit_named, lit_of, nodes_of, output_of, position_of};
+ghost use Rattle.netlist.specs.Edit.{CanSet, CanPut, CanDrop, with_gate, with_new, without_gate, with_output, with_side};
+ghost use Rattle.netlist.specs.Net.{IsNet, all_fanins, circuit_of, defined_by, definition_of, definitions, difference, fanins_at, fanins_of, placed, lit_named, lit_of, nodes_of, output_of, position_of};
 ghost use Rattle.lits.specs.Same.{same_node};
 ghost use Rattle.netlist.specs.Miter.{axiom_of, axioms_of, numbered, variable_of, variables_of};
 ghost use Rattle.netlist.specs.Short.{IsApart};
@@ -72,6 +74,53 @@ impl CircuitPair {
         match side {
             Side::A => &self.a,
             Side::B => &self.b,
+        }
+    }
+
+    /// Gives a gate of one side these fanins.
+    pub fn set_gate(&mut self, side: Side, gate: And)
+        requires { CanSet (circuit_of self.old side) gate }
+        ensures { self.new ≡ with_side self.old side (with_gate (circuit_of self.old side) gate) }
+    {
+        match side {
+            Side::A => self.a.set_gate(gate),
+            Side::B => self.b.set_gate(gate),
+        }
+    }
+
+    /// Puts a new gate into one side, right before the gate of a variable, or last.
+    pub fn put_gate(&mut self, side: Side, gate: And, before: Option<u32>) -> Result<(), AllocError>
+        requires { CanPut (circuit_of self.old side) gate before }
+        ensures ok { OnOk result
+            (self.new ≡ with_side self.old side (with_new (circuit_of self.old side) gate before)) }
+        ensures err { OnErr result (self.new ≡ self.old) }
+    {
+        match side {
+            Side::A => self.a.put_gate(gate, before),
+            Side::B => self.b.put_gate(gate, before),
+        }
+    }
+
+    /// Takes the gate of a variable away from one side.
+    pub fn drop_gate(&mut self, side: Side, var: u32)
+        requires { CanDrop (circuit_of self.old side) var }
+        ensures { self.new ≡ with_side self.old side (without_gate (circuit_of self.old side) var) }
+    {
+        match side {
+            Side::A => self.a.drop_gate(var),
+            Side::B => self.b.drop_gate(var),
+        }
+    }
+
+    /// Gives output j of one side another literal.
+    pub fn set_output(&mut self, side: Side, j: u32, lit: u32)
+        requires output { j < length (circuit_of self.old side).outputs }
+        requires lit { is_over (variables_in (circuit_of self.old side)) lit ≡ true }
+        ensures { self.new ≡ with_side self.old side (with_output (circuit_of self.old side) j lit) }
+    {
+        match side {
+            Side::A => self.a.set_output(j, lit),
+            Side::B => self.b.set_output(j, lit),
         }
     }
 
@@ -165,17 +214,24 @@ impl CircuitPair {
         }
     }
 
-    /// The fanins of all gates, in the order of positions.
-    pub fn all_fanins(&self, alloc: Global) -> Result<Vec<Fanins>, AllocError>
-        ensures { IfOk result (λ v. v.items ≡ all_fanins self.now) }
+    /// How many gates both sides have.
+    pub fn gates(&self) -> u32
+        ensures { result ≡ length (definitions self.now) }
     {
         let sizes = self.sizes();
-        let gates = sizes.gates_a + sizes.gates_b;
-        let mut all = Vec::with_capacity(alloc, gates as usize)?;
-        for k in 0..gates {
-            all.push(self.fanins(k).unwrap())?;
+        sizes.gates_a + sizes.gates_b
+    }
+
+    /// Fills a vector with the fanins of all gates, in the order of positions, in the room that it has.
+    pub fn fill_fanins(&self, all: &mut Vec<Fanins>)
+        requires { length (definitions self.now) ≤ vec_capacity all.old }
+        ensures fanins { all.new.items ≡ all_fanins self.now }
+        ensures room { vec_capacity all.new ≡ vec_capacity all.old }
+    {
+        all.clear();
+        for k in 0..self.gates() {
+            all.push_reserved(self.fanins(k).unwrap());
         }
-        Ok(all)
     }
 
     /// The fanins of the gate with an index.
@@ -191,15 +247,26 @@ impl CircuitPair {
         }
     }
 
-    /// A defined AIGER literal of one side, by the position of its node.
+    /// A defined AIGER literal of one side, by the position of its node, which the variable's place gives at
+    /// once.
     fn placed(&self, side: Side, aiger: u32) -> Placed
         requires { is_over (variables_in (circuit_of self.now side)) aiger ≡ true }
         ensures { result ≡ placed self.now (lit_named side (circuit_of self.now side) aiger) }
     {
-        let lit = self.named(side, aiger);
-        Placed {
-            position: self.position(lit.node).unwrap_or(0),
-            neg: lit.neg,
+        let neg = aiger % 2 == 1;
+        match self.circuit(side).source(aiger / 2).unwrap() {
+            Source::Constant => Placed {
+                position: 0,
+                neg: !neg,
+            },
+            Source::Input(k) => Placed {
+                position: k + 1,
+                neg,
+            },
+            Source::Gate(g) => Placed {
+                position: self.first_gate(side) + g,
+                neg,
+            },
         }
     }
 
@@ -327,13 +394,39 @@ impl CircuitPair {
         }
     }
 
-    /// How many clauses define the node with a CNF variable, here counted from 0.
+    /// How many clauses define the node with a CNF variable, here counted from 0. A gate is found by its index.
     pub fn clauses_at(&self, place: u32) -> u32
         requires { place < length (variables_of self.now) }
         ensures next { first_clause self.now (place + 1) ≡ first_clause self.now place + result }
         ensures few { result ≤ 4 }
     {
-        self.clauses(self.node(place))
+        let sizes = self.sizes();
+        let first_a = 1 + sizes.inputs;
+        let first_b = first_a + sizes.gates_a;
+        let first_xor = first_b + sizes.gates_b;
+        if place < first_a {
+            self.clauses(self.node(place))
+        } else if place < first_b {
+            self.gate_clauses(Side::A, place - first_a)
+        } else if place < first_xor {
+            self.gate_clauses(Side::B, place - first_b)
+        } else {
+            self.clauses(self.node(place))
+        }
+    }
+
+    /// How many clauses define the gate with an index: two where its fanins are complementary.
+    fn gate_clauses(&self, side: Side, index: u32) -> u32
+        requires { index < length (circuit_of self.now side).gates }
+        ensures count { result ≡ length (axioms_of self.now (gate_node self.now side index)) }
+        ensures few { result ≤ 4 }
+    {
+        let gate = self.gate(side, index);
+        if are_complementary(gate.left, gate.right) {
+            2
+        } else {
+            3
+        }
     }
 
     /// The node with a CNF variable, here counted from 0.
@@ -365,6 +458,13 @@ impl CircuitPair {
     {
         Node::Gate(side, self.circuit(side).gates()[index as usize].var)
     }
+}
+
+/// Whether two AIGER literals are each other's negation.
+fn are_complementary(left: u32, right: u32) -> bool
+    ensures { result ≡ ((left / 2 == right / 2) && not (left == right)) }
+{
+    left / 2 == right / 2 && left != right
 }
 
 /// The XOR of an output's two literals, where there are both.

@@ -1,4 +1,5 @@
-ghost use Rattle.std.specs.Prelude.{◌≡◌, ◌≤◌, ◌∷◌, ◌++◌, [], length, IfOk, OnOk, OnErr};
+ghost use Rattle.std.specs.Prelude.{◌≡◌, ◌≤◌, ◌<◌, ◌∷◌, ◌++◌, [], length, slice_set, IfOk, OnOk, OnErr};
+ghost use Rattle.std.specs.List.{insert, remove};
 ghost use Rattle.netlist.specs.Circuit.{most, no_parts, without_names};
 ghost use Rattle.std.specs.Option.{option_copied};
 ghost use Rattle.symbol_names.specs.NameList.{name_at};
@@ -86,28 +87,39 @@ impl Parts {
         }
     }
 
+    /// The inputs' variables, in order.
     pub fn inputs(&self) -> &[u32]
         ensures { result.now ≡ self.now.inputs }
     {
         self.inputs.as_slice()
     }
 
+    /// The gates, in order.
     pub fn gates(&self) -> &[And]
         ensures { result.now ≡ self.now.gates }
     {
         self.gates.as_slice()
     }
 
+    /// The outputs' literals, in order.
     pub fn outputs(&self) -> &[u32]
         ensures { result.now ≡ self.now.outputs }
     {
         self.outputs.as_slice()
     }
 
+    /// The constraints' literals, in order.
     pub fn constraints(&self) -> &[u32]
         ensures { result.now ≡ self.now.constraints }
     {
         self.constraints.as_slice()
+    }
+
+    /// The names of the inputs and of the outputs.
+    pub fn names(&self) -> &Names
+        ensures { result.now ≡ self.now.names }
+    {
+        &self.names
     }
 
     /// The name of input k, from 0; none also where there is no such input.
@@ -144,7 +156,8 @@ impl Parts {
 
     /// Puts a constraint last.
     pub fn push_constraint(&mut self, lit: u32) -> Result<(), AllocError>
-        ensures ok { OnOk result (self.new ≡ record self.old { constraints = self.old.constraints ++ lit ∷ [] }) }
+        ensures ok { OnOk result
+            (self.new ≡ record self.old { constraints = self.old.constraints ++ lit ∷ [] }) }
         ensures err { OnErr result (self.new ≡ self.old) }
     {
         self.constraints.push(lit)?;
@@ -160,6 +173,40 @@ impl Parts {
         Ok(())
     }
 
+    /// Puts a gate at an index; those from there on move up.
+    pub(crate) fn insert_gate(&mut self, index: u32, gate: And) -> Result<(), AllocError>
+        requires { index ≤ length self.old.gates }
+        ensures ok { OnOk result (self.new ≡ record self.old { gates = insert self.old.gates index gate }) }
+        ensures err { OnErr result (self.new ≡ self.old) }
+    {
+        self.gates.insert(index as usize, gate)?;
+        Ok(())
+    }
+
+    /// Takes the gate at an index away; those behind it move down.
+    pub(crate) fn remove_gate(&mut self, index: u32)
+        requires { index < length self.old.gates }
+        ensures { self.new ≡ record self.old { gates = remove self.old.gates index } }
+    {
+        self.gates.remove(index as usize);
+    }
+
+    /// Puts a gate into the place of another one.
+    pub(crate) fn replace_gate(&mut self, index: u32, gate: And)
+        requires { index < length self.old.gates }
+        ensures { self.new ≡ record self.old { gates = slice_set self.old.gates index gate } }
+    {
+        self.gates[index as usize] = gate;
+    }
+
+    /// Puts a literal into the place of an output's.
+    pub(crate) fn replace_output(&mut self, j: u32, lit: u32)
+        requires { j < length self.old.outputs }
+        ensures { self.new ≡ record self.old { outputs = slice_set self.old.outputs j lit } }
+    {
+        self.outputs[j as usize] = lit;
+    }
+
     /// The same parts with these gates.
     pub fn with_gates(self, gates: Vec<And>) -> Parts
         ensures { result ≡ record self { gates = gates.items } }
@@ -170,6 +217,26 @@ impl Parts {
             outputs,
             constraints,
             names,
+        } = self;
+        Parts {
+            inputs,
+            gates,
+            outputs,
+            constraints,
+            names,
+        }
+    }
+
+    /// The same parts with these inputs and outputs and their names.
+    pub fn with_ports(self, inputs: Vec<u32>, outputs: Vec<u32>, names: Names) -> Parts
+        ensures { result ≡ record self { inputs = inputs.items; outputs = outputs.items; names = names } }
+    {
+        let Parts {
+            inputs: _,
+            gates,
+            outputs: _,
+            constraints,
+            names: _,
         } = self;
         Parts {
             inputs,

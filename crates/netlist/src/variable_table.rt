@@ -2,7 +2,7 @@ ghost use Rattle.std.specs.Prelude.{◌≡◌, ℕ, ◌+◌, ◌<◌, ◌≤◌,
 ghost use Rattle.std.specs.Prelude.{◌==◌};
 ghost use Rattle.lits.specs.Clause.{has};
 ghost use Rattle.netlist.specs.Circuit.{gate_vars};
-ghost use Rattle.netlist.specs.VariableTable.{place_in, IsTable, AreVariables};
+ghost use Rattle.netlist.specs.VariableTable.{place_in, IsTable, AreVariables, HasRoom};
 
 use crate::gate::And;
 use std::alloc::{AllocError, Global};
@@ -113,13 +113,42 @@ impl VariableTable {
         ensures { IfOk result (λ t. IsTable t (0 ∷ (inputs.now ++ gate_vars gates.now))) }
     {
         let mut table = VariableTable::with_room(alloc, greatest(inputs, gates))?;
+        table.fill(inputs, gates);
+        Ok(table)
+    }
+
+    /// Makes this the table of other variables, for which there is room.
+    pub(crate) fn refill(&mut self, inputs: &[u32], gates: &[And])
+        requires variables { AreVariables inputs.now gates.now }
+        requires room { HasRoom self.old (inputs.now ++ gate_vars gates.now) }
+        ensures { IsTable self.new (0 ∷ (inputs.now ++ gate_vars gates.now)) }
+    {
+        self.clear();
+        self.fill(inputs, gates);
+    }
+
+    /// Forgets all variables but the constant.
+    fn clear(&mut self)
+        ensures table { IsTable self.new (0 ∷ []) }
+        ensures room { length self.new.by_variable ≡ length self.old.by_variable }
+    {
+        self.places.fill(0);
+        self.count = 1;
+    }
+
+    /// Puts the variables of the inputs and then of the gates behind the constant.
+    fn fill(&mut self, inputs: &[u32], gates: &[And])
+        requires variables { AreVariables inputs.now gates.now }
+        requires constant { IsTable self.old (0 ∷ []) }
+        requires room { HasRoom self.old (inputs.now ++ gate_vars gates.now) }
+        ensures { IsTable self.new (0 ∷ (inputs.now ++ gate_vars gates.now)) }
+    {
         for var in inputs {
-            table.push(*var);
+            self.push(*var);
         }
         for gate in gates {
-            table.push(gate.var);
+            self.push(gate.var);
         }
-        Ok(table)
     }
 }
 

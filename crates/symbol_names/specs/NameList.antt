@@ -17,7 +17,7 @@ joined None = None
 abbrev pub name_at : List (Option (List ℕ)) → ℕ → Option (List ℕ)
 name_at names k = joined (slice_get names k)
 
--- a name has one byte or more, and none of them is LF (10), which ends a line
+-- none, or a name, which has one byte or more, and none of them is LF (10), which ends a line
 abbrev pub is_name : Option (List ℕ) → Bool
 is_name None = true
 is_name (Some []) = false

@@ -16,5 +16,5 @@ read (Some x) xs k there same = let within : k < length xs = grind (arith, nat_t
 pub returns : goal.returns
 returns c =
     c.copied.ensures ∙ read c.get.result c.deref.result.now c.args.k c.get.ensures.lookup.0 c.get.ensures.lookup.1
-    ∙ ap (λ (fs : List Fanins). slice_get fs c.args.k) (c.deref.ensures.value ∙ c.self.invariant.0)
+    ∙ ap (λ (fs : List Fanins). slice_get fs c.args.k) (c.deref.ensures.value ∙ c.self.invariant.fanins)
     ∙ fanins_at-all c.self.inside.pair c.args.k ∙ ap (λ (net : AigPair). fanins_at net c.args.k) c.self.view_is
