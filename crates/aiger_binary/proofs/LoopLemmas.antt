@@ -9,7 +9,8 @@ use Rattle.byte_scan.specs.Scanning.{Place, ahead, moved}
 use Rattle.byte_scan.specs.Reading.{IsFault, literal_line_at}
 use Rattle.byte_scan.proofs.Facts.{IsFault-bind}
 use Rattle.netlist.specs.declared.gate.And.{And}
-use Rattle.aiger_binary.specs.Binary.{literals_at, gate_at, gates_at, groups_at, power_of}
+use Rattle.aiger_binary.specs.Binary.{literals_at, gate_at, gates_at, groups_at}
+use Rattle.circuit_text.specs.BinaryText.{power_of}
 
 pub literals-step : (n k m : ℕ) (lits : List ℕ) (p : Place) (lit : ℕ) (q : Place) → k < n → literal_line_at m p ≡ Ok (lit, q)
     → literals_at (n - k) m lits p ≡ literals_at (n - (k + 1)) m (lits ++ lit ∷ []) q

@@ -88,11 +88,6 @@ abbrev pub Lists : {A X : Type 0} → Result A AigerErr → List X → Place →
 Lists (Ok x) list new found = found ≡ Ok (list, new)
 Lists (Err e) list new found = IsFault e found
 
--- no number of n groups is as great
-abbrev pub power_of : ℕ → ℕ
-power_of zero = 1
-power_of (suc n) = 128 * power_of n
-
 -- gates that define the variables from n on, each over those before it
 abbrev pub AreStacked : ℕ → List And → Type 0
 AreStacked n [] = ⊤

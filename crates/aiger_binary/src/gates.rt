@@ -1,7 +1,8 @@
 ghost use Rattle.std.specs.Prelude.{◌≡◌, ◌≤◌, ◌<◌, ◌+◌, ◌*◌, IfOk, OnOk, length, []};
 ghost use Rattle.byte_scan.specs.Reading.{Reads};
 ghost use Rattle.netlist.specs.Circuit.{var_of};
-ghost use Rattle.aiger_binary.specs.Binary.{groups_at, first_fanin, second_fanin, gate_at, gates_at, Lists, AreStacked, power_of};
+ghost use Rattle.aiger_binary.specs.Binary.{groups_at, first_fanin, second_fanin, gate_at, gates_at, Lists, AreStacked};
+ghost use Rattle.circuit_text.specs.BinaryText.{power_of};
 
 use byte_scan::{AigerErr, Scan, VARIABLE_LIMIT};
 use netlist::And;

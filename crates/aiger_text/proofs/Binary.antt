@@ -1,5 +1,5 @@
 -- The binary text of a circuit in AIGER's order spells it.
-use Rattle.std.proofs.Common.{◌≡◌, ℕ, zero, suc, ◌+◌, ◌≤◌, Bool, true, false, List, [], ◌∷◌, ◌++◌, length, Result, Ok, Err, refl, sym, ap, ◌∙◌, append_assoc, append-nil, arith}
+use Rattle.std.proofs.Common.{◌≡◌, ℕ, zero, suc, ◌+◌, ◌≤◌, Bool, true, false, List, [], ◌∷◌, ◌++◌, length, Result, Ok, Err, refl, sym, ap, ◌∙◌, append_assoc, arith}
 use Rattle.std.specs.Prelude.{◌==◌, not, nat_le, if◌then◌else◌}
 use Rattle.std.specs.List.{flat_map, list_all, range_with_len}
 use Rattle.std.proofs.lemmas.Bool.Decides.{nat_tests}
@@ -7,21 +7,20 @@ use Rattle.std.proofs.lemmas.List.Folds.{list_all-append}
 use Rattle.byte_scan.specs.declared.errors.AigerErr.{AigerErr}
 use Rattle.byte_scan.specs.declared.errors.AigerErr.TheVariants.{BadHeader}
 use Rattle.byte_scan.specs.Reading.{start}
-use Rattle.symbol_names.specs.declared.names.Names.{Names}
-use Rattle.symbol_names.specs.Names.{unnamed}
 use Rattle.netlist.specs.declared.gate.And.{And}
 use Rattle.netlist.specs.Circuit.{Aig, IsCircuit, gate_vars, variables_in}
 use Rattle.netlist.proofs.Facts.{few_gates_of}
 use Rattle.aiger_ascii.specs.Ascii.{ascii_in}
 use Rattle.aiger_binary.specs.Binary.{binary_in}
 use Rattle.aiger_file.specs.File.{aiger_in, is_form, SpellsAiger}
-use Rattle.aiger_text.specs.Lines.{header_line, output_line}
-use Rattle.aiger_text.specs.AsciiText.{IsBound, IsPlain}
-use Rattle.aiger_text.specs.BinaryText.{AreInSequence, IsInSequence, gate_deltas, binary_text}
+use Rattle.circuit_text.specs.Lines.{header_line, literal_line}
+use Rattle.circuit_text.specs.Symbols.{symbols_text}
+use Rattle.circuit_text.specs.AsciiText.{IsBound}
+use Rattle.circuit_text.specs.BinaryText.{AreInSequence, IsInSequence, gate_deltas, binary_text}
 use Rattle.aiger_text.proofs.HeaderLine.{AreCounts, header-found}
-use Rattle.aiger_text.proofs.Within.{AreUpTo, outputs_within}
-use Rattle.aiger_text.proofs.Deltas.{outputs-found, gates-found}
-use Rattle.aiger_text.proofs.Ascii.{tail-none}
+use Rattle.aiger_text.proofs.Within.{AreUpTo, literals_within}
+use Rattle.aiger_text.proofs.Deltas.{literals-found, gates-found}
+use Rattle.aiger_text.proofs.Names.{tail-found}
 
 -- ---- no variable is above I + A
 
@@ -54,26 +53,27 @@ IsBound-sequence c circuit is = record { covers = all-up c is; range = few_gates
 
 -- ---- the file
 
+-- what stands behind the lines of the constraints, of the outputs, and behind the header
+behind_constraints : Aig → List ℕ
+behind_constraints c = flat_map gate_deltas c.gates ++ symbols_text c.names
+
+behind_outputs : Aig → List ℕ
+behind_outputs c = flat_map literal_line c.constraints ++ behind_constraints c
+
 behind_header : Aig → List ℕ
-behind_header c = flat_map output_line c.outputs ++ (flat_map gate_deltas c.gates ++ [])
+behind_header c = flat_map literal_line c.outputs ++ behind_outputs c
 
-text-parts : (c : Aig) → binary_text c
-    ≡ header_line 105 (length c.inputs + length c.gates) (length c.inputs) (length c.outputs)
-    (length c.gates)
-    ++ behind_header c
-unfolding binary_text behind_header
+text-parts : (c : Aig) → binary_text c ≡ header_line 105 (length c.inputs + length c.gates) c ++ behind_header c
+unfolding binary_text behind_header behind_outputs behind_constraints
 text-parts c =
-    parts
-    (header_line 105 (length c.inputs + length c.gates) (length c.inputs) (length c.outputs)
-    (length c.gates))
-    (flat_map output_line c.outputs) (flat_map gate_deltas c.gates)
+    parts (header_line 105 (length c.inputs + length c.gates) c) (flat_map literal_line c.outputs)
+    (flat_map literal_line c.constraints) (flat_map gate_deltas c.gates) (symbols_text c.names)
   where
-    parts : (h o g : List ℕ) → h ++ o ++ g ≡ h ++ (o ++ (g ++ []))
-    parts h o g = rw (append-nil g) (append_assoc h o g)
+    parts : (h o k g s : List ℕ) → h ++ o ++ k ++ g ++ s ≡ h ++ (o ++ (k ++ (g ++ s)))
+    parts h o k g s =
+        append_assoc (h ++ o ++ k) g s ∙ append_assoc (h ++ o) k (g ++ s) ∙ append_assoc h o (k ++ (g ++ s))
 
-counts : (c : Aig) → IsCircuit c
-    → AreCounts 105 (length c.inputs + length c.gates) (length c.inputs) (length c.outputs)
-    (length c.gates)
+counts : (c : Aig) → IsCircuit c → AreCounts 105 (length c.inputs + length c.gates) c
 counts c circuit =
     let few = few_gates_of c circuit in
     let equal : not (length c.inputs + length c.gates == length c.inputs + 0 + length c.gates)
@@ -84,43 +84,37 @@ counts c circuit =
       inputs = omega (arith, few);
       outputs = circuit.count;
       gates = omega (arith, few);
+      constraints = circuit.constraint_count;
       counted = equal;
     }
 
-pub binary-spells : (c : Aig) → IsCircuit c → IsPlain c → IsInSequence c → binary_in (binary_text c) ≡ Ok c
-unfolding binary_in behind_header
-binary-spells c circuit plain is =
+pub binary-spells : (c : Aig) → IsCircuit c → IsInSequence c → binary_in (binary_text c) ≡ Ok c
+unfolding binary_in behind_header behind_outputs behind_constraints
+binary-spells c circuit is =
     let few = few_gates_of c circuit in
     let m = length c.inputs + length c.gates in
-    let head = header-found (start (binary_text c)) 105 m (length c.inputs) (length c.outputs)
-    (length c.gates)
-    (behind_header c) (counts c circuit) refl (text-parts c) in
-    let within = outputs_within m (variables_in c) c.outputs (all-up c is) circuit.outputs in
-    let outputs = outputs-found head.place m [] c.outputs (flat_map gate_deltas c.gates
-    ++ []) few within head.behind in
+    let head = header-found (start (binary_text c)) 105 m c (behind_header c) (counts c circuit) refl (text-parts c) in
+    let outputs = literals-found head.place m [] c.outputs (behind_outputs c) few
+    (literals_within m (variables_in c) c.outputs (all-up c is) circuit.outputs) head.behind in
+    let constraints = literals-found outputs.place m [] c.constraints (behind_constraints c) few
+    (literals_within m (variables_in c) c.constraints (all-up c is) circuit.constraints) outputs.behind in
     let first : length c.inputs + 1 ≡ length c.inputs + 0 + 1 = omega arith in
-    let gates = gates-found outputs.place (length c.inputs) [] c.gates [] (omega (arith, few))
-    (rw first at is.gates) outputs.behind in
+    let gates = gates-found constraints.place (length c.inputs) [] c.gates (symbols_text c.names) (omega (arith, few))
+    (rw first at is.gates) constraints.behind in
     rw (
       head.is,
       outputs.is,
+      constraints.is,
       gates.is,
-      tail-none gates.place (length c.inputs) (length c.outputs) gates.behind,
-    ) (
-    ap (λ (vs : List ℕ). Ok (bare vs c.gates c.outputs (unnamed (length c.inputs) (length c.outputs)))) (sym is.inputs)
-    ∙ ap (λ (names : Names). Ok (bare c.inputs c.gates c.outputs names)) (sym plain.names)
-    ∙ ap (λ (ls : List ℕ). Ok (record c { constraints = ls })) (sym plain.constraints)
-    )
-  where
-    bare : List ℕ → List And → List ℕ → Names → Aig
-    bare inputs gates outputs names = record { inputs = inputs; gates = gates; outputs = outputs; constraints = []; names = names }
+      tail-found gates.place (length c.inputs) (length c.outputs) c.names (omega (arith, few)) circuit.count circuit.names gates.behind,
+    ) (ap (λ (vs : List ℕ). Ok (record c { inputs = vs })) (sym is.inputs))
 
-pub aiger-spells : (c : Aig) → IsCircuit c → IsPlain c → IsInSequence c → SpellsAiger (binary_text c) c
+pub aiger-spells : (c : Aig) → IsCircuit c → IsInSequence c → SpellsAiger (binary_text c) c
 unfolding aiger_in
-aiger-spells c circuit plain is =
+aiger-spells c circuit is =
     ap (λ (t : Bool). chosen t (is_form 105 (binary_text c))) other
     ∙ ap (chosen false) form
-    ∙ binary-spells c circuit plain is
+    ∙ binary-spells c circuit is
   where
     chosen : Bool → Bool → Result Aig AigerErr
     chosen s t =

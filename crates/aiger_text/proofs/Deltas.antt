@@ -6,10 +6,10 @@ use Rattle.std.proofs.lemmas.Bool.Decides.{nat_tests}
 use Rattle.byte_scan.specs.declared.errors.AigerErr.{AigerErr}
 use Rattle.byte_scan.specs.Scanning.{Place, ahead, moved}
 use Rattle.netlist.specs.declared.gate.And.{And}
-use Rattle.aiger_binary.specs.Binary.{group_in, groups_at, delta_at, first_fanin, second_fanin, gate_at, gates_at, literals_at, power_of}
-use Rattle.aiger_text.specs.Lines.{output_line}
-use Rattle.aiger_text.specs.BinaryText.{AreInSequence, groups, delta_text, gate_deltas}
-use Rattle.aiger_text.proofs.Reading.{Finds, behind-part, output-found}
+use Rattle.aiger_binary.specs.Binary.{group_in, groups_at, delta_at, first_fanin, second_fanin, gate_at, gates_at, literals_at}
+use Rattle.circuit_text.specs.Lines.{literal_line}
+use Rattle.circuit_text.specs.BinaryText.{AreInSequence, groups, delta_text, gate_deltas, power_of}
+use Rattle.aiger_text.proofs.Reading.{Finds, behind-part, literal-found}
 
 -- a byte below 128 is a number
 last-group : (p : Place) (x : ℕ) (rest : List ℕ) (more : Place → Result (ℕ × Place) AigerErr)
@@ -103,17 +103,17 @@ gate-found gate v g p rest same left right most e =
 
 -- ---- lists
 
-pub outputs-found : (p : Place) (m : ℕ) (done lits rest : List ℕ) → m ≤ 16777216
+pub literals-found : (p : Place) (m : ℕ) (done lits rest : List ℕ) → m ≤ 16777216
     → AllByRecursion (λ n. n ≤ 2 * m + 1) lits
-    → ahead p ≡ flat_map output_line lits ++ rest
+    → ahead p ≡ flat_map literal_line lits ++ rest
     → Finds (literals_at (length lits) m done p) (done ++ lits) rest
-outputs-found p m done [] rest most all e =
+literals-found p m done [] rest most all e =
     record { place = p; is = rw (append-nil done) refl; behind = e }
-outputs-found p m done (n ∷ ns) rest most all e =
-    let front = e ∙ append_assoc (output_line n) (flat_map output_line ns) rest in
+literals-found p m done (n ∷ ns) rest most all e =
+    let front = e ∙ append_assoc (literal_line n) (flat_map literal_line ns) rest in
     let seam = append_assoc done (n ∷ []) ns in
-    let here = output-found p m n (flat_map output_line ns ++ rest) all.0 most front in
-    let more = outputs-found here.place m (done ++ n ∷ []) ns rest most all.1 here.behind in
+    let here = literal-found p m n (flat_map literal_line ns ++ rest) all.0 most front in
+    let more = literals-found here.place m (done ++ n ∷ []) ns rest most all.1 here.behind in
     record {
       place = more.place;
       is = rw here.is (more.is ∙ ap (λ (l : List ℕ). Ok (l, more.place)) seam);

@@ -1,5 +1,5 @@
 -- The header's line is read as its numbers.
-use Rattle.std.proofs.Common.{◌≡◌, ℕ, ◌+◌, ◌^◌, ◌<◌, ◌≤◌, true, false, eqb, List, [], ◌∷◌, ◌++◌, length, map, decimal, Option, Some, None, Result, Ok, refl, sym, ap, ◌∙◌, append_assoc, append-nil, length-append, ne_eqb, arith}
+use Rattle.std.proofs.Common.{◌≡◌, ℕ, zero, suc, ◌+◌, ◌^◌, ◌<◌, ◌≤◌, true, false, eqb, List, [], ◌∷◌, ◌++◌, length, map, decimal, Option, Some, None, Result, Ok, refl, sym, ap, ◌∙◌, append_assoc, append-nil, length-append, ne_eqb, arith}
 use Rattle.std.specs.Prelude.{nat_lt}
 use Rattle.std.specs.Char.{is_ascii_digit}
 use Rattle.std.specs.List.{list_all, list_any, AllByRecursion}
@@ -12,12 +12,23 @@ use Rattle.byte_scan.specs.HeaderLine.{words_of, nine_numbers, header_numbers, n
 use Rattle.byte_scan.specs.Reading.{◌>>=◌, header_at, header_from, header_unless}
 use Rattle.tokens.specs.Text.{spaced, joined}
 use Rattle.tokens.proofs.Facts.{IsToken, IsToken-decimal, joined-one_line}
-use Rattle.aiger_text.specs.Lines.{number_line, header_line}
+use Rattle.netlist.specs.Circuit.{Aig}
+use Rattle.circuit_text.specs.Lines.{number_line, constraint_counts, header_line}
 use Rattle.aiger_text.proofs.Reading.{Finds, numeral, behind-part}
 
--- the header of a file with these counts
-abbrev pub header : ℕ → ℕ → ℕ → ℕ → Header
-header m i o a = record { m = m; i = i; l = 0; o = o; a = a; b = 0; c = 0; j = 0; f = 0 }
+-- the header of a file of this circuit
+abbrev pub header : ℕ → Aig → Header
+header m c = record {
+  m = m;
+  i = length c.inputs;
+  l = 0;
+  o = length c.outputs;
+  a = length c.gates;
+  b = 0;
+  c = length c.constraints;
+  j = 0;
+  f = 0;
+}
 
 abbrev AreNumbers : List ℕ → Type 0
 AreNumbers ns = AllByRecursion (λ n. n < 10 ^ 18) ns
@@ -64,15 +75,15 @@ tokens (n ∷ ns) all = let lt = all.0 in (IsToken-decimal n (omega arith), toke
 
 -- ---- the numbers of the header
 
-nine-five : (m i l o a : ℕ) → m < 10 ^ 18 → i < 10 ^ 18 → l < 10 ^ 18 → o < 10 ^ 18 → a < 10 ^ 18
+nine-five : (m i l o a : ℕ) → AreNumbers (m ∷ i ∷ l ∷ o ∷ a ∷ [])
     → nine_numbers (map decimal (m ∷ i ∷ l ∷ o ∷ a ∷ []))
     ≡ Some (m ∷ i ∷ l ∷ o ∷ a ∷ 0 ∷ 0 ∷ 0 ∷ 0 ∷ [])
-nine-five m i l o a ml il ll ol al =
-    let p = numeral m ml in
-    let q = numeral i il in
-    let r = numeral l ll in
-    let s = numeral o ol in
-    let t = numeral a al in
+nine-five m i l o a all =
+    let p = numeral m all.0 in
+    let q = numeral i all.1.0 in
+    let r = numeral l all.1.1.0 in
+    let s = numeral o all.1.1.1.0 in
+    let t = numeral a all.1.1.1.1.0 in
     rw (
       p.is_number,
       q.is_number,
@@ -86,39 +97,83 @@ nine-five m i l o a ml il ll ol al =
       t.value,
     ) refl
 
-numbers-read : (letter m i l o a : ℕ) → m < 10 ^ 18 → i < 10 ^ 18 → l < 10 ^ 18 → o < 10 ^ 18
-    → a < 10 ^ 18
-    → header_numbers letter (97 ∷ letter ∷ 103 ∷ 32 ∷ joined (map decimal (m ∷ i ∷ l ∷ o ∷ a ∷ [])))
-    ≡ Some (m ∷ i ∷ l ∷ o ∷ a ∷ 0 ∷ 0 ∷ 0 ∷ 0 ∷ [])
-numbers-read letter m i l o a ml il ll ol al =
+nine-seven : (m i l o a b c : ℕ) → AreNumbers (m ∷ i ∷ l ∷ o ∷ a ∷ b ∷ c ∷ [])
+    → nine_numbers (map decimal (m ∷ i ∷ l ∷ o ∷ a ∷ b ∷ c ∷ []))
+    ≡ Some (m ∷ i ∷ l ∷ o ∷ a ∷ b ∷ c ∷ 0 ∷ 0 ∷ [])
+nine-seven m i l o a b c all =
+    let p = numeral m all.0 in
+    let q = numeral i all.1.0 in
+    let r = numeral l all.1.1.0 in
+    let s = numeral o all.1.1.1.0 in
+    let t = numeral a all.1.1.1.1.0 in
+    let u = numeral b all.1.1.1.1.1.0 in
+    let v = numeral c all.1.1.1.1.1.1.0 in
+    rw (
+      p.is_number,
+      q.is_number,
+      r.is_number,
+      s.is_number,
+      t.is_number,
+      u.is_number,
+      v.is_number,
+      p.value,
+      q.value,
+      r.value,
+      s.value,
+      t.value,
+      u.value,
+      v.value,
+    ) refl
+
+-- the numbers that a header writes, where there are c constraints
+abbrev counts : ℕ → ℕ → ℕ → ℕ → ℕ → List ℕ
+counts m i o a c = m ∷ i ∷ 0 ∷ o ∷ a ∷ constraint_counts c
+
+-- those that it says
+abbrev nine : ℕ → ℕ → ℕ → ℕ → ℕ → List ℕ
+nine m i o a c = m ∷ i ∷ 0 ∷ o ∷ a ∷ 0 ∷ c ∷ 0 ∷ 0 ∷ []
+
+nine-counts : (m i o a c : ℕ) → AreNumbers (counts m i o a c) → nine_numbers (map decimal (counts m i o a c)) ≡ Some (nine m i o a c)
+nine-counts m i o a zero all = nine-five m i 0 o a all
+nine-counts m i o a (suc n) all = nine-seven m i 0 o a 0 (suc n) all
+
+small-constraints : (c : ℕ) → c < 10 ^ 18 → AreNumbers (constraint_counts c)
+small-constraints zero lt = tt
+small-constraints (suc n) lt = (omega arith, (lt, tt))
+
+numbers-read : (letter m i o a c : ℕ) → AreNumbers (counts m i o a c)
+    → header_numbers letter (97 ∷ letter ∷ 103 ∷ 32 ∷ joined (map decimal (counts m i o a c))) ≡ Some (nine m i o a c)
+numbers-read letter m i o a c all =
     let same : eqb letter letter ≡ true = grind (arith, nat_tests) in
     rw same
-    (ap nine_numbers (words-spaced m (i ∷ l ∷ o ∷ a ∷ []) ml (il, (ll, (ol, (al, tt)))))
-    ∙ nine-five m i l o a ml il ll ol al)
+    (ap nine_numbers (words-spaced m (i ∷ 0 ∷ o ∷ a ∷ constraint_counts c) all.0 all.1)
+    ∙ nine-counts m i o a c all)
 
 -- counts that fit
-pub record AreCounts (letter m i o a : ℕ) : Type 0 where
+pub record AreCounts (letter m : ℕ) (c : Aig) : Type 0 where
   pub variables : m ≤ 16777216
-  pub inputs : i ≤ 16777216
-  pub outputs : o ≤ 16777216
-  pub gates : a ≤ 16777216
-  pub counted : miscounts letter (header m i o a) ≡ false
+  pub inputs : length c.inputs ≤ 16777216
+  pub outputs : length c.outputs ≤ 16777216
+  pub gates : length c.gates ≤ 16777216
+  pub constraints : length c.constraints ≤ 16777216
+  pub counted : miscounts letter (header m c) ≡ false
 
-no_fault : (letter m i o a : ℕ) → AreCounts letter m i o a
+no_fault : (letter m : ℕ) (c : Aig) → AreCounts letter m c
     → ◌≡◌ {A = Option AigerErr} (numbers_fault letter
-    (Some (m ∷ i ∷ 0 ∷ o ∷ a ∷ 0 ∷ 0 ∷ 0 ∷ 0 ∷ []))) None
-no_fault letter m i o a are =
+    (Some (nine m (length c.inputs) (length c.outputs) (length c.gates) (length c.constraints)))) None
+no_fault letter m c are =
     let p : nat_lt 16777216 m ≡ false = grind (arith, nat_tests, are.variables) in
-    let q : nat_lt 16777216 i ≡ false = grind (arith, nat_tests, are.inputs) in
-    let r : nat_lt 16777216 o ≡ false = grind (arith, nat_tests, are.outputs) in
-    let s : nat_lt 16777216 a ≡ false = grind (arith, nat_tests, are.gates) in
-    rw (p, q, r, s, are.counted) refl
+    let q : nat_lt 16777216 (length c.inputs) ≡ false = grind (arith, nat_tests, are.inputs) in
+    let r : nat_lt 16777216 (length c.outputs) ≡ false = grind (arith, nat_tests, are.outputs) in
+    let s : nat_lt 16777216 (length c.gates) ≡ false = grind (arith, nat_tests, are.gates) in
+    let t : nat_lt 16777216 (length c.constraints) ≡ false = grind (arith, nat_tests, are.constraints) in
+    rw (p, q, r, s, t, are.counted) refl
 
-pub header-found : (p : Place) (letter m i o a : ℕ) (rest : List ℕ) → AreCounts letter m i o a
-    → eqb letter 10 ≡ false → ahead p ≡ header_line letter m i o a ++ rest
-    → Finds (header_at letter p) (header m i o a) rest
+pub header-found : (p : Place) (letter m : ℕ) (c : Aig) (rest : List ℕ) → AreCounts letter m c
+    → eqb letter 10 ≡ false → ahead p ≡ header_line letter m c ++ rest
+    → Finds (header_at letter p) (header m c) rest
 unfolding number_line
-header-found p letter m i o a rest are other e = record {
+header-found p letter m c rest are other e = record {
   place = moved p (length (line_of (ahead p)) + 1);
   is =
       ap
@@ -131,7 +186,7 @@ header-found p letter m i o a rest are other e = record {
 }
   where
     ns : List ℕ
-    ns = m ∷ i ∷ 0 ∷ o ∷ a ∷ []
+    ns = counts m (length c.inputs) (length c.outputs) (length c.gates) (length c.constraints)
 
     line : List ℕ
     line = 97 ∷ letter ∷ 103 ∷ 32 ∷ joined (map decimal ns)
@@ -139,9 +194,11 @@ header-found p letter m i o a rest are other e = record {
     small : AreNumbers ns
     small =
         let ml : m < 10 ^ 18 = omega (arith, are.variables) in
-        let il : i < 10 ^ 18 = omega (arith, are.inputs) in
-        let ol : o < 10 ^ 18 = omega (arith, are.outputs) in
-        let al : a < 10 ^ 18 = omega (arith, are.gates) in (ml, (il, (omega arith, (ol, (al, tt)))))
+        let il : length c.inputs < 10 ^ 18 = omega (arith, are.inputs) in
+        let ol : length c.outputs < 10 ^ 18 = omega (arith, are.outputs) in
+        let al : length c.gates < 10 ^ 18 = omega (arith, are.gates) in
+        let cl : length c.constraints < 10 ^ 18 = omega (arith, are.constraints) in
+        (ml, (il, (omega arith, (ol, (al, small-constraints (length c.constraints) cl)))))
 
     none : list_any (λ b. eqb b 10) line ≡ false
     none = rw other (joined-one_line (map decimal ns) (tokens ns small))
@@ -151,13 +208,8 @@ header-found p letter m i o a rest are other e = record {
         ap line_of (e ∙ append_assoc line (10 ∷ []) rest)
         ∙ line-part line rest none
 
-    numbers : header_numbers letter line ≡ Some (m ∷ i ∷ 0 ∷ o ∷ a ∷ 0 ∷ 0 ∷ 0 ∷ 0 ∷ [])
-    numbers =
-        numbers-read letter m i 0 o a small.0 small.1.0 (omega arith) small.1.1.1.0 small.1.1.1.1.0
-
-    found : header_from letter (header_numbers letter (line_of (ahead p))) ≡ Ok (header m i o a)
+    found : header_from letter (header_numbers letter (line_of (ahead p))) ≡ Ok (header m c)
     found =
         ap (λ (l : List ℕ). header_from letter (header_numbers letter l)) front
-        ∙ ap (header_from letter) numbers
-        ∙ ap (λ (f : Option AigerErr). header_unless f (header m i o a))
-        (no_fault letter m i o a are)
+        ∙ ap (header_from letter) (numbers-read letter m (length c.inputs) (length c.outputs) (length c.gates) (length c.constraints) small)
+        ∙ ap (λ (f : Option AigerErr). header_unless f (header m c)) (no_fault letter m c are)

@@ -5,6 +5,8 @@ mod Finished
 mod HeaderLine
 mod Sections
 mod Within
+mod SymbolLines
+mod Names
 mod Ascii
 mod Deltas
 mod Binary

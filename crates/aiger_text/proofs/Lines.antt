@@ -8,10 +8,10 @@ use Rattle.byte_scan.specs.Scanning.{Place, ahead}
 use Rattle.lits.specs.Clause.{has}
 use Rattle.netlist.specs.declared.gate.And.{And}
 use Rattle.netlist.specs.Circuit.{Aig, variables_in}
-use Rattle.aiger_ascii.specs.Ascii.{defined, input_at, output_at, gate_at}
-use Rattle.aiger_text.specs.Lines.{number_line, output_line}
-use Rattle.aiger_text.specs.AsciiText.{input_line, gate_line}
-use Rattle.aiger_text.proofs.Reading.{Finds, number-found, space-found, number_line-found, used-small, output-found, line_of_one}
+use Rattle.aiger_ascii.specs.Ascii.{defined, input_at, output_at, constraint_at, gate_at}
+use Rattle.circuit_text.specs.Lines.{number_line, literal_line}
+use Rattle.circuit_text.specs.AsciiText.{input_line, gate_line}
+use Rattle.aiger_text.proofs.Reading.{Finds, number-found, space-found, number_line-found, used-small, literal-found, line_of_one}
 
 -- a variable that isn't there yet may be defined
 pub defined-new : (m v : ℕ) (c : Aig) → 0 < v → v ≤ m → has ◌==◌ (variables_in c) v ≡ false
@@ -39,12 +39,20 @@ input-found p m v c rest some le most new e =
       behind = line.behind;
     }
 
-pub output_line-found : (p : Place) (m n : ℕ) (c : Aig) (rest : List ℕ) → n ≤ 2 * m + 1
+pub output-found : (p : Place) (m n : ℕ) (c : Aig) (rest : List ℕ) → n ≤ 2 * m + 1
     → m ≤ 16777216
-    → ahead p ≡ output_line n ++ rest
+    → ahead p ≡ literal_line n ++ rest
     → Finds (output_at m c p) (record c { outputs = c.outputs ++ n ∷ [] }) rest
-output_line-found p m n c rest le most e =
-    let line = output-found p m n rest le most e in
+output-found p m n c rest le most e =
+    let line = literal-found p m n rest le most e in
+    record { place = line.place; is = rw line.is refl; behind = line.behind }
+
+pub constraint-found : (p : Place) (m n : ℕ) (c : Aig) (rest : List ℕ) → n ≤ 2 * m + 1
+    → m ≤ 16777216
+    → ahead p ≡ literal_line n ++ rest
+    → Finds (constraint_at m c p) (record c { constraints = c.constraints ++ n ∷ [] }) rest
+constraint-found p m n c rest le most e =
+    let line = literal-found p m n rest le most e in
     record { place = line.place; is = rw line.is refl; behind = line.behind }
 
 line_of_three : (a b d : ℕ) (rest : List ℕ)

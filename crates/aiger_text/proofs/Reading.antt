@@ -12,7 +12,7 @@ use Rattle.byte_scan.specs.Scanning.{Place, ahead, moved, digits, value, number_
 use Rattle.byte_scan.specs.HeaderLine.{is_number}
 use Rattle.byte_scan.specs.Reading.{number_at, number_or, space_at, space_in, line_end_at, line_end_in, number_line_at, literal_line_at, used}
 use Rattle.tokens.proofs.Facts.{size_in-decimal, ahead-moved}
-use Rattle.aiger_text.specs.Lines.{number_line, output_line}
+use Rattle.circuit_text.specs.Lines.{number_line, literal_line}
 
 -- x is read, and these bytes are left
 pub record Finds {A : Type 0} (found : Result (A
@@ -57,7 +57,7 @@ numeral n lt = go (is_number (decimal n)) refl (size_in-decimal n lt)
     go false e f = absurd (cc)
 
 -- digits that another byte follows are all the digits in front
-digits-part : (word : List ℕ) (b : ℕ) (rest : List ℕ) → list_all is_ascii_digit word ≡ true
+pub digits-part : (word : List ℕ) (b : ℕ) (rest : List ℕ) → list_all is_ascii_digit word ≡ true
     → is_ascii_digit b ≡ false
     → digits (word ++ b ∷ rest) ≡ word
 digits-part [] b rest all other = rw other refl
@@ -123,9 +123,9 @@ pub used-small : (m n : ℕ) → n ≤ 2 * m + 1 → used m n ≡ Ok n
 used-small m n le = let small : nat_lt (2 * m + 1) n
     ≡ false = grind (arith, nat_tests) in rw small refl
 
-pub output-found : (p : Place) (m n : ℕ) (rest : List ℕ) → n ≤ 2 * m + 1 → m ≤ 16777216
-    → ahead p ≡ output_line n ++ rest
+pub literal-found : (p : Place) (m n : ℕ) (rest : List ℕ) → n ≤ 2 * m + 1 → m ≤ 16777216
+    → ahead p ≡ literal_line n ++ rest
     → Finds (literal_line_at m p) n rest
-output-found p m n rest le most e =
+literal-found p m n rest le most e =
     let line = number_line-found p n rest (omega arith) (e ∙ line_of_one n rest) in
     record { place = line.place; is = rw (line.is, used-small m n le) refl; behind = line.behind }

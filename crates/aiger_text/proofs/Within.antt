@@ -59,13 +59,13 @@ few_variables m c circuit all =
 
 -- ---- each part is within
 
-pub outputs_within : (m : ℕ) (vars lits : List ℕ) → AreUpTo m vars → list_all (is_over vars) lits
+pub literals_within : (m : ℕ) (vars lits : List ℕ) → AreUpTo m vars → list_all (is_over vars) lits
     ≡ true
     → AllByRecursion (λ n. n ≤ 2 * m + 1) lits
-outputs_within m vars [] all over = tt
-outputs_within m vars (n ∷ ns) all over =
+literals_within m vars [] all over = tt
+literals_within m vars (n ∷ ns) all over =
     let parts = and_parts (is_over vars n) (list_all (is_over vars) ns) over in
-    (over-small m vars n all parts.0, outputs_within m vars ns all parts.1)
+    (over-small m vars n all parts.0, literals_within m vars ns all parts.1)
 
 inputs_small : (m : ℕ) (vs : List ℕ) → has ◌==◌ vs 0 ≡ false → AreUpTo m vs
     → AllByRecursion (IsInput m) vs
@@ -102,12 +102,14 @@ pub record ArePartsWithin (m : ℕ) (c : Aig) : Type 0 where
   pub inputs : AllByRecursion (IsInput m) c.inputs
   pub gates : AllByRecursion (IsWithin m) c.gates
   pub outputs : AllByRecursion (λ n. n ≤ 2 * m + 1) c.outputs
+  pub constraints : AllByRecursion (λ n. n ≤ 2 * m + 1) c.constraints
 
 pub parts_within : (m : ℕ) (c : Aig) → IsCircuit c → AreUpTo m (variables_in c) → ArePartsWithin m c
 parts_within m c circuit all = record {
   inputs = inputs_small m c.inputs none.0 up.0;
   gates = gates_small m (variables_in c) c.gates all none.1 up.1 (fanins_known c circuit);
-  outputs = outputs_within m (variables_in c) c.outputs all circuit.outputs;
+  outputs = literals_within m (variables_in c) c.outputs all circuit.outputs;
+  constraints = literals_within m (variables_in c) c.constraints all circuit.constraints;
 }
   where
     once : not (has ◌==◌ (c.inputs ++ gate_vars c.gates) 0) ≡ true

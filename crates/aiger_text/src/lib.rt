@@ -1,12 +1,12 @@
-//! The text of a circuit in both forms of AIGER (A. Biere, The AIGER And-Inverter Graph Format, 2007).
+//! The laws that the readers of AIGER read each circuit's text back (A. Biere, The AIGER And-Inverter Graph
+//! Format, 2007; AIGER 1.9, 2011).
 //!
-//! The definitions write a circuit plainly, line by line, and know nothing of the readers' grammar:
-//! `specs/AsciiText.antt` has the ASCII form and `specs/BinaryText.antt` the binary one, which only circuits
-//! in AIGER's order have; both stand on `specs/Lines.antt`. The laws say that each text spells the circuit
-//! that it is written from, and so both texts of one circuit are read as that circuit; a reader whose
-//! definition and code are wrong alike on such a file is refuted.
+//! `circuit_text` defines the text of a circuit, with its constraints and names, in both forms, and writes it
+//! with no word of the readers' grammar. The laws say that each text spells the circuit that it is written
+//! from, and so both texts of one circuit are read as that circuit; a reader whose definition and code are
+//! wrong alike on such a file is refuted.
 //!
-//! Nothing here runs: writing is `workload_gen`'s. Begin to read at `specs/AsciiText.antt`, then `laws.rt`.
+//! Nothing here runs. Begin to read at `laws.rt`.
 #![tactic(auto)]
 
 mod laws;

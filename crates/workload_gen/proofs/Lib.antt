@@ -1,7 +1,7 @@
 mod SequenceLemmas
-mod TextLemmas
 mod BelowLemmas
 mod ParityLemmas
 mod AdderLemmas
 mod ComparatorLemmas
 mod AlikeLemmas
+mod SpellLemmas

@@ -6,7 +6,7 @@ use Rattle.netlist.specs.declared.gate.And.{And}
 use Rattle.netlist.specs.Circuit.{Aig, IsCircuit, most}
 use Rattle.aiger_binary.specs.Binary.{AreStacked, AreBelow}
 use Rattle.aiger_binary.proofs.Facts.{IsCircuit-stacked}
-use Rattle.aiger_text.specs.BinaryText.{AreInSequence, IsInSequence}
+use Rattle.circuit_text.specs.BinaryText.{AreInSequence, IsInSequence}
 use Rattle.workload_gen.specs.Adder.{with_last}
 use Rattle.symbol_names.specs.Names.{AreNames, unnamed}
 use Rattle.symbol_names.proofs.Facts.{AreNames-unnamed}

@@ -4,8 +4,7 @@ use Rattle.std.specs.Prelude.{◌≡◌, ℕ, ◌+◌, ◌-◌, ◌*◌, ◌%◌
 use Rattle.std.specs.List.{range_with_len}
 use Rattle.netlist.specs.declared.gate.And.{And}
 use Rattle.netlist.specs.Circuit.{Aig, IsCircuit, most, plain}
-use Rattle.aiger_text.specs.AsciiText.{IsPlain}
-use Rattle.aiger_text.specs.BinaryText.{AreInSequence, IsInSequence}
+use Rattle.circuit_text.specs.BinaryText.{AreInSequence, IsInSequence}
 
 -- A circuit that grows: how many inputs it has, and its gates so far. The inputs are the variables from 1 on.
 pub record Draft : Type 0 where
@@ -87,7 +86,6 @@ pub record IsDraft (d : Draft) : Type 0 where
 -- the circuit has both texts: it is one of so many inputs, in AIGER's order
 pub record IsWritable (inputs : ℕ) (c : Aig) : Type 0 where
   pub circuit : IsCircuit c
-  pub plain : IsPlain c
   pub sequence : IsInSequence c
   pub count : length c.inputs ≡ inputs
   pub range : inputs + length c.gates ≤ most

@@ -1,8 +1,8 @@
 -- The workload of a kind and a number: two circuits of one function in two architectures, as the bytes of two files.
 use Rattle.std.specs.Prelude.{ℕ, ◌+◌, ◌*◌, List, length}
 use Rattle.netlist.specs.Circuit.{Aig}
-use Rattle.aiger_text.specs.AsciiText.{ascii_text}
-use Rattle.aiger_text.specs.BinaryText.{binary_text}
+use Rattle.circuit_text.specs.AsciiText.{ascii_text}
+use Rattle.circuit_text.specs.BinaryText.{binary_text}
 use Rattle.workload_gen.specs.Gates.{built}
 use Rattle.workload_gen.specs.Parity.{parity_chain, parity_tree}
 use Rattle.workload_gen.specs.Adder.{ripple_adder, select_adder}

@@ -2,17 +2,18 @@ ghost use Rattle.std.specs.Prelude.{◌≡◌, ◌+◌, ◌≤◌, IfOk, length}
 ghost use Rattle.std.specs.List.{range_with_len};
 ghost use Rattle.aiger_binary.specs.Binary.{AreBelow};
 ghost use Rattle.aiger_file.specs.File.{SpellsAiger};
-ghost use Rattle.aiger_text.specs.AsciiText.{ascii_text};
-ghost use Rattle.aiger_text.specs.BinaryText.{binary_text};
-ghost use Rattle.netlist.specs.Circuit.{most, plain};
+ghost use Rattle.circuit_text.specs.AsciiText.{ascii_text};
+ghost use Rattle.circuit_text.specs.BinaryText.{binary_text, IsInSequence};
+ghost use Rattle.netlist.specs.Circuit.{most, plain, IsCircuit};
 ghost use Rattle.workload_gen.specs.Gates.{IsDraft};
 
-use crate::text;
-use netlist::And;
+use circuit_text::{push_ascii, push_binary};
+use netlist::{And, Circuit};
 use std::alloc::{AllocError, Global};
 use std::marker::Model;
+use symbol_names::Names;
 
-/// A circuit in AIGER's order, which has a text in both forms.
+/// A circuit in AIGER's order, which has a text in both forms, without constraints and names.
 #[derive(Drop)]
 pub(crate) struct Design {
     inputs: u32,
@@ -48,35 +49,54 @@ impl Design {
         }
     }
 
-    /// The bytes of the circuit as an ASCII AIGER file, without symbols and comment.
-    #[tactic(auto, unfolding(aiger_text::specs::AsciiText::ascii_text))]
-    pub(crate) fn ascii(&self, alloc: Global) -> Result<Vec<u8>, AllocError>
+    /// The bytes of the circuit as an ASCII AIGER file, without comment.
+    pub(crate) fn ascii(self, alloc: Global) -> Result<Vec<u8>, AllocError>
         ensures text { IfOk result
-            (λ v. v.items ≡ ascii_text (length self.now.inputs + length self.now.gates) self.now) }
-        ensures spells { IfOk result (λ v. SpellsAiger v.items self.now) }
+            (λ v. v.items ≡ ascii_text (length self.inputs + length self.gates) self) }
+        ensures spells { IfOk result (λ v. SpellsAiger v.items self) }
     {
-        let (gates, outputs) = (self.gates.as_slice(), self.outputs.as_slice());
+        let circuit = self.circuit(alloc)?;
+        let variables = circuit.inputs().len() + circuit.gates().len();
         let mut text = Vec::new(alloc);
-        text.extend_from_slice(b"aag ")?;
-        text::push_counts(&mut text, self.inputs, outputs.len(), gates.len())?;
-        text::push_inputs(&mut text, self.inputs)?;
-        text::push_outputs(&mut text, outputs)?;
-        text::push_gates(&mut text, gates)?;
+        push_ascii(&mut text, variables as u32, &circuit)?;
         Ok(text)
     }
 
-    /// The bytes of the circuit as a binary AIGER file, without symbols and comment.
-    #[tactic(auto, unfolding(aiger_text::specs::BinaryText::binary_text))]
-    pub(crate) fn binary(&self, alloc: Global) -> Result<Vec<u8>, AllocError>
-        ensures text { IfOk result (λ v. v.items ≡ binary_text self.now) }
-        ensures spells { IfOk result (λ v. SpellsAiger v.items self.now) }
+    /// The bytes of the circuit as a binary AIGER file, without comment.
+    pub(crate) fn binary(self, alloc: Global) -> Result<Vec<u8>, AllocError>
+        ensures text { IfOk result (λ v. v.items ≡ binary_text self) }
+        ensures spells { IfOk result (λ v. SpellsAiger v.items self) }
     {
-        let (gates, outputs) = (self.gates.as_slice(), self.outputs.as_slice());
+        let circuit = self.circuit(alloc)?;
         let mut text = Vec::new(alloc);
-        text.extend_from_slice(b"aig ")?;
-        text::push_counts(&mut text, self.inputs, outputs.len(), gates.len())?;
-        text::push_outputs(&mut text, outputs)?;
-        text::push_deltas(&mut text, self.inputs, gates)?;
+        push_binary(&mut text, &circuit)?;
         Ok(text)
     }
+
+    fn circuit(self, alloc: Global) -> Result<Circuit, AllocError>
+        ensures same { IfOk result (λ c. c ≡ self) }
+        ensures circuit { IfOk result (λ c. IsCircuit c) }
+        ensures sequence { IfOk result (λ c. IsInSequence c) }
+    {
+        let Design {
+            inputs,
+            gates,
+            outputs,
+        } = self;
+        let names = Names::none(alloc, inputs, outputs.len() as u32);
+        let vars = variables(alloc, inputs)?;
+        Circuit::of(alloc, vars, gates, outputs, Vec::new(alloc), names)
+    }
+}
+
+/// The variables of so many inputs.
+fn variables(alloc: Global, inputs: u32) -> Result<Vec<u32>, AllocError>
+    requires { inputs ≤ most }
+    ensures { IfOk result (λ v. v.items ≡ range_with_len 1 inputs) }
+{
+    let mut variables = Vec::new(alloc);
+    for k in 0..inputs {
+        variables.push(k + 1)?;
+    }
+    Ok(variables)
 }

@@ -6,7 +6,7 @@
 //! cases of equivalence checking.
 //!
 //! Data flows from `builder.rt` (gates, one at a time, and what is made of them) by `parity.rt`, `adder.rt`
-//! and `comparator.rt` (the architectures) to `design.rt` and `text.rt` (the bytes). Definitions:
+//! and `comparator.rt` (the architectures) to `design.rt` (the bytes). Definitions:
 //! `specs/Workload.antt` (the bytes of a kind and a number), over `specs/Adder.antt`,
 //! `specs/Comparator.antt` and `specs/Parity.antt` (the architectures) and `specs/Gates.antt` (what each
 //! construction adds to a list of gates). Begin to read at `workload.rt`.
@@ -23,5 +23,4 @@ mod design;
 mod kind;
 mod laws;
 mod parity;
-mod text;
 mod workload;

@@ -1,18 +1,21 @@
-use Rattle.std.proofs.Common.{◌≡◌, ◌+◌, ℕ, List, length, arith, rules, sym, subst}
-use Rattle.std.specs.List.{range_with_len}
-use Rattle.std.proofs.lemmas.Grind.{common_steps}
-use Rattle.netlist.specs.Circuit.{Aig, plain}
-use Rattle.aiger_file.specs.File.{SpellsAiger}
-use Rattle.aiger_text.specs.AsciiText.{ascii_text}
-use Rattle.aiger_text.proofs.Facts.{ascii_spells, IsBound-sequence}
+use Rattle.std.proofs.Common.{◌≡◌, ◌+◌, arith, ap, length}
+use Rattle.netlist.proofs.Facts.{few_gates_of}
+use Rattle.workload_gen.proofs.SpellLemmas.{is_bound, ascii-spells}
 use Rattle.workload_gen.proofs.design.Design.ascii.Goals as goal
 
+pub overflow_cast-variables : goal.overflow_cast-variables
+overflow_cast-variables c =
+    let few = few_gates_of c.in_ok-circuit.circuit c.in_ok-circuit.ensures.circuit in
+    omega (arith, few, ap length c.inputs.ensures.inputs, ap length c.gates.ensures.gates)
+
+pub push_ascii-requires : goal.push_ascii-requires
+push_ascii-requires c =
+    is_bound c.in_ok-circuit.circuit _ c.in_ok-circuit.ensures.circuit c.in_ok-circuit.ensures.sequence
+    (omega (arith, ap length c.inputs.ensures.inputs, ap length c.gates.ensures.gates))
+
 pub returns-clause-spells : goal.returns-clause-spells
-unfolding ascii_text
 returns-clause-spells c =
-    let is = c.self.invariant in
-    let d : Aig = plain (range_with_len 1 c.self.inside.inputs) c.self.inside.gates.items c.self.inside.outputs.items in
-    let spells : SpellsAiger (ascii_text (length d.inputs + length d.gates) d) d = ascii_spells (length d.inputs + length d.gates) d is.circuit is.plain (IsBound-sequence d is.circuit is.sequence) in
-    let text : c.push_gates.new.text.items ≡ ascii_text (length d.inputs + length d.gates) d = first_of (search rules, grind (arith, common_steps)) in
-    subst (λ (e : Aig). SpellsAiger c.push_gates.new.text.items e) c.self.view_is
-    (subst (λ (t : List ℕ). SpellsAiger t d) (sym text) spells)
+    let made = c.in_ok-circuit.ensures in
+    let bound = is_bound c.in_ok-circuit.circuit _ made.circuit made.sequence
+    (omega (arith, ap length c.inputs.ensures.inputs, ap length c.gates.ensures.gates)) in
+    ascii-spells c.in_ok-circuit.circuit _ _ _ _ made.same made.circuit bound c.new-text.ensures.items c.in_ok-push_ascii.ensures

@@ -1,4 +1,3 @@
-use Rattle.std.proofs.Common.{refl}
 use Rattle.std.proofs.lemmas.List.FromFn.{length-range_with_len}
 use Rattle.workload_gen.specs.Gates.{Draft}
 use Rattle.workload_gen.proofs.SequenceLemmas.{IsCircuit-draft, IsInSequence-draft}
@@ -9,7 +8,6 @@ invariant_of-result c =
     let d : Draft = record { inputs = c.args.inputs; gates = c.args.gates.items } in
     record {
       circuit = IsCircuit-draft d c.args.outputs.items c.requires.gates c.requires.below c.requires.few;
-      plain = record { constraints = refl; names = refl };
       sequence = IsInSequence-draft d c.args.outputs.items c.requires.gates;
       count = length-range_with_len 1 c.args.inputs;
       range = c.requires.gates.range;

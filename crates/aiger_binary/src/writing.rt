@@ -1,0 +1,30 @@
+ghost use Rattle.std.specs.Prelude.{◌≡◌, IfOk, IsSome};
+ghost use Rattle.circuit_text.specs.BinaryText.{binary_text, IsInSequence};
+ghost use Rattle.desk_port.specs.Desk.{Writes, NoCountFalls};
+
+use circuit_text::push_binary;
+use desk_port::{Desk, PutErr};
+use netlist::Circuit;
+use std::alloc::{AllocError, Global};
+
+/// Writes the circuit's text in the binary form to the started file in one piece.
+pub fn print<D: Desk>(alloc: Global, desk: &mut D, circuit: &Circuit) -> Result<(), PutErr>
+    requires started { IsSome (D.state desk.old).started }
+    requires sequence { IsInSequence circuit.now }
+    ensures answer { Writes (D.state desk.old) (D.state desk.new) (binary_text circuit.now) result }
+    ensures counts { NoCountFalls (D.state desk.old) (D.state desk.new) }
+{
+    match text(alloc, circuit) {
+        Ok(text) => desk.write(text.as_slice()),
+        Err(_) => Err(PutErr::NoMemory),
+    }
+}
+
+fn text(alloc: Global, circuit: &Circuit) -> Result<Vec<u8>, AllocError>
+    requires { IsInSequence circuit.now }
+    ensures { IfOk result (λ v. v.items ≡ binary_text circuit.now) }
+{
+    let mut text = Vec::new(alloc);
+    push_binary(&mut text, circuit)?;
+    Ok(text)
+}

@@ -1,0 +1,10 @@
+use Rattle.std.proofs.Common.{arith, ap, length}
+use Rattle.circuit_text.proofs.SymbolLemmas.{symbols-more}
+use Rattle.circuit_text.proofs.symbols.push_output_symbols.Goals as goal
+
+pub loop-j-preserved : goal.loop-j-preserved
+loop-j-preserved c =
+    let places = c.outputs.ensures.circuit.names.output_places in
+    symbols-more 111 c.loop-j.j c.args.circuit.now.names.outputs _ _ _ _
+    (omega (arith, places, c.loop-j-test.true, ap length c.outputs.ensures.outputs)) c.loop-j.invariant c.output_name.ensures
+    c.in_ok-push_symbol.ensures

@@ -1,0 +1,4 @@
+pub mod Lines
+pub mod Symbols
+pub mod AsciiText
+pub mod BinaryText
