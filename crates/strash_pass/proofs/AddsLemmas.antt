@@ -12,7 +12,7 @@ use Rattle.lemma_book.specs.declared.entry.Entry.{Entry}
 use Rattle.lemma_book.specs.declared.entry.Entry.TheVariants.{Merge}
 use Rattle.lemma_book.specs.Entry.{Entries}
 use Rattle.lemma_book.specs.Root.{root_of, IsRoot}
-use Rattle.strash_pass.specs.Strash.{folded, AddsMerges, AddsStructural, AreStructural, ArePlainBelow, Finding, IsMerge, constant_among, finding_of, way_of}
+use Rattle.strash_pass.specs.Strash.{folded, AddsFirstPart, AddsMerges, AddsStructural, AreStructural, ArePlainBelow, Finding, IsMerge, constant_among, finding_of, way_of}
 use Rattle.strash_pass.specs.Pass.{IsTwin, Merges}
 use Rattle.strash_pass.proofs.TwinLemmas.{finding-fold, finding-twin, twin-first}
 
@@ -80,6 +80,24 @@ adds-more net k m n book mid new x y = record {
   sweep = y.sweep ∙ x.sweep;
   out = y.out ∙ x.out;
 }
+
+-- ---- where the pass stops
+pub stops : {T E : Type 0} (net : AigPair) (k n : ℕ) (book mid new : Entries) (r : Result T E) → new ≡ mid → AddsStructural net k n book mid
+    → ArePlainBelow net mid.entries n → OnErr r (AddsFirstPart net k book new)
+stops net k n book mid new (Ok t) same adds plain = tt
+stops net k n book mid new (Err x) same adds plain =
+    subst (AddsFirstPart net k book) (sym same) (record { end = n; adds = adds; plain = plain })
+
+pub stops-so : {T E : Type 0} (net : AigPair) (k : ℕ) (book new : Entries) (r : Result T E) → AddsFirstPart net k book new
+    → OnErr r (AddsFirstPart net k book new)
+stops-so net k book new (Ok t) s = tt
+stops-so net k book new (Err x) s = s
+
+pub stops-later : {T E : Type 0} (net : AigPair) (k m : ℕ) (book mid new : Entries) (r : Result T E) → AddsStructural net k m book mid
+    → OnErr r (AddsFirstPart net m mid new) → OnErr r (AddsFirstPart net k book new)
+stops-later net k m book mid new (Ok t) first s = tt
+stops-later net k m book mid new (Err x) first s =
+    record { end = s.end; adds = adds-more net k m s.end book mid new first s.adds; plain = s.plain }
 
 module _ (net : AigPair) (book new : Entries) (n : ℕ) (d : Definition) (at : slice_get (definitions net) n ≡ Some d)
     (unmerged : IsRoot book.entries d.node) where

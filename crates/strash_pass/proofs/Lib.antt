@@ -1,3 +1,5 @@
+mod WordLemmas
+mod HintLemmas
 mod MergeLemmas
 mod GatePropagation
 mod GateFacts

@@ -1,2 +1,3 @@
 pub mod Strash
 pub mod Pass
+pub mod Coded

@@ -132,3 +132,10 @@ pub record AddsStructural (net : AigPair) (k n : ℕ) (old new : Entries) : Type
   pub structural : AreStructural net k n old.entries added
   pub sweep : new.sweep_budget ≡ old.sweep_budget
   pub out : new.out_budget ≡ old.out_budget
+
+-- what stands where the pass stops: the merges of the first so many gates from gate k on; the gates before that end are
+-- plain, and none from it on was merged
+pub record AddsFirstPart (net : AigPair) (k : ℕ) (old new : Entries) : Type 0 where
+  pub end : ℕ
+  pub adds : AddsStructural net k end old new
+  pub plain : ArePlainBelow net new.entries end

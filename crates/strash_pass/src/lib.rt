@@ -8,15 +8,20 @@
 //!
 //! `run` promises that it adds merges alone, that a legal book stays legal, and that afterwards no unmerged
 //! gate folds or has an earlier unmerged gate over the same roots. What each gate is merged to, by which
-//! steps and in which order, is a definition, so that a run can be repeated to the byte.
+//! steps and in which order, is a definition, so that a run can be repeated to the byte; where memory is
+//! refused, what stands is that of the first so many gates.
 //!
 //! Definitions: `specs/Strash.antt` (what is left to merge, and what is merged to what), `specs/Pass.antt`
-//! (what the pass keeps). Begin to read at `pass.rt`, then `visit.rt`.
+//! (what the pass keeps), `specs/Coded.antt` (clauses as words of bits, by which `hints.rt` scans them).
+//! Begin to read at `pass.rt`, then `visit.rt`.
 #![tactic(auto)]
 
 pub use pass::run;
 
+mod coded;
 mod fold;
+mod hints;
+mod marks;
 mod merge;
 mod pair;
 mod pass;

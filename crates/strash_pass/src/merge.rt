@@ -1,17 +1,22 @@
-ghost use Rattle.std.specs.Prelude.{◌≡◌, false, IfOk, OnOk, OnErr};
-ghost use Rattle.lits.specs.Same.{same_node, opposite};
+ghost use Rattle.std.specs.Prelude.{◌≡◌, ◌≤◌, [], ◌∷◌, false, length, IfOk, IfSome, OnOk, OnErr};
+ghost use Rattle.lits.specs.Clause.{IsClause};
+ghost use Rattle.lits.specs.Same.{same_lit, same_node, opposite};
 ghost use Rattle.netlist.specs.Net.{IsNet};
 ghost use Rattle.netlist.specs.Miter.{positive, negative};
-ghost use Rattle.unit_prop.specs.HintScan.{IsNamed};
-ghost use Rattle.unit_prop.specs.Log.{base_clauses};
+ghost use Rattle.unit_prop.specs.HintScan.{IsNamed, ScansTo};
+ghost use Rattle.unit_prop.specs.Log.{base_clause, base_clauses};
+ghost use Rattle.unit_prop.specs.Step.{IsStep};
 ghost use Rattle.lemma_book.specs.Entry.{with_last};
 ghost use Rattle.lemma_book.specs.Root.{IsRoot};
 ghost use Rattle.lemma_book.specs.Cone.{AreThere};
 ghost use Rattle.lemma_book.specs.Good.{ArePlaced, IsEarlier, IsGood};
 ghost use Rattle.lemma_book.specs.Book.{IsLegal};
 ghost use Rattle.strash_pass.specs.Strash.{AreScanned};
+ghost use Rattle.strash_pass.specs.Coded.{bit_of, AreCoded};
 ghost use Rattle.strash_pass.specs.Pass.{ShowsMerge, ShowsOver, AreSteps, Merges, AreNotXors};
 
+use crate::coded::{Coded, coded_by, nodes_of};
+use crate::hints::step_over;
 use lemma_book::{Book, Entry};
 use lits::{Listed, Lit, Literal, Named, Node, Step};
 use netlist::Net;
@@ -63,9 +68,35 @@ fn both_steps(
 {
     let lit = Lit { node, neg: false };
     let mut steps = Vec::with_capacity(alloc, 2)?;
-    steps.push(scanned_step(alloc, base, &[lit.not(), target])?)?;
-    steps.push(scanned_step(alloc, base, &[lit, target.not()])?)?;
+    let nodes = nodes_of(alloc, base)?;
+    let coded = coded_by(alloc, &nodes, base)?;
+    steps.push(step_from(alloc, base, &nodes, &coded, lit.not(), target)?)?;
+    steps.push(step_from(alloc, base, &nodes, &coded, lit, target.not())?)?;
     Ok(steps)
+}
+
+/// The step that adds the clause of two literals over the base, which may stand as words too.
+fn step_from(
+    alloc: Global,
+    base: &[Named],
+    nodes: &[Node],
+    coded: &Option<Vec<Coded>>,
+    one: Lit,
+    other: Lit,
+) -> Result<Step, AllocError>
+    requires named { IsNamed base.now }
+    requires clause { IsClause same_lit opposite (one ∷ other ∷ []) }
+    requires shown { ShowsOver (base_clauses base.now) one other }
+    requires few { length nodes.now ≤ 32 }
+    requires coded { IfSome coded.now (λ v. AreCoded (bit_of nodes.now) base.now v.items) }
+    ensures step { IfOk result (λ s. (s.clause ≡ one ∷ other ∷ [])
+        × IsStep same_lit opposite (base_clause base.now) s.clause s.hints) }
+    ensures first { IfOk result (λ s. ScansTo base.now (opposite one ∷ opposite other ∷ []) s.hints) }
+{
+    match coded {
+        Some(coded) => step_over(alloc, base, nodes, coded, one, other),
+        None => scanned_step(alloc, base, &[one, other]),
+    }
 }
 
 /// Puts the merge by these steps last.

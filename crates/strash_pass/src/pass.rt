@@ -1,7 +1,7 @@
-ghost use Rattle.std.specs.Prelude.{◌≡◌, ◌+◌, length, OnOk, IfOk};
+ghost use Rattle.std.specs.Prelude.{◌≡◌, ◌+◌, length, OnOk, OnErr, IfOk};
 ghost use Rattle.netlist.specs.Net.{IsNet, circuit_of, definitions};
 ghost use Rattle.lemma_book.specs.Book.{IsLegal};
-ghost use Rattle.strash_pass.specs.Strash.{AddsMerges, AddsStructural, ArePlain};
+ghost use Rattle.strash_pass.specs.Strash.{AddsFirstPart, AddsMerges, AddsStructural, ArePlain};
 ghost use Rattle.strash_pass.specs.Pass.{gates_before, IsPass};
 
 use crate::visit::Pass;
@@ -17,7 +17,7 @@ use std::alloc::{AllocError, Global};
 /// Gate by gate in the order of positions, each is merged to what its fanins' roots fold to, else to the
 /// earliest unmerged gate over the same two roots, by the hints that scanning the clauses of both gates'
 /// ways gives. Afterwards no unmerged gate folds or has an earlier unmerged twin. Where memory is refused
-/// the merges so far stand.
+/// the merges of the first so many gates stand.
 pub fn run(alloc: Global, net: &Net, book: &mut Book) -> Result<u64, AllocError>
     requires { IsLegal net.now book.old }
     ensures legal { IsLegal net.now book.new }
@@ -25,6 +25,7 @@ pub fn run(alloc: Global, net: &Net, book: &mut Book) -> Result<u64, AllocError>
     ensures structural { AddsStructural net.now 0 (length (definitions net.now)) book.old book.new }
     ensures count { IfOk result (λ n. length book.new.entries ≡ length book.old.entries + n) }
     ensures plain { OnOk result (ArePlain net.now book.new.entries) }
+    ensures stopped { OnErr result (AddsFirstPart net.now 0 book.old book.new) }
 {
     laws::is_net(net);
     let before = book.len();
@@ -45,6 +46,7 @@ fn visit_both(pass: &mut Pass, alloc: Global, net: &Net, book: &mut Book) -> Res
     ensures legal { IsLegal net.now book.new }
     ensures grows { AddsStructural net.now 0 (length (definitions net.now)) book.old book.new }
     ensures plain { OnOk result (ArePlain net.now book.new.entries) }
+    ensures stopped { OnErr result (AddsFirstPart net.now 0 book.old book.new) }
 {
     visit_side(pass, alloc, net, book, Side::A)?;
     visit_side(pass, alloc, net, book, Side::B)
@@ -68,6 +70,8 @@ fn visit_side(
     ensures pass { OnOk result (IsPass net.now book.new.entries pass.new pass.new.visited) }
     ensures visited { OnOk result
         (pass.new.visited ≡ gates_before net.now side + length (circuit_of net.now side).gates) }
+    ensures stopped { OnErr result
+        (AddsFirstPart net.now (gates_before net.now side) book.old book.new) }
 {
     for gate in net.circuit(side).gates() {
         match net.definition(Node::Gate(side, gate.var)) {

@@ -1,4 +1,4 @@
-ghost use Rattle.std.specs.Prelude.{◌≡◌, ◌+◌, ◌∷◌, ◌++◌, Some, slice_get, OnOk, IfOk};
+ghost use Rattle.std.specs.Prelude.{◌≡◌, ◌+◌, ◌∷◌, ◌++◌, Some, slice_get, OnOk, OnErr, IfOk};
 ghost use Rattle.std.specs.Option.{option_or};
 ghost use Rattle.netlist.specs.Net.{IsNet, definitions};
 ghost use Rattle.netlist.specs.Miter.{positive};
@@ -43,6 +43,7 @@ impl Pass {
         ensures grows { AddsStructural net.now self.old.visited (self.old.visited + 1) book.old book.new }
         ensures pass { OnOk result (IsPass net.now book.new.entries self.new self.new.visited) }
         ensures visited { OnOk result (self.new.visited ≡ self.old.visited + 1) }
+        ensures err { OnErr result (book.new ≡ book.old) }
     {
         self.settle(alloc, net, book, gate)?;
         self.visited += 1;
@@ -65,6 +66,7 @@ impl Pass {
         ensures grows { AddsStructural net.now self.old.visited (self.old.visited + 1) book.old book.new }
         ensures pass { OnOk result (IsPass net.now book.new.entries self.new (self.old.visited + 1)) }
         ensures visited { self.new.visited ≡ self.old.visited }
+        ensures err { OnErr result (book.new ≡ book.old) }
     {
         if book.is_merged(gate.node) {
             return Ok(());

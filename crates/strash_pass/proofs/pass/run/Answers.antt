@@ -1,6 +1,6 @@
 -- The merges are counted by how long the book was before.
 use Rattle.std.proofs.Common.{arith, ap, length, length-append}
-use Rattle.strash_pass.proofs.AddsLemmas.{adds-merges}
+use Rattle.strash_pass.proofs.AddsLemmas.{adds-merges, stops-so}
 use Rattle.strash_pass.proofs.pass.run.Goals as goal
 
 pub returns-clause-count : goal.returns-clause-count
@@ -13,3 +13,6 @@ returns-clause-grows c = adds-merges _ _ _ _ _ c.visit_both.ensures.grows
 
 pub returns-in_err-visit_both-clause-grows : goal.returns-in_err-visit_both-clause-grows
 returns-in_err-visit_both-clause-grows c = adds-merges _ _ _ _ _ c.visit_both.ensures.grows
+
+pub returns-in_err-visit_both-clause-stopped : goal.returns-in_err-visit_both-clause-stopped
+returns-in_err-visit_both-clause-stopped c = stops-so _ _ _ _ c.from_residual.result c.in_err-visit_both.ensures.stopped

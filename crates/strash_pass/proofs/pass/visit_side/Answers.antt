@@ -4,7 +4,7 @@ use Rattle.std.specs.Prelude.{slice_get}
 use Rattle.std.proofs.lemmas.Option.{slice_get-get_or}
 use Rattle.netlist.specs.declared.gate.And.{And}
 use Rattle.netlist.specs.Circuit.{Aig}
-use Rattle.strash_pass.proofs.AddsLemmas.{adds-more, adds-none, adds-to}
+use Rattle.strash_pass.proofs.AddsLemmas.{adds-more, adds-none, adds-to, stops}
 use Rattle.strash_pass.proofs.PassLemmas.{side-gate, side-defined}
 use Rattle.strash_pass.proofs.pass.visit_side.Goals as goal
 
@@ -49,3 +49,7 @@ returns-in_err-visit-in-Some-clause-grows c =
     adds-to _ _ _ _ _ _
     (omega (arith, c.loop-gate.invariant.visited, c.loop-gate-test.true, count-items _ _ _ c.gates-gate-items.ensures.gates c.circuit.ensures.circuit))
     (adds-more _ _ _ _ _ _ _ c.loop-gate.invariant.grows c.visit.ensures.grows)
+
+pub returns-in_err-visit-in-Some-clause-stopped : goal.returns-in_err-visit-in-Some-clause-stopped
+returns-in_err-visit-in-Some-clause-stopped c =
+    stops _ _ _ _ c.loop-gate.book c.visit.new.book c.from_residual.result c.in_err-visit-in-Some.ensures.err c.loop-gate.invariant.grows c.loop-gate.invariant.pass.plain

@@ -1,0 +1,98 @@
+ghost use Rattle.std.specs.Prelude.{◌≡◌, ◌≤◌, ◌<◌, [], ◌∷◌, length, IfOk, IfSome};
+ghost use Rattle.std.specs.List.{position};
+ghost use Rattle.lits.specs.Same.{same_node, opposite};
+ghost use Rattle.strash_pass.specs.Coded.{bit_of, AreBits, AreCoded, AreMarks};
+
+use crate::marks::{Marks, set};
+use lits::{Lit, Literal, Named, Node, Ref};
+use std::alloc::{AllocError, Global};
+
+/// A clause as a word of its literals' bits, with its name.
+#[derive(Clone, Copy)]
+pub struct Coded {
+    pub word: u64,
+    pub by: Ref,
+}
+
+/// The nodes of the clauses of two literals, as many as have bits.
+pub fn nodes_of(alloc: Global, base: &[Named]) -> Result<Vec<Node>, AllocError>
+    ensures { IfOk result (λ v. length v.items ≤ 32) }
+{
+    let mut nodes = Vec::with_capacity(alloc, 8)?;
+    for named in base {
+        // The clauses of three literals of a gate speak of no other nodes than those of two.
+        if named.clause.lits().len() > 2 {
+            continue;
+        }
+        for lit in named.clause.lits() {
+            if nodes.len() < 32 && !nodes.as_slice().contains(&lit.node) {
+                nodes.push(lit.node)?;
+            }
+        }
+    }
+    Ok(nodes)
+}
+
+/// The clauses as words; none where a literal's node isn't among the nodes.
+pub fn coded_by(
+    alloc: Global,
+    nodes: &[Node],
+    base: &[Named],
+) -> Result<Option<Vec<Coded>>, AllocError>
+    requires { length nodes.now ≤ 32 }
+    ensures { IfOk result (λ r. IfSome r (λ v. AreCoded (bit_of nodes.now) base.now v.items)) }
+{
+    let mut all = Vec::with_capacity(alloc, base.len())?;
+    for named in base {
+        match word_of(nodes, named.clause.lits()) {
+            Some(word) => all.push(Coded { word, by: named.by })?,
+            None => return Ok(None),
+        }
+    }
+    Ok(Some(all))
+}
+
+/// The marks where two literals are false; none where one of them has no bit.
+pub fn marks_of(nodes: &[Node], one: Lit, other: Lit) -> Option<Marks>
+    requires { length nodes.now ≤ 32 }
+    ensures { IfSome result (AreMarks (bit_of nodes.now) (opposite one ∷ opposite other ∷ [])) }
+{
+    let none = Marks { yes: 0, no: 0 };
+    let first = bit(nodes, one.not())?;
+    let second = bit(nodes, other.not())?;
+    Some(none.with(first).with(second))
+}
+
+/// The word of the literals' bits; none where one of them has none.
+fn word_of(nodes: &[Node], lits: &[Lit]) -> Option<u64>
+    requires { length nodes.now ≤ 32 }
+    ensures { IfSome result (AreBits (bit_of nodes.now) lits.now) }
+{
+    let mut word = 0;
+    for lit in lits {
+        match bit(nodes, *lit) {
+            Some(bit) => word = set(word, bit),
+            None => return None,
+        }
+    }
+    Some(word)
+}
+
+/// The bit of a literal.
+fn bit(nodes: &[Node], lit: Lit) -> Option<u32>
+    requires { length nodes.now ≤ 32 }
+    ensures value { result ≡ bit_of nodes.now lit }
+    ensures small { IfSome result (λ b. b < 64) }
+{
+    match place(nodes, lit.node) {
+        Some(place) => Some(2 * place as u32 + if lit.neg { 1 } else { 0 }),
+        None => None,
+    }
+}
+
+/// The node's place among the nodes.
+fn place(nodes: &[Node], node: Node) -> Option<usize>
+    ensures { result ≡ position (λ n. same_node n node) nodes.now }
+{
+    nodes.iter().position(|other| *other == node)
+}
