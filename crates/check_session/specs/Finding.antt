@@ -6,8 +6,8 @@ use Rattle.lits.specs.Same.{opposite_dim}
 use Rattle.netlist.specs.Net.{AigPair, DiffersOn, AgreesOn, Agree, Differ}
 use Rattle.netlist.specs.Miter.{miter_of}
 use Rattle.lemma_book.specs.declared.entry.Entry.{Entry}
-use Rattle.lemma_book.specs.declared.entry.Entry.TheVariants.{Merge, Apart, Spent, Out, OutApart, OutSpent}
-use Rattle.lemma_book.specs.Entry.{about, has_out, has_spent, has_apart, is_merge, outputs_of}
+use Rattle.lemma_book.specs.declared.entry.Entry.TheVariants.{OutApart}
+use Rattle.lemma_book.specs.Entry.{Question, OfOutput, Answer, Open, question_of, answer_of, about, has_out, has_spent, has_apart, is_merge, outputs_of}
 
 pub data Finding : Type 0 where
   -- the circuits agree on every input
@@ -18,13 +18,12 @@ pub data Finding : Type 0 where
   Undecided : Finding
 
 -- an open output's query saw all the entries that say that two nodes have one value
+abbrev pub HasSeen : List Entry → Question → Answer → Type 0
+HasSeen entries (OfOutput j) (Open seen log) = list_any is_merge (drop seen entries) ≡ false
+HasSeen entries q a = ⊤
+
 abbrev pub SeesMerges : List Entry → Entry → Type 0
-SeesMerges entries (Merge node lit steps) = ⊤
-SeesMerges entries (Apart node lit input) = ⊤
-SeesMerges entries (Spent node lit seen log) = ⊤
-SeesMerges entries (Out j steps) = ⊤
-SeesMerges entries (OutApart j input) = ⊤
-SeesMerges entries (OutSpent j seen log) = list_any is_merge (drop seen entries) ≡ false
+SeesMerges entries e = HasSeen entries (question_of e) (answer_of e)
 
 -- the outputs whose queries spent their budgets, in order of outputs
 abbrev pub open_outputs : AigPair → List Entry → List ℕ

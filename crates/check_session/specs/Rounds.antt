@@ -5,9 +5,8 @@ use Rattle.lits.specs.declared.node.Node.{Node}
 use Rattle.netlist.specs.Net.{AigPair}
 use Rattle.word_sim.specs.Patterns.{Patterns}
 use Rattle.lemma_book.specs.declared.entry.Entry.{Entry}
-use Rattle.lemma_book.specs.declared.entry.Entry.TheVariants.{Merge, Apart, Spent, Out, OutApart, OutSpent}
 use Rattle.lemma_book.specs.declared.entry.Task.{Task}
-use Rattle.lemma_book.specs.Entry.{Entries}
+use Rattle.lemma_book.specs.Entry.{Entries, Question, OfPair, Answer, Differ, question_of, answer_of}
 use Rattle.lemma_book.specs.Root.{IsRoot}
 use Rattle.lemma_book.specs.Good.{IsEarlier}
 use Rattle.cone_query.specs.Query.{task_of}
@@ -38,19 +37,17 @@ pub record Settles (net : AigPair) (task : Task) (old new : Entries) : Type 0 wh
   pub others : (n : Node) → n ≢ task.node → IsRoot old.entries n → IsRoot new.entries n
 
 -- a counterexample has so many truth values
+abbrev pub IsWhole : ℕ → Question → Answer → Type 0
+IsWhole inputs (OfPair node lit) (Differ input) = length input ≡ inputs
+IsWhole inputs q a = ⊤
+
 abbrev pub HasWholeInput : ℕ → Entry → Type 0
-HasWholeInput inputs (Merge node lit steps) = ⊤
-HasWholeInput inputs (Apart node lit input) = length input ≡ inputs
-HasWholeInput inputs (Spent node lit seen log) = ⊤
-HasWholeInput inputs (Out j steps) = ⊤
-HasWholeInput inputs (OutApart j input) = ⊤
-HasWholeInput inputs (OutSpent j seen log) = ⊤
+HasWholeInput inputs e = IsWhole inputs (question_of e) (answer_of e)
 
 -- the pool is as before, or has one pattern more, the input of the entry
+abbrev pub with_input : Question → Answer → Patterns → Patterns
+with_input (OfPair node lit) (Differ input) p = record { inputs = p.inputs; patterns = p.patterns ++ input ∷ [] }
+with_input q a p = p
+
 abbrev pub Joins : Entry → Patterns → Patterns → Type 0
-Joins (Merge node lit steps) old new = new ≡ old
-Joins (Apart node lit input) old new = new ≡ record { inputs = old.inputs; patterns = old.patterns ++ input ∷ [] }
-Joins (Spent node lit seen log) old new = new ≡ old
-Joins (Out j steps) old new = new ≡ old
-Joins (OutApart j input) old new = new ≡ old
-Joins (OutSpent j seen log) old new = new ≡ old
+Joins e old new = new ≡ with_input (question_of e) (answer_of e) old

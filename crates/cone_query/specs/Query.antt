@@ -11,7 +11,7 @@ use Rattle.unit_prop.specs.Variables.{variables}
 use Rattle.lemma_book.specs.declared.entry.Task.{Task}
 use Rattle.lemma_book.specs.declared.entry.Entry.{Entry}
 use Rattle.lemma_book.specs.declared.entry.Entry.TheVariants.{Merge, Apart, Spent}
-use Rattle.lemma_book.specs.Entry.{Entries, Question, Answer, Equal, Differ, Open, question_of, answer_of}
+use Rattle.lemma_book.specs.Entry.{Entries, Question, OfPair, OfOutput, Answer, Equal, Differ, Open, question_of, answer_of}
 use Rattle.lemma_book.specs.Entry.{seeds_of, budget_of, equal_clauses}
 use Rattle.lemma_book.specs.Cone.{next_of, IsReach, IsCone}
 use Rattle.lemma_book.specs.Good.{OfCone}
@@ -22,11 +22,12 @@ IsGate (Gate side v) = ⊤
 IsGate _ = ⊥
 
 -- the pair of node and literal that an entry is about
+abbrev pub task_in : Question → Option Task
+task_in (OfPair node lit) = Some (record { node = node; lit = lit })
+task_in (OfOutput j) = None
+
 abbrev pub task_of : Entry → Option Task
-task_of (Merge node lit steps) = Some (record { node = node; lit = lit })
-task_of (Apart node lit input) = Some (record { node = node; lit = lit })
-task_of (Spent node lit seen log) = Some (record { node = node; lit = lit })
-task_of _ = None
+task_of e = task_in (question_of e)
 
 abbrev pub SeesAllOf : Entries → Answer → Type 0
 SeesAllOf book (Equal steps) = ⊤
