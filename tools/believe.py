@@ -16,6 +16,8 @@ TOP = os.path.dirname(os.path.dirname(os.path.abspath(__file__)))
 HOME = 'cec_top/specs/Headline'
 PROMISES = ['IsEquivalent', 'IsDifferent', 'IsUndecided', 'IsVerified']
 FILES = ('LeavesFiles', 'RefutesMiter')
+# What the two verdicts that need no book promise besides: of a run's earlier checks, and of the books that are handed back.
+BESIDES = ('KeepsPromise', 'HandsBack')
 FORMATS = 'SpellsAiger'
 SAID = ('EQUIVALENT without the written files {}, of which {} are the two forms of AIGER, and with them {}; DIFFERENT {}; '
         'UNDECIDED {}; VERIFIED {}.')
@@ -189,9 +191,10 @@ def main(args):
         for kind, where, name in sorted(k for k in seen if seen[k]):
             print(f'{len(seen[(kind, where, name)]):4} {where} {name}')
         return 0
-    without = lines(reach(files, 'IsEquivalent', FILES))
-    formats = without - lines(reach(files, 'IsEquivalent', (*FILES, FORMATS)))
-    said = SAID.format(without, formats, *(lines(reach(files, root)) for root in PROMISES))
+    without = lines(reach(files, 'IsEquivalent', (*FILES, *BESIDES)))
+    formats = without - lines(reach(files, 'IsEquivalent', (*FILES, *BESIDES, FORMATS)))
+    stops = {'IsEquivalent': BESIDES, 'IsDifferent': BESIDES}
+    said = SAID.format(without, formats, *(lines(reach(files, root, stops.get(root, ()))) for root in PROMISES))
     print(said)
     if args[:1] == ['--check']:
         with open(os.path.join(TOP, 'docs', 'MODEL.md'), encoding='utf-8') as f:

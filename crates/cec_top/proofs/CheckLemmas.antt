@@ -1,5 +1,5 @@
 -- How a run of one check answers, from what was read and told.
-use Rattle.std.proofs.Common.{◌≡◌, ℕ, inl, inr, List, [], ◌∷◌, Option, None, Some, Ok, Err, refl, sym, ap, subst}
+use Rattle.std.proofs.Common.{◌≡◌, ℕ, inl, inr, List, [], ◌∷◌, ◌++◌, Option, None, Some, Ok, Err, refl, sym, ap, subst}
 use Rattle.std.specs.Prelude.{◌⊎◌, Result, IfSome}
 use Rattle.desk_port.specs.Desk.{DeskState}
 use Rattle.netlist.specs.Net.{AigPair}
@@ -17,9 +17,9 @@ use Rattle.check_session.specs.Check.{State, IsFound}
 use Rattle.check_session.specs.Files.{files_of, LeavesAll, WritesFiles, TellsSpans, AreSpansIn}
 use Rattle.command_line.specs.Words.{CheckCommand}
 use Rattle.cec_top.specs.declared.kept.Kept.{Kept}
-use Rattle.cec_top.specs.Check.{How, IsMade, IsProof, KeepsOn, Tells, AreSome, Ends, StopsChecks, status_of_finding, kept_of}
+use Rattle.cec_top.specs.Check.{How, IsMade, IsProof, KeepsOn, AreSome, Ends, StopsChecks, kept_of}
 use Rattle.cec_top.specs.Answers.{EndsCheck, Stops, how_of, at_start}
-use Rattle.cec_top.specs.Steps.{ReadsSession, Checks, Decides, ToldWhole, ToldInPart, NotMade, how_in, made_in}
+use Rattle.cec_top.specs.Steps.{ReadsSession, Checks, Settles, TellsStatus, ToldWhole, ToldInPart, NotMade, how_in, made_in}
 
 -- the one book is handed back, also where memory ran out
 keeps-on : (kept : List Kept) (k : Kept) → kept ≡ k ∷ [] → (stop : Stop) → KeepsOn stop kept (k ∷ [])
@@ -113,25 +113,23 @@ proofs-of net one book same net_is book_is proves =
     subst (λ (b : Entries). (f : Finding) → Finds net b.entries f → IsProof net b.entries f) book_is
     (subst (λ (n : AigPair). (f : Finding) → Finds n same.entries f → IsProof n same.entries f) net_is proves)
 
-module _ (s t : State) (out : Option (List ℕ)) (number : ℕ) (v : Verdict) (before after : List Kept)
-    (d : Decides number s t before after v) (old : DeskState) where
+-- the check is told, and its book is kept
+module _ (s t : State) (out : Option (List ℕ)) (number : ℕ) (v : Verdict) (settles : Settles s t v) (before after : List Kept)
+    (keeps : after ≡ before ++ kept_of number (made_in t v) ∷ []) (old new : DeskState) where
   made : IsMade (how_in s out) (made_in t v)
-  made = subst (λ (o : Options). IsMade (record { options = o; out = out }) (made_in t v)) d.options_are (d.is_made out)
+  made = subst (λ (o : Options). IsMade (record { options = o; out = out }) (made_in t v)) settles.options_are (settles.is_made out)
 
-  -- it is told whole, and its status is its own; or in part
-  pub told : (new : DeskState) (status : Status) → status ≡ status_of_finding (finding_of v)
-      → Tells (how_in s out) number (made_in t v) old new (Ok tt) → Checks (how_in s out) number s.net old new before after (Ok status)
-  told new status is p = record {
+  -- whole, and its status is its own; or in part
+  pub checks-told : (r : Result Status Stop) → TellsStatus (how_in t out) number (made_in t v) old new r
+      → Checks (how_in s out) number s.net old new before after r
+  checks-told (Ok status) p = record {
     made = made_in t v;
-    same = d.net_is;
-    told = (new, made, p, refl);
-    status_is = is;
-    keeps = d.keeps;
+    same = settles.net_is;
+    told = (new, made, p.0, refl);
+    status_is = p.1;
+    keeps = keeps;
   }
-
-  pub untold : (new : DeskState) (stop : Stop) → Tells (how_in s out) number (made_in t v) old new (Err stop)
-      → Checks (how_in s out) number s.net old new before after (Err stop)
-  untold new stop p = inl (record { half = made_in t v; same = d.net_is; is_made = made; breaks = p; keeps = d.keeps })
+  checks-told (Err stop) p = inl (record { half = made_in t v; same = settles.net_is; is_made = made; breaks = p; keeps = keeps })
 
 -- behind a check that found something
 module _ (t : State) (v : Verdict) (found_is : t.found ≡ Some (finding_of v)) where

@@ -80,7 +80,7 @@ module _ (how : How) (net : AigPair) (old new : DeskState) (kept : List Kept) (s
       → (stop ≡ OutOfMemory) ⊎ Rose old.write_faults new.write_faults
   checks-stop (inl p) = breaks-stop p
   checks-stop (inr (inl p)) = inl p.out
-  checks-stop (inr (inr p)) = absurd (none-some p.text p.refused)
+  checks-stop (inr (inr p)) = absurd (none-some p.line p.refused)
 
 -- no bytes are both longer than the limit and within it
 pub too-long : (o : Option (List ℕ)) → IsSomeAnd o (λ b. limit < length b) → IfSome o (λ b. length b ≤ limit) → ⊥

@@ -1,6 +1,6 @@
 -- What a verdict promises of the files, from what the desk holds once a check was told.
 use Rattle.std.proofs.Common.{◌≡◌, ◌≢◌, ℕ, ◌<◌, inl, inr, Bool, true, false, ◌==◌, List, [], ◌∷◌, ◌++◌, length, option_map, Option, Some, None, Ok, refl, sym, ap, ◌∙◌, subst, arith}
-use Rattle.std.specs.Prelude.{codes, decimal, IfSome, IsSomeAnd}
+use Rattle.std.specs.Prelude.{Contains, codes, decimal, map, IfSome, IsSomeAnd}
 use Rattle.std.specs.Str.{bytes_eq}
 use Rattle.std.proofs.lemmas.List.{append-nil, length-append}
 use Rattle.std.proofs.lemmas.Slice.Eq.{bytes_eq-Decides}
@@ -10,6 +10,10 @@ use Rattle.netlist.specs.Net.{AigPair}
 use Rattle.netlist.specs.Unlike.{unlike_of}
 use Rattle.netlist.proofs.Facts.{equal-number}
 use Rattle.aiger_file.specs.File.{SpellsAiger}
+use Rattle.lemma_book.specs.declared.entry.Entry.{Entry}
+use Rattle.sig_classes.specs.Leader.{IsSwept}
+use Rattle.check_session.specs.Finding.{Finding, Equivalent, Different, Undecided}
+use Rattle.check_session.specs.Check.{IsSweptFor}
 use Rattle.check_session.specs.Files.{cnf_name, proof_name, cnf_text_of, proof_bytes}
 use Rattle.command_line.specs.Words.{CheckCommand}
 use Rattle.endings.specs.declared.status.Status.{Status}
@@ -19,9 +23,10 @@ use Rattle.endings.specs.declared.stop.Stop.TheVariants.{CannotRead, TooLong, Ba
 use Rattle.endings.specs.Stops.{EndsBy, Warns, status_of, stop_line}
 use Rattle.endings.specs.Reading.{FileIs}
 use Rattle.endings.specs.Writing.{Output, Leaves, after_files}
-use Rattle.cec_top.specs.Headline.{Told, SpellPair, LeavesUnder, OfFiles, Left}
-use Rattle.cec_top.specs.Check.{Made, outputs_of, text_of_check}
-use Rattle.cec_top.specs.Answers.{AreAlike}
+use Rattle.cec_top.specs.declared.kept.Kept.{Kept}
+use Rattle.cec_top.specs.Headline.{Told, SpellPair, LeavesUnder, HasBook, HandsBack, OfFiles, Left}
+use Rattle.cec_top.specs.Check.{How, Made, IsMade, kept_of, outputs_of, text_of_check}
+use Rattle.cec_top.specs.Answers.{AreAlike, how_of}
 
 -- the named file spells the circuit
 abbrev pub FileSpells : Files → List ℕ → Aig → Type 0
@@ -57,7 +62,7 @@ alike-counts a b alike = go (length a.inputs == length b.inputs) refl (length a.
     go true e false f h = cc
     go false e q f h = cc
 
-file-spells : (s : DeskState) (files : Files) → s.files ≡ Some files → (name bytes : List ℕ) (c : Aig) → FileIs s name bytes → SpellsAiger bytes c
+pub file-spells : (s : DeskState) (files : Files) → s.files ≡ Some files → (name bytes : List ℕ) (c : Aig) → FileIs s name bytes → SpellsAiger bytes c
     → FileSpells files name c
 file-spells s files told name bytes c is spells =
     let there : files name ≡ Some bytes = subst (λ (o : Option Files). IfSome o (λ f. f name ≡ Some bytes)) told is.0 in
@@ -109,6 +114,7 @@ abbrev pub told_of : Option (List ℕ) → ℕ → Made → Told
 told_of out number m = record {
   number = number;
   net = m.net;
+  finding = m.finding;
   said = text_of_check out m;
   proof = proof_bytes m.net m.book.entries m.finding;
 }
@@ -156,28 +162,67 @@ module _ (old new : DeskState) (before : Files) (earlier : List ℕ) (told : old
       ∙ ap (λ (o : Option Files). option_map (put (proof_name prefix 0) (proof_bytes m.net m.book.entries m.finding))
       (option_map (put (cnf_name prefix 0) (cnf_text_of m.net)) o)) told
 
-  -- the promise of that text and those files is kept, and nothing was warned since the state `first`
-  pub left-check : (first : DeskState) → old.warned ≡ first.warned → (Promise : Files → Files → List ℕ → Type 0)
-      → Promise before (left_by out (told_of out 0 m) before) (text_of_check out m) → Left Promise first new before earlier
-  left-check first silent Promise promise = record {
+  -- no file is left started
+  closed-is : (o : Option (List ℕ)) (text : List ℕ) → new ≡ after_say (after_files old (outputs_of o 0 m)) text → old.started ≡ None
+      → new.started ≡ None
+  closed-is None text e none = ap (λ (s : DeskState). s.started) e ∙ none
+  closed-is (Some prefix) text e none = ap (λ (s : DeskState). s.started) e
+
+  -- the promise of that text and those files is kept, and nothing was warned or started since the state `first`
+  pub left-check : (first : DeskState) → old.warned ≡ first.warned → old.started ≡ first.started
+      → (Promise : Files → Files → List ℕ → Type 0) → Promise before (left_by out (told_of out 0 m) before) (text_of_check out m)
+      → Left Promise first new before earlier
+  left-check first silent same Promise promise = record {
     after = left_by out (told_of out 0 m) before;
     said = text_of_check out m;
     left = files-are out (text_of_check out m) whole;
     heard = said-is out (text_of_check out m) whole;
     quiet = quiet-is out (text_of_check out m) whole ∙ silent;
+    closed = λ none. closed-is out (text_of_check out m) whole (same ∙ none);
     promise = promise;
   }
 
 -- what holds of the one check holds of the files
-pub of-files : (a b : List ℕ) (out : Option (List ℕ)) (Holds : Told → Type 0) (before : Files) (m : Made) → SpellPair a b before m.net
-    → Holds (told_of out 0 m) → OfFiles a b out Holds before (left_by out (told_of out 0 m) before) (text_of_check out m)
-of-files a b out Holds before m pair holds = record {
+pub of-files : (c : CheckCommand) (kept : List Kept) (Holds : Told → Type 0) (before : Files) (m : Made) → SpellPair c.a c.b before m.net
+    → Holds (told_of c.out 0 m) → HandsBack (how_of c) kept [] (told_of c.out 0 m)
+    → OfFiles c kept Holds before (left_by c.out (told_of c.out 0 m) before) (text_of_check c.out m)
+of-files c kept Holds before m pair holds books = record {
   net = m.net;
   pair = pair;
   earlier = [];
-  last = told_of out 0 m;
+  last = told_of c.out 0 m;
   checks = refl;
-  says = sym (append-nil (text_of_check out m));
-  files = leaves-one out (told_of out 0 m) before;
+  says = sym (append-nil (text_of_check c.out m));
+  files = leaves-one c.out (told_of c.out 0 m) before;
+  promises = tt;
   holds = holds;
+  books = books;
 }
+
+-- ---- the book that is handed back
+
+-- a book in which no output differs is swept
+pub swept-open : (net : AigPair) (entries : List Entry) (f : Finding) → IsSweptFor net entries f
+    → ((j : ℕ) (input : List Bool) → f ≢ Different j input) → IsSwept net entries
+swept-open net entries Equivalent swept other = swept
+swept-open net entries (Different j input) swept other = absurd (other j input refl)
+swept-open net entries Undecided swept other = swept
+
+module _ (how : How) (number : ℕ) (m : Made) (made : IsMade how m) (kept : List Kept) (keeps : kept ≡ kept_of number m ∷ []) where
+  abbrev pub has-book : HasBook how kept (told_of how.out number m)
+  has-book = record {
+    book = m.book;
+    handed = subst (λ (ks : List Kept). Contains ks (kept_of number m)) (sym keeps) (0, omega arith, refl);
+    sweep_budget = made.settled.sweep_is;
+    out_budget = made.settled.budget_is;
+    legal = made.settled.legal;
+    shows = made.settled.finds;
+    swept = swept-open m.net m.book.entries m.finding made.settled.swept;
+  }
+
+  -- it is the only one
+  pub hands-back : HandsBack how kept [] (told_of how.out number m)
+  hands-back = record {
+    numbers = ap (λ (ks : List Kept). map (λ (k : Kept). k.check) ks) keeps;
+    of_last = has-book;
+  }

@@ -2,6 +2,7 @@ mod MeansLemmas
 mod TellLemmas
 mod ReadLemmas
 mod CheckLemmas
+mod ClosedLemmas
 mod HelpLemmas
 mod HeadlineLemmas
 mod VerdictLemmas
@@ -10,3 +11,4 @@ mod CompleteLemmas
 mod ProvenLemmas
 mod OwnLemmas
 mod OwnVerdictLemmas
+mod RefusedLemmas

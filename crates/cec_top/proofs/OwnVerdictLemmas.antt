@@ -10,21 +10,23 @@ use Rattle.endings.specs.declared.stop.Stop.TheVariants.{OutOfMemory}
 use Rattle.endings.specs.Stops.{EndsBy, Warns, status_of, stop_line}
 use Rattle.command_line.specs.Words.{SelfCommand}
 use Rattle.cec_top.specs.declared.kept.Kept.{Kept}
-use Rattle.cec_top.specs.Headline.{Told, AreEquivalent, AreDifferent, AreUndecided, OfWorkload, Shows}
+use Rattle.cec_top.specs.Headline.{Told, AreEquivalent, AreDifferent, AreUndecided, HandsBack, OfWorkload, Shows}
 use Rattle.cec_top.specs.Check.{Made, IsMade, status_of_finding, text_of_check, kept_of}
 use Rattle.cec_top.specs.Answers.{IsAtOnce}
 use Rattle.cec_top.specs.SelfCheck.{AreWorkload, AnswersSelf, EndsSelf, StopsSelf, after_workload, own_how}
 use Rattle.cec_top.specs.Complete.{NoFault, HasVerdict}
 use Rattle.cec_top.specs.Texts.{workload_text}
-use Rattle.cec_top.proofs.HeadlineLemmas.{ends-code, told_of}
+use Rattle.cec_top.proofs.HeadlineLemmas.{ends-code, told_of, hands-back}
 use Rattle.cec_top.proofs.VerdictLemmas.{only-check, are-equivalent, are-different, are-undecided}
+use Rattle.cec_top.proofs.ClosedLemmas.{leaves-code, memory-code, checks-code}
 use Rattle.cec_top.proofs.CompleteLemmas.{IsExcused, finding-code, leaves-stops, checks-stop, excused-verdict}
 
 module _ (c : SelfCommand) (old new : DeskState) (status : Status) (kept : List Kept) where
   -- what holds of the check is promised
   promised : (Holds : Told → Type 0) (m : Made) → AreWorkload c m.net
-      → new ≡ after_say (after_workload c m.net old) (text_of_check None m) → Holds (told_of None 0 m) → Shows (OfWorkload c Holds) old new
-  promised Holds m circuits whole holds before earlier told heard =
+      → new ≡ after_say (after_workload c m.net old) (text_of_check None m) → Holds (told_of None 0 m)
+      → HandsBack own_how kept [] (told_of None 0 m) → Shows (OfWorkload c kept Holds) old new
+  promised Holds m circuits whole holds books before earlier told heard =
       let first = workload_text c m.net in
       let verdict = text_of_check None m in
       record {
@@ -36,6 +38,7 @@ module _ (c : SelfCommand) (old new : DeskState) (status : Status) (kept : List 
             ∙ ap (λ (o : Option (List ℕ)). option_map (λ x. x ++ verdict) (option_map (λ x. x ++ first) o)) heard
             ∙ ap (λ (x : List ℕ). Some x) (append_assoc earlier first verdict);
         quiet = ap (λ (s : DeskState). s.warned) whole;
+        closed = λ none. ap (λ (s : DeskState). s.started) whole ∙ none;
         promise = record {
           check = told_of None 0 m;
           number_is = refl;
@@ -44,6 +47,7 @@ module _ (c : SelfCommand) (old new : DeskState) (status : Status) (kept : List 
           says = refl;
           files = refl;
           holds = holds;
+          books = books;
         };
       }
 
@@ -57,27 +61,26 @@ module _ (c : SelfCommand) (old new : DeskState) (status : Status) (kept : List 
 
     shows : (Holds : Told → Type 0) (code : ℕ) → code_of status ≡ code → code < 4
         → ((m : Made) → IsMade own_how m → kept ≡ kept_of 0 m ∷ [] → code_of (status_of_finding m.finding) ≡ code → Holds (told_of None 0 m))
-        → Shows (OfWorkload c Holds) old new
+        → Shows (OfWorkload c kept Holds) old new
     shows Holds code is below holds =
         let p = ends-whole (omega (arith, is, below)) in
         let o = only-check own_how p.net (after_workload c p.net old) new status kept p.ends in
         promised Holds o.check (subst (λ (n : AigPair). AreWorkload c n) (sym o.same) p.circuits)
         (subst (λ (n : AigPair). new ≡ after_say (after_workload c n old) (text_of_check None o.check)) (sym o.same) o.whole)
         (holds o.check o.is_made o.keeps (ap code_of o.status_is ∙ is))
+        (hands-back own_how 0 o.check o.is_made kept o.keeps)
 
-    pub own-equivalent : code_of status ≡ 0 → Shows (OfWorkload c (AreEquivalent None)) old new
+    pub own-equivalent : code_of status ≡ 0 → Shows (OfWorkload c kept (AreEquivalent None)) old new
     own-equivalent is = shows (AreEquivalent None) 0 is (omega arith)
-        (λ m made kept_is code. are-equivalent None 0 m.net own_how.options.sweep_budget own_how.options.out_budget m.book m.finding made.settled
-        made.proof code)
+        (λ m made keeps code. are-equivalent own_how 0 m.net m.book m.finding made code)
 
-    pub own-different : code_of status ≡ 1 → Shows (OfWorkload c (AreDifferent None)) old new
+    pub own-different : code_of status ≡ 1 → Shows (OfWorkload c kept (AreDifferent None)) old new
     own-different is = shows (AreDifferent None) 1 is (omega arith)
-        (λ m made kept_is code. are-different None 0 m.net own_how.options.sweep_budget own_how.options.out_budget m.book m.finding made.settled code)
+        (λ m made keeps code. are-different own_how 0 m.net m.book m.finding made code)
 
-    pub own-undecided : code_of status ≡ 2 → Shows (OfWorkload c (AreUndecided None own_how.options.out_budget kept)) old new
-    own-undecided is = shows (AreUndecided None own_how.options.out_budget kept) 2 is (omega arith)
-        (λ m made kept_is code. are-undecided None 0 m.net own_how.options.sweep_budget own_how.options.out_budget m.book kept kept_is m.finding
-        made.settled made.proof code)
+    pub own-undecided : code_of status ≡ 2 → Shows (OfWorkload c kept (AreUndecided own_how kept)) old new
+    own-undecided is = shows (AreUndecided own_how kept) 2 is (omega arith)
+        (λ m made keeps code. are-undecided own_how 0 m.net m.book kept m.finding keeps made code)
 
   -- ---- a verdict, or want of memory
 
@@ -104,3 +107,22 @@ module _ (c : SelfCommand) (old new : DeskState) (status : Status) (kept : List 
       go : Warns (stop_line [] p.stop) (status_of p.stop) p.mid new status → HasVerdict status
       go (inl w) = inr (ap code_of w.0 ∙ ap (λ (s : Stop). code_of (status_of s)) p.cause.0)
       go (inr w) = inr (ap code_of w.0)
+
+  -- ---- no file is at fault
+
+  stops-code : (mid : DeskState) (stop : Stop) → StopsSelf c old kept mid stop → 6 ≤ code_of (status_of stop)
+  stops-code mid stop (inl p) = leaves-code [] (workload_text c p.net) old mid stop p.breaks
+  stops-code mid stop (inr (inl p)) = checks-code own_how p.net (after_workload c p.net old) mid kept stop p.stops
+  stops-code mid stop (inr (inr p)) = memory-code stop p.out
+
+  warned-code : (names : List (List ℕ)) (stop : Stop) (mid : DeskState) → Warns (stop_line names stop) (status_of stop) mid new status
+      → 6 ≤ code_of (status_of stop) → 6 ≤ code_of status
+  warned-code names stop mid (inl w) above = subst (λ (s : Status). 6 ≤ code_of s) (sym w.0) above
+  warned-code names stop mid (inr w) above = omega (arith, ap code_of w.0)
+
+  pub own-codes : AnswersSelf c old new status kept ⊎ EndsBy [] (IsAtOnce old) new status → (code_of status ≤ 2) ⊎ (6 ≤ code_of status)
+  own-codes (inl (inl p)) =
+      let o = only-check own_how p.net (after_workload c p.net old) new status kept p.ends in
+      inl (subst (λ (s : Status). code_of s ≤ 2) o.status_is (finding-code o.check.finding))
+  own-codes (inl (inr p)) = inr (warned-code [] p.stop p.mid p.warns (stops-code p.mid p.stop p.cause))
+  own-codes (inr p) = inr (warned-code [] p.stop p.mid p.warns (memory-code p.stop p.cause.0))

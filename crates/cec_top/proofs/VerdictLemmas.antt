@@ -26,11 +26,10 @@ use Rattle.endings.specs.Writing.{after_files}
 use Rattle.cec_top.specs.declared.kept.Kept.{Kept}
 use Rattle.cec_top.specs.Headline.{Told, OfFiles, IsEquivalent, IsDifferent, IsUndecided, AreEquivalent, AreDifferent, AreUndecided, RefutesMiter, SaysOpen, SpendsBudget, HasLog, Shows}
 use Rattle.check_session.specs.Finding.{Finding, Equivalent, Different, Undecided, open_outputs}
-use Rattle.check_session.specs.Check.{IsSettled}
 use Rattle.check_session.specs.Files.{proof_bytes}
-use Rattle.cec_top.specs.Check.{How, Made, IsMade, IsProof, AreTold, Ends, status_of_finding, outputs_of as files_of, text_of_check, last_finding, kept_of, kept_from}
+use Rattle.cec_top.specs.Check.{How, Made, IsMade, AreTold, Ends, status_of_finding, outputs_of as files_of, text_of_check, last_finding, kept_of, kept_from}
 use Rattle.cec_top.specs.Answers.{AreAlike, EndsCheck, AnswersCheck, how_of, at_start}
-use Rattle.cec_top.proofs.HeadlineLemmas.{ends-code, spells-pair, left-whole, told_of, left-check, of-files}
+use Rattle.cec_top.proofs.HeadlineLemmas.{ends-code, spells-pair, left-whole, told_of, left-check, of-files, has-book, hands-back}
 
 head-equal : (x y : AigPair) (xs ys : List AigPair) → (x ∷ xs) ≡ (y ∷ ys) → x ≡ y
 head-equal x y xs ys e = ap (head_or x) e
@@ -138,76 +137,74 @@ module _ (net : AigPair) (book : Entries) (legal : IsLegal net book) where
 
 -- ---- each verdict
 
-module _ (out : Option (List ℕ)) (number : ℕ) (net : AigPair) (sweep budget : ℕ) (book : Entries) where
-  abbrev told : Finding → Told
-  told f = told_of out number (record { net = net; book = book; finding = f })
+module _ (how : How) (number : ℕ) (net : AigPair) (book : Entries) where
+  abbrev made : Finding → Made
+  made f = record { net = net; book = book; finding = f }
 
-  pub are-equivalent : (f : Finding) → IsSettled net sweep budget book f → IsProof net book.entries f → code_of (status_of_finding f) ≡ 0
-      → AreEquivalent out (told f)
-  are-equivalent Equivalent settled proof code = record { agree = settled.means.agree; says = refl; proof = go out }
+  abbrev told : Finding → Told
+  told f = told_of how.out number (made f)
+
+  pub are-equivalent : (f : Finding) → IsMade how (made f) → code_of (status_of_finding f) ≡ 0 → AreEquivalent how.out (told f)
+  are-equivalent Equivalent is code = record { finding_is = refl; agree = is.settled.means.agree; says = refl; proof = go how.out }
     where
       go : (o : Option (List ℕ)) → IfSome o (λ prefix. RefutesMiter net (proof_bytes net book.entries Equivalent))
       go None = tt
       go (Some prefix) = record {
         lines = numbered 1 (refutation_of net book.entries);
-        spells = proof.spells;
-        refutes = proof.refutes;
-        exact = settled.means.exact;
+        spells = is.proof.spells;
+        refutes = is.proof.refutes;
+        exact = is.settled.means.exact;
       }
-  are-equivalent (Different j input) settled proof code = cc
-  are-equivalent Undecided settled proof code = cc
+  are-equivalent (Different j input) is code = cc
+  are-equivalent Undecided is code = cc
 
-  pub are-different : (f : Finding) → IsSettled net sweep budget book f → code_of (status_of_finding f) ≡ 1 → AreDifferent out (told f)
-  are-different (Different j input) settled code = record {
+  pub are-different : (f : Finding) → IsMade how (made f) → code_of (status_of_finding f) ≡ 1 → AreDifferent how.out (told f)
+  are-different (Different j input) is code = record {
     output = j;
     input = input;
-    differs = settled.means;
+    finding_is = refl;
+    differs = is.settled.means;
     says = refl;
-    proof = go out;
+    proof = go how.out;
   }
     where
       go : (o : Option (List ℕ)) → IfSome o (λ prefix. proof_bytes net book.entries (Different j input) ≡ [])
       go None = tt
       go (Some prefix) = refl
-  are-different Equivalent settled code = cc
-  are-different Undecided settled code = cc
+  are-different Equivalent is code = cc
+  are-different Undecided is code = cc
 
-  pub are-undecided : (kept : List Kept) → kept ≡ record { check = number; book = book } ∷ []
-      → (f : Finding) → IsSettled net sweep budget book f → IsProof net book.entries f → code_of (status_of_finding f) ≡ 2
-      → AreUndecided out budget kept (told f)
-  are-undecided kept handed Undecided settled proof code = record {
-    book = book;
-    others_kept = [];
-    handed = handed;
-    legal = settled.legal;
-    budget_is = settled.budget_is;
-    is_open = has_spent book.entries;
+  pub are-undecided : (kept : List Kept) → (f : Finding) → kept ≡ kept_of number (made f) ∷ [] → IsMade how (made f)
+      → code_of (status_of_finding f) ≡ 2 → AreUndecided how kept (told f)
+  are-undecided kept Undecided keeps is code = record {
+    finding_is = refl;
+    has = has-book how number (made Undecided) is kept keeps;
     opens = open_outputs net book.entries;
     opens_are = refl;
-    some_open = settled.finds.some_open;
-    spent = λ j below has. (spent_log book.entries j, spends-log net book settled.legal j has);
-    others = settled.means;
-    says = go out;
+    some_open = is.settled.finds.some_open;
+    spent = λ j below has. (spent_log book.entries j, spends-log net book is.settled.legal j has);
+    shown = is.settled.finds.others;
+    others = is.settled.means;
+    says = go how.out;
   }
     where
       logs : All (HasLog net book (numbered 1 (derivation_of net book.entries))) (spans_of net book.entries)
-      logs = spans-logs net book settled.legal proof.1
+      logs = spans-logs net book is.settled.legal is.proof.1
 
-      go : (o : Option (List ℕ))
-          → SaysOpen o book (open_outputs net book.entries) (told_of o number (record { net = net; book = book; finding = Undecided }))
+      go : (o : Option (List ℕ)) → SaysOpen o book (open_outputs net book.entries) (told_of o number (made Undecided))
       go None = refl
       go (Some prefix) = record {
         lines = numbered 1 (derivation_of net book.entries);
-        spells = proof.0.spells;
-        derives = proof.0.derives;
+        spells = is.proof.0.spells;
+        derives = is.proof.0.derives;
         written = steps-numbered 1 (derivation_of net book.entries);
         spans = spans_of net book.entries;
-        outputs = proof.1.outputs;
+        outputs = is.proof.1.outputs;
         logs = logs;
         says = refl;
       }
-  are-undecided kept handed Equivalent settled proof code = cc
-  are-undecided kept handed (Different j input) settled proof code = cc
+  are-undecided kept Equivalent keeps is code = cc
+  are-undecided kept (Different j input) keeps is code = cc
 
 -- ---- the check that was made
 
@@ -249,23 +246,24 @@ module _ (c : CheckCommand) (old new : DeskState) (status : Status) (kept : List
   shows : (Holds : Told → Type 0) (code : ℕ) → code_of status ≡ code → code < 4
       → ((m : Made) → IsMade (how_of c) m → kept ≡ kept_of 0 m ∷ [] → code_of (status_of_finding m.finding) ≡ code
       → Holds (told_of c.out 0 m))
-      → Shows (OfFiles c.a c.b c.out Holds) old new
+      → Shows (OfFiles c kept Holds) old new
   shows Holds code is below holds before earlier told heard =
       let p = verdict-ends (omega (arith, is, below)) in
       let o = only-check (how_of c) p.net (at_start c old) new status kept p.ends in
       let alike : AreAlike c old o.check.net = subst (λ (n : AigPair). AreAlike c old n) (sym o.same) p.pair in
-      left-check (at_start c old) new before earlier told heard c.out o.check o.whole old refl (OfFiles c.a c.b c.out Holds)
-      (of-files c.a c.b c.out Holds before o.check (spells-pair c old before told o.check.net alike)
-      (holds o.check o.is_made o.keeps (ap code_of o.status_is ∙ is)))
+      left-check (at_start c old) new before earlier told heard c.out o.check o.whole old refl refl (OfFiles c kept Holds)
+      (of-files c kept Holds before o.check (spells-pair c old before told o.check.net alike)
+      (holds o.check o.is_made o.keeps (ap code_of o.status_is ∙ is))
+      (hands-back (how_of c) 0 o.check o.is_made kept o.keeps))
 
-  pub equivalent : code_of status ≡ 0 → Shows (IsEquivalent c.a c.b c.out) old new
+  pub equivalent : code_of status ≡ 0 → Shows (IsEquivalent c kept) old new
   equivalent is = shows (AreEquivalent c.out) 0 is (omega arith)
-      (λ m made kept_is code. are-equivalent c.out 0 m.net c.sweep_budget c.budget m.book m.finding made.settled made.proof code)
+      (λ m made keeps code. are-equivalent (how_of c) 0 m.net m.book m.finding made code)
 
-  pub different : code_of status ≡ 1 → Shows (IsDifferent c.a c.b c.out) old new
+  pub different : code_of status ≡ 1 → Shows (IsDifferent c kept) old new
   different is = shows (AreDifferent c.out) 1 is (omega arith)
-      (λ m made kept_is code. are-different c.out 0 m.net c.sweep_budget c.budget m.book m.finding made.settled code)
+      (λ m made keeps code. are-different (how_of c) 0 m.net m.book m.finding made code)
 
-  pub undecided : code_of status ≡ 2 → Shows (IsUndecided c.a c.b c.out c.budget kept) old new
-  undecided is = shows (AreUndecided c.out c.budget kept) 2 is (omega arith)
-      (λ m made kept_is code. are-undecided c.out 0 m.net c.sweep_budget c.budget m.book kept kept_is m.finding made.settled made.proof code)
+  pub undecided : code_of status ≡ 2 → Shows (IsUndecided c kept) old new
+  undecided is = shows (AreUndecided (how_of c) kept) 2 is (omega arith)
+      (λ m made keeps code. are-undecided (how_of c) 0 m.net m.book kept m.finding keeps made code)

@@ -6,7 +6,8 @@ use Rattle.desk_port.specs.Desk.{Files, DeskState}
 use Rattle.endings.specs.declared.status.Status.{Status}
 use Rattle.endings.specs.declared.status.Status.TheVariants as ends
 use Rattle.endings.specs.Status.{code_of}
-use Rattle.endings.specs.Stops.{EndsBy}
+use Rattle.endings.specs.declared.stop.Stop.{Stop}
+use Rattle.endings.specs.Stops.{EndsBy, Warns, status_of, stop_line}
 use Rattle.lrat_run.specs.Answers.{AnswersLrat}
 use Rattle.endings.specs.Reading.{FileIs}
 use Rattle.command_line.specs.Words.{CheckCommand, LratCommand, SelfCommand, Request, CheckIt, LratIt, SelfIt, Asks, WantInfo, AreRefused, Outcome, Requested, NamesNoKind}
@@ -40,10 +41,18 @@ self_or d (CheckIt c) = d
 self_or d (LratIt c) = d
 self_or d (SelfIt c) = c
 
+-- what ends before it is known what the words ask for ends for want of memory
+once-code : (old new : DeskState) (status : Status) → EndsBy [] (IsAtOnce old) new status → code_of status ≡ 7
+once-code old new status p = go p.warns
+  where
+    go : Warns (stop_line [] p.stop) (status_of p.stop) p.mid new status → code_of status ≡ 7
+    go (inl w) = ap code_of w.0 ∙ ap (λ (s : Stop). code_of (status_of s)) p.cause.0
+    go (inr w) = ap code_of w.0
+
 module _ (words : List (List ℕ)) (old new : DeskState) (status : Status) (kept : List Kept)
     (asked : (words : List (List ℕ)) (r : Request) → Asks words r → ¬ (WantInfo words ⊎ AreRefused words))
     (answers : Answers words old new status kept) where
-  pub answers-check : (c : CheckCommand) → Asks words (CheckIt c) → code_of status < 4 → AnswersCheck c old new status kept
+  pub answers-check : (c : CheckCommand) → Asks words (CheckIt c) → code_of status < 7 → AnswersCheck c old new status kept
   answers-check c asks below = elim answers [
     | inl p ↦
         let same : p.command ≡ c = ap (check_or c) (same_request words (CheckIt p.command) (CheckIt c) p.asked asks) in
@@ -52,7 +61,7 @@ module _ (words : List (List ℕ)) (old new : DeskState) (status : Status) (kept
     | inr (inr (inl p)) ↦ let t : SelfIt p.command ≡ CheckIt c = same_request words (SelfIt p.command) (CheckIt c) p.asked asks in cc
     | inr (inr (inr (inl p))) ↦ absurd (asked words (CheckIt c) asks (inl p.wanted))
     | inr (inr (inr (inr (inl p)))) ↦ absurd (asked words (CheckIt c) asks (inr p.refused))
-    | inr (inr (inr (inr (inr p)))) ↦ absurd (omega (arith, below, ends-code _ _ new status p.ends))
+    | inr (inr (inr (inr (inr p)))) ↦ absurd (omega (arith, below, once-code old new status p.ends))
   ]
 
   pub answers-lrat : (c : LratCommand) → Asks words (LratIt c) → code_of status < 4 → AnswersLrat c.cnf c.proof old new status
@@ -98,6 +107,7 @@ verified c old new ends.Done p code before earlier told heard = record {
   left = ap (λ (s : DeskState). s.files) p.says ∙ told;
   heard = ap (λ (s : DeskState). s.said) p.says ∙ ap (option_map (λ x. x ++ codes "VERIFIED\n")) heard;
   quiet = ap (λ (s : DeskState). s.warned) p.says;
+  closed = λ none. ap (λ (s : DeskState). s.started) p.says ∙ none;
   promise = record {
     formula = p.judged.formula;
     lines = p.judged.lines;

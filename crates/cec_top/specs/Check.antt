@@ -127,11 +127,16 @@ KeepsOn stop kept all = kept ≡ all
 
 -- ---- the checks that are asked for
 
--- What is asked for: the circuits of the checks, in order, and the text of a line behind the last of them that is refused, if
--- there is one.
+-- a line that is refused: which of the files that are read has it, and the text of its fault
+pub record Refused : Type 0 where
+  pub file : ℕ
+  pub text : List ℕ
+
+-- What is asked for: the circuits of the checks, in order, and a line behind the last of them that is refused, if there is
+-- one.
 pub record Plan : Type 0 where
   pub checks : List AigPair
-  pub refused : Option (List ℕ)
+  pub refused : Option Refused
 
 -- of the checks that are asked for these are made and told, each whole before the next, and the others aren't begun
 pub record GoesOn (how : How) (plan : Plan) (old : DeskState) (made : List Made) (others : List AigPair) (new : DeskState) : Type 0 where
@@ -166,18 +171,18 @@ pub record RunsOut (how : How) (plan : Plan) (old new : DeskState) (kept : List 
   pub before : GoesOn how plan old made others new
   pub keeps : AreSome kept (kept_from 0 made)
 
--- the text is that of a fault of a file
-abbrev pub SaysFault : List ℕ → Stop → Type 0
-SaysFault text (BadFile file why) = string_bytes why ≡ text
-SaysFault text stop = ⊥
+-- the cause is the fault of that line, in its file
+abbrev pub SaysFault : Refused → Stop → Type 0
+SaysFault line (BadFile file why) = (file ≡ line.file) × (string_bytes why ≡ line.text)
+SaysFault line stop = ⊥
 
 -- all checks are made and told, and the line behind them is refused
 pub record RefusesLine (how : How) (plan : Plan) (old new : DeskState) (kept : List Kept) (stop : Stop) : Type 0 where
   pub made : List Made
   pub whole : GoesOn how plan old made [] new
-  pub text : List ℕ
-  pub refused : plan.refused ≡ Some text
-  pub stop_is : SaysFault text stop
+  pub line : Refused
+  pub refused : plan.refused ≡ Some line
+  pub stop_is : SaysFault line stop
   pub keeps : kept ≡ kept_from 0 made
 
 -- why the checks end without the last verdict, or with more than it

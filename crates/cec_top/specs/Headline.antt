@@ -1,7 +1,7 @@
 -- What each verdict promises: of the files that the arguments name, of the circuits that they spell, of the files that are
 -- left, and of what is said. `before` and `after` are what the file system holds, by names, before and after the run.
-use Rattle.std.specs.Prelude.{◌≡◌, ◌≢◌, ◌↔◌, ℕ, ◌+◌, ◌<◌, Bool, true, false, All, List, [], ◌∷◌, ◌++◌, length, map, filter, codes, Option, None, Some, IfSome, IsSomeAnd}
-use Rattle.std.specs.List.{AllByRecursion, flat_map, range_with_len}
+use Rattle.std.specs.Prelude.{◌≡◌, ◌≢◌, ◌↔◌, ◌⊎◌, ℕ, ◌+◌, ◌<◌, Bool, true, false, All, Contains, List, [], ◌∷◌, ◌++◌, length, map, filter, codes, Option, None, Some, IfSome, IsSomeAnd}
+use Rattle.std.specs.List.{AllByRecursion, flat_map}
 use Rattle.lits.specs.Assignment.{IsSatisfiable}
 use Rattle.lits.specs.Same.{opposite_dim}
 use Rattle.lits.specs.declared.step.Step.{Step}
@@ -13,7 +13,7 @@ use Rattle.dimacs_text.specs.Reading.{SpellsCnf}
 use Rattle.aiger_file.specs.File.{SpellsAiger}
 use Rattle.lemma_book.specs.declared.entry.Entry.{Entry}
 use Rattle.lemma_book.specs.declared.entry.Entry.TheVariants.{OutSpent}
-use Rattle.lemma_book.specs.Entry.{Entries}
+use Rattle.lemma_book.specs.Entry.{Entries, has_out, has_spent, outputs_of}
 use Rattle.lemma_book.specs.Good.{IsGood}
 use Rattle.lemma_book.specs.Book.{IsLegal}
 use Rattle.lrat_text.specs.declared.step.Line.{Line}
@@ -23,19 +23,25 @@ use Rattle.proof_stitch.specs.Steps.{additions_from}
 use Rattle.proof_stitch.specs.Written.{shown_ids}
 use Rattle.proof_stitch.specs.Derivation.{derivation_of, with_ids}
 use Rattle.proof_stitch.specs.declared.logs.Span.{Span}
+use Rattle.sig_classes.specs.Leader.{IsSwept}
+use Rattle.check_session.specs.Finding.{Finding, Equivalent, Different, Undecided, Finds}
 use Rattle.check_session.specs.Files.{cnf_name, proof_name, cnf_text_of}
-use Rattle.command_line.specs.Words.{LratCommand, SelfCommand}
+use Rattle.command_line.specs.Words.{CheckCommand, LratCommand, SelfCommand}
 use Rattle.workload_gen.specs.Workload.{first_bytes, second_bytes}
 use Rattle.cec_top.specs.declared.kept.Kept.{Kept}
+use Rattle.cec_top.specs.Check.{How, is_undecided}
+use Rattle.cec_top.specs.Answers.{how_of}
+use Rattle.cec_top.specs.SelfCheck.{own_how}
 use Rattle.cec_top.specs.Texts.{different_text, open_text, open_text_with, workload_text}
 
 -- ---- a check that was told
 
--- A check that was told: its number, its circuits, what was said of them, and the bytes of its proof's file, where files are
--- left.
+-- A check that was told: its number, its circuits, what was found of them and what was said, and the bytes of its proof's
+-- file, where files are left.
 pub record Told : Type 0 where
   pub number : ℕ
   pub net : AigPair
+  pub finding : Finding
   pub said : List ℕ
   pub proof : List ℕ
 
@@ -55,24 +61,16 @@ abbrev pub LeavesUnder : Option (List ℕ) → List Told → Files → Files →
 LeavesUnder None told before after = after ≡ before
 LeavesUnder (Some prefix) told before after = LeavesFiles prefix told before after
 
--- the two named files spell circuits with equally many inputs and equally many outputs
-pub record SpellPair (a b : List ℕ) (before : Files) (net : AigPair) : Type 0 where
-  pub spells_a : IsSomeAnd (before a) (λ bytes. SpellsAiger bytes net.a)
-  pub spells_b : IsSomeAnd (before b) (λ bytes. SpellsAiger bytes net.b)
-  pub inputs : length net.a.inputs ≡ length net.b.inputs
-  pub outputs : length net.a.outputs ≡ length net.b.outputs
-
--- Checks were told, one after another: check 0 of the circuits that the named files spell, and no other so far. What was said
--- is what was said of each, the files that are left are theirs, and of the last one this holds.
-pub record OfFiles (a b : List ℕ) (out : Option (List ℕ)) (Holds : Told → Type 0) (before after : Files) (said : List ℕ) : Type 0 where
-  pub net : AigPair
-  pub pair : SpellPair a b before net
-  pub earlier : List Told
-  pub last : Told
-  pub checks : map {B = ℕ × AigPair} (λ t. (t.number, t.net)) (earlier ++ last ∷ []) ≡ (0, net) ∷ []
-  pub says : said ≡ flat_map (λ t. t.said) (earlier ++ last ∷ [])
-  pub files : LeavesUnder out (earlier ++ last ∷ []) before after
-  pub holds : Holds last
+-- The book of a told check is handed back, under its number. It is legal over the check's circuits, under the budgets that
+-- were asked for, and shows what was found; where no output was found to differ it is swept.
+pub record HasBook (how : How) (kept : List Kept) (t : Told) : Type 0 where
+  pub book : Entries
+  pub handed : Contains kept (record { check = t.number; book = book })
+  pub sweep_budget : book.sweep_budget ≡ how.options.sweep_budget
+  pub out_budget : book.out_budget ≡ how.options.out_budget
+  pub legal : IsLegal t.net book
+  pub shows : Finds t.net book.entries t.finding
+  pub swept : ((j : ℕ) (input : List Bool) → t.finding ≢ Different j input) → IsSwept t.net book.entries
 
 -- ---- EQUIVALENT
 
@@ -85,13 +83,10 @@ pub record RefutesMiter (net : AigPair) (bytes : List ℕ) : Type 0 where
 
 -- the circuits agree on every input, and a proof that is left refutes that they differ
 pub record AreEquivalent (out : Option (List ℕ)) (t : Told) : Type 0 where
+  pub finding_is : t.finding ≡ Equivalent
   pub agree : Agree t.net
   pub says : t.said ≡ codes "EQUIVALENT\n"
   pub proof : IfSome out (λ prefix. RefutesMiter t.net t.proof)
-
--- EQUIVALENT: the files spell two such circuits
-abbrev pub IsEquivalent : List ℕ → List ℕ → Option (List ℕ) → Files → Files → List ℕ → Type 0
-IsEquivalent a b out = OfFiles a b out (AreEquivalent out)
 
 -- ---- DIFFERENT
 
@@ -99,13 +94,10 @@ IsEquivalent a b out = OfFiles a b out (AreEquivalent out)
 pub record AreDifferent (out : Option (List ℕ)) (t : Told) : Type 0 where
   pub output : ℕ
   pub input : List Bool
+  pub finding_is : t.finding ≡ Different output input
   pub differs : DiffersOn t.net output input
   pub says : t.said ≡ different_text output input
   pub proof : IfSome out (λ prefix. t.proof ≡ [])
-
--- DIFFERENT: the files spell two such circuits
-abbrev pub IsDifferent : List ℕ → List ℕ → Option (List ℕ) → Files → Files → List ℕ → Type 0
-IsDifferent a b out = OfFiles a b out (AreDifferent out)
 
 -- ---- UNDECIDED
 
@@ -143,31 +135,70 @@ abbrev pub SaysOpen : Option (List ℕ) → Entries → List ℕ → Told → Ty
 SaysOpen None book opens t = t.said ≡ open_text opens
 SaysOpen (Some prefix) book opens t = LeavesDerivation book opens t
 
--- for each output that is said a query spent its whole budget, and each other output has one value in both circuits, as the
--- book shows that is handed back for the check
-pub record AreUndecided (out : Option (List ℕ)) (budget : ℕ) (kept : List Kept) (t : Told) : Type 0 where
-  pub book : Entries
-  pub others_kept : List Kept
-  pub handed : kept ≡ others_kept ++ record { check = t.number; book = book } ∷ []
-  pub legal : IsLegal t.net book
-  pub budget_is : book.out_budget ≡ budget
-  pub is_open : ℕ → Bool
+-- The outputs that are said are those of which the book that is handed back for the check has an OutSpent, in order, and
+-- there are some: a query of each spent its whole budget. Of each other output the book has an Out, and it has one value in
+-- both circuits.
+pub record AreUndecided (how : How) (kept : List Kept) (t : Told) : Type 0 where
+  pub finding_is : t.finding ≡ Undecided
+  pub has : HasBook how kept t
   pub opens : List ℕ
-  pub opens_are : opens ≡ filter is_open (range_with_len 0 (length t.net.a.outputs))
+  pub opens_are : opens ≡ filter (has_spent has.book.entries) (outputs_of t.net)
   pub some_open : opens ≢ []
-  pub spent : (j : ℕ) → j < length t.net.a.outputs → is_open j ≡ true → (log : List Step) × SpendsBudget t.net book j log
-  pub others : (j : ℕ) → j < length t.net.a.outputs → is_open j ≡ false → AgreesOn t.net j
-  pub says : SaysOpen out book opens t
+  pub spent : (j : ℕ) → j < length t.net.a.outputs → has_spent has.book.entries j ≡ true
+      → (log : List Step) × SpendsBudget t.net has.book j log
+  pub shown : (j : ℕ) → j < length t.net.a.outputs → has_spent has.book.entries j ≡ false → has_out has.book.entries j ≡ true
+  pub others : (j : ℕ) → j < length t.net.a.outputs → has_spent has.book.entries j ≡ false → AgreesOn t.net j
+  pub says : SaysOpen how.out has.book opens t
 
--- UNDECIDED: the files spell two such circuits
-abbrev pub IsUndecided : List ℕ → List ℕ → Option (List ℕ) → ℕ → List Kept → Files → Files → List ℕ → Type 0
-IsUndecided a b out budget kept = OfFiles a b out (AreUndecided out budget kept)
+-- ---- the checks of a run
+
+-- whatever was found, what is said of the check is so
+abbrev pub KeepsPromise : How → List Kept → Told → Type 0
+KeepsPromise how kept t = AreEquivalent how.out t ⊎ AreDifferent how.out t ⊎ AreUndecided how kept t
+
+-- the books that are handed back are those of the checks that left outputs open, and that of the last one, in the order of
+-- the checks
+pub record HandsBack (how : How) (kept : List Kept) (earlier : List Told) (last : Told) : Type 0 where
+  pub numbers : map (λ k. k.check) kept ≡ map (λ t. t.number) (filter (λ t. is_undecided t.finding) earlier ++ last ∷ [])
+  pub of_last : HasBook how kept last
+
+-- the two named files spell circuits with equally many inputs and equally many outputs
+pub record SpellPair (a b : List ℕ) (before : Files) (net : AigPair) : Type 0 where
+  pub spells_a : IsSomeAnd (before a) (λ bytes. SpellsAiger bytes net.a)
+  pub spells_b : IsSomeAnd (before b) (λ bytes. SpellsAiger bytes net.b)
+  pub inputs : length net.a.inputs ≡ length net.b.inputs
+  pub outputs : length net.a.outputs ≡ length net.b.outputs
+
+-- Checks were told, one after another: check 0 of the circuits that the named files spell, and no other so far. What was said
+-- is what was said of each, the files that are left are theirs, each earlier one keeps the promise of what was said of it, and
+-- of the last one this holds.
+pub record OfFiles (c : CheckCommand) (kept : List Kept) (Holds : Told → Type 0) (before after : Files) (said : List ℕ) : Type 0 where
+  pub net : AigPair
+  pub pair : SpellPair c.a c.b before net
+  pub earlier : List Told
+  pub last : Told
+  pub checks : map {B = ℕ × AigPair} (λ t. (t.number, t.net)) (earlier ++ last ∷ []) ≡ (0, net) ∷ []
+  pub says : said ≡ flat_map (λ t. t.said) (earlier ++ last ∷ [])
+  pub files : LeavesUnder c.out (earlier ++ last ∷ []) before after
+  pub promises : AllByRecursion (KeepsPromise (how_of c) kept) earlier
+  pub holds : Holds last
+  pub books : HandsBack (how_of c) kept earlier last
+
+-- EQUIVALENT, DIFFERENT, UNDECIDED: the files spell circuits of which that is so
+abbrev pub IsEquivalent : CheckCommand → List Kept → Files → Files → List ℕ → Type 0
+IsEquivalent c kept = OfFiles c kept (AreEquivalent c.out)
+
+abbrev pub IsDifferent : CheckCommand → List Kept → Files → Files → List ℕ → Type 0
+IsDifferent c kept = OfFiles c kept (AreDifferent c.out)
+
+abbrev pub IsUndecided : CheckCommand → List Kept → Files → Files → List ℕ → Type 0
+IsUndecided c kept = OfFiles c kept (AreUndecided (how_of c) kept)
 
 -- ---- the same of two circuits that the program makes
 
 -- check 0 is told, of the circuits that the generator's bytes spell, behind the lines that tell of them; no file is another,
 -- and of the check this holds
-pub record OfWorkload (c : SelfCommand) (Holds : Told → Type 0) (before after : Files) (said : List ℕ) : Type 0 where
+pub record OfWorkload (c : SelfCommand) (kept : List Kept) (Holds : Told → Type 0) (before after : Files) (said : List ℕ) : Type 0 where
   pub check : Told
   pub number_is : check.number ≡ 0
   pub spells_a : SpellsAiger (first_bytes c.kind c.n) check.net.a
@@ -175,6 +206,7 @@ pub record OfWorkload (c : SelfCommand) (Holds : Told → Type 0) (before after 
   pub says : said ≡ workload_text c check.net ++ check.said
   pub files : after ≡ before
   pub holds : Holds check
+  pub books : HandsBack own_how kept [] check
 
 -- ---- VERIFIED
 
@@ -191,13 +223,15 @@ pub record IsVerified (c : LratCommand) (before after : Files) (said : List ℕ)
 
 -- ---- what a run shows
 
--- what a run left and said, from these files and from what had been said earlier; nothing was warned
+-- what a run left and said, from these files and from what had been said earlier; nothing was warned, and no file is left
+-- started, if none was
 pub record Left (Promise : Files → Files → List ℕ → Type 0) (old new : DeskState) (before : Files) (earlier : List ℕ) : Type 0 where
   pub after : Files
   pub said : List ℕ
   pub left : new.files ≡ Some after
   pub heard : new.said ≡ Some (earlier ++ said)
   pub quiet : new.warned ≡ old.warned
+  pub closed : old.started ≡ None → new.started ≡ None
   pub promise : Promise before after said
 
 -- the promise is kept wherever the desk tells its files and what was said

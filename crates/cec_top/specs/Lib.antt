@@ -6,3 +6,4 @@ pub mod SelfCheck
 pub mod Answers
 pub mod Steps
 pub mod Complete
+pub mod Refused

@@ -2,6 +2,9 @@
 use Rattle.std.specs.Prelude.{ℕ, List, ◌++◌, codes, decimal, encode_utf8}
 use Rattle.byte_scan.specs.declared.errors.AigerErr.{AigerErr}
 use Rattle.byte_scan.specs.declared.errors.AigerErr.TheVariants as aiger
+use Rattle.lits.specs.declared.node.Side.TheVariants.{A, B}
+use Rattle.netlist.specs.declared.port.Port.{Port}
+use Rattle.netlist.specs.declared.port.Port.TheVariants as port
 use Rattle.netlist.specs.declared.unlike.Unlike.{Unlike}
 use Rattle.netlist.specs.declared.unlike.Unlike.TheVariants as unlike
 
@@ -21,8 +24,18 @@ aiger_text (aiger.Truncated at) = codes "ends too early at byte " ++ decimal at
 aiger_text (aiger.BadSymbol at) = codes "bad symbol line at byte " ++ decimal at
 aiger_text aiger.NoMemory = codes "out of memory"
 
+-- an input or an output, before its index
+abbrev pub port_text : Port → List ℕ
+port_text port.Input = codes "input "
+port_text port.Output = codes "output "
+
 -- two circuits that can't be compared
 unfoldable pub unlike_text : Unlike → List ℕ
 unlike_text (unlike.Inputs a b) = codes "inputs " ++ decimal a ++ codes " and " ++ decimal b ++ codes " differ"
 unlike_text (unlike.Outputs a b) = codes "outputs " ++ decimal a ++ codes " and " ++ decimal b ++ codes " differ"
+unlike_text (unlike.NoName A port k) = port_text port ++ decimal k ++ codes " of a has no name"
+unlike_text (unlike.NoName B port k) = port_text port ++ decimal k ++ codes " of b has no name"
+unlike_text (unlike.Doubled A port k) = port_text port ++ decimal k ++ codes " of a has the name of an earlier one"
+unlike_text (unlike.Doubled B port k) = port_text port ++ decimal k ++ codes " of b has the name of an earlier one"
+unlike_text (unlike.Missing port k) = port_text port ++ decimal k ++ codes " of a is missing in b"
 unlike_text unlike.NoMemory = codes "out of memory"

@@ -14,7 +14,7 @@ use Rattle.cec_top.specs.declared.kept.Kept.{Kept}
 use Rattle.cec_top.specs.Check.{How, Plan, Ends, StopsChecks}
 use Rattle.cec_top.specs.Texts.{workload_text}
 
--- how it is made: under the numbers of a check without an option, whatever files that names, and no file is left
+-- how it is made: under the numbers of a check without an option; no file is left
 abbrev pub own_how : How
 own_how = record {
   options = record { seed = 1; words = 4; sweep_budget = 100; out_budget = 100000 };

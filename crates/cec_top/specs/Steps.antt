@@ -18,7 +18,7 @@ use Rattle.check_session.specs.declared.verdict.Verdict.TheVariants as verdict
 use Rattle.check_session.specs.Outputs.{ListsOpen, finding_of}
 use Rattle.check_session.specs.Check.{State}
 use Rattle.cec_top.specs.declared.kept.Kept.{Kept}
-use Rattle.cec_top.specs.Check.{How, Made, IsMade, Tells, AreTold, status_of_finding, kept_of, kept_from}
+use Rattle.cec_top.specs.Check.{How, Made, IsMade, Tells, AreTold, status_of_finding, kept_from}
 use Rattle.cec_top.specs.SelfCheck.{AreWorkload, own_how}
 use Rattle.cec_top.specs.Answers.{AreAlike, AreUnlike, SaysHelp, IsAtOnce, pair_of, after_pair, how_of}
 
@@ -55,14 +55,18 @@ how_in s out = record { options = s.options; out = out }
 abbrev pub made_in : State → Verdict → Made
 made_in s v = record { net = s.net; book = s.book; finding = finding_of v }
 
--- the session's pair is settled, and the book joins those that are kept
-pub record Decides (number : ℕ) (s t : State) (before after : List Kept) (v : Verdict) : Type 0 where
+-- the session's pair is settled
+pub record Settles (s t : State) (v : Verdict) : Type 0 where
   pub net_is : t.net ≡ s.net
   pub options_are : t.options ≡ s.options
   pub found_is : t.found ≡ Some (finding_of v)
   pub open_are : ListsOpen t.net t.book.entries v
   pub is_made : (out : Option (List ℕ)) → IsMade (how_in t out) (made_in t v)
-  pub keeps : after ≡ before ++ kept_of number (made_in t v) ∷ []
+
+-- the check is told whole, and the status is that of its verdict; or in part
+abbrev pub TellsStatus : How → ℕ → Made → DeskState → DeskState → Result Status Stop → Type 0
+TellsStatus how number m old new (Ok status) = Tells how number m old new (Ok tt) × (status ≡ status_of_finding m.finding)
+TellsStatus how number m old new (Err stop) = Tells how number m old new (Err stop)
 
 -- memory ran out, and nothing was told or kept
 pub record NotMade (old new : DeskState) (before after : List Kept) (stop : Stop) : Type 0 where

@@ -1,9 +1,9 @@
-ghost use Rattle.std.specs.Prelude.{◌≡◌, None, IfOk, IfErr, option_map};
+ghost use Rattle.std.specs.Prelude.{◌≡◌, None, Some, IfOk, IfErr, option_map};
 ghost use Rattle.endings.specs.declared.stop.Stop.TheVariants.{OutOfMemory};
 ghost use Rattle.check_session.specs.Files.{stop_of_stitch};
-ghost use Rattle.check_session.specs.Outputs.{finding_of};
+ghost use Rattle.check_session.specs.Outputs.{ListsOpen, finding_of};
 ghost use Rattle.cec_top.specs.Check.{status_of_finding};
-ghost use Rattle.cec_top.specs.Steps.{Checks, Decides, how_in};
+ghost use Rattle.cec_top.specs.Steps.{Checks, Settles, TellsStatus, how_in, made_in};
 
 use crate::kept::Kept;
 use crate::laws::proves;
@@ -17,7 +17,8 @@ use std::sync::Wait;
 use std::thread::Threads;
 
 /// Makes the check with this number, of a session's pair as it is: settles it, leaves its files if there is
-/// a prefix for them, and says its verdict. Once it has its verdict its book is kept.
+/// a prefix for them, and says its verdict. Once it has its verdict its book is kept: it is taken out of the
+/// session, since no later check goes on from it.
 pub(crate) fn check<D: Desk, G: Gate + Sync>(
     rt: &(impl Threads + Wait),
     alloc: Global,
@@ -32,39 +33,56 @@ pub(crate) fn check<D: Desk, G: Gate + Sync>(
     ensures { Checks (how_in session.old (option_map (λ s. s.now) out.entry)) number session.old.net
         (D.state desk.old) (D.state desk.new) kept.old.items kept.new.items result }
 {
-    let verdict = decide(rt, alloc, gate, session, number, kept)?;
-    let text = match out {
-        None => plain_text(alloc, &verdict)?,
-        Some(prefix) => match session.write(alloc, desk, prefix, number) {
-            Ok(spans) => text_with_lines(alloc, spans.as_slice(), &verdict)?,
-            Err(fault) => return Err(stop_of(fault)),
-        },
-    };
-    say(desk, text.as_slice())?;
-    Ok(status_of(&verdict))
+    kept.reserve(1)?;
+    let verdict = settle(rt, alloc, gate, session)?;
+    let told = tell(alloc, desk, session, &verdict, out, number);
+    kept.push_reserved(Kept {
+        check: number,
+        book: session.take_book(alloc),
+    });
+    told
 }
 
-/// Settles a session's pair, and keeps the book of that check, which has this number.
-fn decide<G: Gate + Sync>(
+/// Settles a session's pair.
+fn settle<G: Gate + Sync>(
     rt: &(impl Threads + Wait),
     alloc: Global,
     gate: &G,
     session: &mut Session,
-    number: u64,
-    kept: &mut Vec<Kept>,
 ) -> Result<Verdict, Stop>
-    ensures ok { IfOk result (Decides number session.old session.new kept.old.items kept.new.items) }
-    ensures err { IfErr result (λ stop. (stop ≡ OutOfMemory) × (kept.new.items ≡ kept.old.items)) }
+    ensures ok { IfOk result (Settles session.old session.new) }
+    ensures err { IfErr result (λ stop. stop ≡ OutOfMemory) }
 {
-    kept.reserve(1)?;
     let verdict = session.check(rt, alloc, gate)?;
-    let book = session.book().copy(alloc)?;
     proves(session.net(), session.book());
-    kept.push_reserved(Kept {
-        check: number,
-        book,
-    });
     Ok(verdict)
+}
+
+/// Leaves the files of the session's last check, which has this number, if there is a prefix for them, and
+/// says its verdict.
+fn tell<D: Desk>(
+    alloc: Global,
+    desk: &mut D,
+    session: &Session,
+    verdict: &Verdict,
+    out: Option<&str>,
+    number: u64,
+) -> Result<Status, Stop>
+    requires started { (D.state desk.old).started ≡ None }
+    requires found { session.now.found ≡ Some (finding_of verdict.now) }
+    requires open { ListsOpen session.now.net session.now.book.entries verdict.now }
+    ensures { TellsStatus (how_in session.now (option_map (λ s. s.now) out.entry)) number
+        (made_in session.now verdict.now) (D.state desk.old) (D.state desk.new) result }
+{
+    let text = match out {
+        None => plain_text(alloc, verdict)?,
+        Some(prefix) => match session.write(alloc, desk, prefix, number) {
+            Ok(spans) => text_with_lines(alloc, spans.as_slice(), verdict)?,
+            Err(fault) => return Err(stop_of(fault)),
+        },
+    };
+    say(desk, text.as_slice())?;
+    Ok(status_of(verdict))
 }
 
 /// What ends the program where a check's files can't be left.

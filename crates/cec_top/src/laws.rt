@@ -1,6 +1,6 @@
 //! What a run promises, each law the contract of a function that does nothing when it runs.
-ghost use Rattle.std.specs.Prelude.{◌≡◌, ◌≢◌, ℕ, List, None};
-ghost use Rattle.desk_port.specs.Desk.{DeskState};
+ghost use Rattle.std.specs.Prelude.{◌≡◌, ◌≢◌, ◌≤◌, ◌⊎◌, ℕ, List, None, Some};
+ghost use Rattle.desk_port.specs.Desk.{DeskState, Files};
 ghost use Rattle.endings.specs.Status.{code_of};
 ghost use Rattle.endings.specs.declared.status.Status.{Status};
 ghost use Rattle.command_line.specs.Words.{CheckCommand, LratCommand, SelfCommand, CheckIt, LratIt, SelfIt, Asks};
@@ -12,6 +12,7 @@ ghost use Rattle.cec_top.specs.Check.{IsProof};
 ghost use Rattle.cec_top.specs.Complete.{CanCheck, CanVerify, NoFault, IsAmple, HasVerdict};
 ghost use Rattle.cec_top.specs.Headline.{IsEquivalent, IsDifferent, IsUndecided, IsVerified, Shows};
 ghost use Rattle.cec_top.specs.Headline.{AreEquivalent, AreDifferent, AreUndecided, OfWorkload};
+ghost use Rattle.cec_top.specs.Refused.{Refuses};
 ghost use Rattle.cec_top.specs.SelfCheck.{own_how};
 
 use lemma_book::Book;
@@ -22,35 +23,40 @@ pub fn verdicts()
     ensures equivalent { (words : List (List ℕ)) (c : CheckCommand)
         (old new : DeskState) (status : Status) (kept : List Kept) →
         Asks words (CheckIt c) → Answers words old new status kept
-        → code_of status ≡ 0 → Shows (IsEquivalent c.a c.b c.out) old new }
+        → code_of status ≡ 0 → Shows (IsEquivalent c kept) old new }
     ensures different { (words : List (List ℕ)) (c : CheckCommand)
         (old new : DeskState) (status : Status) (kept : List Kept) →
         Asks words (CheckIt c) → Answers words old new status kept
-        → code_of status ≡ 1 → Shows (IsDifferent c.a c.b c.out) old new }
+        → code_of status ≡ 1 → Shows (IsDifferent c kept) old new }
     ensures undecided { (words : List (List ℕ)) (c : CheckCommand)
         (old new : DeskState) (status : Status) (kept : List Kept) →
         Asks words (CheckIt c) → Answers words old new status kept
-        → code_of status ≡ 2 → Shows (IsUndecided c.a c.b c.out c.budget kept) old new }
+        → code_of status ≡ 2 → Shows (IsUndecided c kept) old new }
     ensures verified { (words : List (List ℕ)) (c : LratCommand)
         (old new : DeskState) (status : Status) (kept : List Kept) →
         Asks words (LratIt c) → Answers words old new status kept
         → code_of status ≡ 0 → Shows (IsVerified c) old new }
+
+    // What is warned where a file, or the pair, is refused: `specs/Refused.antt`.
+    ensures refused { (words : List (List ℕ)) (c : CheckCommand)
+        (old new : DeskState) (status : Status) (kept : List Kept) (before : Files) →
+        Asks words (CheckIt c) → Answers words old new status kept
+        → code_of status ≡ 4 → old.files ≡ Some before → Refuses c old new kept before }
 
     // The same of two circuits that the program makes: no file is left, and the budgets are those of a
     // check without an option.
     ensures own_equivalent { (words : List (List ℕ)) (c : SelfCommand)
         (old new : DeskState) (status : Status) (kept : List Kept) →
         Asks words (SelfIt c) → Answers words old new status kept
-        → code_of status ≡ 0 → Shows (OfWorkload c (AreEquivalent None)) old new }
+        → code_of status ≡ 0 → Shows (OfWorkload c kept (AreEquivalent None)) old new }
     ensures own_different { (words : List (List ℕ)) (c : SelfCommand)
         (old new : DeskState) (status : Status) (kept : List Kept) →
         Asks words (SelfIt c) → Answers words old new status kept
-        → code_of status ≡ 1 → Shows (OfWorkload c (AreDifferent None)) old new }
+        → code_of status ≡ 1 → Shows (OfWorkload c kept (AreDifferent None)) old new }
     ensures own_undecided { (words : List (List ℕ)) (c : SelfCommand)
         (old new : DeskState) (status : Status) (kept : List Kept) →
         Asks words (SelfIt c) → Answers words old new status kept
-        → code_of status ≡ 2
-        → Shows (OfWorkload c (AreUndecided None own_how.options.out_budget kept)) old new }
+        → code_of status ≡ 2 → Shows (OfWorkload c kept (AreUndecided own_how kept)) old new }
 {
     command_line::words_are_one_of();
 }
@@ -70,6 +76,12 @@ pub fn completeness()
         (old new : DeskState) (status : Status) (kept : List Kept) →
         Asks words (SelfIt c) → Answers words old new status kept
         → NoFault old new → HasVerdict status }
+
+    // It reads no file, so no status tells of one.
+    ensures own_files { (words : List (List ℕ)) (c : SelfCommand)
+        (old new : DeskState) (status : Status) (kept : List Kept) →
+        Asks words (SelfIt c) → Answers words old new status kept
+        → (code_of status ≤ 2) ⊎ (6 ≤ code_of status) }
 
     // No output is left open where the budget is greater than the number of clauses that can be learned.
     ensures decided { (words : List (List ℕ)) (c : CheckCommand)

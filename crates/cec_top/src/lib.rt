@@ -3,8 +3,9 @@
 //! `run` reads two circuits, checks them, writes the CNF of their miter beside a proof and says the verdict;
 //! or it makes two circuits itself and checks those; or it checks such a proof. What each verdict promises
 //! is on one page, `specs/Headline.antt`, and `laws::verdicts` shows it from the contract of `run`, which
-//! says what each status means: `specs/Answers.antt`. When a run has to come to a verdict is in
-//! `specs/Complete.antt`, and `laws::completeness` shows it.
+//! says what each status means: `specs/Answers.antt`. What is warned of a file that is refused is in
+//! `specs/Refused.antt`, by the same law. When a run has to come to a verdict is in `specs/Complete.antt`,
+//! and `laws::completeness` shows it.
 //!
 //! Definitions on which the answers stand: `specs/Check.antt` (one check, from what it found to its files
 //! and its verdict, and checks one after another), `specs/SelfCheck.antt` (that of two circuits that the

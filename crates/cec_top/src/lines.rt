@@ -1,9 +1,10 @@
 ghost use Rattle.std.specs.Prelude.{◌≡◌, ◌++◌, IfOk, string_bytes, codes, decimal, encode_utf8};
-ghost use Rattle.cec_top.specs.Lines.{aiger_text, unlike_text};
+ghost use Rattle.cec_top.specs.Lines.{aiger_text, port_text, unlike_text};
 
 use byte_scan::AigerErr;
 use itoa::Buffer;
-use netlist::Unlike;
+use lits::Side;
+use netlist::{Port, Unlike};
 use std::alloc::{AllocError, Global};
 
 /// The text of a fault of an AIGER file.
@@ -62,7 +63,26 @@ pub(crate) fn unlike_fault(alloc: Global, fault: Unlike) -> Result<String, Alloc
     match fault {
         Unlike::Inputs(a, b) => differing(alloc, "inputs ", a, b),
         Unlike::Outputs(a, b) => differing(alloc, "outputs ", a, b),
+        Unlike::NoName(Side::A, port, k) => port_fault(alloc, port, k, " of a has no name"),
+        Unlike::NoName(Side::B, port, k) => port_fault(alloc, port, k, " of b has no name"),
+        Unlike::Doubled(Side::A, port, k) => {
+            port_fault(alloc, port, k, " of a has the name of an earlier one")
+        }
+        Unlike::Doubled(Side::B, port, k) => {
+            port_fault(alloc, port, k, " of b has the name of an earlier one")
+        }
+        Unlike::Missing(port, k) => port_fault(alloc, port, k, " of a is missing in b"),
         Unlike::NoMemory => String::from_str(alloc, "out of memory"),
+    }
+}
+
+/// What is wrong with the name of an input or output.
+fn port_fault(alloc: Global, port: Port, k: u32, words: &str) -> Result<String, AllocError>
+    ensures { IfOk result (λ s. string_bytes s ≡ port_text port ++ decimal k ++ words.now) }
+{
+    match port {
+        Port::Input => around(alloc, "input ", u64::from(k), words),
+        Port::Output => around(alloc, "output ", u64::from(k), words),
     }
 }
 

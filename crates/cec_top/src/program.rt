@@ -1,4 +1,5 @@
-ghost use Rattle.std.specs.Prelude.{◌≡◌, None, map, string_bytes};
+ghost use Rattle.std.specs.Prelude.{◌≡◌, ◌<◌, None, map, string_bytes};
+ghost use Rattle.endings.specs.Status.{code_of};
 ghost use Rattle.command_line.specs.Answers.{check_texts, self_texts};
 ghost use Rattle.cec_top.specs.Answers.{Answers, AnswersCheck, SaysHelp};
 ghost use Rattle.cec_top.specs.SelfCheck.{AnswersSelf};
@@ -28,8 +29,11 @@ pub fn run<D: Desk, G: Gate + Sync>(
     gate: &G,
 ) -> (Status, Vec<Kept>)
     requires { (D.state desk.old).started ≡ None }
-    ensures { Answers (map string_bytes words.now) (D.state desk.old)
+    ensures answers { Answers (map string_bytes words.now) (D.state desk.old)
         (D.state desk.new) result.0 result.1.items }
+
+    // Only where a write failed or memory ran out may a file be left started.
+    ensures closed { code_of result.0 < 6 → (D.state desk.new).started ≡ None }
 {
     match command_line::read(alloc, words) {
         Ok(Asked::Check(words)) => check_files(rt, alloc, desk, gate, words),

@@ -1,5 +1,6 @@
 use Rattle.std.proofs.Common.{arith}
 use Rattle.cec_top.proofs.VerdictLemmas.{equivalent, different, undecided}
+use Rattle.cec_top.proofs.RefusedLemmas.{refuses}
 use Rattle.cec_top.proofs.OwnVerdictLemmas.{own-equivalent, own-different, own-undecided}
 use Rattle.cec_top.proofs.WordsLemmas.{answers-check, answers-lrat, answers-self, verified}
 use Rattle.cec_top.proofs.laws.verdicts.Goals as goal
@@ -35,3 +36,8 @@ returns-clause-own_different call = λ words c old new status kept asks answers 
 pub returns-clause-own_undecided : goal.returns-clause-own_undecided
 returns-clause-own_undecided call = λ words c old new status kept asks answers code.
     own-undecided c old new status kept (answers-self words old new status kept call.words_are_one_of.ensures.asked answers c asks) code
+
+pub returns-clause-refused : goal.returns-clause-refused
+returns-clause-refused call = λ words c old new status kept before asks answers code told.
+    refuses c old before told kept new status
+    (answers-check words old new status kept call.words_are_one_of.ensures.asked answers c asks (omega (arith, code))) code

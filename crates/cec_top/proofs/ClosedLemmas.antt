@@ -1,0 +1,177 @@
+-- No file is left started by a run that neither failed to write nor ran out of memory.
+use Rattle.std.proofs.Common.{◌≡◌, ℕ, ◌+◌, ◌<◌, ◌≤◌, inl, inr, List, [], ◌∷◌, None, Err, refl, ap, ◌∙◌, subst, arith}
+use Rattle.std.specs.Prelude.{string_bytes}
+use Rattle.std.proofs.lemmas.Option.{none-some}
+use Rattle.desk_port.specs.Desk.{DeskState, after_read}
+use Rattle.netlist.specs.Net.{AigPair}
+use Rattle.endings.specs.declared.status.Status.{Status}
+use Rattle.endings.specs.declared.status.Status.TheVariants as ends
+use Rattle.endings.specs.Status.{code_of}
+use Rattle.endings.specs.declared.stop.Stop.{Stop}
+use Rattle.endings.specs.declared.stop.Stop.TheVariants.{CannotRead, TooLong, BadFile, NotAlike, CannotWrite, OutOfMemory}
+use Rattle.endings.specs.Reading.{Input, ReadsUpTo, after_reads}
+use Rattle.endings.specs.Writing.{Output, Leaves, after_file, after_files}
+use Rattle.endings.specs.Stops.{EndsBy, IsWarned, Warns, status_of, stop_line}
+use Rattle.lrat_run.specs.Files.{inputs_of}
+use Rattle.lrat_run.specs.Texts.{verdict_line}
+use Rattle.lrat_run.specs.Answers.{AnswersLrat, Stops as StopsLrat}
+use Rattle.command_line.specs.Words.{CheckCommand, SelfCommand}
+use Rattle.command_line.specs.declared.reading.Refusal.{Refusal}
+use Rattle.command_line.specs.declared.reading.Refusal.TheVariants.{Help, Usage, NoMemory}
+use Rattle.cec_top.specs.declared.kept.Kept.{Kept}
+use Rattle.cec_top.specs.Check.{How, Plan, Made, AreTold, StopsChecks, outputs_of, text_of_check}
+use Rattle.cec_top.specs.Answers.{AnswersCheck, Stops, SaysHelp, pair_of, at_start, how_of, plan_of}
+use Rattle.cec_top.specs.SelfCheck.{AnswersSelf, StopsSelf, after_workload, only, own_how}
+use Rattle.cec_top.specs.Texts.{workload_text}
+use Rattle.cec_top.specs.Steps.{AnswersRefusal}
+use Rattle.cec_top.proofs.HeadlineLemmas.{left-whole}
+
+-- no file is started
+abbrev pub IsClosed : DeskState → Type 0
+IsClosed s = s.started ≡ None
+
+-- a cause with another status than those of a failed write and of want of memory
+abbrev pub IsOther : Stop → Type 0
+IsOther stop = code_of (status_of stop) < 6
+
+-- ---- what is read, left, said and warned
+
+after-reads-closed : (is : List Input) (s : DeskState) → IsClosed s → IsClosed (after_reads s is)
+after-reads-closed [] s none = none
+after-reads-closed (i ∷ is) s none = after-reads-closed is (after_read s i.name) none
+
+after-files-closed : (os : List Output) (s : DeskState) → IsClosed s → IsClosed (after_files s os)
+after-files-closed [] s none = none
+after-files-closed (o ∷ os) s none = after-files-closed os (after_file s o) refl
+
+told-closed : (how : How) (number : ℕ) (made : List Made) (old new : DeskState) → AreTold how number made old new → IsClosed old → IsClosed new
+told-closed how number [] old new told none = ap (λ (s : DeskState). s.started) told ∙ none
+told-closed how number (m ∷ ms) old new told none =
+    let os = outputs_of how.out number m in
+    let text = text_of_check how.out m in
+    told-closed how (number + 1) ms told.0 new told.3
+    (ap (λ (s : DeskState). s.started) (left-whole os text old told.0 told.2) ∙ after-files-closed os old none)
+
+-- leaving files and saying a verdict stops for a failed write or for want of memory
+pub leaves-code : (os : List Output) (text : List ℕ) (s t : DeskState) (stop : Stop) → Leaves os text s t (Err stop)
+    → 6 ≤ code_of (status_of stop)
+leaves-code os text s t CannotWrite p = omega arith
+leaves-code os text s t OutOfMemory p = omega arith
+leaves-code [] text s t (CannotRead file) p = absurd p
+leaves-code [] text s t (TooLong file) p = absurd p
+leaves-code [] text s t (BadFile file why) p = absurd p
+leaves-code [] text s t (NotAlike why) p = absurd p
+leaves-code (o ∷ os) text s t (CannotRead file) (inl p) = absurd p
+leaves-code (o ∷ os) text s t (TooLong file) (inl p) = absurd p
+leaves-code (o ∷ os) text s t (BadFile file why) (inl p) = absurd p
+leaves-code (o ∷ os) text s t (NotAlike why) (inl p) = absurd p
+leaves-code (o ∷ os) text s t (CannotRead file) (inr p) = leaves-code os text (after_file s o) t (CannotRead file) p
+leaves-code (o ∷ os) text s t (TooLong file) (inr p) = leaves-code os text (after_file s o) t (TooLong file) p
+leaves-code (o ∷ os) text s t (BadFile file why) (inr p) = leaves-code os text (after_file s o) t (BadFile file why) p
+leaves-code (o ∷ os) text s t (NotAlike why) (inr p) = leaves-code os text (after_file s o) t (NotAlike why) p
+
+-- and so does memory
+pub memory-code : (stop : Stop) → stop ≡ OutOfMemory → 6 ≤ code_of (status_of stop)
+memory-code stop is = omega (arith, ap (λ (s : Stop). code_of (status_of s)) is)
+
+warned-closed : (line : List ℕ) (mid new : DeskState) → IsWarned mid new line → IsClosed mid → IsClosed new
+warned-closed line mid new (inl p) none = ap (λ (s : DeskState). s.started) p ∙ none
+warned-closed line mid new (inr p) none = ap (λ (s : DeskState). s.started) p.2.stays ∙ none
+
+pub warns-closed : (line : List ℕ) (named : Status) (mid new : DeskState) (answered : Status) → Warns line named mid new answered
+    → IsClosed mid → IsClosed new
+warns-closed line named mid new answered (inl p) none = warned-closed line mid new p.1 none
+warns-closed line named mid new answered (inr p) none = ap (λ (s : DeskState). s.started) p.1 ∙ none
+
+-- an end without a verdict, whose cause leaves nothing started
+pub ends-closed : (names : List (List ℕ)) (Cause : DeskState → Stop → Type 0) (new : DeskState) (status : Status) → EndsBy names Cause new status
+    → ((mid : DeskState) (stop : Stop) → Cause mid stop → IsOther stop → IsClosed mid) → code_of status < 6 → IsClosed new
+ends-closed names Cause new status p closed below = go p.warns
+  where
+    go : Warns (stop_line names p.stop) (status_of p.stop) p.mid new status → IsClosed new
+    go (inl w) =
+        warned-closed (stop_line names p.stop) p.mid new w.1
+        (closed p.mid p.stop p.cause (subst (λ (s : Status). code_of s < 6) w.0 below))
+    go (inr w) = absurd (omega (arith, below, ap code_of w.0))
+
+reads-closed : (k : ℕ) (earlier : List (List ℕ)) (is : List Input) (old new : DeskState) (stop : Stop) → ReadsUpTo k earlier is old new stop
+    → IsOther stop → IsClosed old → IsClosed new
+reads-closed k earlier [] old new stop p other none = absurd p
+reads-closed k earlier (i ∷ is) old new stop (inr p) other none = reads-closed (k + 1) _ is (after_read old i.name) new stop p.3 other none
+reads-closed k earlier (i ∷ is) old new (CannotRead j) (inl p) other none = ap (λ (s : DeskState). s.started) p.1.stays ∙ none
+reads-closed k earlier (i ∷ is) old new (TooLong j) (inl p) other none = ap (λ (s : DeskState). s.started) p.2 ∙ none
+reads-closed k earlier (i ∷ is) old new (BadFile j text) (inl p) other none = ap (λ (s : DeskState). s.started) p.2 ∙ none
+reads-closed k earlier (i ∷ is) old new OutOfMemory (inl p) other none = absurd (omega (arith, other))
+reads-closed k earlier (i ∷ is) old new (NotAlike text) (inl p) other none = absurd p
+reads-closed k earlier (i ∷ is) old new CannotWrite (inl p) other none = absurd p
+
+checks-closed : (how : How) (plan : Plan) (old new : DeskState) (kept : List Kept) (stop : Stop) → StopsChecks how plan old kept new stop
+    → IsOther stop → IsClosed old → IsClosed new
+checks-closed how plan old new kept stop (inl p) other none = absurd (omega (arith, other, leaves-code _ _ p.mid new stop p.breaks))
+checks-closed how plan old new kept stop (inr (inl p)) other none = absurd (omega (arith, other, memory-code stop p.out))
+checks-closed how plan old new kept stop (inr (inr p)) other none = told-closed how 0 p.made old new p.whole.told none
+
+-- where no line is refused, checks stop for those causes alone
+pub checks-code : (how : How) (net : AigPair) (old new : DeskState) (kept : List Kept) (stop : Stop)
+    → StopsChecks how (record { checks = net ∷ []; refused = None }) old kept new stop → 6 ≤ code_of (status_of stop)
+checks-code how net old new kept stop (inl p) = leaves-code _ _ p.mid new stop p.breaks
+checks-code how net old new kept stop (inr (inl p)) = memory-code stop p.out
+checks-code how net old new kept stop (inr (inr p)) = absurd (none-some p.line p.refused)
+
+-- ---- each command
+
+pub check-closed : (c : CheckCommand) (old new : DeskState) (status : Status) (kept : List Kept) → AnswersCheck c old new status kept
+    → code_of status < 6 → IsClosed old → IsClosed new
+check-closed c old new status kept (inl p) below none =
+    told-closed (how_of c) 0 p.ends.made (at_start c old) new p.ends.whole.told none
+check-closed c old new status kept (inr p) below none = ends-closed _ _ new status p causes below
+  where
+    causes : (mid : DeskState) (stop : Stop) → Stops c old kept mid stop → IsOther stop → IsClosed mid
+    causes mid stop (inl q) other = reads-closed 0 [] (pair_of c) old mid stop q.1 other none
+    causes mid stop (inr (inl q)) other = ap (λ (s : DeskState). s.started) q.1.new_is ∙ none
+    causes mid stop (inr (inr (inl q))) other = absurd q.1.stops
+    causes mid stop (inr (inr (inr q))) other = checks-closed (how_of c) (plan_of q.net) (at_start c old) mid kept stop q.stops other none
+
+pub self-closed : (c : SelfCommand) (old new : DeskState) (status : Status) (kept : List Kept) → AnswersSelf c old new status kept
+    → code_of status < 6 → IsClosed old → IsClosed new
+self-closed c old new status kept (inl p) below none =
+    told-closed own_how 0 p.ends.made (after_workload c p.net old) new p.ends.whole.told none
+self-closed c old new status kept (inr p) below none = ends-closed _ _ new status p causes below
+  where
+    causes : (mid : DeskState) (stop : Stop) → StopsSelf c old kept mid stop → IsOther stop → IsClosed mid
+    causes mid stop (inl q) other = absurd (omega (arith, other, leaves-code [] (workload_text c q.net) old mid stop q.breaks))
+    causes mid stop (inr (inl q)) other = checks-closed own_how (only q.net) (after_workload c q.net old) mid kept stop q.stops other none
+    causes mid stop (inr (inr q)) other = absurd (omega (arith, other, memory-code stop q.out))
+
+lrat-ends-closed : (cnf proof : List ℕ) (old new : DeskState) (status : Status)
+    → EndsBy (cnf ∷ proof ∷ []) (StopsLrat cnf proof old) new status → code_of status < 6 → IsClosed old → IsClosed new
+lrat-ends-closed cnf proof old new status p below none = ends-closed _ _ new status p causes below
+  where
+    causes : (mid : DeskState) (stop : Stop) → StopsLrat cnf proof old mid stop → IsOther stop → IsClosed mid
+    causes mid stop (inl q) other = reads-closed 0 [] (inputs_of cnf proof) old mid stop q other none
+    causes mid stop (inr q) other = absurd (omega (arith, other, leaves-code [] (verdict_line q.verdict) (after_reads old (inputs_of cnf proof)) mid stop q.leaves))
+
+pub lrat-closed : (cnf proof : List ℕ) (old new : DeskState) (status : Status) → AnswersLrat cnf proof old new status
+    → code_of status < 6 → IsClosed old → IsClosed new
+lrat-closed cnf proof old new ends.Done p below none = ap (λ (s : DeskState). s.started) p.says ∙ none
+lrat-closed cnf proof old new ends.No p below none = ap (λ (s : DeskState). s.started) p.says ∙ none
+lrat-closed cnf proof old new ends.Undecided p below none = absurd p
+lrat-closed cnf proof old new ends.BadUsage p below none = absurd p
+lrat-closed cnf proof old new ends.BadInput p below none = lrat-ends-closed cnf proof old new ends.BadInput p below none
+lrat-closed cnf proof old new ends.CannotRead p below none = lrat-ends-closed cnf proof old new ends.CannotRead p below none
+lrat-closed cnf proof old new ends.CannotWrite p below none = absurd (omega (arith, below))
+lrat-closed cnf proof old new ends.OutOfMemory p below none = absurd (omega (arith, below))
+
+says-help-closed : (text : List ℕ) (old new : DeskState) (status : Status) → SaysHelp text old new status → code_of status < 6
+    → IsClosed old → IsClosed new
+says-help-closed text old new status (inl p) below none = ap (λ (s : DeskState). s.started) p.1 ∙ none
+says-help-closed text old new status (inr p) below none =
+    ends-closed [] _ new status p (λ mid stop cause other. absurd (omega (arith, other, leaves-code [] text old mid stop cause))) below
+
+pub refusal-closed : (r : Refusal) (old new : DeskState) (status : Status) → AnswersRefusal r old new status → code_of status < 6
+    → IsClosed old → IsClosed new
+refusal-closed (Help text) old new status p below none = says-help-closed (string_bytes text) old new status p below none
+refusal-closed (Usage text) old new status p below none = warns-closed (string_bytes text) ends.BadUsage old new status p none
+refusal-closed NoMemory old new status p below none =
+    ends-closed [] _ new status p
+    (λ mid stop cause other. absurd (omega (arith, other, memory-code stop cause.0))) below

@@ -1,0 +1,60 @@
+-- What status 4 promises of a check: which file is at fault, and that the warned line has its name.
+use Rattle.std.specs.Prelude.{◌≡◌, ◌⊎◌, ◌≤◌, List, [], length, codes, ℕ, None, Some, IsSomeAnd}
+use Rattle.desk_port.specs.Desk.{DeskState, Files, HasMore}
+use Rattle.netlist.specs.Net.{AigPair}
+use Rattle.netlist.specs.Unlike.{unlike_of}
+use Rattle.netlist.specs.declared.unlike.Unlike.{Unlike}
+use Rattle.aiger_file.specs.File.{SpellsAiger}
+use Rattle.endings.specs.Reading.{limit}
+use Rattle.endings.specs.Stops.{IsWarned, fault_line, file_line}
+use Rattle.command_line.specs.Words.{CheckCommand}
+use Rattle.cec_top.specs.declared.kept.Kept.{Kept}
+use Rattle.cec_top.specs.Answers.{circuit_in, fault_in}
+use Rattle.cec_top.specs.Lines.{unlike_text}
+
+-- the named file is too long, or its bytes spell no circuit that a check takes, and this is the text of that
+abbrev pub HasFault : Files → List ℕ → List ℕ → Type 0
+HasFault before name text =
+    (HasMore before name limit × (text ≡ codes "longer than 1073741824 bytes"))
+    ⊎ IsSomeAnd (before name) (λ bytes. fault_in (circuit_in bytes) ≡ Some text)
+
+-- it is neither
+abbrev pub HasNone : Files → List ℕ → Type 0
+HasNone before name = IsSomeAnd (before name) (λ bytes. (length bytes ≤ limit) × (fault_in (circuit_in bytes) ≡ None))
+
+-- A is at fault, and is named
+pub record OfFirst (c : CheckCommand) (before : Files) (line : List ℕ) : Type 0 where
+  pub text : List ℕ
+  pub fault : HasFault before c.a text
+  pub line_is : line ≡ file_line c.a text
+
+-- B is and A isn't, and B is named
+pub record OfSecond (c : CheckCommand) (before : Files) (line : List ℕ) : Type 0 where
+  pub first : HasNone before c.a
+  pub text : List ℕ
+  pub fault : HasFault before c.b text
+  pub line_is : line ≡ file_line c.b text
+
+-- neither is, and the circuits that they spell can't be compared; no file is named
+pub record OfPair (c : CheckCommand) (before : Files) (line : List ℕ) : Type 0 where
+  pub net : AigPair
+  pub spells_a : IsSomeAnd (before c.a) (λ bytes. SpellsAiger bytes net.a)
+  pub spells_b : IsSomeAnd (before c.b) (λ bytes. SpellsAiger bytes net.b)
+  pub unlike : Unlike
+  pub differ : unlike_of net.a net.b ≡ Some unlike
+  pub line_is : line ≡ fault_line (unlike_text unlike)
+
+abbrev pub IsDue : CheckCommand → Files → List ℕ → Type 0
+IsDue c before line = OfFirst c before line ⊎ OfSecond c before line ⊎ OfPair c before line
+
+-- The line that is due is warned, or a first part of it where the warning failed. Nothing is said or handed back, and no file
+-- is another.
+pub record Refuses (c : CheckCommand) (old new : DeskState) (kept : List Kept) (before : Files) : Type 0 where
+  pub line : List ℕ
+  pub due : IsDue c before line
+  pub mid : DeskState
+  pub silent : mid.warned ≡ old.warned
+  pub warned : IsWarned mid new line
+  pub files : new.files ≡ Some before
+  pub said : new.said ≡ old.said
+  pub none : kept ≡ []
