@@ -1,4 +1,0 @@
-use Rattle.workload_gen.proofs.text.+push_groups.Given as goal
-
-abbrev pub decreases-push_groups : goal.decreases-push_groups
-decreases-push_groups l = l.more
