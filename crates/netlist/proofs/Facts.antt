@@ -89,6 +89,8 @@ pub use Rattle.netlist.proofs.GateLemmas.{gate-at}
 pub use Rattle.netlist.proofs.GateLemmas.{node-at, position-node}
 -- the node at the place after an input's index is that input
 pub use Rattle.netlist.proofs.GateLemmas.{node-input}
+-- a gate stands where its side's gates begin, and its place among them further on
+pub use Rattle.netlist.proofs.NetLemmas.{position-gate}
 -- ---- how many gates and nodes there are
 pub use Rattle.netlist.proofs.NetLemmas.{length-definitions, length-nodes}
 -- the place in two lists that are joined

@@ -25,6 +25,8 @@ mod EditLemmas
 mod RoomLemmas
 mod EditedTables
 mod TableRoom
+mod OneNode
+mod EditedNets
 mod PlacedLemmas
 mod CountLemmas
 mod EditedCircuits

@@ -6,7 +6,7 @@ use Rattle.std.proofs.Math.Seq.{take-length, get_or-append_seam}
 use Rattle.std.proofs.Math.ListN.{get_or-append}
 use Rattle.std.proofs.Math.Nat.{eq-or-lt_of_le}
 use Rattle.std.specs.Option.{option_map}
-use Rattle.std.proofs.lemmas.List.{length-map, append-nil}
+use Rattle.std.proofs.lemmas.List.{length-map, append-nil, length-take-le, get_or-take}
 use Rattle.std.proofs.lemmas.Grind.{flat_map-append}
 use Rattle.std.proofs.lemmas.Option.{none-some, same_Some}
 use Rattle.lits.specs.declared.node.Node.{Node}
@@ -15,7 +15,7 @@ use Rattle.netlist.specs.Place.{place_of, before}
 use Rattle.netlist.specs.Net.{AigPair}
 use Rattle.lits.specs.Same.{same_node}
 use Rattle.netlist.specs.Miter.{positive, axioms_of, xors_of, variables_of, variable_of, numbered, miter_of, clause_number_of}
-use Rattle.netlist.specs.Starts.{first_clause, AreStarts}
+use Rattle.netlist.specs.Starts.{first_clause, AreStarts, AreFirst, WereStarts}
 use Rattle.std.proofs.lemmas.Bool.Decides.{nat_tests}
 use Rattle.lits.proofs.Facts.{take_next, exact-node}
 use Rattle.netlist.proofs.PlaceLemmas.{before-take, at_place}
@@ -143,14 +143,6 @@ module _ (net : AigPair) (starts : List ℕ) (table : AreStarts net starts) wher
       let t : nat_lt k (length (axioms_of net node)) ≡ false = grind (arith, nat_tests, past) in
       sym (clause_number_of-place net node k (v - 1) (place_at node v e).0 ∙ rw t refl)
 
--- the numbers of the first clauses up to a node, and the next number
-pub record AreFirst (net : AigPair) (numbers : List ℕ) (place next : ℕ) : Type 0 where
-  pub count : length numbers ≡ place
-  pub next_is : next ≡ first_clause net place
-  pub few_next : next ≤ 4 * place + 1
-  pub each : (k : ℕ) → k < place → slice_index numbers k ≡ first_clause net k
-  pub few : (k : ℕ) → k < place → slice_index numbers k ≤ 4 * k + 1
-
 pub first_none : (net : AigPair) → AreFirst net [] 0 1
 first_none net = record {
   count = refl;
@@ -186,3 +178,19 @@ first_all net numbers place next old e = record {
   each = λ k l. read_push (λ k n. n ≡ first_clause net k) numbers place next old.count old.each old.next_is k (omega arith);
   few = λ k l. read_push (λ k n. n ≤ 4 * k + 1) numbers place next old.count old.few old.few_next k (omega arith);
 }
+
+-- the first of so many numbers that are right, and the next one
+pub first_taken : (net : AigPair) (starts : List ℕ) (place n : ℕ) → WereStarts net place starts → place < length (variables_of net)
+    → n ≡ place + 1 → (next : ℕ) → next ≡ first_clause net n → next ≤ 4 * n + 1 → AreFirst net (take n starts) n next
+first_taken net starts place n were below e next is few = record {
+  count = length-take-le n starts (omega (arith, were.count, below, e));
+  next_is = is;
+  few_next = few;
+  each = λ k l. get_or-take n starts k 0 l ∙ were.before k (omega (arith, l, e));
+  few = λ k l. subst (λ (m : ℕ). m ≤ 4 * k + 1) (sym (get_or-take n starts k 0 l)) (were.few k (omega (arith, l, e, below)));
+}
+
+-- where the next number is right too
+pub all_first : (net : AigPair) (starts : List ℕ) (place : ℕ) → WereStarts net place starts
+    → slice_index starts (place + 1) ≡ first_clause net (place + 1) → AreStarts net starts
+all_first net starts place were same = record { count = were.count; each = were.behind same; few = were.few }

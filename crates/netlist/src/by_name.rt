@@ -38,11 +38,11 @@ pub(crate) fn arranged(alloc: Global, a: &Circuit, b: Circuit) -> Result<Circuit
 }
 
 /// What stands at the names of B, in the order of the same names of A.
-fn in_order(
+fn in_order<'n>(
     alloc: Global,
     port: Port,
-    a: &NameList,
-    b: &NameList,
+    a: &'n NameList,
+    b: &'n NameList,
     of_b: &[u32],
 ) -> Result<Vec<u32>, Unlike>
     requires a { length a.now ≡ length of_b.now }
@@ -65,7 +65,7 @@ fn in_order(
 }
 
 /// The place at which the index has the name of a place of A.
-fn same_place(index: &NameIndex, a: &NameList, k: u32) -> Option<u32>
+fn same_place<'n>(index: &NameIndex<'n>, a: &'n NameList, k: u32) -> Option<u32>
     ensures { (b : List (Option (List ℕ))) → IsIndex index.now.places b
         → result ≡ place_named b (name_at a.now k) }
 {

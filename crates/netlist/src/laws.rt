@@ -59,9 +59,9 @@ pub fn same_by_name(a: &Circuit, b: &Circuit)
     let _b = b.names();
 }
 
-/// A law of two circuits: where nothing is against their pair, B stands in it as the kind of pairing asks, by
-/// position as it is, and by name each of its inputs and outputs where A has its name; nothing else stands so,
-/// and nothing is against a pair in which B stands so.
+/// A law of two circuits: where nothing is against their pair, B stands in it as the kind of pairing asks,
+/// by position as it is, and by name each of its inputs and outputs where A has its name; nothing else stands
+/// so, and nothing is against a pair in which B stands so.
 ///
 /// It does nothing when it runs.
 pub fn pairs_are_matched(a: &Circuit, b: &Circuit)

@@ -2,7 +2,7 @@ ghost use Rattle.std.specs.Prelude.{◌≡◌, ℕ, length, List, MatchResult, N
 ghost use Rattle.std.specs.Option.{option_map};
 ghost use Rattle.netlist.specs.declared.unlike.Unlike.TheVariants.{Doubled};
 ghost use Rattle.netlist.specs.ByName.{doubled, place_named, IsTold};
-ghost use Rattle.netlist.specs.NameIndex.{IsIndex};
+ghost use Rattle.netlist.specs.NameIndex.{number, IsIndex};
 
 use crate::port::Port;
 use crate::unlike::Unlike;
@@ -13,11 +13,13 @@ use symbol_names::NameList;
 
 /// Finds the place of a name among names that differ.
 ///
-/// It is an ordered map, so that no choice of names makes it slow, as it could a table of hashes. The names
-/// stay where they are.
+/// It is an ordered map, so that no choice of names makes it slow, as it could a table of hashes. Its keys
+/// are the names where they stand, each behind a number made of its bytes: names of a circuit often begin
+/// alike, and their numbers differ at once. Names that are chosen to have one number are compared by their
+/// bytes.
 #[derive(Drop)]
 pub(crate) struct NameIndex<'a> {
-    places: BTreeMap<&'a [u8], u32>,
+    places: BTreeMap<(u64, &'a [u8]), u32>,
 }
 
 impl<'a> NameIndex<'a> {
@@ -37,7 +39,7 @@ impl<'a> NameIndex<'a> {
         let mut places = BTreeMap::new(alloc);
         for k in 0..count {
             if let Some(name) = names.get(k) {
-                match places.insert(name, k) {
+                match places.insert((number(name), name), k) {
                     Ok(None) => {}
                     Ok(Some(_)) => return Err(Unlike::Doubled(side, port, k)),
                     Err(_) => return Err(Unlike::NoMemory),
@@ -48,10 +50,21 @@ impl<'a> NameIndex<'a> {
     }
 
     /// The place of a name; none where the names haven't it.
-    pub fn place(&self, name: &[u8]) -> Option<u32>
+    pub fn place(&self, name: &'a [u8]) -> Option<u32>
         ensures { (names : List (Option (List ℕ))) → IsIndex self.now.places names
             → result ≡ place_named names (Some name.now) }
     {
-        self.places.get(name).copied()
+        self.places.get(&(number(name), name)).copied()
     }
+}
+
+/// A name's bytes as the digits of a number, modulo 2 ^ 64.
+fn number(name: &[u8]) -> u64
+    ensures { result ≡ number name.now }
+{
+    let mut number = 0u64;
+    for k in 0..name.len() {
+        number = number.wrapping_mul(257).wrapping_add(name[k] as u64);
+    }
+    number
 }

@@ -238,7 +238,8 @@ impl Net {
         ensures net { self.new ≡ with_side self.old side (with_gate (circuit_of self.old side) gate) }
     {
         self.pair.set_gate(side, gate);
-        self.tables.fill(&self.pair);
+        let position = self.pair.position(Node::Gate(side, gate.var)).unwrap();
+        self.tables.change_gate(&self.pair, position);
         Ok(())
     }
 
@@ -274,7 +275,8 @@ impl Net {
         ensures net { self.new ≡ with_side self.old side (with_output (circuit_of self.old side) j lit) }
     {
         self.pair.set_output(side, j, lit);
-        self.tables.fill(&self.pair);
+        let variable = self.pair.variable(Node::Xor(j)).unwrap();
+        self.tables.change_xor(&self.pair, variable - 1);
         Ok(())
     }
 

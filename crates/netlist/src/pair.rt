@@ -80,7 +80,8 @@ impl CircuitPair {
     /// Gives a gate of one side these fanins.
     pub fn set_gate(&mut self, side: Side, gate: And)
         requires { CanSet (circuit_of self.old side) gate }
-        ensures { self.new ≡ with_side self.old side (with_gate (circuit_of self.old side) gate) }
+        ensures gate { self.new ≡ with_side self.old side (with_gate (circuit_of self.old side) gate) }
+        ensures net { IsNet self.old }
     {
         match side {
             Side::A => self.a.set_gate(gate),
@@ -116,7 +117,8 @@ impl CircuitPair {
     pub fn set_output(&mut self, side: Side, j: u32, lit: u32)
         requires output { j < length (circuit_of self.old side).outputs }
         requires lit { is_over (variables_in (circuit_of self.old side)) lit ≡ true }
-        ensures { self.new ≡ with_side self.old side (with_output (circuit_of self.old side) j lit) }
+        ensures output { self.new ≡ with_side self.old side (with_output (circuit_of self.old side) j lit) }
+        ensures net { IsNet self.old }
     {
         match side {
             Side::A => self.a.set_output(j, lit),
@@ -302,7 +304,7 @@ impl CircuitPair {
     }
 
     /// The position of a side's first gate.
-    fn first_gate(&self, side: Side) -> u32
+    pub fn first_gate(&self, side: Side) -> u32
         ensures first { result ≡ first_gate self.now side }
         ensures few { result + length (circuit_of self.now side).gates ≤ 2 * most + 1 }
     {
@@ -394,7 +396,8 @@ impl CircuitPair {
         }
     }
 
-    /// How many clauses define the node with a CNF variable, here counted from 0. A gate is found by its index.
+    /// How many clauses define the node with a CNF variable, here counted from 0. A gate is found by its
+    /// index.
     pub fn clauses_at(&self, place: u32) -> u32
         requires { place < length (variables_of self.now) }
         ensures next { first_clause self.now (place + 1) ≡ first_clause self.now place + result }

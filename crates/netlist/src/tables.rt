@@ -1,10 +1,11 @@
 ghost use Rattle.std.specs.Prelude.{◌≡◌, ◌+◌, ◌<◌, ◌≤◌, IfOk, OnOk, OnErr, length, slice_index};
 ghost use Rattle.std.specs.Vec.{vec_capacity};
-ghost use Rattle.netlist.specs.Tables.{AreTables, HasRoom};
+ghost use Rattle.netlist.specs.Tables.{AreTables, AreButGate, AreButXor, HasRoom};
 
 use crate::gate::Fanins;
 use crate::pair::CircuitPair;
-use crate::starts::fill_starts;
+use crate::starts::{fill_starts, renumber};
+use lits::Side;
 use std::alloc::{AllocError, Global};
 
 /// What a net keeps beside its pair, so that what goes over every gate finds no variable by its name.
@@ -43,6 +44,24 @@ impl Tables {
     {
         pair.fill_fanins(&mut self.fanins);
         fill_starts(&mut self.starts, pair);
+    }
+
+    /// Makes these the tables of a pair again after the gate at a position got other fanins.
+    pub fn change_gate(&mut self, pair: &CircuitPair, position: u32)
+        requires { AreButGate pair.now position self.old }
+        ensures { AreTables pair.now self.new }
+    {
+        let k = position - pair.first_gate(Side::A);
+        self.fanins[k as usize] = pair.fanins(k).unwrap();
+        renumber(&mut self.starts, pair, position);
+    }
+
+    /// Makes these the tables of a pair again after an output of the XOR at a place got another literal.
+    pub fn change_xor(&mut self, pair: &CircuitPair, place: u32)
+        requires { AreButXor pair.now place self.old }
+        ensures { AreTables pair.now self.new }
+    {
+        renumber(&mut self.starts, pair, place);
     }
 
     /// Makes room for one more gate.
