@@ -71,6 +71,7 @@ const OPTIONS: Options = Options {
     words: 4,
     sweep_budget: 100,
     out_budget: 100000,
+    by_name: false,
 };
 
 /// How many merges, Aparts and Spents a book has.

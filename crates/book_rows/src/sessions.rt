@@ -19,6 +19,7 @@ const DEFAULTS: Options = Options {
     words: 4,
     sweep_budget: 100,
     out_budget: 100_000,
+    by_name: false,
 };
 
 /// A verdict as a word or two: outputs, and the input's digits.
@@ -187,6 +188,7 @@ fn told_with(rt: &(impl Abort + Threads + Wait), alloc: Global, seed: u64, words
         words,
         sweep_budget: 100,
         out_budget: 100_000,
+        by_name: false,
     };
     let mut session = session_of(rt, alloc, input_and_false(alloc), options);
     match session.check(rt, alloc, &OpenGate).expect(rt, "memory") {
@@ -200,6 +202,7 @@ const ENOUGH_FOR_OUTPUTS: Options = Options {
     words: 4,
     sweep_budget: 1,
     out_budget: 100_000,
+    by_name: false,
 };
 
 const ONE_CLAUSE: Options = Options {
@@ -207,6 +210,7 @@ const ONE_CLAUSE: Options = Options {
     words: 4,
     sweep_budget: 1,
     out_budget: 1,
+    by_name: false,
 };
 
 #[test]

@@ -133,6 +133,7 @@ const ONE_CLAUSE: Options = Options {
     words: 4,
     sweep_budget: 1,
     out_budget: 1,
+    by_name: false,
 };
 
 /// Checks the session.

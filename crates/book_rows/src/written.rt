@@ -19,6 +19,7 @@ const DEFAULTS: Options = Options {
     words: 4,
     sweep_budget: 100,
     out_budget: 100_000,
+    by_name: false,
 };
 
 const SWAPPED_CNF: &[u8] =

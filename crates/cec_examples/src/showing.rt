@@ -7,7 +7,7 @@ use std::sync::Wait;
 use std::thread::Threads;
 
 /// The commands of the page, in its order.
-pub(crate) const EXAMPLES: [&[&str]; 8] = [
+pub(crate) const EXAMPLES: [&[&str]; 10] = [
     &[
         "check",
         "adder_ripple.aag",
@@ -27,6 +27,14 @@ pub(crate) const EXAMPLES: [&[&str]; 8] = [
         "1",
     ],
     &["check", "multiplier_rows.aag", "multiplier_columns.aag"],
+    &[
+        "check",
+        "subtract_ab.aag",
+        "subtract_ba.aag",
+        "--match",
+        "names",
+    ],
+    &["check", "subtract_ab.aag", "subtract_ba.aag"],
     &["check", "adder_ripple.aag", "adder_cut.aag"],
     &["lrat", "and.cnf", "and.lrat"],
     &["lrat", "and.cnf", "and_refused.lrat"],

@@ -355,7 +355,7 @@ fn check_words(rt: &(impl Threads + Wait + Abort + AllocGlobal), rows: &[&[&str]
     }
 }
 
-const REFUSED: [&[&str]; 13] = [
+const REFUSED: [&[&str]; 14] = [
     &[],
     &["help"],
     &["check", "A"],
@@ -367,6 +367,7 @@ const REFUSED: [&[&str]; 13] = [
     &["check", "A", "B", "--sweep-budget", "1000000001"],
     &["check", "A", "B", "--words", "65"],
     &["check", "A", "B", "--workers", "65"],
+    &["check", "A", "B", "--match", "name"],
     &["check", "A", "B", "C"],
     &["lrat", "A"],
 ];

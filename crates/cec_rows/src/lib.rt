@@ -2,12 +2,12 @@
 //! warned, and the status. It has no code of its own, and no contract: what it shows is that the answers
 //! that the contract of `run` allows do come.
 //!
-//! `cases.rt` has checks of two files, `books.rt` what stands in the books that they hand back, `own.rt`
-//! checks of circuits that the program makes, `shapes.rt` answers whose shape a small case doesn't reach,
-//! `faults.rt` checks in which each call of the desk fails in turn, `proofs.rt` the check of proofs, forged
-//! ones among them, `readers.rt` files that are refused, and those that are cut at each byte. `files.rt` has
-//! the circuits that most of them use, and `desk.rt` runs the program on a table of files and words. Begin to
-//! read at `cases.rt`.
+//! `cases.rt` has checks of two files, `names.rt` those whose circuits are matched by name, `books.rt` what
+//! stands in the books that they hand back, `own.rt` checks of circuits that the program makes, `shapes.rt`
+//! answers whose shape a small case doesn't reach, `faults.rt` checks in which each call of the desk fails
+//! in turn, `proofs.rt` the check of proofs, forged ones among them, `readers.rt` files that are refused,
+//! and those that are cut at each byte. `files.rt` has the circuits that most of them use, and `desk.rt`
+//! runs the program on a table of files and words. Begin to read at `cases.rt`.
 #![tactic(auto)]
 
 #[cfg(test)]
@@ -20,6 +20,8 @@ mod desk;
 mod faults;
 #[cfg(test)]
 mod files;
+#[cfg(test)]
+mod names;
 #[cfg(test)]
 mod own;
 #[cfg(test)]

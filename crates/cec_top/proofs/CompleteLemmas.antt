@@ -8,6 +8,8 @@ use Rattle.netlist.specs.Circuit.{Aig}
 use Rattle.netlist.specs.Net.{AigPair}
 use Rattle.netlist.specs.Miter.{variables_of}
 use Rattle.netlist.specs.Unlike.{unlike_of}
+use Rattle.netlist.specs.Pairing.{matched_to, unlike_in}
+use Rattle.netlist.proofs.Facts.{matched-constraints, matched-is, none-against}
 use Rattle.aiger_file.specs.File.{SpellsAiger}
 use Rattle.endings.specs.declared.status.Status.{Status}
 use Rattle.endings.specs.Status.{code_of}
@@ -123,25 +125,28 @@ alike-from : (a b : Aig) → length a.inputs ≡ length b.inputs → length a.ou
 alike-from a b i o = rw (eq-eqb (length a.inputs) (length b.inputs) i, eq-eqb (length a.outputs) (length b.outputs) o) refl
 
 module _ (c : CheckCommand) (old : DeskState) (can : CanCheck c old) (kept : List Kept) where
+  plain-second : can.pair.second.constraints ≡ []
+  plain-second = sym (matched-constraints can.net.a can.pair.second c.by_name can.net.b can.pair.matched) ∙ can.plain_b
+
   reads-stop : (new : DeskState) (stop : Stop) → ReadsUpTo 0 [] (pair_of c) old new stop → IsExcused old new stop
   reads-stop new stop (inl p) = excused-read old new stop (stops-file old can.files can.told c.a can.net.a can.pair.spells_a can.plain_a can.a 0 [] new stop p)
   reads-stop new stop (inr p) = second p.3
     where
       second : ReadsUpTo 1 (p.0 ∷ []) (circuit_file c.b ∷ []) (after_read old c.a) new stop → IsExcused old new stop
-      second (inl q) = excused-read old new stop (stops-file (after_read old c.a) can.files can.told c.b can.net.b can.pair.spells_b can.plain_b can.b 1 (p.0 ∷ []) new stop q)
+      second (inl q) = excused-read old new stop (stops-file (after_read old c.a) can.files can.told c.b can.pair.second can.pair.spells_b plain-second can.b 1 (p.0 ∷ []) new stop q)
       second (inr q) = absurd q.3
 
   -- circuits that fit aren't refused
   not-unlike : (new : DeskState) (stop : Stop) → AreUnlike c old new stop → IsExcused old new stop
   not-unlike new stop p =
       let a = (spelt old can.files can.told c.a can.net.a can.pair.spells_a can.plain_a can.a p.reads.a p.reads.read.0) in
-      let b = (spelt old can.files can.told c.b can.net.b can.pair.spells_b can.plain_b can.b p.reads.b p.reads.read.2.0) in
-      let same_a : p.net.a ≡ can.net.a = ok-equal p.net.a can.net.a (sym p.reads.spells_a ∙ a) in
-      let same_b : p.net.b ≡ can.net.b = ok-equal p.net.b can.net.b (sym p.reads.spells_b ∙ b) in
-      let alike : unlike_of p.net.a p.net.b ≡ None =
-      alike-from p.net.a p.net.b
-      (ap (λ (x : Aig). length x.inputs) same_a ∙ can.pair.inputs ∙ sym (ap (λ (x : Aig). length x.inputs) same_b))
-      (ap (λ (x : Aig). length x.outputs) same_a ∙ can.pair.outputs ∙ sym (ap (λ (x : Aig). length x.outputs) same_b)) in
+      let b = (spelt old can.files can.told c.b can.pair.second can.pair.spells_b plain-second can.b p.reads.b p.reads.read.2.0) in
+      let same_a : p.first ≡ can.net.a = ok-equal p.first can.net.a (sym p.reads.spells_a ∙ a) in
+      let same_b : p.second ≡ can.pair.second = ok-equal p.second can.pair.second (sym p.reads.spells_b ∙ b) in
+      let alike : unlike_in c.by_name p.first p.second ≡ None =
+      ap₂ (unlike_in c.by_name) same_a same_b
+      ∙ none-against can.net.a can.pair.second c.by_name can.net.b can.pair.matched
+      (alike-from can.net.a can.net.b can.pair.inputs can.pair.outputs) in
       absurd (none-some p.unlike (sym alike ∙ p.differ))
 
   pub stops-excused : (new : DeskState) (stop : Stop) → Stops c old kept new stop → IsExcused old new stop
@@ -195,9 +200,14 @@ spells-one files name x y p q = go (files name) p q
     go (Some b) p q = ok-equal x y (sym p ∙ q)
 
 -- so two files spell one pair at most
-pair-one : (c : CheckCommand) (files : Files) (m n : AigPair) → SpellPair c.a c.b files m → SpellPair c.a c.b files n → m ≡ n
+pair-one : (c : CheckCommand) (files : Files) (m n : AigPair) → SpellPair c files m → SpellPair c files n → m ≡ n
 pair-one c files m n p q =
-    ap₂ (λ (x y : Aig). record { a = x; b = y }) (spells-one files c.a m.a n.a p.spells_a q.spells_a) (spells-one files c.b m.b n.b p.spells_b q.spells_b)
+    let same_a : m.a ≡ n.a = spells-one files c.a m.a n.a p.spells_a q.spells_a in
+    let same_b : m.b ≡ n.b =
+    matched-is m.a p.second c.by_name m.b p.matched
+    ∙ ap₂ (matched_to c.by_name) same_a (spells-one files c.b p.second q.second p.spells_b q.spells_b)
+    ∙ sym (matched-is n.a q.second c.by_name n.b q.matched) in
+    ap₂ (λ (x y : Aig). record { a = x; b = y }) same_a same_b
 
 within-code : (net : AigPair) (budget : ℕ) (f : Finding) → IsWithinFor net budget f → code_of (status_of_finding f) ≡ 2
     → budget ≤ 3 ^ length (variables_of net)

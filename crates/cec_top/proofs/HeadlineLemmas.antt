@@ -1,5 +1,5 @@
 -- What a verdict promises of the files, from what the desk holds once a check was told.
-use Rattle.std.proofs.Common.{◌≡◌, ◌≢◌, ℕ, ◌<◌, inl, inr, Bool, true, false, ◌==◌, List, [], ◌∷◌, ◌++◌, length, option_map, Option, Some, None, Ok, refl, sym, ap, ◌∙◌, subst, arith}
+use Rattle.std.proofs.Common.{◌≡◌, ◌≢◌, ℕ, ◌<◌, inl, inr, Bool, true, false, List, [], ◌∷◌, ◌++◌, length, option_map, Option, Some, None, Ok, refl, sym, ap, ◌∙◌, subst, arith}
 use Rattle.std.specs.Prelude.{Contains, codes, decimal, map, IfSome, IsSomeAnd}
 use Rattle.std.specs.Str.{bytes_eq}
 use Rattle.std.proofs.lemmas.List.{append-nil, length-append}
@@ -7,8 +7,7 @@ use Rattle.std.proofs.lemmas.Slice.Eq.{bytes_eq-Decides}
 use Rattle.desk_port.specs.Desk.{Files, DeskState, put, after_say}
 use Rattle.netlist.specs.Circuit.{Aig}
 use Rattle.netlist.specs.Net.{AigPair}
-use Rattle.netlist.specs.Unlike.{unlike_of}
-use Rattle.netlist.proofs.Facts.{equal-number}
+use Rattle.netlist.proofs.Facts.{matched-counts}
 use Rattle.aiger_file.specs.File.{SpellsAiger}
 use Rattle.lemma_book.specs.declared.entry.Entry.{Entry}
 use Rattle.sig_classes.specs.Leader.{IsSwept}
@@ -53,15 +52,6 @@ ends-code names Cause new status p = go p.warns
 
 -- ---- the pair
 
-alike-counts : (a b : Aig) → unlike_of a b ≡ None → (length a.inputs ≡ length b.inputs) × (length a.outputs ≡ length b.outputs)
-alike-counts a b alike = go (length a.inputs == length b.inputs) refl (length a.outputs == length b.outputs) refl alike
-  where
-    go : (p : Bool) → (length a.inputs == length b.inputs) ≡ p → (q : Bool) → (length a.outputs == length b.outputs) ≡ q
-        → unlike_of a b ≡ None → (length a.inputs ≡ length b.inputs) × (length a.outputs ≡ length b.outputs)
-    go true e true f h = (equal-number _ _ e, equal-number _ _ f)
-    go true e false f h = cc
-    go false e q f h = cc
-
 pub file-spells : (s : DeskState) (files : Files) → s.files ≡ Some files → (name bytes : List ℕ) (c : Aig) → FileIs s name bytes → SpellsAiger bytes c
     → FileSpells files name c
 file-spells s files told name bytes c is spells =
@@ -69,12 +59,14 @@ file-spells s files told name bytes c is spells =
     subst (λ (o : Option (List ℕ)). IsSomeAnd o (λ b. SpellsAiger b c)) (sym there) spells
 
 pub spells-pair : (c : CheckCommand) (s : DeskState) (files : Files) → s.files ≡ Some files → (net : AigPair) → AreAlike c s net
-    → SpellPair c.a c.b files net
+    → SpellPair c files net
 spells-pair c s files told net pair =
-    let counts = alike-counts net.a net.b pair.alike in
+    let counts = matched-counts net.a pair.second c.by_name net.b pair.matched pair.alike in
     record {
+      second = pair.second;
       spells_a = file-spells s files told c.a pair.reads.a net.a pair.reads.read.0 pair.reads.spells_a;
-      spells_b = file-spells s files told c.b pair.reads.b net.b pair.reads.read.2.0 pair.reads.spells_b;
+      spells_b = file-spells s files told c.b pair.reads.b pair.second pair.reads.read.2.0 pair.reads.spells_b;
+      matched = pair.matched;
       inputs = counts.0;
       outputs = counts.1;
     }
@@ -183,7 +175,7 @@ module _ (old new : DeskState) (before : Files) (earlier : List ℕ) (told : old
   }
 
 -- what holds of the one check holds of the files
-pub of-files : (c : CheckCommand) (kept : List Kept) (Holds : Told → Type 0) (before : Files) (m : Made) → SpellPair c.a c.b before m.net
+pub of-files : (c : CheckCommand) (kept : List Kept) (Holds : Told → Type 0) (before : Files) (m : Made) → SpellPair c before m.net
     → Holds (told_of c.out 0 m) → HandsBack (how_of c) kept [] (told_of c.out 0 m)
     → OfFiles c kept Holds before (left_by c.out (told_of c.out 0 m) before) (text_of_check c.out m)
 of-files c kept Holds before m pair holds books = record {

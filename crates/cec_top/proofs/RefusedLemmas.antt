@@ -104,9 +104,10 @@ module _ (c : CheckCommand) (old : DeskState) (before : Files) (told : old.files
   unlike-told mid stop none p = record {
     none = none;
     due = inr (inr (record {
-      net = p.net;
-      spells_a = file-spells old before told c.a p.reads.a p.net.a p.reads.read.0 p.reads.spells_a;
-      spells_b = file-spells old before told c.b p.reads.b p.net.b p.reads.read.2.0 p.reads.spells_b;
+      first = p.first;
+      second = p.second;
+      spells_a = file-spells old before told c.a p.reads.a p.first p.reads.read.0 p.reads.spells_a;
+      spells_b = file-spells old before told c.b p.reads.b p.second p.reads.read.2.0 p.reads.spells_b;
       unlike = p.unlike;
       differ = p.differ;
       line_is = unlike-line (names_of c) p.unlike stop p.stop_is;

@@ -10,7 +10,7 @@ use Rattle.endings.specs.declared.stop.Stop.{Stop}
 use Rattle.endings.specs.Stops.{EndsBy, Warns, status_of, stop_line}
 use Rattle.lrat_run.specs.Answers.{AnswersLrat}
 use Rattle.endings.specs.Reading.{FileIs}
-use Rattle.command_line.specs.Words.{CheckCommand, LratCommand, SelfCommand, Request, CheckIt, LratIt, SelfIt, Asks, WantInfo, AreRefused, Outcome, Requested, NamesNoKind}
+use Rattle.command_line.specs.Words.{CheckCommand, LratCommand, SelfCommand, Request, CheckIt, LratIt, SelfIt, Asks, WantInfo, AreRefused, Outcome, Requested, Misnames}
 use Rattle.cec_top.specs.declared.kept.Kept.{Kept}
 use Rattle.cec_top.specs.Headline.{IsVerified, Shows}
 use Rattle.cec_top.specs.Answers.{Answers, AnswersCheck, IsAtOnce}
@@ -19,7 +19,7 @@ use Rattle.cec_top.proofs.HeadlineLemmas.{ends-code}
 
 abbrev request_or : Request → Outcome → Request
 request_or d (Requested r) = r
-request_or d (NamesNoKind word) = d
+request_or d (Misnames word) = d
 
 -- words ask for one thing at most
 pub same_request : (words : List (List ℕ)) (x y : Request) → Asks words x → Asks words y → x ≡ y

@@ -3,7 +3,7 @@ use Rattle.std.specs.Prelude.{◌≡◌, ◌⊎◌, ℕ, List, [], ◌∷◌, le
 use Rattle.desk_port.specs.Desk.{DeskState, after_say}
 use Rattle.netlist.specs.declared.unlike.Unlike.{Unlike}
 use Rattle.netlist.specs.Net.{AigPair}
-use Rattle.netlist.specs.Unlike.{unlike_of}
+use Rattle.netlist.specs.Pairing.{IsMatched, paired, unlike_in}
 use Rattle.byte_scan.specs.declared.errors.AigerErr.{AigerErr}
 use Rattle.byte_scan.specs.declared.errors.AigerErr.TheVariants.{HasProperty}
 use Rattle.byte_scan.specs.Reading.{◌>>=◌}
@@ -54,29 +54,33 @@ script_of c = []
 abbrev pub names_of : CheckCommand → List (List ℕ)
 names_of c = c.a ∷ c.b ∷ []
 
--- under which numbers the command makes its checks, and with which prefix for their files
+-- under which numbers the command makes its checks, how it matches inputs and outputs, and with which prefix for their files
 abbrev pub how_of : CheckCommand → How
 how_of c = record {
-  options = record { seed = c.seed; words = c.words; sweep_budget = c.sweep_budget; out_budget = c.budget };
+  options = record { seed = c.seed; words = c.words; sweep_budget = c.sweep_budget; out_budget = c.budget; by_name = c.by_name };
   out = c.out;
 }
 
 -- the pair is read, and the files spell these circuits
-pub record ReadsCircuits (c : CheckCommand) (old : DeskState) (net : AigPair) : Type 0 where
+pub record ReadsCircuits (c : CheckCommand) (old : DeskState) (first second : Aig) : Type 0 where
   pub a : List ℕ
   pub b : List ℕ
   pub read : AreRead old [] (pair_of c) (a ∷ b ∷ [])
-  pub spells_a : SpellsAiger a net.a
-  pub spells_b : SpellsAiger b net.b
+  pub spells_a : SpellsAiger a first
+  pub spells_b : SpellsAiger b second
 
 -- what is asked for where the pair is these circuits: check 0 is of them, and a script would ask for more
 abbrev pub plan_of : AigPair → Plan
 plan_of net = record { checks = net ∷ []; refused = None }
 
--- the circuits can be compared
+-- the circuits can be compared, and the net is their pair: by position the second one is as it is, and by name each of its
+-- inputs and outputs stands where the first one has its name
 pub record AreAlike (c : CheckCommand) (old : DeskState) (net : AigPair) : Type 0 where
-  pub reads : ReadsCircuits c old net
-  pub alike : unlike_of net.a net.b ≡ None
+  pub second : Aig
+  pub reads : ReadsCircuits c old net.a second
+  pub alike : unlike_in c.by_name net.a second ≡ None
+  pub net_is : net ≡ paired c.by_name net.a second
+  pub matched : IsMatched c.by_name net.a second net.b
 
 -- the desk after the pair was read, and before check 0
 abbrev pub after_pair : CheckCommand → DeskState → DeskState
@@ -98,10 +102,11 @@ NamesUnlike unlike stop = ⊥
 
 -- the files spell circuits that can't be compared
 pub record AreUnlike (c : CheckCommand) (old new : DeskState) (stop : Stop) : Type 0 where
-  pub net : AigPair
-  pub reads : ReadsCircuits c old net
+  pub first : Aig
+  pub second : Aig
+  pub reads : ReadsCircuits c old first second
   pub unlike : Unlike
-  pub differ : unlike_of net.a net.b ≡ Some unlike
+  pub differ : unlike_in c.by_name first second ≡ Some unlike
   pub stop_is : NamesUnlike unlike stop
   pub new_is : new ≡ after_pair c old
 
@@ -163,7 +168,8 @@ pub record HelpsWords (words : List (List ℕ)) (old new : DeskState) (status : 
   pub version : WantVersion words → text ≡ version_text
   pub says : SaysHelp text old new status
 
--- they are refused, by a text that is warned and tells of a command `help` and of a word that names no kind of workload
+-- they are refused, by a text that is warned and tells of a command `help`, and of a word that names no kind of workload or no
+-- pairing
 pub record RefusesWords (words : List (List ℕ)) (old new : DeskState) (status : Status) (kept : List Kept) : Type 0 where
   pub refused : AreRefused words
   pub none : kept ≡ []

@@ -27,7 +27,7 @@ pub record CanCheck (c : CheckCommand) (old : DeskState) : Type 0 where
   pub files : Files
   pub told : old.files ≡ Some files
   pub net : AigPair
-  pub pair : SpellPair c.a c.b files net
+  pub pair : SpellPair c files net
   pub plain_a : net.a.constraints ≡ []
   pub plain_b : net.b.constraints ≡ []
   pub a : IsWithinLimit files c.a
@@ -50,7 +50,7 @@ pub record IsAmple (c : CheckCommand) (old : DeskState) : Type 0 where
   pub files : Files
   pub told : old.files ≡ Some files
   pub net : AigPair
-  pub pair : SpellPair c.a c.b files net
+  pub pair : SpellPair c files net
   pub ample : 3 ^ length (variables_of net) < c.budget
 
 -- the run has a verdict, or memory ran out

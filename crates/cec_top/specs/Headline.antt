@@ -6,6 +6,8 @@ use Rattle.lits.specs.Assignment.{IsSatisfiable}
 use Rattle.lits.specs.Same.{opposite_dim}
 use Rattle.lits.specs.declared.step.Step.{Step}
 use Rattle.desk_port.specs.Desk.{Files, DeskState}
+use Rattle.netlist.specs.Circuit.{Aig}
+use Rattle.netlist.specs.Pairing.{IsMatched}
 use Rattle.netlist.specs.Net.{AigPair, DiffersOn, AgreesOn, Agree, Differ}
 use Rattle.netlist.specs.Miter.{miter_of}
 use Rattle.dimacs_text.specs.declared.cnf.Cnf.{Cnf}
@@ -162,10 +164,15 @@ pub record HandsBack (how : How) (kept : List Kept) (earlier : List Told) (last 
   pub numbers : map (λ k. k.check) kept ≡ map (λ t. t.number) (filter (λ t. is_undecided t.finding) earlier ++ last ∷ [])
   pub of_last : HasBook how kept last
 
--- the two named files spell circuits with equally many inputs and equally many outputs
-pub record SpellPair (a b : List ℕ) (before : Files) (net : AigPair) : Type 0 where
-  pub spells_a : IsSomeAnd (before a) (λ bytes. SpellsAiger bytes net.a)
-  pub spells_b : IsSomeAnd (before b) (λ bytes. SpellsAiger bytes net.b)
+-- The two named files spell circuits with equally many inputs and equally many outputs, and the net is their pair. Without
+-- `--match names` the second circuit stands in it as it is. With it the names tell apart the inputs of either circuit, and its
+-- outputs, and each input and output of the second one stands where the first one has its name; its gates and literals are as
+-- the file has them.
+pub record SpellPair (c : CheckCommand) (before : Files) (net : AigPair) : Type 0 where
+  pub second : Aig
+  pub spells_a : IsSomeAnd (before c.a) (λ bytes. SpellsAiger bytes net.a)
+  pub spells_b : IsSomeAnd (before c.b) (λ bytes. SpellsAiger bytes second)
+  pub matched : IsMatched c.by_name net.a second net.b
   pub inputs : length net.a.inputs ≡ length net.b.inputs
   pub outputs : length net.a.outputs ≡ length net.b.outputs
 
@@ -174,7 +181,7 @@ pub record SpellPair (a b : List ℕ) (before : Files) (net : AigPair) : Type 0 
 -- of the last one this holds.
 pub record OfFiles (c : CheckCommand) (kept : List Kept) (Holds : Told → Type 0) (before after : Files) (said : List ℕ) : Type 0 where
   pub net : AigPair
-  pub pair : SpellPair c.a c.b before net
+  pub pair : SpellPair c before net
   pub earlier : List Told
   pub last : Told
   pub checks : map {B = ℕ × AigPair} (λ t. (t.number, t.net)) (earlier ++ last ∷ []) ≡ (0, net) ∷ []

@@ -1,8 +1,8 @@
 -- What status 4 promises of a check: which file is at fault, and that the warned line has its name.
 use Rattle.std.specs.Prelude.{◌≡◌, ◌⊎◌, ◌≤◌, List, [], length, codes, ℕ, None, Some, IsSomeAnd}
 use Rattle.desk_port.specs.Desk.{DeskState, Files, HasMore}
-use Rattle.netlist.specs.Net.{AigPair}
-use Rattle.netlist.specs.Unlike.{unlike_of}
+use Rattle.netlist.specs.Circuit.{Aig}
+use Rattle.netlist.specs.Pairing.{unlike_in}
 use Rattle.netlist.specs.declared.unlike.Unlike.{Unlike}
 use Rattle.aiger_file.specs.File.{SpellsAiger}
 use Rattle.endings.specs.Reading.{limit}
@@ -35,13 +35,15 @@ pub record OfSecond (c : CheckCommand) (before : Files) (line : List ℕ) : Type
   pub fault : HasFault before c.b text
   pub line_is : line ≡ file_line c.b text
 
--- neither is, and the circuits that they spell can't be compared; no file is named
+-- neither is, and the circuits that they spell can't be compared: their numbers of inputs or outputs differ, or with `--match
+-- names` their names don't fit; no file is named
 pub record OfPair (c : CheckCommand) (before : Files) (line : List ℕ) : Type 0 where
-  pub net : AigPair
-  pub spells_a : IsSomeAnd (before c.a) (λ bytes. SpellsAiger bytes net.a)
-  pub spells_b : IsSomeAnd (before c.b) (λ bytes. SpellsAiger bytes net.b)
+  pub first : Aig
+  pub second : Aig
+  pub spells_a : IsSomeAnd (before c.a) (λ bytes. SpellsAiger bytes first)
+  pub spells_b : IsSomeAnd (before c.b) (λ bytes. SpellsAiger bytes second)
   pub unlike : Unlike
-  pub differ : unlike_of net.a net.b ≡ Some unlike
+  pub differ : unlike_in c.by_name first second ≡ Some unlike
   pub line_is : line ≡ fault_line (unlike_text unlike)
 
 abbrev pub IsDue : CheckCommand → Files → List ℕ → Type 0

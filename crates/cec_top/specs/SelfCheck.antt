@@ -1,5 +1,5 @@
 -- What the program answers to arguments that ask for the check of two circuits that it makes.
-use Rattle.std.specs.Prelude.{◌≡◌, ◌⊎◌, List, [], ◌∷◌, None, Err}
+use Rattle.std.specs.Prelude.{◌≡◌, ◌⊎◌, false, List, [], ◌∷◌, None, Err}
 use Rattle.desk_port.specs.Desk.{DeskState, after_say}
 use Rattle.netlist.specs.Net.{AigPair}
 use Rattle.aiger_file.specs.File.{SpellsAiger}
@@ -14,10 +14,10 @@ use Rattle.cec_top.specs.declared.kept.Kept.{Kept}
 use Rattle.cec_top.specs.Check.{How, Plan, Ends, StopsChecks}
 use Rattle.cec_top.specs.Texts.{workload_text}
 
--- how it is made: under the numbers of a check without an option; no file is left
+-- how it is made: under the numbers of a check without an option, inputs and outputs matched by position; no file is left
 abbrev pub own_how : How
 own_how = record {
-  options = record { seed = 1; words = 4; sweep_budget = 100; out_budget = 100000 };
+  options = record { seed = 1; words = 4; sweep_budget = 100; out_budget = 100000; by_name = false };
   out = None;
 }
 

@@ -1,8 +1,10 @@
 -- How the program goes about a check, for the crate's own functions.
-use Rattle.std.specs.Prelude.{◌≡◌, ◌⊎◌, ℕ, List, [], ◌∷◌, ◌++◌, Option, Some, Result, Ok, Err, string_bytes}
+use Rattle.std.specs.Prelude.{◌≡◌, ◌≢◌, ◌⊎◌, ℕ, List, [], ◌∷◌, ◌++◌, Option, Some, Result, Ok, Err, string_bytes}
 use Rattle.desk_port.specs.Desk.{DeskState}
 use Rattle.netlist.specs.Circuit.{Aig}
 use Rattle.netlist.specs.Net.{AigPair}
+use Rattle.netlist.specs.declared.unlike.Unlike.{Unlike}
+use Rattle.netlist.specs.declared.unlike.Unlike.TheVariants.{NoMemory as Memory}
 use Rattle.aiger_file.specs.File.{SpellsAiger}
 use Rattle.endings.specs.Reading.{ReadsUpTo}
 use Rattle.endings.specs.declared.stop.Stop.{Stop}
@@ -20,13 +22,17 @@ use Rattle.check_session.specs.Check.{State}
 use Rattle.cec_top.specs.declared.kept.Kept.{Kept}
 use Rattle.cec_top.specs.Check.{How, Made, IsMade, Tells, AreTold, status_of_finding, kept_from}
 use Rattle.cec_top.specs.SelfCheck.{AreWorkload, own_how}
-use Rattle.cec_top.specs.Answers.{AreAlike, AreUnlike, SaysHelp, IsAtOnce, pair_of, after_pair, how_of}
+use Rattle.cec_top.specs.Answers.{AreAlike, AreUnlike, NamesUnlike, SaysHelp, IsAtOnce, pair_of, after_pair, how_of}
 
 -- ---- the pair is read
 
 abbrev pub ReadsPair : CheckCommand → DeskState → DeskState → Result AigPair Stop → Type 0
 ReadsPair c old new (Ok net) = AreAlike c old net × (new ≡ after_pair c old)
 ReadsPair c old new (Err stop) = ReadsUpTo 0 [] (pair_of c) old new stop ⊎ AreUnlike c old new stop
+
+-- memory ran out, or it didn't, and the text of the cause says how the circuits differ
+abbrev pub StopsUnlike : Unlike → Stop → Type 0
+StopsUnlike unlike stop = (stop ≡ OutOfMemory) ⊎ ((unlike ≢ Memory) × NamesUnlike unlike stop)
 
 -- a session for the pair, under the command's numbers
 abbrev pub ReadsSession : CheckCommand → DeskState → DeskState → Result State Stop → Type 0

@@ -88,6 +88,7 @@ fn default_options() -> Options
         words: 4,
         sweep_budget: 100,
         out_budget: 100_000,
+        by_name: false,
     }
 }
 

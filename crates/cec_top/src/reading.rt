@@ -5,7 +5,7 @@ ghost use Rattle.aiger_file.specs.File.{SpellsAiger};
 ghost use Rattle.command_line.specs.Answers.{check_texts};
 ghost use Rattle.cec_top.specs.Answers.{circuit_file, circuit_in, how_of};
 ghost use Rattle.check_session.specs.Check.{AreInRange};
-ghost use Rattle.cec_top.specs.Steps.{ReadsSession};
+ghost use Rattle.cec_top.specs.Steps.{ReadsSession, StopsUnlike};
 
 use crate::lines::{aiger_fault, unlike_fault};
 use byte_scan::AigerErr;
@@ -13,6 +13,7 @@ use check_session::{Options, Session};
 use command_line::CheckWords;
 use desk_port::Desk;
 use endings::{Stop, read_file};
+use netlist::laws::pairs_are_matched;
 use netlist::{Circuit, Unlike};
 use std::alloc::Global;
 
@@ -63,13 +64,23 @@ pub(crate) fn read_session<D: Desk>(
 {
     let a = read_circuit(alloc, desk, words.a, 0)?;
     let b = read_circuit(alloc, desk, words.b, 1)?;
+    pairs_are_matched(&a, &b);
     match Session::open(alloc, a, b, options_of(words)) {
         Ok(session) => Ok(session),
-        Err(Unlike::NoMemory) => Err(Stop::OutOfMemory),
-        Err(unlike) => {
-            let text = unlike_fault(alloc, unlike)?;
-            Err(Stop::NotAlike(text))
-        }
+        Err(unlike) => Err(unlike_stop(alloc, unlike)),
+    }
+}
+
+/// Why a check ends whose circuits can't be compared, or weren't for want of memory.
+fn unlike_stop(alloc: Global, unlike: Unlike) -> Stop
+    ensures { StopsUnlike unlike result }
+{
+    match unlike {
+        Unlike::NoMemory => Stop::OutOfMemory,
+        fault => match unlike_fault(alloc, fault) {
+            Ok(text) => Stop::NotAlike(text),
+            Err(_) => Stop::OutOfMemory,
+        },
     }
 }
 
@@ -83,5 +94,6 @@ fn options_of(words: CheckWords<'_>) -> Options
         words: words.words as u32,
         sweep_budget: words.sweep_budget,
         out_budget: words.budget,
+        by_name: words.by_name,
     }
 }

@@ -9,4 +9,6 @@ pub struct Options {
     pub sweep_budget: u64,
     /// How many clauses the query of an output may learn, 1 to 1,000,000,000.
     pub out_budget: u64,
+    /// Whether inputs and outputs are matched by their names, and not by their positions.
+    pub by_name: bool,
 }

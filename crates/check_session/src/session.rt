@@ -1,6 +1,7 @@
-ghost use Rattle.std.specs.Prelude.{◌≡◌, [], None, Some, IfOk, IfSome, IfNone, IsSome, OnErr, MatchResult, Err};
+ghost use Rattle.std.specs.Prelude.{◌≡◌, ◌⊎◌, [], None, Some, IfOk, IfSome, IfNone, IsSome, OnErr, MatchResult, Err};
 ghost use Rattle.netlist.specs.declared.unlike.Unlike.{Unlike};
 ghost use Rattle.netlist.specs.Unlike.{unlike_of};
+ghost use Rattle.netlist.specs.Pairing.{paired, unlike_in};
 ghost use Rattle.check_session.specs.Check.{AreInRange, IsFound, empty_book};
 ghost use Rattle.check_session.specs.Files.{TellsSpans, WritesFiles};
 ghost use Rattle.check_session.specs.Outputs.{finding_of};
@@ -29,6 +30,22 @@ struct Checked {
     book: Book,
     found: Verdict,
     verdict: Verdict,
+}
+
+/// The net of two circuits, whose inputs and outputs are matched by name or by position.
+fn net_of(alloc: Global, a: Circuit, b: Circuit, by_name: bool) -> Result<Net, Unlike>
+    requires a { a.constraints ≡ [] }
+    requires b { b.constraints ≡ [] }
+    ensures counts { IfSome (unlike_of a b) (λ u. result ≡ Err u) }
+    ensures unlike { IfSome (unlike_in by_name a b) (λ u. (result ≡ Err u) ⊎ (result ≡ Err Unlike.NoMemory)) }
+    ensures like { IfNone (unlike_in by_name a b)
+        (MatchResult result (λ n. n ≡ paired by_name a b) (λ e. e ≡ Unlike.NoMemory)) }
+{
+    if by_name {
+        Net::of_named(alloc, a, b)
+    } else {
+        Net::of(alloc, a, b)
+    }
 }
 
 /// Checks a pair, beginning with the patterns of the check before.
@@ -107,15 +124,19 @@ impl Model for Session {
 }
 
 impl Session {
-    /// A session for two circuits without constraints, which are given up where they can't be compared.
+    /// A session for two circuits without constraints, which are matched as the options say, and given up
+    /// where they can't be compared. Numbers that differ are told without memory, names that don't fit may
+    /// want some.
     pub fn open(alloc: Global, a: Circuit, b: Circuit, options: Options) -> Result<Session, Unlike>
         requires options { AreInRange options }
         requires a { a.constraints ≡ [] }
         requires b { b.constraints ≡ [] }
-        ensures unlike { IfSome (unlike_of a b) (λ u. result ≡ Err u) }
-        ensures like { IfNone (unlike_of a b) (MatchResult result
+        ensures counts { IfSome (unlike_of a b) (λ u. result ≡ Err u) }
+        ensures unlike { IfSome (unlike_in options.by_name a b)
+            (λ u. (result ≡ Err u) ⊎ (result ≡ Err Unlike.NoMemory)) }
+        ensures like { IfNone (unlike_in options.by_name a b) (MatchResult result
             (λ s. s ≡ record {
-              net = record { a = a; b = b };
+              net = paired options.by_name a b;
               options = options;
               pool = None;
               book = empty_book options;
@@ -123,7 +144,7 @@ impl Session {
             })
             (λ e. e ≡ Unlike.NoMemory)) }
     {
-        let net = Net::of(alloc, a, b)?;
+        let net = net_of(alloc, a, b, options.by_name)?;
         let book = Book::new(alloc, options.sweep_budget, options.out_budget);
         Ok(Session {
             net,

@@ -1,5 +1,5 @@
 -- What the getters of matches give.
-use Rattle.std.proofs.Common.{◌≡◌, ◌∙◌, ◌≤◌, ◌<◌, ◌^◌, ℕ, Bool, true, false, cond, refl, ap, List, Option, Some, None, codes, is_some}
+use Rattle.std.proofs.Common.{◌≡◌, ◌∙◌, ◌≤◌, ◌<◌, ◌^◌, ℕ, Bool, true, false, cond, refl, sym, ap, ap₂, List, Option, Some, None, codes, is_some}
 use Rattle.std.specs.Prelude.{IsSome, option_map}
 use Rattle.std.specs.Str.Parse.{IsNumeral, digits_value, without_leading_plus}
 use Rattle.clap.proofs.ValueTestLemmas.{Accepts-accepts, accepts-Accepts}
@@ -7,7 +7,7 @@ use Rattle.clap.specs.ValueTests.{is_unsigned_in}
 use Rattle.clap.specs.Walk.{Row, Text, first_of}
 use Rattle.clap.specs.declared.builder.value_parser.ValueParser.TheVariants.{Unsigned}
 use Rattle.command_line.specs.Commands.{budget_option, seed_option, sweep_budget_option, words_option}
-use Rattle.command_line.specs.Words.{CheckCommand, CheckIt, Requested, check_in, number_in, number_or, plain_check, with_options}
+use Rattle.command_line.specs.Words.{CheckCommand, Outcome, check_given, check_in, number_in, number_or, matched, plain_check, with_options}
 
 -- an answer that shows as some text is some answer
 pub shown_is_there : {X Y : Type 0} (f : X → Y) (o : Option X) (v w : Option Y) → option_map f o ≡ v → v ≡ w → is_some w ≡ true → IsSome o
@@ -55,11 +55,23 @@ number_within least most n t told = go (is_unsigned_in least most t) refl told
         rw (← same) (passes.2, passes.3)
     go false is told = cc
 
--- the values of `check` make its request
+-- the values of `check` make its command
 pub check_made : (rows : List Row) (a b : Text)
     → first_of (codes "a") rows ≡ Some a → first_of (codes "b") rows ≡ Some b
-    → check_in rows ≡ Some (Requested (CheckIt (with_options rows (plain_check a b))))
+    → check_given rows ≡ Some (with_options rows (plain_check a b))
 check_made rows a b a_is b_is = rw (a_is, b_is) refl
+
+-- where something is made of a command, the command is there
+pub command_there : (make : CheckCommand → Outcome) (given : Option CheckCommand) → is_some (option_map make given) ≡ true
+    → is_some given ≡ true
+command_there make (Some c) some = refl
+command_there make None some = cc
+
+-- what the command and the word for its pairing come to
+pub check_matched : (rows : List Row) (word : Option Text) (c : CheckCommand) (o : Outcome) → first_of (codes "match") rows ≡ word
+    → check_given rows ≡ Some c → o ≡ matched word c → check_in rows ≡ Some o
+check_matched rows word c o word_is given is =
+    ap₂ (λ (w : Option Text) (d : Option CheckCommand). option_map (matched w) d) word_is given ∙ ap Some (sym is)
 
 -- options that are given set their fields
 pub options_given : (rows : List Row) (c : CheckCommand) (out : Option Text) (seed words sweep_budget budget : ℕ)

@@ -1,11 +1,12 @@
 -- What plain words ask for: words that don't begin with `-` among the names of options.
 use Rattle.std.proofs.Common.{◌≡◌, ℕ, ◌&&◌, Bool, false, true, eqb, ne_eqb, inl, inr, ◌<◌, ◌≤◌, ◌^◌, lit<, nat_lt, arith, refl, ap, subst, sym, ◌∙◌, codes, map, fold, List, [], ◌∷◌, Option, Some, None}
-use Rattle.std.specs.Prelude.{if◌then◌else◌, unwrap_or}
+use Rattle.std.specs.Prelude.{◌≢◌, if◌then◌else◌, unwrap_or}
 use Rattle.std.specs.Str.Parse.{digits_value, without_leading_plus}
 use Rattle.std.specs.Str.{bytes_eq}
 use Rattle.std.specs.List.{list_all}
 use Rattle.std.specs.Char.{digit_value}
-use Rattle.std.proofs.lemmas.Bool.{cases_eq, le-leb, lt-ltb}
+use Rattle.std.proofs.lemmas.Bool.{cases_eq, false_from_ne_true, le-leb, lt-ltb}
+use Rattle.std.proofs.lemmas.Slice.Eq.{bytes_eq-Decides}
 use Rattle.clap.specs.Lexer.{strip_byte}
 use Rattle.clap.specs.Kinds.{Kinds, or_else, values_kinds}
 use Rattle.clap.specs.declared.builder.value_parser.ValueParser.TheVariants.{Unsigned}
@@ -18,8 +19,8 @@ use Rattle.workload_gen.specs.declared.kind.Kind.{Kind}
 use Rattle.workload_gen.specs.declared.kind.Kind.TheVariants.{Adder, Parity, Comparator}
 use Rattle.workload_gen.specs.declared.workload.TheConstants.{MOST_BITS}
 use Rattle.command_line.specs.declared.asked.TheConstants.{BUDGET_LIMIT, WORDS_LIMIT}
-use Rattle.command_line.specs.Words.{CheckIt, LratIt, SelfIt, CheckCommand, Outcome, Requested, faults, number_in, outcome_in, outcome_of, plain_check, self_of}
-use Rattle.command_line.specs.Plain.{IsPlain, SetsNumber, SetsText, Writes, kind_name}
+use Rattle.command_line.specs.Words.{CheckIt, LratIt, SelfIt, CheckCommand, Misnames, Outcome, Requested, faults, misnamed_pairing, number_in, outcome_in, outcome_of, matched_by, pairing_named, plain_check, self_of}
+use Rattle.command_line.specs.Plain.{IsPlain, SetsName, SetsNumber, SetsText, Writes, kind_name}
 
 no_end : (word : Text) → IsPlain word → bytes_eq word (45 ∷ 45 ∷ []) ≡ false
 no_end [] plain = refl
@@ -253,6 +254,33 @@ sets-budget = sets-number (codes "--budget") 1 BUDGET_LIMIT 100000 (λ c n. reco
     (λ program a b word plain_a plain_b plain_word.
     outcome-marked (completed check_command) (plain a ∷ plain b ∷ flag (codes "--budget") ∷ plain word ∷ [])
     (plain_a, refl, (plain_b, refl, (plain_word, refl, tt))))
+
+pub sets-match_position : SetsName (codes "--match") (codes "position") (λ c. record c { by_name = false })
+unfolding outcome_of faults walked walk_fault defaults_fault
+sets-match_position a b plain_a plain_b program =
+    outcome-marked (completed check_command) (plain a ∷ plain b ∷ flag (codes "--match") ∷ plain (codes "position") ∷ [])
+    (plain_a, refl, (plain_b, refl, (refl, refl, tt)))
+
+pub sets-match_names : SetsName (codes "--match") (codes "names") (λ c. record c { by_name = true })
+unfolding outcome_of faults walked walk_fault defaults_fault
+sets-match_names a b plain_a plain_b program =
+    outcome-marked (completed check_command) (plain a ∷ plain b ∷ flag (codes "--match") ∷ plain (codes "names") ∷ [])
+    (plain_a, refl, (plain_b, refl, (refl, refl, tt)))
+
+-- a word that is neither name is no pairing
+not_named : (word name : Text) → word ≢ name → bytes_eq word name ≡ false
+not_named word name apart = false_from_ne_true _ (λ same. apart ((bytes_eq-Decides word name).0 same))
+
+no_pairing : (word : Text) → word ≢ codes "position" → word ≢ codes "names" → pairing_named word ≡ None
+no_pairing word position names = rw (not_named word (codes "position") position, not_named word (codes "names") names) refl
+
+pub misnames-match : (program a b word : Text) → IsPlain a → IsPlain b → IsPlain word → word ≢ codes "position" → word ≢ codes "names"
+    → outcome_of (program ∷ codes "check" ∷ a ∷ b ∷ codes "--match" ∷ word ∷ []) ≡ Some (Misnames (misnamed_pairing word))
+unfolding outcome_of faults walked walk_fault defaults_fault
+misnames-match program a b word plain_a plain_b plain_word position names =
+    outcome-marked (completed check_command) (plain a ∷ plain b ∷ flag (codes "--match") ∷ plain word ∷ [])
+    (plain_a, refl, (plain_b, refl, (plain_word, refl, tt)))
+    ∙ ap (λ (pairing : Option Bool). Some (matched_by pairing word (plain_check a b))) (no_pairing word position names)
 
 -- two options, in either order
 module _ (program a b p word : Text) (n : ℕ) (plain_a : IsPlain a) (plain_b : IsPlain b) (plain_p : IsPlain p)

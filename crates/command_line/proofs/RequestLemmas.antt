@@ -1,4 +1,4 @@
--- Words without a fault ask for something, or name no kind of workload.
+-- Words without a fault ask for something, or one of them is none of the names that its argument takes.
 use Rattle.std.proofs.Common.{◌≡◌, ◌&&◌, ℕ, Bool, true, false, not, refl, sym, subst, codes, List, [], Option, Some, None, is_some, find}
 use Rattle.std.specs.Prelude.{option_and_then, option_map}
 use Rattle.std.specs.List.{AllByRecursion, list_all, list_any}
@@ -12,7 +12,7 @@ use Rattle.clap.specs.ValueTests.{is_unsigned_in}
 use Rattle.clap.specs.Walk.{Held, Row, Rule, Text, answers_to, arg_by_id, finished, first_of, nothing_held, rows_after, settled, walk, walk_from}
 use Rattle.command_line.specs.Commands.{cec_app}
 use Rattle.workload_gen.specs.declared.workload.TheConstants.{MOST_BITS}
-use Rattle.command_line.specs.Words.{check_of, faults, lrat_of, number_in, outcome_in, self_of}
+use Rattle.command_line.specs.Words.{check_of, faults, lrat_of, number_in, outcome_in, matched, self_of}
 use Rattle.command_line.proofs.FoundLemmas.{found_holds}
 use Rattle.command_line.proofs.LevelLemmas.{required_number, required_value}
 use Rattle.command_line.proofs.RowLemmas.{first_passed, second_passed, takes_one}
@@ -74,11 +74,11 @@ module _ (a : App) (words : List Text) where
 
 -- ---- the program's commands
 
-check_some : (a b : Option Text) (rows : List Row) → is_some a ≡ true → is_some b ≡ true
-    → is_some (check_of a b rows) ≡ true
-check_some (Some a) (Some b) rows ha hb = refl
-check_some None b rows ha hb = cc
-check_some (Some a) None rows ha hb = cc
+check_some : (a b pairing : Option Text) (rows : List Row) → is_some a ≡ true → is_some b ≡ true
+    → is_some (option_map (matched pairing) (check_of a b rows)) ≡ true
+check_some (Some a) (Some b) pairing rows ha hb = refl
+check_some None b pairing rows ha hb = cc
+check_some (Some a) None pairing rows ha hb = cc
 
 lrat_some : (cnf proof : Option Text) → is_some cnf ≡ true → is_some proof ≡ true → is_some (lrat_of cnf proof) ≡ true
 lrat_some (Some cnf) (Some proof) hc hp = refl
@@ -106,7 +106,7 @@ check_given : (s : Shape) (a b : Rule) (words : List Text) → list_all (takes_o
     → is_some (outcome_in (codes "check") (rows_after s.rules [] words)) ≡ true
 check_given s a b words takes a_is a_required a_id b_is b_required b_id passed =
     let value = named_value [] 0 0 s words takes passed in
-    check_some _ _ _ (value (codes "a") a a_is a_required a_id) (value (codes "b") b b_is b_required b_id)
+    check_some _ _ (first_of (codes "match") (rows_after s.rules [] words)) _ (value (codes "a") a a_is a_required a_id) (value (codes "b") b b_is b_required b_id)
 
 -- `lrat` gives two names
 

@@ -1,7 +1,7 @@
 -- What `read` answers to words.
 use Rattle.std.specs.Prelude.{◌≡◌, ℕ, true, List, ◌++◌, codes, option_map, string_bytes}
 use Rattle.clap.specs.Walk.{Text}
-use Rattle.command_line.specs.Words.{CheckCommand, LratCommand, SelfCommand, Request, CheckIt, LratIt, SelfIt, WantInfo, WantVersion, AreRefused, AskNoKind, names_help}
+use Rattle.command_line.specs.Words.{CheckCommand, LratCommand, SelfCommand, Request, CheckIt, LratIt, SelfIt, WantInfo, WantVersion, AreRefused, Misnamed, AskMisnamed, names_help}
 use Rattle.command_line.specs.declared.asked.Asked.{Asked}
 use Rattle.command_line.specs.declared.asked.Asked.TheVariants.{Check, Lrat, SelfCheck}
 use Rattle.command_line.specs.declared.asked.CheckWords.{CheckWords}
@@ -19,6 +19,7 @@ check_texts c = record {
   words = c.words;
   sweep_budget = c.sweep_budget;
   budget = c.budget;
+  by_name = c.by_name;
 }
 
 abbrev pub lrat_texts : LratWords → LratCommand
@@ -37,15 +38,15 @@ request (SelfCheck c) = SelfIt (self_texts c)
 abbrev pub no_help_text : List ℕ
 no_help_text = codes "cec: no command help\n"
 
--- what is said of a word that names no kind of workload, in the form that `clap` gives such a refusal
-abbrev pub no_kind_text : Text → List ℕ
-no_kind_text word = codes "error: invalid value '" ++ word ++ codes "' for '<KIND>'\n  [possible values: adder, parity, comparator]\n"
-    ++ codes "\nFor more information, try '--help'.\n"
+-- what is said of a word that is none of the names that its argument takes, in the form that `clap` gives such a refusal
+abbrev pub misnamed_text : Misnamed → List ℕ
+misnamed_text m = codes "error: invalid value '" ++ m.word ++ codes "' for '" ++ m.argument ++ codes "'\n  [possible values: "
+    ++ m.names ++ codes "]\n\nFor more information, try '--help'.\n"
 
 -- such a word, or the command `help`, is told of by its own text
 pub record Names (words : List Text) (text : List ℕ) : Type 0 where
   pub no_help : names_help words ≡ true → text ≡ no_help_text
-  pub no_kind : (word : Text) → AskNoKind words word → text ≡ no_kind_text word
+  pub misnamed : (m : Misnamed) → AskMisnamed words m → text ≡ misnamed_text m
 
 -- what is said to words that ask for the version
 abbrev pub version_text : List ℕ

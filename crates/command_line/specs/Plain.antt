@@ -31,7 +31,8 @@ pub record Writes (least most : ℕ) (word : List ℕ) (n : ℕ) : Type 0 where
 abbrev pub AskCheck : List (List ℕ) → CheckCommand → Type 0
 AskCheck words command = (program : List ℕ) → Asks (program ∷ words) (CheckIt command)
 
--- an option behind the names of two files sets its own field and no other, from a text or from a number in its range
+-- an option behind the names of two files sets its own field and no other, from a text, from a number in its range or from a
+-- name
 abbrev pub SetsText : List ℕ → (CheckCommand → List ℕ → CheckCommand) → Type 0
 SetsText flag set = (a b word : List ℕ) → IsPlain a → IsPlain b → IsPlain word
     → AskCheck (codes "check" ∷ a ∷ b ∷ flag ∷ word ∷ []) (set (plain_check a b) word)
@@ -39,6 +40,10 @@ SetsText flag set = (a b word : List ℕ) → IsPlain a → IsPlain b → IsPlai
 abbrev pub SetsNumber : List ℕ → ℕ → ℕ → (CheckCommand → ℕ → CheckCommand) → Type 0
 SetsNumber flag least most set = (a b word : List ℕ) (n : ℕ) → IsPlain a → IsPlain b → Writes least most word n
     → AskCheck (codes "check" ∷ a ∷ b ∷ flag ∷ word ∷ []) (set (plain_check a b) n)
+
+abbrev pub SetsName : List ℕ → List ℕ → (CheckCommand → CheckCommand) → Type 0
+SetsName flag name set = (a b : List ℕ) → IsPlain a → IsPlain b
+    → AskCheck (codes "check" ∷ a ∷ b ∷ flag ∷ name ∷ []) (set (plain_check a b))
 
 -- what is given for an option of a check is a number in its range, where the words have no fault: its default stands only
 -- where it is left out

@@ -1,6 +1,6 @@
 -- What the words of a command line ask for, and which of them are refused. A word is the list of its bytes, and the
 -- first word is the program's name.
-use Rattle.std.specs.Prelude.{◌≡◌, ◌⊎◌, ℕ, Bool, true, false, not, ◌&&◌, List, [], ◌∷◌, Option, Some, None, option_and_then, codes, unwrap_or, if◌then◌else◌}
+use Rattle.std.specs.Prelude.{◌≡◌, ◌⊎◌, ℕ, Bool, true, false, not, ◌&&◌, List, [], ◌∷◌, Option, Some, None, option_and_then, option_map, codes, unwrap_or, if◌then◌else◌}
 use Rattle.std.specs.List.{list_any}
 use Rattle.std.specs.Str.{bytes_eq}
 use Rattle.std.specs.Str.Parse.{digits_value, without_leading_plus}
@@ -18,7 +18,7 @@ use Rattle.workload_gen.specs.declared.workload.TheConstants.{MOST_BITS}
 
 -- `check A B`: the names of the two circuits' files, what the names of the written files begin with, if any are to be
 -- written, from which seed how many words of 64 patterns are drawn, and how many clauses a solver may learn for a pair of
--- nodes and for an output
+-- nodes and for an output, and whether inputs and outputs are paired by their names, and not by their positions
 pub record CheckCommand : Type 0 where
   pub a : List ℕ
   pub b : List ℕ
@@ -27,6 +27,7 @@ pub record CheckCommand : Type 0 where
   pub words : ℕ
   pub sweep_budget : ℕ
   pub budget : ℕ
+  pub by_name : Bool
 
 -- `lrat CNF PROOF`: the names of the files of a formula and of its proof
 pub record LratCommand : Type 0 where
@@ -44,10 +45,18 @@ pub data Request : Type 0 where
   LratIt : LratCommand → Request
   SelfIt : SelfCommand → Request
 
--- what the values of arguments come to: what the program is asked to do, or the word for a kind of workload that names none
+-- a word that is none of the names that its argument takes: the argument as help writes it, those names as they are listed,
+-- and the word
+pub record Misnamed : Type 0 where
+  pub argument : Text
+  pub names : Text
+  pub word : Text
+
+-- what the values of arguments come to: what the program is asked to do, or a word that is none of the names that its argument
+-- takes
 pub data Outcome : Type 0 where
   Requested : Request → Outcome
-  NamesNoKind : Text → Outcome
+  Misnames : Misnamed → Outcome
 
 -- the number that a text spells, if it is in a range: decimal digits, which zeros and one + may precede
 abbrev pub number_in : ℕ → ℕ → Text → Option ℕ
@@ -66,10 +75,13 @@ kind_named text =
     else if bytes_eq text (codes "comparator") then Some Comparator
     else None
 
+abbrev pub misnamed_kind : Text → Misnamed
+misnamed_kind word = record { argument = codes "<KIND>"; names = codes "adder, parity, comparator"; word = word }
+
 -- a workload of the kind that the word names, if it names one
 abbrev pub workload_of : Option Kind → Text → ℕ → Outcome
 workload_of (Some kind) word n = Requested (SelfIt (record { kind = kind; n = n }))
-workload_of None word n = NamesNoKind word
+workload_of None word n = Misnames (misnamed_kind word)
 
 abbrev pub self_of : Option Text → Option ℕ → Option Outcome
 self_of (Some word) (Some n) = Some (workload_of (kind_named word) word n)
@@ -81,13 +93,13 @@ number_of id least most rows = option_and_then (number_in least most) (first_of 
 
 -- a check without an option: the default of each
 abbrev pub plain_check : Text → Text → CheckCommand
-plain_check a b = record { a = a; b = b; out = None; seed = 1; words = 4; sweep_budget = 100; budget = 100000 }
+plain_check a b = record { a = a; b = b; out = None; seed = 1; words = 4; sweep_budget = 100; budget = 100000; by_name = false }
 
 -- the number that is given for an option, or else its default; a given one is in the range where the words have no fault
 abbrev pub number_or : ℕ → NumberOption → List Row → ℕ
 number_or default o rows = unwrap_or (number_of o.id o.least o.most rows) default
 
--- the check with the options that are given, each of which sets a field of its own
+-- the check with the numbers and texts of the options that are given, each of which sets a field of its own
 abbrev pub with_options : List Row → CheckCommand → CheckCommand
 with_options rows c = record c {
   out = first_of (codes "out") rows;
@@ -97,13 +109,35 @@ with_options rows c = record c {
   budget = number_or c.budget budget_option rows;
 }
 
--- what the values of the arguments of each command come to
-abbrev pub check_of : Option Text → Option Text → List Row → Option Outcome
-check_of (Some a) (Some b) rows = Some (Requested (CheckIt (with_options rows (plain_check a b))))
+-- whether a text names the pairing by names, if it names one
+abbrev pub pairing_named : Text → Option Bool
+pairing_named text =
+    if bytes_eq text (codes "position") then Some false else if bytes_eq text (codes "names") then Some true else None
+
+abbrev pub misnamed_pairing : Text → Misnamed
+misnamed_pairing word = record { argument = codes "--match <BY>"; names = codes "position, names"; word = word }
+
+-- the check by the pairing that the word names, if it names one
+abbrev pub matched_by : Option Bool → Text → CheckCommand → Outcome
+matched_by (Some by_name) word c = Requested (CheckIt (record c { by_name = by_name }))
+matched_by None word c = Misnames (misnamed_pairing word)
+
+-- and as it is where no word is given
+abbrev pub matched : Option Text → CheckCommand → Outcome
+matched (Some word) c = matched_by (pairing_named word) word c
+matched None c = Requested (CheckIt c)
+
+abbrev pub check_of : Option Text → Option Text → List Row → Option CheckCommand
+check_of (Some a) (Some b) rows = Some (with_options rows (plain_check a b))
 check_of a b rows = None
 
+-- the check of the two files, by all options but that of its pairing
+abbrev pub check_given : List Row → Option CheckCommand
+check_given rows = check_of (first_of (codes "a") rows) (first_of (codes "b") rows) rows
+
+-- what the values of the arguments of each command come to
 abbrev pub check_in : List Row → Option Outcome
-check_in rows = check_of (first_of (codes "a") rows) (first_of (codes "b") rows) rows
+check_in rows = option_map (matched (first_of (codes "match") rows)) (check_given rows)
 
 abbrev pub lrat_in : List Row → Option Outcome
 lrat_in rows = lrat_of (first_of (codes "cnf") rows) (first_of (codes "proof") rows)
@@ -155,13 +189,13 @@ WantVersion words = (names_help words ≡ false) × (faults words ≡ DisplayVer
 abbrev pub WantInfo : List Text → Type 0
 WantInfo words = WantHelp words ⊎ WantVersion words
 
--- the words ask for a workload, by a word that names no kind
-abbrev pub AskNoKind : List Text → Text → Type 0
-AskNoKind words word = outcome_of words ≡ Some (NamesNoKind word)
+-- the words ask for a workload or a check, but one of them is none of the names that its argument takes
+abbrev pub AskMisnamed : List Text → Misnamed → Type 0
+AskMisnamed words misnamed = outcome_of words ≡ Some (Misnames misnamed)
 
 -- the words ask neither for help or the version nor for what the program does: they name the command `help`, or have another
--- fault than that they ask for help or the version, or name no kind of workload
+-- fault than that they ask for help or the version, or name no kind of workload or no pairing
 abbrev pub AreRefused : List Text → Type 0
 AreRefused words = (names_help words ≡ true)
     ⊎ ((is_empty (faults words) ≡ false) × (list_any is_info (faults words) ≡ false))
-    ⊎ ((word : Text) × AskNoKind words word)
+    ⊎ ((misnamed : Misnamed) × AskMisnamed words misnamed)

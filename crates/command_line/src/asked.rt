@@ -27,6 +27,8 @@ pub struct CheckWords<'a> {
     pub sweep_budget: u64,
     /// How many clauses a solver may learn for an output.
     pub budget: u64,
+    /// Whether inputs and outputs are paired by their names, and not by their positions.
+    pub by_name: bool,
     pub ghost least_words: { 1 ≤ words },
     pub ghost most_words: { words ≤ WORDS_LIMIT },
     pub ghost least_sweep_budget: { 1 ≤ sweep_budget },
@@ -53,6 +55,17 @@ pub struct SelfWords {
     pub n: u32,
     pub ghost least: { 1 ≤ n },
     pub ghost most: { n ≤ MOST_BITS },
+}
+
+/// A value that is none of the names that its argument takes.
+#[derive(Clone, Copy)]
+pub(crate) struct MisnamedWord<'a> {
+    /// The argument, as help writes it.
+    pub(crate) argument: &'static str,
+    /// The names that it takes.
+    pub(crate) names: &'static str,
+    /// The value.
+    pub(crate) word: &'a str,
 }
 
 /// What the words ask for.

@@ -1,8 +1,8 @@
-ghost use Rattle.std.specs.Prelude.{◌⊎◌, ℕ, List, [], ◌∷◌, Some, codes};
+ghost use Rattle.std.specs.Prelude.{◌≢◌, ◌⊎◌, ℕ, List, [], ◌∷◌, Some, codes, false, true};
 ghost use Rattle.command_line.specs.Commands.{budget_option, most_seed, seed_option, sweep_budget_option, words_option};
-ghost use Rattle.command_line.specs.Plain.{AskCheck, IsInRange, IsPlain, SetsNumber, SetsText, Writes, kind_name};
+ghost use Rattle.command_line.specs.Plain.{AskCheck, IsInRange, IsPlain, SetsName, SetsNumber, SetsText, Writes, kind_name};
 ghost use Rattle.command_line.specs.declared.asked.TheConstants.{BUDGET_LIMIT, WORDS_LIMIT};
-ghost use Rattle.command_line.specs.Words.{AreRefused, Asks, LratIt, Request, SelfIt, WantHelp, WantInfo, WantVersion, plain_check};
+ghost use Rattle.command_line.specs.Words.{AreRefused, AskMisnamed, Asks, LratIt, Request, SelfIt, WantHelp, WantInfo, WantVersion, misnamed_pairing, plain_check};
 ghost use Rattle.workload_gen.specs.declared.kind.Kind.{Kind};
 ghost use Rattle.workload_gen.specs.declared.workload.TheConstants.{MOST_BITS};
 
@@ -35,6 +35,14 @@ pub fn plain_words()
     ensures sweep_budget { SetsNumber (codes "--sweep-budget") 1 BUDGET_LIMIT
         (λ c n. record c { sweep_budget = n }) }
     ensures budget { SetsNumber (codes "--budget") 1 BUDGET_LIMIT (λ c n. record c { budget = n }) }
+    ensures match_position { SetsName (codes "--match") (codes "position")
+        (λ c. record c { by_name = false }) }
+    ensures match_names { SetsName (codes "--match") (codes "names")
+        (λ c. record c { by_name = true }) }
+    ensures no_pairing { (program a b word : List ℕ) → IsPlain a → IsPlain b → IsPlain word
+        → word ≢ codes "position" → word ≢ codes "names"
+        → AskMisnamed (program ∷ codes "check" ∷ a ∷ b ∷ codes "--match" ∷ word ∷ [])
+        (misnamed_pairing word) }
     ensures out_budget { (a b p word : List ℕ) (n : ℕ) → IsPlain a → IsPlain b → IsPlain p
         → Writes 1 BUDGET_LIMIT word n
         → AskCheck (codes "check" ∷ a ∷ b ∷ codes "--out" ∷ p ∷ codes "--budget" ∷ word ∷ [])

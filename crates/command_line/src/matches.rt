@@ -1,15 +1,18 @@
 ghost use Rattle.std.specs.Prelude.{◌≡◌, ◌≤◌, IfSome, Some, true, is_some, unwrap_or};
 ghost use Rattle.clap.specs.Words.{first_of, found_of, rows_of};
-ghost use Rattle.command_line.specs.Words.{CheckIt, LratIt, Requested, check_in, kind_named, lrat_in, number_in, number_of, outcome_in, plain_check, self_in};
+ghost use Rattle.command_line.specs.Words.{LratIt, Requested, check_given, check_in, kind_named, lrat_in, misnamed_kind, misnamed_pairing, number_in, number_of, outcome_in, matched, pairing_named, plain_check, self_in};
 ghost use Rattle.command_line.specs.Answers.{check_texts, lrat_texts};
-ghost use Rattle.command_line.specs.Parsing.{found, outcome, workload};
+ghost use Rattle.command_line.specs.Parsing.{found, misnamed_texts, outcome};
 
-use crate::asked::{Asked, BUDGET_LIMIT, CheckWords, LratWords, SelfWords, WORDS_LIMIT};
+use crate::asked::{
+    Asked, BUDGET_LIMIT, CheckWords, LratWords, MisnamedWord, SelfWords, WORDS_LIMIT,
+};
 use clap::ArgMatches;
 use workload_gen::{Kind, MOST_BITS};
 
-/// What the matches of the program's command ask for, or the word in them that names no kind of workload.
-pub(crate) fn asked_in<'a>(matches: &ArgMatches<'a>) -> Result<Asked<'a>, &'a str>
+/// What the matches of the program's command ask for, or the word in them that is none of the names that its
+/// argument takes.
+pub(crate) fn asked_in<'a>(matches: &ArgMatches<'a>) -> Result<Asked<'a>, MisnamedWord<'a>>
     requires { is_some (found matches.now) ≡ true }
     ensures { found matches.now ≡ Some (outcome result) }
 {
@@ -20,21 +23,18 @@ pub(crate) fn asked_in<'a>(matches: &ArgMatches<'a>) -> Result<Asked<'a>, &'a st
 }
 
 /// What the matches of the command of this name ask for.
-fn asked_by<'a>(name: &str, matches: &ArgMatches<'a>) -> Result<Asked<'a>, &'a str>
+fn asked_by<'a>(name: &str, matches: &ArgMatches<'a>) -> Result<Asked<'a>, MisnamedWord<'a>>
     requires { is_some (outcome_in name.now (rows_of (found_of matches.now))) ≡ true }
     ensures { outcome_in name.now (rows_of (found_of matches.now)) ≡ Some (outcome result) }
 {
     if name == "check" {
-        return Ok(Asked::Check(check_words(matches)));
+        return check_in(matches);
     }
     if name == "lrat" {
         return Ok(Asked::Lrat(lrat_words(matches)));
     }
     if name == "self" {
-        return match self_words(matches) {
-            Ok(words) => Ok(Asked::SelfCheck(words)),
-            Err(word) => Err(word),
-        };
+        return self_in(matches);
     }
     unreachable!()
 }
@@ -52,15 +52,68 @@ impl<'a> CheckWords<'a> {
             words: 4,
             sweep_budget: 100,
             budget: 100_000,
+            by_name: false,
         }
     }
 }
 
-/// The words of a check, by the names that the table has for them. An option that is left out has its
-/// default.
-fn check_words<'a>(matches: &ArgMatches<'a>) -> CheckWords<'a>
+/// The check, or the word that should name its pairing and doesn't.
+fn check_in<'a>(matches: &ArgMatches<'a>) -> Result<Asked<'a>, MisnamedWord<'a>>
     requires { is_some (check_in (rows_of (found_of matches.now))) ≡ true }
-    ensures { check_in (rows_of (found_of matches.now)) ≡ Some (Requested (CheckIt (check_texts result))) }
+    ensures { check_in (rows_of (found_of matches.now)) ≡ Some (outcome result) }
+{
+    let check = check_words(matches);
+    match matches.get_str("match") {
+        Some(word) => matched(check, word),
+        None => Ok(Asked::Check(check)),
+    }
+}
+
+/// The check by the pairing that the word names.
+fn matched<'a>(check: CheckWords<'a>, word: &'a str) -> Result<Asked<'a>, MisnamedWord<'a>>
+    ensures { outcome result ≡ matched (Some word.now) (check_texts check.entry) }
+{
+    match pairing_named(word) {
+        Some(by_name) => Ok(Asked::Check(CheckWords {
+            a: check.a,
+            b: check.b,
+            out: check.out,
+            seed: check.seed,
+            words: check.words,
+            sweep_budget: check.sweep_budget,
+            budget: check.budget,
+            by_name,
+        })),
+        None => Err(misnamed_pairing(word)),
+    }
+}
+
+/// Whether the pairing of this name is that by names.
+fn pairing_named(name: &str) -> Option<bool>
+    ensures { result ≡ pairing_named name.now }
+{
+    match name {
+        "position" => Some(false),
+        "names" => Some(true),
+        _ => None,
+    }
+}
+
+fn misnamed_pairing<'a>(word: &'a str) -> MisnamedWord<'a>
+    ensures { misnamed_texts result ≡ misnamed_pairing word.now }
+{
+    MisnamedWord {
+        argument: "--match <BY>",
+        names: "position, names",
+        word,
+    }
+}
+
+/// The words of a check but that for its pairing, by the names that the table has for them. An option that is
+/// left out has its default.
+fn check_words<'a>(matches: &ArgMatches<'a>) -> CheckWords<'a>
+    requires { is_some (check_given (rows_of (found_of matches.now))) ≡ true }
+    ensures { check_given (rows_of (found_of matches.now)) ≡ Some (check_texts result) }
 {
     let plain = CheckWords::plain(text(matches, "a"), text(matches, "b"));
     CheckWords {
@@ -71,6 +124,7 @@ fn check_words<'a>(matches: &ArgMatches<'a>) -> CheckWords<'a>
         words: number_or(matches, "words", 1, WORDS_LIMIT, plain.words),
         sweep_budget: number_or(matches, "sweep-budget", 1, BUDGET_LIMIT, plain.sweep_budget),
         budget: number_or(matches, "budget", 1, BUDGET_LIMIT, plain.budget),
+        by_name: plain.by_name,
     }
 }
 
@@ -86,15 +140,25 @@ fn lrat_words<'a>(matches: &ArgMatches<'a>) -> LratWords<'a>
 }
 
 /// The workload, or the word that should name its kind and doesn't.
-fn self_words<'a>(matches: &ArgMatches<'a>) -> Result<SelfWords, &'a str>
+fn self_in<'a>(matches: &ArgMatches<'a>) -> Result<Asked<'a>, MisnamedWord<'a>>
     requires { is_some (self_in (rows_of (found_of matches.now))) ≡ true }
-    ensures { self_in (rows_of (found_of matches.now)) ≡ Some (workload result) }
+    ensures { self_in (rows_of (found_of matches.now)) ≡ Some (outcome result) }
 {
     let word = text(matches, "kind");
     let n = number(matches, "n", 1, MOST_BITS as u64);
     match kind_named(word) {
-        Some(kind) => Ok(SelfWords { kind, n: n as u32 }),
-        None => Err(word),
+        Some(kind) => Ok(Asked::SelfCheck(SelfWords { kind, n: n as u32 })),
+        None => Err(misnamed_kind(word)),
+    }
+}
+
+fn misnamed_kind<'a>(word: &'a str) -> MisnamedWord<'a>
+    ensures { misnamed_texts result ≡ misnamed_kind word.now }
+{
+    MisnamedWord {
+        argument: "<KIND>",
+        names: "adder, parity, comparator",
+        word,
     }
 }
 

@@ -2,10 +2,10 @@ ghost use Rattle.std.specs.Prelude.{◌≡◌, IfOk, IfErr, Some, is_some, map, 
 ghost use Rattle.clap.specs.Words.{FailsBy, HasMatchesOf, kind_of};
 ghost use Rattle.command_line.specs.Commands.{cec_app};
 ghost use Rattle.command_line.specs.Words.{Asks, Requested, faults, names_help};
-ghost use Rattle.command_line.specs.Answers.{request, no_kind_text, version_text, MayRefuse};
-ghost use Rattle.command_line.specs.Parsing.{RefusesFound, RefusesHelp, RefusesKind, TellsVersion, IsRefusal, found};
+ghost use Rattle.command_line.specs.Answers.{misnamed_text, request, version_text, MayRefuse};
+ghost use Rattle.command_line.specs.Parsing.{RefusesFound, RefusesHelp, RefusesMisnamed, TellsVersion, IsRefusal, found, misnamed_texts};
 
-use crate::asked::Asked;
+use crate::asked::{Asked, MisnamedWord};
 use crate::command::cec_command;
 use crate::matches::asked_in;
 use crate::table::VERSION;
@@ -59,7 +59,7 @@ fn no_command_help(alloc: Global) -> Refusal
     }
 }
 
-/// What the matches ask for. A word that names no kind of workload is refused here.
+/// What the matches ask for. A word that is none of the names that its argument takes is refused here.
 fn answer_to<'a>(alloc: Global, matches: &ArgMatches<'a>) -> Result<Asked<'a>, Refusal>
     requires { is_some (found matches.now) ≡ true }
     ensures asked { IfOk result (λ asked. found matches.now ≡ Some (Requested (request asked))) }
@@ -67,28 +67,29 @@ fn answer_to<'a>(alloc: Global, matches: &ArgMatches<'a>) -> Result<Asked<'a>, R
 {
     match asked_in(matches) {
         Ok(asked) => Ok(asked),
-        Err(word) => Err(no_kind(alloc, word)),
+        Err(word) => Err(misnamed(alloc, &word)),
     }
 }
 
-/// The refusal of a word that names no kind of workload. `clap` could refuse it, by the list of names of the
-/// argument; but its definitions see such a list as a place in memory, of which no definition can speak.
-fn no_kind(alloc: Global, word: &str) -> Refusal
-    ensures { RefusesKind word.now result }
+/// The refusal of such a word. `clap` could refuse it, by the list of names of the argument; but its
+/// definitions see such a list as a place in memory, of which no definition can speak.
+fn misnamed(alloc: Global, word: &MisnamedWord<'_>) -> Refusal
+    ensures { RefusesMisnamed (misnamed_texts word.now) result }
 {
-    match no_kind_text(alloc, word) {
+    match misnamed_text(alloc, word) {
         Ok(text) => Refusal::Usage(text),
         Err(_) => Refusal::NoMemory,
     }
 }
 
 /// The text of it, as `clap` says this of a value that isn't among the names of its argument.
-fn no_kind_text(alloc: Global, word: &str) -> Result<String, AllocError>
-    ensures { IfOk result (λ s. string_bytes s ≡ no_kind_text word.now) }
+fn misnamed_text(alloc: Global, misnamed: &MisnamedWord<'_>) -> Result<String, AllocError>
+    ensures { IfOk result (λ s. string_bytes s ≡ misnamed_text (misnamed_texts misnamed.now)) }
 {
     format!(in alloc;
-        "error: invalid value '{word}' for '<KIND>'\n  [possible values: adder, parity, comparator]\n\
-         \nFor more information, try '--help'.\n"
+        "error: invalid value '{}' for '{}'\n  [possible values: {}]\n\
+         \nFor more information, try '--help'.\n",
+        misnamed.word, misnamed.argument, misnamed.names
     )
 }
 

@@ -110,6 +110,13 @@ pub(crate) static COMMANDS: [CommandRow; 3] = [
                 help: "Give up on an output after N learned clauses, \
                        from 1 to 1000000000 [default: 100000]",
             },
+            ArgumentRow {
+                name: "match",
+                value_name: "BY",
+                takes: Takes::Text,
+                help: "Pair inputs and outputs by their position, \
+                       or by the names that the files give them: position or names [default: position]",
+            },
         ],
     },
     CommandRow {

@@ -46,6 +46,8 @@ Options:
       --sweep-budget <N>  Give up on a pair of nodes after N learned clauses, \
       from 1 to 1000000000 [default: 100]
       --budget <N>        Give up on an output after N learned clauses, from 1 to 1000000000 [default: 100000]
+      --match <BY>        Pair inputs and outputs by their position, \
+      or by the names that the files give them: position or names [default: position]
   -h, --help              Print help
 
 Says, and ends with the status before it:
@@ -112,6 +114,13 @@ error: invalid value 'help' for '<KIND>'
 For more information, try '--help'.
 ";
 
+const NO_PAIRING: &str = "usage: \
+error: invalid value 'by' for '--match <BY>'
+  [possible values: position, names]
+
+For more information, try '--help'.
+";
+
 const VERSION: &str = "help: cec 0.2.0\n";
 
 const NO_VERSION: &str = "usage: \
@@ -127,7 +136,7 @@ For more information, try '--help'.
 const NO_HELP: &str = "usage: cec: no command help\n";
 
 /// Words, and what they are told.
-static TOLD: [(&str, &str); 14] = [
+static TOLD: [(&str, &str); 15] = [
     ("cec --help", PROGRAM_HELP),
     ("cec -h", PROGRAM_HELP),
     ("cec check --help", CHECK_HELP),
@@ -140,6 +149,7 @@ static TOLD: [(&str, &str); 14] = [
     ("cec check --version", NO_VERSION),
     ("cec", NO_COMMAND),
     ("cec self help 1", NO_KIND),
+    ("cec check x y --match by", NO_PAIRING),
     ("cec help", NO_HELP),
     ("cec help check", NO_HELP),
 ];
@@ -163,6 +173,9 @@ const TAKEN: &str = concat!(
     "cec check x y --sweep-budget 1000000000 => x and y, to nowhere, by 1, 4, 1000000000 and 100000;",
     "cec check x y --seed=7 --budget 8 => x and y, to nowhere, by 7, 4, 100 and 8;",
     "cec check --sweep-budget 5 x --words 6 y --out p => x and y, to p, by 1, 6, 5 and 100000;",
+    "cec check x y --match names => x and y by name, to nowhere, by 1, 4, 100 and 100000;",
+    "cec check x y --match position => x and y, to nowhere, by 1, 4, 100 and 100000;",
+    "cec check --match=names x y --out p => x and y by name, to p, by 1, 4, 100 and 100000;",
     "cec lrat f p => p of f;",
     "cec self adder 1 => an adder of 1;",
     "cec self parity 4096 => a parity of 4096;",
@@ -181,6 +194,13 @@ const REFUSED: &str = concat!(
     "cec check x y --budget 7 --budget 7 => \
         the argument '--budget <N>' cannot be used multiple times\n;",
     "cec check x y --out => a value is required for '--out <PREFIX>' but none was supplied\n;",
+    "cec check x y --match => a value is required for '--match <BY>' but none was supplied\n;",
+    "cec check x y --match name => \
+        invalid value 'name' for '--match <BY>'\n  [possible values: position, names]\n;",
+    "cec check x y --match names --match names => \
+        the argument '--match <BY>' cannot be used multiple times\n;",
+    "cec check x --match by => the following required arguments were not provided:\n  <B>\n;",
+    "cec check x y --match by --words 0 => invalid value '0' for '--words <N>': 0 is not in 1..=64\n;",
     "cec check x => the following required arguments were not provided:\n  <B>\n;",
     "cec lrat => the following required arguments were not provided:\n  <CNF>\n  <PROOF>\n;",
     "cec check x y z => unexpected argument 'z' found\n;",
@@ -214,10 +234,11 @@ fn words_of(alloc: Global, line: &str) -> Result<Vec<String>, AllocError> {
     Ok(words)
 }
 
-/// The files that a check was given, and where its proof goes.
+/// The files that a check was given, how they are paired, and where its proof goes.
 fn files_of(alloc: Global, check: &CheckWords<'_>) -> Result<String, AllocError> {
     let out = check.out.unwrap_or("nowhere");
-    format!(in alloc; "{} and {}, to {out}", check.a, check.b)
+    let pairing = if check.by_name { " by name" } else { "" };
+    format!(in alloc; "{} and {}{pairing}, to {out}", check.a, check.b)
 }
 
 /// The numbers that a check was given.

@@ -4,7 +4,9 @@ use Rattle.workload_gen.specs.Workload.{first_circuit, second_circuit}
 use Rattle.command_line.specs.Answers.{self_texts}
 use Rattle.check_session.specs.Check.{State}
 use Rattle.cec_top.proofs.OwnLemmas.{made-own, taken, plain-first, plain-second}
-use Rattle.cec_top.proofs.ReadLemmas.{paired}
+use Rattle.check_session.specs.declared.options.Options.{Options}
+use Rattle.netlist.specs.Pairing.{paired}
+use Rattle.cec_top.proofs.ReadLemmas.{pair-there}
 use Rattle.cec_top.proofs.own.own_session.Goals as goal
 
 pub read_back-requires : goal.read_back-requires
@@ -23,9 +25,10 @@ read_back-requires-2 c = (
 
 pub returns-in-Ok : goal.returns-in-Ok
 returns-in-Ok c =
-    let p = paired _ _ _ c.in-Ok.ensures.unlike c.in-Ok.ensures.like in (
+    let p = pair-there _ _ _ c.in-Ok.ensures.unlike c.in-Ok.ensures.like in (
       made-own (self_texts c.args.words) _ _ c.in_ok-a.a c.in_ok-b.b c.in-Ok.session.net
           (c.as_slice.ensures.value ∙ c.in_ok-first.ensures.bytes.0) (c.as_slice-2.ensures.value ∙ c.in_ok-first.ensures.bytes.1)
-          c.in_ok-a.ensures.reads c.in_ok-b.ensures.reads (ap (λ (s : State). s.net) p.1),
+          c.in_ok-a.ensures.reads c.in_ok-b.ensures.reads
+          (ap (λ (s : State). s.net) p.1 ∙ ap (λ (o : Options). paired o.by_name c.in_ok-a.a c.in_ok-b.b) c.default_options.ensures.options),
       ap (λ (s : State). s.options) p.1 ∙ c.default_options.ensures.options,
     )

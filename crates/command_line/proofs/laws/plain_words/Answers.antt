@@ -1,4 +1,4 @@
-use Rattle.command_line.proofs.PlainLemmas.{asks-check, asks-lrat, asks-self, sets-budget, sets-budget_out, sets-out, sets-out_budget, sets-seed, sets-sweep_budget, sets-words}
+use Rattle.command_line.proofs.PlainLemmas.{asks-check, asks-lrat, asks-self, misnames-match, sets-budget, sets-budget_out, sets-match_names, sets-match_position, sets-out, sets-out_budget, sets-seed, sets-sweep_budget, sets-words}
 use Rattle.command_line.proofs.laws.plain_words.Goals as goal
 
 pub returns : goal.returns
@@ -9,6 +9,9 @@ returns c = record {
   words = sets-words;
   sweep_budget = sets-sweep_budget;
   budget = sets-budget;
+  match_position = sets-match_position;
+  match_names = sets-match_names;
+  no_pairing = misnames-match;
   out_budget = λ a b p word n plain_a plain_b plain_p writes program.
       sets-out_budget program a b p word n plain_a plain_b plain_p writes;
   budget_out = λ a b p word n plain_a plain_b plain_p writes program.

@@ -2,7 +2,7 @@ use Rattle.std.proofs.Common.{◌∙◌, Some, ap, codes, sym}
 use Rattle.clap.proofs.WalkLemmas.{first_value-rows}
 use Rattle.clap.specs.Words.{found_of, rows_of}
 use Rattle.command_line.specs.Answers.{check_texts}
-use Rattle.command_line.specs.Words.{CheckCommand, CheckIt, Requested, with_options}
+use Rattle.command_line.specs.Words.{with_options}
 use Rattle.command_line.proofs.GetterLemmas.{check_made, options_given}
 use Rattle.command_line.proofs.matches.check_words.Goals as goal
 
@@ -11,7 +11,7 @@ returns c =
     let found = found_of c.args.matches.now in
     let rows = rows_of found in
     check_made rows _ _ c.text.ensures c.text-2.ensures
-    ∙ ap (λ (k : CheckCommand). Some (Requested (CheckIt k)))
+    ∙ ap Some
     (ap (with_options rows) (sym c.plain-plain.ensures)
     ∙ options_given rows (check_texts c.plain-plain.result) _ _ _ _ _
     (sym (first_value-rows found (codes "out")) ∙ sym c.get_str.ensures)
