@@ -17,7 +17,7 @@ fn plain(rt: &impl Abort, circuit: Circuit) -> Circuit
     circuit
 }
 
-fn net_of(rt: &impl Abort, alloc: Global, a: Circuit, b: Circuit) -> Net {
+pub(crate) fn net_of(rt: &impl Abort, alloc: Global, a: Circuit, b: Circuit) -> Net {
     let a = plain(rt, a);
     let b = plain(rt, b);
     Net::of(alloc, a, b).expect(rt, "a net")

@@ -1,0 +1,6 @@
+mod ElementsStay
+mod EditedNets
+mod Renaming
+mod KeptPlaces
+mod KeptEntries
+mod KeptBooks

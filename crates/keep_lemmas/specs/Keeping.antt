@@ -1,0 +1,77 @@
+-- How the kept book is made, entry by entry.
+use Rattle.std.specs.Prelude.{◌≡◌, ℕ, ◌<◌, Bool, false, Option, None, Some, List, length, map, take, slice_get, is_some, if◌then◌else◌}
+use Rattle.std.specs.Option.{option_map_or}
+use Rattle.std.specs.List.{list_all}
+use Rattle.std.specs.HashSet.{HashSet, contains}
+use Rattle.lits.specs.declared.node.Node.{Node}
+use Rattle.lits.specs.declared.node.Node.TheVariants.{Gate, Xor}
+use Rattle.lits.specs.declared.step.Step.{Step}
+use Rattle.lits.specs.Same.{same_node}
+use Rattle.netlist.specs.Net.{AigPair}
+use Rattle.netlist.specs.Circuit.{var_of}
+use Rattle.lemma_book.specs.declared.entry.Entry.{Entry}
+use Rattle.lemma_book.specs.Entry.{Entries, with_last}
+use Rattle.netlist_edits.specs.declared.edit.Edit.{Edit}
+use Rattle.netlist_edits.specs.declared.edit.Edit.TheVariants.{Set, New, Remove, Out}
+use Rattle.netlist_edits.specs.Edited.{touched_by}
+use Rattle.keep_lemmas.specs.Kept.{step_stays, entry_stays, renewed_step, stays, count_before, renewed, chosen}
+
+-- ---- touched nodes
+
+-- the node that an edit touches
+abbrev pub touched_node : Edit → Option Node
+touched_node (Set side lhs r0 r1) = Some (Gate side (var_of lhs))
+touched_node (New side lhs r0 r1 place) = None
+touched_node (Remove side lhs) = Some (Gate side (var_of lhs))
+touched_node (Out side j lit) = Some (Xor j)
+
+-- the node is that one, if there is one
+abbrev pub is_node : Option Node → Node → Bool
+is_node o n = option_map_or (same_node n) o false
+
+-- the set has exactly the nodes that the edits touch
+abbrev pub HasTouched : {S : Type 0} → HashSet Node S → List Edit → Type 0
+HasTouched nodes edits = (n : Node) → contains same_node nodes n ≡ touched_by edits n
+
+-- ---- new numbers, by the entries' old places: none for an entry that goes
+
+-- the entry at the place has a number
+abbrev pub is_numbered : List (Option ℕ) → ℕ → Bool
+is_numbered numbers i = option_map_or is_some (slice_get numbers i) false
+
+-- its number
+abbrev pub number_in : List (Option ℕ) → ℕ → ℕ
+number_in numbers i = option_map_or (λ o. option_map_or (λ n. n) o 0) (slice_get numbers i) 0
+
+-- the number of the entry at the place among those of a set
+abbrev pub number_of : (ℕ → Bool) → ℕ → Option ℕ
+number_of set i = if set i then Some (count_before set i) else None
+
+-- the first n entries have their numbers
+pub record AreNumbers (set : ℕ → Bool) (n : ℕ) (numbers : List (Option ℕ)) : Type 0 where
+  pub count : length numbers ≡ n
+  pub each : (i : ℕ) → i < n → slice_get numbers i ≡ Some (number_of set i)
+
+-- ---- entries
+
+-- the steps with new numbers, where they stay
+abbrev pub kept_steps : AigPair → (Node → Bool) → List (Option ℕ) → List Step → Option (List Step)
+kept_steps net touched numbers steps =
+    if list_all (step_stays net touched (is_numbered numbers)) steps then Some (map (renewed_step (number_in numbers)) steps) else None
+
+-- the entry with new numbers, where it stays
+abbrev pub kept_entry : AigPair → (Node → Bool) → List (Option ℕ) → Entry → Option Entry
+kept_entry net touched numbers e =
+    if entry_stays net touched (is_numbered numbers) e then Some (renewed (number_in numbers) e) else None
+
+-- the book with one entry more, if there is one
+abbrev pub with_some : Entries → Option Entry → Entries
+with_some book entry = option_map_or (with_last book) entry book
+
+-- what stays of the first n entries
+abbrev pub kept_first : AigPair → List Edit → Entries → ℕ → Entries
+kept_first net edits book n = record {
+  sweep_budget = book.sweep_budget;
+  out_budget = book.out_budget;
+  entries = chosen (stays net (touched_by edits) book.entries) (take n book.entries);
+}
