@@ -1,2 +1,4 @@
+pub mod Facts
 mod WordLemmas
 mod EarlierLemmas
+mod ScriptLemmas

@@ -6,8 +6,10 @@
 --     out S J LIT
 --     check
 --
--- S is `a` or `b`. A number is one or more digits, leading zeros allowed; LHS and LHS2 are even. An empty line asks for
--- nothing.
+-- S is `a` or `b`. A number is one or more digits, leading zeros allowed, and at most 33554433; LHS and LHS2 are even besides,
+-- so at most 33554432. Every byte between two spaces belongs to a word, a CR too, so a line with a space in front, at its end
+-- or twice in a row has an empty word and none of the forms. A line without a byte asks for nothing. Whether the circuits have
+-- what the numbers name isn't asked here: that is for `specs/Fault.antt`.
 use Rattle.std.specs.Prelude.{ℕ, ◌*◌, ◌+◌, ◌%◌, Bool, true, ◌&&◌, codes, List, [], ◌∷◌, Option, Some, None, option_map, option_and_then, nat_le, ◌==◌, if◌then◌else◌}
 use Rattle.std.specs.Str.{bytes_eq}
 use Rattle.lits.specs.declared.node.Side.{Side}
@@ -22,15 +24,16 @@ use Rattle.netlist_edits.specs.declared.edit.Command.TheVariants as command
 
 -- ---- numbers
 
--- a number that a line may have: none is above the greatest literal of a circuit, the negation of its greatest variable
+-- a number that a line may have, be it a literal or an output's index: none is above the greatest literal that a circuit can
+-- have, the negation of the greatest variable, 33554433
 abbrev pub is_number : ℕ → Bool
 is_number n = nat_le n (2 * most + 1)
 
--- a number that may name a gate: a literal that is no negation
+-- a number that may name a gate: a literal that is no negation. So is 0, which no gate bears.
 abbrev pub is_gate_literal : ℕ → Bool
 is_gate_literal n = n % 2 == 0 && is_number n
 
--- a new gate's place that may be named: a gate, or none for the end
+-- a place that may be named for a new gate: a number that may name the gate behind it, or none for the end
 abbrev pub is_place : Option ℕ → Bool
 is_place None = true
 is_place (Some n) = is_gate_literal n
@@ -48,11 +51,12 @@ has_numbers_of_a_line (Out side j lit) = is_number j && is_number lit
 abbrev pub only : (ℕ → Bool) → Option ℕ → Option ℕ
 only test value = option_and_then (λ n. if test n then Some n else None) value
 
--- the number that a word writes
+-- the number that a word writes; none where the word has a byte that is no digit, has no byte, or writes a greater number than a
+-- line may have
 abbrev pub number_in : List ℕ → Option ℕ
 number_in word = only is_number (size_in word)
 
--- the literal of a gate that a word writes
+-- such a number that may name a gate; none for an odd one too
 abbrev pub gate_literal_in : List ℕ → Option ℕ
 gate_literal_in word = only is_gate_literal (number_in word)
 

@@ -25,8 +25,8 @@ pub fn apply(_alloc: Global, net: &mut Net, edit: &Edit) -> Result<(), EditErr>
     Ok(())
 }
 
-/// Makes an edit that has no fault.
-fn make(net: &mut Net, edit: &Edit) -> Result<(), AllocError>
+/// Makes an edit that has no fault. Where memory is refused the net is unchanged.
+pub fn make(net: &mut Net, edit: &Edit) -> Result<(), AllocError>
     requires { fault_of net.old edit.now ≡ None }
     ensures ok { OnOk result (net.new ≡ edited net.old edit.now) }
     ensures err { OnErr result (net.new ≡ net.old) }

@@ -8,8 +8,8 @@ use crate::error::EditErr;
 use lits::Side;
 use netlist::Net;
 
-/// The first fault of an edit of the net.
-pub(crate) fn fault_of(net: &Net, edit: &Edit) -> Option<EditErr>
+/// The first fault of an edit of the net. That memory is refused comes after all of them.
+pub fn fault_of(net: &Net, edit: &Edit) -> Option<EditErr>
     ensures { result ≡ fault_of net.now edit.now }
 {
     if !has_numbers_of_a_line(edit) {

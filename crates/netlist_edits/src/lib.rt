@@ -14,9 +14,10 @@
 //! `change.rt`, which asks `faults.rt` first, and that asks `checks.rt` about the net.
 #![tactic(auto)]
 
-pub use change::apply;
+pub use change::{apply, make};
 pub use edit::{Command, Edit};
 pub use error::{BadLine, EditErr};
+pub use faults::fault_of;
 pub use line::read_line;
 
 mod change;
