@@ -39,7 +39,7 @@ HasTouched nodes edits = (n : Node) → contains same_node nodes n ≡ touched_b
 abbrev pub is_numbered : List (Option ℕ) → ℕ → Bool
 is_numbered numbers i = option_map_or is_some (slice_get numbers i) false
 
--- its number
+-- its number; 0 where it has none, as an entry that goes or stands behind the list, which no step names that stays
 abbrev pub number_in : List (Option ℕ) → ℕ → ℕ
 number_in numbers i = option_map_or (λ o. option_map_or (λ n. n) o 0) (slice_get numbers i) 0
 

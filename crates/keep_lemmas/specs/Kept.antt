@@ -21,7 +21,8 @@ use Rattle.netlist_edits.specs.Edited.{touched_by}
 abbrev pub is_clear : (Node → Bool) → List Lit → Bool
 is_clear touched clause = not (list_any (λ l. touched l.node) clause)
 
--- the hint names an axiom that is clear of touched nodes, or a clause of an entry of the set, or an own step's clause
+-- The hint names an axiom that is clear of touched nodes, or a clause of an entry of the set, or an own step's clause. An axiom
+-- that the net hasn't counts as clear; no step of a legal book cites one.
 abbrev pub hint_stays : AigPair → (Node → Bool) → (ℕ → Bool) → Ref → Bool
 hint_stays net touched set (Axiom node k) = option_map_or (is_clear touched) (axiom_of net node k) true
 hint_stays net touched set (Shown i k) = set i
@@ -75,7 +76,8 @@ renewed_hint number (Own k) = Own k
 abbrev pub renewed_step : (ℕ → ℕ) → Step → Step
 renewed_step number s = record { clause = s.clause; hints = map (renewed_hint number) s.hints }
 
--- a Merge or an Out whose hints name entries by their new numbers
+-- A Merge or an Out whose hints name entries by their new numbers. It is meant for entries that stay, which are Merges and Outs;
+-- of the others, whose logs name entries of a first part of the old book, nothing is changed.
 abbrev pub renewed : (ℕ → ℕ) → Entry → Entry
 renewed number (Merge node lit steps) = Merge node lit (map (renewed_step number) steps)
 renewed number (Apart node lit input) = Apart node lit input
@@ -84,7 +86,8 @@ renewed number (Out j steps) = Out j (map (renewed_step number) steps)
 renewed number (OutApart j input) = OutApart j input
 renewed number (OutSpent j seen log) = OutSpent j seen log
 
--- the entries at the set's places, each with the number of those before it
+-- The entries at the set's places, in order, where the new number of the entry at a place is how many of the set stand before
+-- it. It is meant for sets with what their entries cite: the hint that names an entry outside of the set gets a number too.
 abbrev pub chosen : (ℕ → Bool) → List Entry → List Entry
 chosen set entries = map (renewed (count_before set)) (at_places set entries)
 

@@ -66,7 +66,8 @@ fn add(nodes: &mut Nodes, node: Option<Node>) -> Result<(), AllocError>
 }
 
 /// The node that an edit touches: the gate that it sets or takes out, or the XOR of the output that it
-/// changes. A new gate is in no step yet.
+/// changes. The node of a new gate is in no step that stays: either the net never had it, or an earlier edit
+/// took it out, and that one touches it.
 fn touched_node(edit: &Edit) -> Option<Node>
     ensures { result ≡ touched_node edit.now }
 {

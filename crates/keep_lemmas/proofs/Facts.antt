@@ -1,0 +1,6 @@
+-- What crates above may cite.
+
+-- each entry that is kept says that two values are equal
+pub use Rattle.keep_lemmas.proofs.KeptAnswers.{kept-equal}
+-- each input that a legal book hands out has a truth value for each input of the circuits
+pub use Rattle.keep_lemmas.proofs.KeptAnswers.{handed-whole}
