@@ -8,12 +8,14 @@
 //! handed on, so that `pairs::check` alone drops it and not each test. Tests: `nets` and `edits` are of
 //! `netlist`, `patterns` of `word_sim`, `classes` of `sig_classes`, `lemmas` of `lemma_book`, `machine` of
 //! `sweep_core`, `structure` of `strash_pass`, `searches` of `circuit_search`,
-//! `queries` of `cone_query` and `equal_outputs`, `sessions` of `check_session`, `stitching` of
+//! `queries` of `cone_query` and `equal_outputs`, `sessions` and `edited` of `check_session`, `stitching` of
 //! `proof_stitch`. Begin to read at `nets.rt`.
 #![tactic(auto)]
 
 #[cfg(test)]
 mod classes;
+#[cfg(test)]
+mod edited;
 #[cfg(test)]
 mod edits;
 #[cfg(test)]

@@ -1,7 +1,7 @@
 ghost use Rattle.std.specs.Prelude.{◌≡◌, None, length};
 ghost use Rattle.desk_port.specs.MemDesk.{state_of};
 ghost use Rattle.lemma_book.specs.Book.{IsLegal};
-ghost use Rattle.check_session.specs.Check.{IsFound};
+ghost use Rattle.check_session.specs.Check.{IsFound, begun_by};
 
 use crate::lemmas::book_of;
 use crate::pairs::{Case, check, expect, net_of, plain, swapped_ands, two_xors};
@@ -138,7 +138,8 @@ const ONE_CLAUSE: Options = Options {
 
 /// Checks the session.
 fn verdict_of(rt: &(impl Abort + Threads + Wait), alloc: Global, session: &mut Session) -> Verdict
-    ensures { IsFound session.new.net session.new.options session.new.pool session.new.book result }
+    ensures { IsFound session.new.net session.new.options (begun_by session.old) session.new.pool
+        session.new.book result }
 {
     session.check(rt, alloc, &OpenGate).expect(rt, "memory")
 }

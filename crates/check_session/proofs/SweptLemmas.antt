@@ -1,5 +1,5 @@
 -- What a round without tasks, and a sweep, leave.
-use Rattle.std.proofs.Common.{◌≡◌, ◌≢◌, ℕ, ◌+◌, ◌*◌, ◌<◌, suc, append_assoc, get_or, drop-cons, add-one, Bool, true, false, ◌||◌, List, [], ◌∷◌, ◌++◌, length, map, drop, Option, Some, None, inl, inr, refl, sym, ap, ◌∙◌, subst, arith, Result, Ok, Err, IfOk}
+use Rattle.std.proofs.Common.{◌≡◌, ◌≢◌, ℕ, ◌+◌, ◌*◌, ◌<◌, suc, append_assoc, get_or, drop-cons, add-one, Bool, true, false, ◌||◌, List, [], ◌∷◌, ◌++◌, length, map, drop, Option, Some, None, inl, inr, refl, sym, ap, ◌∙◌, subst, arith, Result, Ok, Err, IfOk, OnOk}
 use Rattle.std.specs.Prelude.{◌==◌}
 use Rattle.std.specs.List.{AllByRecursion, find, list_all, list_any, range_with_len}
 use Rattle.std.proofs.lemmas.List.{append-nil}
@@ -7,18 +7,20 @@ use Rattle.std.proofs.lemmas.List.FromFn.{length-map-range_with_len}
 use Rattle.std.proofs.lemmas.Bool.Decides.{nat_tests}
 use Rattle.std.specs.Option.{option_and_then}
 use Rattle.std.specs.declared.alloc.AllocError.{AllocError}
-use Rattle.std.specs.Prelude.{slice_get}
+use Rattle.std.specs.Prelude.{IfSome, slice_get, unwrap_or}
 use Rattle.lits.specs.declared.node.Node.{Node}
+use Rattle.lits.proofs.Facts.{all-append}
 use Rattle.netlist.specs.Place.{place_of}
-use Rattle.netlist.specs.Net.{AigPair}
+use Rattle.netlist.specs.Net.{AigPair, DiffersOn}
 use Rattle.word_sim.specs.Patterns.{Patterns, seeded, seeded_pattern}
 use Rattle.lemma_book.specs.declared.entry.Entry.{Entry}
 use Rattle.lemma_book.specs.declared.entry.Entry.TheVariants.{Merge, Apart, Spent, Out, OutApart, OutSpent}
-use Rattle.lemma_book.specs.declared.entry.Subject.TheVariants.{Merged, Output}
+use Rattle.lemma_book.specs.declared.entry.Subject.TheVariants.{Merged}
 use Rattle.lemma_book.specs.declared.entry.Task.{Task}
-use Rattle.lemma_book.specs.Entry.{Entries, about, has_apart, is_on, is_spent_on, subject_of, with_last}
+use Rattle.lemma_book.specs.Entry.{Entries, is_on, is_spent_on, subject_of, with_last}
 use Rattle.lemma_book.specs.Root.{IsRoot, merge_in}
 use Rattle.lemma_book.specs.Book.{IsLegal}
+use Rattle.lemma_book.specs.Agreement.{IsTrue}
 use Rattle.lemma_book.proofs.Facts.{root-unsettled}
 use Rattle.sig_classes.specs.Leader.{IsDue, AreTasks, IsReduced, IsSwept}
 use Rattle.strash_pass.specs.Strash.{IsMerge, AddsMerges}
@@ -30,9 +32,12 @@ use Rattle.check_session.specs.Growth.{Grows, is_of_pair}
 use Rattle.check_session.specs.Outputs.{SeeMerges, ListsOpen, is_of_output, finding_of}
 use Rattle.check_session.specs.Pool.{Extends, Fits, IsFirstApart, IsPoolOf, NoneApart, first_pool, tells_apart}
 use Rattle.check_session.specs.Rounds.{MayAsk, AreAsked, Settles}
-use Rattle.check_session.specs.Check.{IsSweptFor, IsWithinFor, IsFound, empty_book}
-use Rattle.check_session.proofs.RoundLemmas.{asked-next, extends-twice, off-subject, root-stays}
-use Rattle.check_session.proofs.OutputLemmas.{is_on-subject}
+use Rattle.check_session.specs.declared.sweep.Sweep.{Sweep}
+use Rattle.check_session.specs.Begun.{GoesOn, MayBegin, is_equal}
+use Rattle.check_session.specs.Sweep.{Stays, held}
+use Rattle.check_session.specs.Check.{IsSweptFor, IsWithinFor, IsFound}
+use Rattle.check_session.proofs.RoundLemmas.{asked-next, extends-same, extends-twice, root-stays}
+use Rattle.check_session.proofs.BegunLemmas.{about-apart, differs-unsettled, lesser-apart, starts-grows, starts-twice}
 
 -- ---- patterns that are drawn
 
@@ -48,17 +53,18 @@ fits-seeded net seed words inputs same = record {
       (λ p. length-map-range_with_len _ 0 inputs ∙ same);
 }
 
-pub pool-seeded : (r : Result Patterns AllocError) (net : AigPair) (o : Options) (inputs : ℕ) → inputs ≡ length net.a.inputs
-    → IfOk r (λ p. p ≡ seeded o.seed o.words inputs) → IfOk r (IsPoolOf net o)
-pool-seeded (Ok p) net o inputs same is =
-    subst (λ (q : Patterns). IsPoolOf net o q) (sym is) (record {
-      fits = fits-seeded net o.seed o.words inputs same;
-      begins = record {
-        added = [];
-        is = ap (λ (n : ℕ). (seeded o.seed o.words n).patterns) same ∙ sym (append-nil (first_pool net o).patterns);
-      };
-    })
-pool-seeded (Err e) net o inputs same is = tt
+-- it is the one that its seed draws
+pool-first : (net : AigPair) (o : Options) → IsPoolOf net o (first_pool net o)
+pool-first net o = record {
+  fits = fits-seeded net o.seed o.words (length net.a.inputs) refl;
+  begins = extends-same (first_pool net o) (first_pool net o) refl;
+}
+
+-- so are patterns, or it where there are none
+pub pool-or_first : (net : AigPair) (o : Options) (pool : Option Patterns) → IfSome pool (IsPoolOf net o)
+    → IsPoolOf net o (unwrap_or pool (first_pool net o))
+pool-or_first net o None of = pool-first net o
+pool-or_first net o (Some p) of = of
 
 find-front : (test : List Bool → Bool) (xs ys : List (List Bool)) → find test (xs ++ ys) ≡ None → find test xs ≡ None
 find-front test [] ys none = refl
@@ -118,11 +124,21 @@ pairs-seen whole (Out j steps ∷ es) all = cc
 pairs-seen whole (OutApart j input ∷ es) all = cc
 pairs-seen whole (OutSpent j seen log ∷ es) all = cc
 
+equals-seen : (whole es : List Entry) → list_all is_equal es ≡ true → AllByRecursion (SeesMerges whole) es
+equals-seen whole [] all = tt
+equals-seen whole (Merge node lit steps ∷ es) all = (tt, equals-seen whole es all)
+equals-seen whole (Apart node lit input ∷ es) all = cc
+equals-seen whole (Spent node lit seen log ∷ es) all = cc
+equals-seen whole (Out j steps ∷ es) all = (tt, equals-seen whole es all)
+equals-seen whole (OutApart j input ∷ es) all = cc
+equals-seen whole (OutSpent j seen log ∷ es) all = cc
+
 -- a sweep leaves no output open
-pub sweep-seen : (net : AigPair) (old new : Entries) → old.entries ≡ [] → Grows net is_of_pair old new → SeeMerges new.entries
-sweep-seen net old new none grows =
-    let e : new.entries ≡ grows.added = grows.begins ∙ ap (λ (es : List Entry). es ++ grows.added) none in
-    subst (λ (es : List Entry). SeeMerges es) (sym e) (pairs-seen grows.added grows.added grows.kinds)
+pub sweep-seen : (net : AigPair) (old new : Entries) → list_all is_equal old.entries ≡ true → Grows net is_of_pair old new → SeeMerges new.entries
+sweep-seen net old new equal grows =
+    subst (λ (es : List Entry). SeeMerges es) (sym grows.begins)
+    (all-append (SeesMerges (old.entries ++ grows.added)) old.entries grows.added (equals-seen (old.entries ++ grows.added) old.entries equal)
+    (pairs-seen (old.entries ++ grows.added) grows.added grows.kinds))
 
 place-front : (test : Entry → Bool) (es fs : List Entry) → place_of test (es ++ fs) ≡ None → place_of test es ≡ None
 place-front test [] fs none = refl
@@ -197,7 +213,7 @@ swept-for net es Undecided swept = swept
 
 -- what a sweep and the queries about the outputs find
 pub found-by_sweep : (net : AigPair) (o : Options) (pool seen : Patterns) (first mid swept last : Entries) (v : Verdict)
-    → first ≡ empty_book o → IsPoolOf net o pool → NoneApart net pool.patterns
+    → MayBegin net o (record { book = first; pool = pool }) → NoneApart net pool.patterns
     → Grows net is_of_pair first mid → Grows net is_of_pair mid swept → Fits net seen → Extends pool seen
     → IsReduced net swept.entries seen.patterns → Grows net is_of_output swept last
     → Finds net last.entries (finding_of v) → ListsOpen net last.entries v
@@ -205,11 +221,11 @@ pub found-by_sweep : (net : AigPair) (o : Options) (pool seen : Patterns) (first
     → ((f : Finding) → Finds net last.entries f → IsWithinFor net last.out_budget f)
     → ((es : List Entry) (ps : List (List Bool)) → AllByRecursion (λ bits. length bits ≡ length net.a.inputs) ps
     → IsReduced net es ps → IsSwept net es)
-    → IsFound net o (Some seen) last v
-found-by_sweep net o pool seen first mid swept last v begun pool_of none structure rounds fits extends reduced outputs finds opens means within sweeps = record {
+    → IsFound net o (record { book = first; pool = pool }) (Some seen) last v
+found-by_sweep net o pool seen first mid swept last v ready none structure rounds fits extends reduced outputs finds opens means within sweeps = record {
   settled = record {
-    sweep_is = outputs.sweep_budget ∙ rounds.sweep_budget ∙ structure.sweep_budget ∙ ap (λ (b : Entries). b.sweep_budget) begun;
-    budget_is = outputs.out_budget ∙ rounds.out_budget ∙ structure.out_budget ∙ ap (λ (b : Entries). b.out_budget) begun;
+    sweep_is = outputs.sweep_budget ∙ rounds.sweep_budget ∙ structure.sweep_budget ∙ ready.book.sweep_is;
+    budget_is = outputs.out_budget ∙ rounds.out_budget ∙ structure.out_budget ∙ ready.book.budget_is;
     legal = outputs.legal;
     finds = finds;
     means = means (finding_of v) finds;
@@ -219,8 +235,9 @@ found-by_sweep net o pool seen first mid swept last v begun pool_of none structu
   open_are = opens;
   patterns = seen;
   pool_is = refl;
-  pool_of = record { fits = fits; begins = extends-twice (first_pool net o) pool seen pool_of.begins extends };
-  way = inr (record { none = none-first net (first_pool net o) pool pool_of.begins none; reduced = reduced-last });
+  pool_of = record { fits = fits; begins = extends-twice (first_pool net o) pool seen ready.pool.begins extends };
+  begun_of = ready.pool;
+  way = inr (record { none = none; reduced = reduced-last });
 }
   where
     reduced-last : IsReduced net last.entries seen.patterns
@@ -228,52 +245,85 @@ found-by_sweep net o pool seen first mid swept last v begun pool_of none structu
         subst (λ (es : List Entry). IsReduced net es seen.patterns) (sym outputs.begins)
         (reduced-more net swept.entries outputs.added seen.patterns outputs.kinds reduced)
 
+-- and the book and the patterns go on
+pub goes_on-sweep : (net : AigPair) (pool seen : Patterns) (first mid swept last : Entries) → Grows net is_of_pair first mid
+    → Grows net is_of_pair mid swept → Grows net is_of_output swept last → Extends pool seen
+    → GoesOn (record { book = first; pool = pool }) last seen
+goes_on-sweep net pool seen first mid swept last structure rounds outputs extends = record {
+  entries =
+      starts-twice first mid last (starts-grows net is_of_pair first mid structure)
+      (starts-twice mid swept last (starts-grows net is_of_pair mid swept rounds) (starts-grows net is_of_output swept last outputs));
+  patterns = extends;
+}
+
 -- ---- at once
-
-module _ (net : AigPair) (j : ℕ) (input : List Bool) where
-  about-one : about (OutApart j input ∷ []) j ≡ Some (OutApart j input)
-  about-one = rw (is_on-subject (Output j) (OutApart j input) refl) refl
-
-  lesser-none : (k : ℕ) → k < j → has_apart (OutApart j input ∷ []) k ≡ false
-  lesser-none k less = rw (off-subject (Output k) (OutApart j input) other) refl
-    where
-      other : subject_of (OutApart j input) ≢ Some (Output k)
-      other e = let same : j ≡ k = cc in absurd (omega (arith, same, less))
 
 -- what a pattern shows at once
 pub found-at_once : (net : AigPair) (o : Options) (pool : Patterns) (first last : Entries) (j : ℕ) (input told : List Bool)
-    → first ≡ empty_book o → IsPoolOf net o pool → IsFirstApart net pool.patterns j input
+    → MayBegin net o (record { book = first; pool = pool }) → AllByRecursion (IsTrue net) first.entries
+    → DiffersOn net j input → IsFirstApart net pool.patterns j input
     → last ≡ with_last first (OutApart j input) → IsLegal net last → told ≡ input
     → ((f : Finding) → Finds net last.entries f → Means net last.entries f)
-    → IsFound net o (Some pool) last (verdict.Different j told)
-found-at_once net o pool first last j input told begun pool_of apart put legal same means =
-    subst (λ (bits : List Bool). IsFound net o (Some pool) last (verdict.Different j bits)) (sym same) (record {
+    → IsFound net o (record { book = first; pool = pool }) (Some pool) last (verdict.Different j told)
+found-at_once net o pool first last j input told ready true_all differs apart put legal same means =
+    subst (λ (bits : List Bool). IsFound net o (record { book = first; pool = pool }) (Some pool) last (verdict.Different j bits)) (sym same) (record {
       settled = record {
-        sweep_is = ap (λ (b : Entries). b.sweep_budget) book-is;
-        budget_is = ap (λ (b : Entries). b.out_budget) book-is;
+        sweep_is = ap (λ (b : Entries). b.sweep_budget) put ∙ ready.book.sweep_is;
+        budget_is = ap (λ (b : Entries). b.out_budget) put ∙ ready.book.budget_is;
         legal = legal;
         finds = finds;
         means = means (Different j input) finds;
-        swept = inr entries-are;
+        swept = inr (record { before = first.entries; is = entries-are });
         within = tt;
       };
       open_are = tt;
       patterns = pool;
       pool_is = refl;
-      pool_of = pool_of;
+      pool_of = ready.pool;
+      begun_of = ready.pool;
       way = inl (record { output = j; input = input; finding_is = refl; first = apart; entries_are = entries-are });
     })
   where
-    book-is : last ≡ with_last (empty_book o) (OutApart j input)
-    book-is = put ∙ ap (λ (b : Entries). with_last b (OutApart j input)) begun
-
-    entries-are : last.entries ≡ OutApart j input ∷ []
-    entries-are = ap (λ (b : Entries). b.entries) book-is
+    entries-are : last.entries ≡ first.entries ++ OutApart j input ∷ []
+    entries-are = ap (λ (b : Entries). b.entries) put
 
     finds : Finds net last.entries (Different j input)
     finds =
-        subst (λ (es : List Entry). Finds net es (Different j input)) (sym entries-are)
-        (about-one net j input, lesser-none net j input)
+        subst (λ (es : List Entry). Finds net es (Different j input)) (sym entries-are) (
+          about-apart net j input first.entries (differs-unsettled net j input first.entries differs ready.equal true_all),
+          lesser-apart j input first.entries ready.equal,
+        )
+
+-- ---- where patterns joined before anything was found
+
+-- what was found from there on was found from the beginning
+found-sooner : (net : AigPair) (o : Options) (book : Entries) (start mid : Patterns) (pool : Option Patterns) (last : Entries) (v : Verdict)
+    → IsPoolOf net o start → Extends start mid → IsFound net o (record { book = book; pool = mid }) pool last v
+    → IsFound net o (record { book = book; pool = start }) pool last v
+found-sooner net o book start mid pool last v of extends found = record {
+  settled = found.settled;
+  open_are = found.open_are;
+  patterns = found.patterns;
+  pool_is = found.pool_is;
+  pool_of = found.pool_of;
+  begun_of = of;
+  way = elim found.way [
+    | inl once ↦ inl once
+    | inr sweep ↦ inr (record { none = none-first net start mid extends sweep.none; reduced = sweep.reduced })
+  ];
+}
+
+-- so of a check that goes on
+pub run-sooner : (r : Result Verdict AllocError) (old mid new : Sweep) → Stays old mid → OnOk r (Stays mid new) → mid.book ≡ old.book
+    → Extends old.pool mid.pool → IsPoolOf old.net.now old.options old.pool
+    → IfOk r (IsFound new.net.now new.options (held mid) (Some new.pool) new.book)
+    → IfOk r (IsFound new.net.now new.options (held old) (Some new.pool) new.book)
+run-sooner (Ok v) old mid new first second same extends of found =
+    found-sooner new.net.now new.options old.book old.pool mid.pool (Some new.pool) new.book v
+    (subst (λ (o : Options). IsPoolOf new.net.now o old.pool) (sym (second.options ∙ first.options))
+    (subst (λ (n : AigPair). IsPoolOf n old.options old.pool) (sym (second.net ∙ first.net)) of)) extends
+    (subst (λ (b : Entries). IsFound new.net.now new.options (record { book = b; pool = mid.pool }) (Some new.pool) new.book v) same found)
+run-sooner (Err e) old mid new first second same extends of found = tt
 
 -- when the pair at a place is settled those behind it may be asked for
 pub asked-drop : (net : AigPair) (ts : List Task) (i : ℕ) (d : Task) (old new : Entries) → i < length ts → Settles net (get_or ts i d) old new

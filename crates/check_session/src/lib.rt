@@ -1,29 +1,32 @@
 //! Checks of a pair of circuits: what is found out about its outputs, and the book that shows it.
 //!
-//! A `Session` holds the pair. Its `check` sweeps in the way of FRAIGs (Kuehlmann et al. 2002; Mishchenko,
-//! Chatterjee, Jiang and Brayton 2005): a check under way is a `Sweep`, which each of its parts is lent. A
-//! pattern that a seed draws may tell an output apart at once (`patterns`). Else `strash_pass` merges what
+//! A `Session` holds the pair, and takes edits of it between checks. Its `check` begins with what is kept of
+//! the book of the last one, and with its patterns (`begin`), and sweeps in the way of FRAIGs (Kuehlmann et
+//! al. 2002; Mishchenko, Chatterjee, Jiang and Brayton 2005): a check under way is a `Sweep`, which each of
+//! its parts is lent. A pattern may tell an output apart at once (`patterns`). Else `strash_pass` merges what
 //! the structure alone shows to be equal (`structure`), rounds ask for the candidates that simulation
 //! leaves, from the inputs up (`rounds`), and last each output is asked for (`outputs`). An `Engine` answers
 //! each question: the lazy search of `circuit_search`, and where that gives up a query of the whole cone,
 //! `cone_query`.
 //!
 //! `check` answers with a `Verdict`, and promises that the session's book is legal and shows it, and what it
-//! means for the circuits. Over patterns that begin with those of the seed, either the least output that one
-//! tells apart is told at once, or no pattern of the seed tells one apart and the book is reduced, and so
-//! swept. `write` then leaves the check's two files: the CNF of the circuits' miter, and its proof.
+//! means for the circuits. The book and the patterns go on from what the check began with. Over the patterns
+//! either the least output that one tells apart is told at once, or none that the check began with tells one
+//! apart and the book is reduced, and so swept. `write` then leaves the check's two files: the CNF of the
+//! circuits' miter, and its proof.
 //!
 //! Definitions: `specs/Finding.antt` (what a book's entries show, and what that means), `specs/Pool.antt`
-//! (the patterns of a check), `specs/Check.antt` (a session, and a check that has its verdict),
-//! `specs/Files.antt` (its files); `specs/Sweep.antt`, `Growth.antt`, `Rounds.antt` and `Outputs.antt` say
-//! what parts of a check do. Begin to read at `session.rt`, then `sweep.rt`, `patterns.rt`, `rounds.rt`,
-//! `outputs.rt`, and `write.rt`.
+//! (the patterns of a check), `specs/Begun.antt` (what a check begins with), `specs/Check.antt` (a session,
+//! its edits, and a check that has its verdict), `specs/Files.antt` (its files); `specs/Sweep.antt`,
+//! `Growth.antt`, `Rounds.antt` and `Outputs.antt` say what parts of a check do. Begin to read at
+//! `session.rt`, then `begin.rt`, `sweep.rt`, `patterns.rt`, `rounds.rt`, `outputs.rt`, and `write.rt`.
 #![tactic(auto)]
 
 pub use options::Options;
 pub use session::Session;
 pub use verdict::Verdict;
 
+mod begin;
 mod engine;
 mod laws;
 mod options;

@@ -4,7 +4,7 @@ ghost use Rattle.lits.specs.declared.literal.Lit.{Lit};
 ghost use Rattle.netlist.specs.Net.{differs, nodes_of, output_of};
 ghost use Rattle.word_sim.specs.Patterns.{is_set, words_of};
 ghost use Rattle.word_sim.specs.Rows.{AreSignatures, IsRow, mask_of};
-ghost use Rattle.check_session.specs.Pool.{Fits, HasBitsOf, IsFirstApart, IsFirstOf, IsPoolOf, NoneApart, bit_of, tells_apart};
+ghost use Rattle.check_session.specs.Pool.{Extends, Fits, HasBitsOf, IsFirstApart, IsFirstOf, IsPoolOf, NoneApart, bit_of, tells_apart};
 ghost use Rattle.check_session.specs.Sweep.{Stays};
 
 use crate::sweep::Sweep;
@@ -28,6 +28,7 @@ impl Sweep<'_> {
         ensures stays { OnOk result (Stays self.old self.new) }
         ensures book { OnOk result (self.new.book ≡ self.old.book) }
         ensures pool { OnOk result (IsPoolOf self.new.net.now self.new.options self.new.pool) }
+        ensures extends { OnOk result (Extends self.old.pool self.new.pool) }
         ensures first { IfOk result (λ d. MatchOption d (NoneApart self.new.net.now self.new.pool.patterns)
             (λ x. IsFirstApart self.new.net.now self.new.pool.patterns x.output x.input)) }
     {
@@ -44,6 +45,7 @@ impl Sweep<'_> {
         ensures stays { OnOk result (Stays self.old self.new) }
         ensures book { OnOk result (self.new.book ≡ self.old.book) }
         ensures pool { OnOk result (IsPoolOf self.new.net.now self.new.options self.new.pool) }
+        ensures extends { OnOk result (Extends self.old.pool self.new.pool) }
         ensures first { IfOk result (λ d. MatchOption d (NoneApart self.new.net.now self.new.pool.patterns)
             (λ x. IsFirstApart self.new.net.now self.new.pool.patterns x.output x.input)) }
     {
@@ -60,6 +62,7 @@ impl Sweep<'_> {
         ensures stays { OnOk result (Stays self.old self.new) }
         ensures book { OnOk result (self.new.book ≡ self.old.book) }
         ensures pool { OnOk result (IsPoolOf self.new.net.now self.new.options self.new.pool) }
+        ensures extends { OnOk result (Extends self.old.pool self.new.pool) }
     {
         if input.len() == self.pool.inputs() as usize {
             self.pool.add(input)

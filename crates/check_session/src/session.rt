@@ -1,12 +1,14 @@
-ghost use Rattle.std.specs.Prelude.{◌≡◌, ◌⊎◌, [], None, Some, IfOk, IfSome, IfNone, IsSome, OnErr, MatchResult, Err};
+ghost use Rattle.std.specs.Prelude.{◌≡◌, ◌⊎◌, [], None, Some, IfOk, IfSome, IfNone, IsSome, OnOk, OnErr, MatchResult, Err, unwrap_or};
 ghost use Rattle.netlist.specs.declared.unlike.Unlike.{Unlike};
 ghost use Rattle.netlist.specs.Unlike.{unlike_of};
 ghost use Rattle.netlist.specs.Pairing.{paired, unlike_in};
-ghost use Rattle.check_session.specs.Check.{AreInRange, IsFound, empty_book};
+ghost use Rattle.netlist_edits.specs.Fault.{fault_of};
+ghost use Rattle.check_session.specs.Begun.{GoesOn, IsPastOf, begun_after};
+ghost use Rattle.check_session.specs.Check.{AreInRange, BeginsWith, IsFound, begun_by, opened, with_edit, without_book};
 ghost use Rattle.check_session.specs.Files.{TellsSpans, WritesFiles};
 ghost use Rattle.check_session.specs.Outputs.{finding_of};
-ghost use Rattle.check_session.specs.Pool.{IsPoolOf};
 
+use crate::begin::{Past, begin};
 use crate::options::Options;
 use crate::sweep::Sweep;
 use crate::verdict::Verdict;
@@ -15,6 +17,7 @@ use desk_port::{Desk, Gate};
 use endings::write_file;
 use lemma_book::Book;
 use netlist::{Circuit, Net, Unlike};
+use netlist_edits::{Edit, EditErr, fault_of, make};
 use proof_stitch::{Span, StitchErr};
 use std::alloc::{AllocError, Global};
 use std::marker::Model;
@@ -48,19 +51,17 @@ fn net_of(alloc: Global, a: Circuit, b: Circuit, by_name: bool) -> Result<Net, U
     }
 }
 
-/// Checks a pair, beginning with the patterns of the check before.
-fn make_check(
-    alloc: Global,
-    net: &Net,
-    options: Options,
-    pool: Option<Pool>,
-) -> Result<Checked, AllocError>
+/// Checks a pair, beginning with what is kept of the check before.
+fn make_check(alloc: Global, net: &Net, options: Options, past: Past) -> Result<Checked, AllocError>
     requires range { AreInRange options }
-    requires pool { IfSome pool (IsPoolOf net.now options) }
-    ensures found { IfOk result (λ c. IsFound net.now options (Some c.pool) c.book c.verdict) }
+    requires past { IsPastOf net.now options past }
+    ensures goes_on { IfOk result (λ c. GoesOn (begun_after net.now options past) c.book c.pool) }
+    ensures found { IfOk result (λ c.
+        IsFound net.now options (begun_after net.now options past) (Some c.pool) c.book c.verdict) }
     ensures is_kept { IfOk result (λ c. c.found ≡ c.verdict) }
 {
-    let mut sweep = Sweep::begin(alloc, net, options, pool)?;
+    let (book, pool) = begin(alloc, net, options, past)?;
+    let mut sweep = Sweep::of(alloc, net, options, book, pool)?;
     let verdict = sweep.run()?;
     let found = verdict.copied(alloc)?;
     let (book, pool) = sweep.into_parts();
@@ -72,18 +73,36 @@ fn make_check(
     })
 }
 
-/// A pair of circuits that is checked.
+/// Copies the pair as it stands, unless the one of the last check is remembered already.
+fn remember(alloc: Global, net: &Net, last: &mut Option<Net>) -> Result<(), AllocError>
+    ensures ok { OnOk result (last.new ≡ Some (unwrap_or last.old net.now)) }
+    ensures err { OnErr result (last.new ≡ last.old) }
+{
+    if last.is_none() {
+        *last = Some(net.copy(alloc)?);
+    }
+    Ok(())
+}
+
+/// A pair of circuits that is checked, and edited between checks.
 ///
-/// Edits of the circuits will stand here too, those since the last check: the pair is that of the last check
-/// until they are.
+/// What a check finds out stays for the next one as far as the edits let it: the session remembers them and
+/// the pair as it was at the last check. It copies that pair at the first edit since, so that no check and
+/// no later edit pays for it.
 pub struct Session {
     net: Net,
     options: Options,
-    /// The patterns of the last check, which the next one begins with. None before the first.
+    /// The patterns of the last check, which the next one begins with. None before the first, and after one
+    /// that was refused memory.
     pool: Option<Pool>,
     book: Book,
-    /// What the last check found. None before the first check, and after one that was refused memory.
+    /// What the last check found. None before the first check, after one that was refused memory, and after
+    /// an edit.
     found: Option<Verdict>,
+    /// The pair of the last check. None where nothing was edited since.
+    last: Option<Net>,
+    /// The edits since the last check, in order.
+    edits: Vec<Edit>,
 }
 
 // Written out, so that a drop is one call and not one for each field at each exit of a function.
@@ -95,11 +114,14 @@ impl Drop for Session {
             pool: _,
             book: _,
             found: _,
+            last: _,
+            edits: _,
         } = self;
     }
 }
 
 impl Model for Session {
+    ghost use Rattle.std.specs.Prelude.{unwrap_or};
     ghost use Rattle.std.specs.Option.{option_map};
     ghost use Rattle.check_session.specs.Check.{IsSession, State};
     ghost use Rattle.check_session.specs.Outputs.{finding_of};
@@ -112,6 +134,8 @@ impl Model for Session {
       pool = s.pool;
       book = s.book;
       found = option_map finding_of s.found;
+      last = unwrap_or s.last s.net;
+      edits = s.edits.items;
     } };
 
     ghost invariant = { λ s. IsSession (record {
@@ -120,6 +144,8 @@ impl Model for Session {
       pool = s.pool;
       book = s.book;
       found = option_map finding_of s.found;
+      last = unwrap_or s.last s.net;
+      edits = s.edits.items;
     }) };
 }
 
@@ -135,14 +161,7 @@ impl Session {
         ensures unlike { IfSome (unlike_in options.by_name a b)
             (λ u. (result ≡ Err u) ⊎ (result ≡ Err Unlike.NoMemory)) }
         ensures like { IfNone (unlike_in options.by_name a b) (MatchResult result
-            (λ s. s ≡ record {
-              net = paired options.by_name a b;
-              options = options;
-              pool = None;
-              book = empty_book options;
-              found = None;
-            })
-            (λ e. e ≡ Unlike.NoMemory)) }
+            (λ s. s ≡ opened (paired options.by_name a b) options) (λ e. e ≡ Unlike.NoMemory)) }
     {
         let net = net_of(alloc, a, b, options.by_name)?;
         let book = Book::new(alloc, options.sweep_budget, options.out_budget);
@@ -152,11 +171,43 @@ impl Session {
             pool: None,
             book,
             found: None,
+            last: None,
+            edits: Vec::new(alloc),
         })
     }
 
-    /// Settles the pair. Where memory is refused the session is as before its first check, and may be
-    /// checked anew.
+    /// Makes an edit of the pair, or answers its first fault; where it answers an error the session is as it
+    /// was. What was found of the pair then no longer counts, but the next check begins with what is kept.
+    pub fn edit(&mut self, alloc: Global, edit: Edit) -> Result<(), EditErr>
+        ensures fault { IfSome (fault_of self.old.net edit) (λ e. result ≡ Err e) }
+        ensures edited { IfNone (fault_of self.old.net edit)
+            (MatchResult result (λ _. self.new ≡ with_edit self.old edit) (λ e. e ≡ EditErr.NoMemory)) }
+        ensures unchanged { OnErr result (self.new ≡ self.old) }
+    {
+        if let Some(fault) = fault_of(&self.net, &edit) {
+            return Err(fault);
+        }
+        self.change(alloc, edit)?;
+        Ok(())
+    }
+
+    /// Makes an edit that has no fault. All room is made before the pair is changed.
+    fn change(&mut self, alloc: Global, edit: Edit) -> Result<(), AllocError>
+        requires { fault_of self.old.net edit ≡ None }
+        ensures ok { OnOk result (self.new ≡ with_edit self.old edit) }
+        ensures err { OnErr result (self.new ≡ self.old) }
+    {
+        self.edits.reserve(1)?;
+        remember(alloc, &self.net, &mut self.last)?;
+        make(&mut self.net, &edit)?;
+        self.edits.push_reserved(edit);
+        self.found = None;
+        Ok(())
+    }
+
+    /// Settles the pair, beginning with what is kept of the last check and of the edits since. Where memory is
+    /// refused the session is as if it had just been opened with the pair as it stands, and may be checked
+    /// anew.
     ///
     /// Workers will take `rt` and `gate`; today one thread does all.
     pub fn check<G: Gate + Sync>(
@@ -167,24 +218,36 @@ impl Session {
     ) -> Result<Verdict, AllocError>
         ensures net { self.new.net ≡ self.old.net }
         ensures options { self.new.options ≡ self.old.options }
-        ensures found { IfOk result (IsFound self.new.net self.new.options self.new.pool self.new.book) }
+        ensures last { (self.new.last ≡ self.old.net) × (self.new.edits ≡ []) }
+        ensures begins { OnOk result (BeginsWith self.old self.new) }
+        ensures found { IfOk result
+            (IsFound self.new.net self.new.options (begun_by self.old) self.new.pool self.new.book) }
         ensures is_kept { IfOk result (λ v. self.new.found ≡ Some (finding_of v)) }
-        ensures refused { OnErr result (self.new ≡ record {
-          net = self.old.net;
-          options = self.old.options;
-          pool = None;
-          book = empty_book self.old.options;
-          found = None;
-        }) }
+        ensures refused { OnErr result (self.new ≡ opened self.old.net self.old.options) }
     {
-        let pool = replace(&mut self.pool, None);
-        self.found = None;
-        self.book = Book::new(alloc, self.options.sweep_budget, self.options.out_budget);
-        let checked = make_check(alloc, &self.net, self.options, pool)?;
+        let past = self.part(alloc);
+        let checked = make_check(alloc, &self.net, self.options, past)?;
         self.pool = Some(checked.pool);
         self.book = checked.book;
         self.found = Some(checked.found);
         Ok(checked.verdict)
+    }
+
+    /// Takes out what the last check left and what happened since. The session is then as if it had just been
+    /// opened.
+    fn part(&mut self, alloc: Global) -> Past
+        ensures past { IsPastOf self.old.net self.old.options result }
+        ensures begun { begun_after self.old.net self.old.options result ≡ begun_by self.old }
+        ensures left { self.new ≡ opened self.old.net self.old.options }
+    {
+        self.found = None;
+        let empty = Book::new(alloc, self.options.sweep_budget, self.options.out_budget);
+        Past {
+            last: replace(&mut self.last, None),
+            edits: replace(&mut self.edits, Vec::new(alloc)),
+            pool: replace(&mut self.pool, None),
+            book: replace(&mut self.book, empty),
+        }
     }
 
     /// Leaves the two files of the last check under the prefix and the check's number: starts, writes and
@@ -232,16 +295,10 @@ impl Session {
     }
 
     /// Takes the book of the last check out of the session, which keeps an empty one, and counts as not
-    /// checked.
+    /// checked. So the next check keeps nothing but the patterns.
     pub fn take_book(&mut self, alloc: Global) -> Book
         ensures taken { result ≡ self.old.book }
-        ensures left { self.new ≡ record {
-          net = self.old.net;
-          options = self.old.options;
-          pool = self.old.pool;
-          book = empty_book self.old.options;
-          found = None;
-        } }
+        ensures left { self.new ≡ without_book self.old }
     {
         self.found = None;
         let empty = Book::new(alloc, self.options.sweep_budget, self.options.out_budget);

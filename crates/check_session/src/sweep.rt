@@ -1,18 +1,20 @@
-ghost use Rattle.std.specs.Prelude.{◌≡◌, Some, IfOk, IfSome, OnOk};
+ghost use Rattle.std.specs.Prelude.{◌≡◌, Some, IfOk, OnOk};
 ghost use Rattle.lemma_book.specs.Book.{IsLegal};
 ghost use Rattle.lemma_book.specs.Entry.{with_last};
 ghost use Rattle.lemma_book.specs.Good.{IsGood};
-ghost use Rattle.check_session.specs.Check.{AreInRange, IsFound};
-ghost use Rattle.check_session.specs.Pool.{IsFirstApart, IsPoolOf, NoneApart};
-ghost use Rattle.check_session.specs.Sweep.{IsBegun, Stays};
+ghost use Rattle.check_session.specs.Begun.{GoesOn};
+ghost use Rattle.check_session.specs.Check.{IsFound};
+ghost use Rattle.check_session.specs.Pool.{IsFirstApart, NoneApart};
+ghost use Rattle.check_session.specs.Sweep.{IsBegun, IsReady, Stays, held};
 
 use crate::engine::Engine;
 use crate::laws::{is_swept, is_within, means};
 use crate::options::Options;
 use crate::patterns::Difference;
 use crate::verdict::Verdict;
+use lemma_book::laws::entries_are_true;
 use lemma_book::{Book, Entry};
-use lits::{Listed, Side};
+use lits::Listed;
 use netlist::Net;
 use std::alloc::{AllocError, Global};
 use word_sim::Pool;
@@ -41,18 +43,6 @@ impl Drop for Sweep<'_> {
     }
 }
 
-/// The patterns that the seed draws for the pair's inputs.
-fn first_pool(alloc: Global, net: &Net, options: Options) -> Result<Pool, AllocError>
-    requires { AreInRange options }
-    ensures { IfOk result (IsPoolOf net.now options) }
-{
-    // A circuit has fewer inputs than that.
-    let Ok(inputs) = u32::try_from(net.circuit(Side::A).inputs().len()) else {
-        return Err(AllocError);
-    };
-    Pool::seeded(alloc, options.seed, options.words, inputs)
-}
-
 /// Puts a good entry last.
 pub(crate) fn put(alloc: Global, net: &Net, book: &mut Book, entry: Entry) -> Result<(), AllocError>
     requires legal { IsLegal net.now book.old }
@@ -68,23 +58,16 @@ pub(crate) fn put(alloc: Global, net: &Net, book: &mut Book, entry: Entry) -> Re
 }
 
 impl<'a> Sweep<'a> {
-    /// A check that begins with an empty book, and with the patterns of the one before; where there was none,
-    /// with those that the seed draws.
-    pub(crate) fn begin(
+    /// A check that begins with this book and these patterns.
+    pub(crate) fn of(
         alloc: Global,
         net: &'a Net,
         options: Options,
-        pool: Option<Pool>,
+        book: Book,
+        pool: Pool,
     ) -> Result<Sweep<'a>, AllocError>
-        requires range { AreInRange options }
-        requires pool { IfSome pool (IsPoolOf net.now options) }
-        ensures { IfOk result (IsBegun net.now options) }
+        ensures { IfOk result (IsBegun net.now options (record { book = book; pool = pool })) }
     {
-        let pool = match pool {
-            Some(pool) => pool,
-            None => first_pool(alloc, net, options)?,
-        };
-        let book = Book::new(alloc, options.sweep_budget, options.out_budget);
         let engine = Engine::new(alloc, net, options.seed, options.words)?;
         Ok(Sweep {
             alloc,
@@ -98,10 +81,11 @@ impl<'a> Sweep<'a> {
 
     /// The verdict of the whole check: what a pattern shows at once, or else what the sweep finds.
     pub(crate) fn run(&mut self) -> Result<Verdict, AllocError>
-        requires { IsBegun self.old.net.now self.old.options self.old }
+        requires { IsReady self.old }
         ensures stays { OnOk result (Stays self.old self.new) }
+        ensures goes_on { OnOk result (GoesOn (held self.old) self.new.book self.new.pool) }
         ensures found { IfOk result
-            (IsFound self.new.net.now self.new.options (Some self.new.pool) self.new.book) }
+            (IsFound self.new.net.now self.new.options (held self.old) (Some self.new.pool) self.new.book) }
     {
         match self.patterns()? {
             Some(difference) => self.verdict_at_once(difference),
@@ -111,13 +95,16 @@ impl<'a> Sweep<'a> {
 
     /// The verdict that a pattern shows.
     fn verdict_at_once(&mut self, difference: Difference) -> Result<Verdict, AllocError>
-        requires begun { IsBegun self.old.net.now self.old.options self.old }
+        requires ready { IsReady self.old }
         requires first { IsFirstApart self.old.net.now self.old.pool.patterns
             difference.output difference.input }
         ensures stays { OnOk result (Stays self.old self.new) }
+        ensures goes_on { OnOk result (GoesOn (held self.old) self.new.book self.new.pool) }
         ensures found { IfOk result
-            (IsFound self.new.net.now self.new.options (Some self.new.pool) self.new.book) }
+            (IsFound self.new.net.now self.new.options (held self.old) (Some self.new.pool) self.new.book) }
     {
+        // So the book has no entry of an output that differs.
+        entries_are_true(self.net, &self.book);
         let Difference { output, input } = difference;
         let told = Listed::of(Vec::from_slice(self.alloc, input.as_slice())?);
         put(
@@ -135,11 +122,12 @@ impl<'a> Sweep<'a> {
 
     /// The verdict of the sweep and of what is asked about the outputs.
     fn sweep(&mut self) -> Result<Verdict, AllocError>
-        requires begun { IsBegun self.old.net.now self.old.options self.old }
+        requires ready { IsReady self.old }
         requires none { NoneApart self.old.net.now self.old.pool.patterns }
         ensures stays { OnOk result (Stays self.old self.new) }
+        ensures goes_on { OnOk result (GoesOn (held self.old) self.new.book self.new.pool) }
         ensures found { IfOk result
-            (IsFound self.new.net.now self.new.options (Some self.new.pool) self.new.book) }
+            (IsFound self.new.net.now self.new.options (held self.old) (Some self.new.pool) self.new.book) }
     {
         self.structure()?;
         self.rounds()?;
