@@ -7,7 +7,7 @@ use std::sync::Wait;
 use std::thread::Threads;
 
 /// The commands of the page, in its order.
-pub(crate) const EXAMPLES: [&[&str]; 10] = [
+pub(crate) const EXAMPLES: [&[&str]; 11] = [
     &[
         "check",
         "adder_ripple.aag",
@@ -17,6 +17,13 @@ pub(crate) const EXAMPLES: [&[&str]; 10] = [
     ],
     &["lrat", "adder.0.cnf", "adder.0.lrat"],
     &["check", "adder_ripple.aag", "adder_wrong.aag"],
+    &[
+        "check",
+        "adder_ripple.aag",
+        "adder_wrong.aag",
+        "--edits",
+        "adder_mend.edits",
+    ],
     &[
         "check",
         "multiplier_rows.aag",

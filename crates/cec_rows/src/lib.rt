@@ -5,8 +5,9 @@
 //! `cases.rt` has checks of two files, `names.rt` those whose circuits are matched by name, `books.rt` what
 //! stands in the books that they hand back, `own.rt` checks of circuits that the program makes, `shapes.rt`
 //! answers whose shape a small case doesn't reach, `faults.rt` checks in which each call of the desk fails
-//! in turn, `proofs.rt` the check of proofs, forged ones among them, `readers.rt` files that are refused,
-//! and those that are cut at each byte. `files.rt` has the circuits that most of them use, and `desk.rt`
+//! in turn, `scripts.rt` checks with an edit script between, `script_faults.rt` those in which a call fails,
+//! `proofs.rt` the check of proofs, forged ones among them, `readers.rt` files that are refused, and those that
+//! are cut at each byte. `files.rt` has the circuits that most of them use, and `desk.rt`
 //! runs the program on a table of files and words. Begin to read at `cases.rt`.
 #![tactic(auto)]
 
@@ -28,5 +29,9 @@ mod own;
 mod proofs;
 #[cfg(test)]
 mod readers;
+#[cfg(test)]
+mod script_faults;
+#[cfg(test)]
+mod scripts;
 #[cfg(test)]
 mod shapes;

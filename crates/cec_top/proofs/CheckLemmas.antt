@@ -1,6 +1,9 @@
--- How a run of one check answers, from what was read and told.
-use Rattle.std.proofs.Common.{◌≡◌, ℕ, inl, inr, List, [], ◌∷◌, ◌++◌, Option, None, Some, Ok, Err, refl, sym, ap, subst}
-use Rattle.std.specs.Prelude.{◌⊎◌, Result, IfSome}
+-- How a run of checks of files answers, from what was read and told, and how one check does.
+use Rattle.std.proofs.Common.{◌≡◌, ℕ, inl, inr, List, [], ◌∷◌, ◌++◌, Option, None, Some, Ok, Err, refl, sym, ap, ap₂, ◌∙◌, subst, append-nil}
+use Rattle.std.specs.Prelude.{Result, IfSome, IfOk, IfErr, option_map}
+use Rattle.std.specs.List.{flat_map}
+use Rattle.std.specs.Option.{option_to_list}
+use Rattle.std.specs.Global.{Vec}
 use Rattle.desk_port.specs.Desk.{DeskState}
 use Rattle.netlist.specs.Net.{AigPair}
 use Rattle.endings.specs.declared.status.Status.{Status}
@@ -13,82 +16,18 @@ use Rattle.check_session.specs.declared.options.Options.{Options}
 use Rattle.check_session.specs.declared.verdict.Verdict.{Verdict}
 use Rattle.check_session.specs.Finding.{Finding, Finds}
 use Rattle.check_session.specs.Outputs.{finding_of}
+use Rattle.check_session.specs.Begun.{Begun}
 use Rattle.check_session.specs.Check.{State, IsFound}
+use Rattle.netlist_edits.specs.declared.edit.Edit.{Edit}
+use Rattle.netlist_edits.specs.Script.{script_lines}
+use Rattle.endings.specs.Reading.{Input, AreRead, ReadsUpTo, after_reads}
 use Rattle.check_session.specs.Files.{files_of, LeavesAll, WritesFiles, TellsSpans, AreSpansIn}
 use Rattle.command_line.specs.Words.{CheckCommand}
 use Rattle.cec_top.specs.declared.kept.Kept.{Kept}
-use Rattle.cec_top.specs.Check.{How, IsMade, IsProof, KeepsOn, AreSome, Ends, StopsChecks, kept_of}
-use Rattle.cec_top.specs.Answers.{EndsCheck, Stops, how_of, at_start}
-use Rattle.cec_top.specs.Steps.{ReadsSession, Checks, Settles, TellsStatus, ToldWhole, ToldInPart, NotMade, how_in, made_in}
-
--- the one book is handed back, also where memory ran out
-keeps-on : (kept : List Kept) (k : Kept) → kept ≡ k ∷ [] → (stop : Stop) → KeepsOn stop kept (k ∷ [])
-keeps-on kept k keeps OutOfMemory = subst (λ (ks : List Kept). AreSome ks (k ∷ [])) (sym keeps) (inl (refl, tt))
-keeps-on kept k keeps (CannotRead file) = keeps
-keeps-on kept k keeps (TooLong file) = keeps
-keeps-on kept k keeps (BadFile file text) = keeps
-keeps-on kept k keeps (NotAlike text) = keeps
-keeps-on kept k keeps CannotWrite = keeps
-
--- no book was kept before it
-pub first-kept : (how : How) (net : AigPair) (old new : DeskState) (before kept : List Kept) (r : Result Status Stop) → before ≡ []
-    → Checks how 0 net old new before kept r → Checks how 0 net old new [] kept r
-first-kept how net old new before kept r none p = subst (λ (ks : List Kept). Checks how 0 net old new ks kept r) none p
-
--- check 0 is the only one that is asked for
-module _ (how : How) (net : AigPair) (old new : DeskState) (kept : List Kept) where
-  pub one-ends : (status : Status) → ToldWhole how 0 net old new [] kept status
-      → Ends how (record { checks = net ∷ []; refused = None }) old new status kept
-  one-ends status p = record {
-    made = p.made ∷ [];
-    whole = record { checks = ap (λ (n : AigPair). n ∷ []) p.same; told = p.told; neighbours = tt };
-    accepted = refl;
-    status_is = ap Some (sym p.status_is);
-    keeps = p.keeps;
-  }
-
-  pub one-stops : (stop : Stop)
-      → ToldInPart how 0 net old new [] kept stop ⊎ NotMade old new [] kept stop
-      → StopsChecks how (record { checks = net ∷ []; refused = None }) old kept new stop
-  one-stops stop (inl p) = inl (record {
-    made = [];
-    half = p.half;
-    others = [];
-    mid = old;
-    before = record { checks = ap (λ (n : AigPair). n ∷ []) p.same; told = refl; neighbours = tt };
-    is_made = p.is_made;
-    breaks = p.breaks;
-    keeps = keeps-on kept (kept_of 0 p.half) p.keeps stop;
-  })
-  one-stops stop (inr p) = inr (inl (record {
-    out = p.out;
-    made = [];
-    others = net ∷ [];
-    before = record { checks = refl; told = p.at; neighbours = tt };
-    keeps = subst (λ (ks : List Kept). AreSome ks []) (sym p.keeps) tt;
-  }))
-
--- behind a pair that was read, with a session for it
-module _ (c : CheckCommand) (old mid : DeskState) (s : State) (reads : ReadsSession c old mid (Ok s)) (new : DeskState) (kept : List Kept) where
-  at-start : (r : Result Status Stop) → Checks (how_in s c.out) 0 s.net mid new [] kept r
-      → Checks (how_of c) 0 s.net (at_start c old) new [] kept r
-  at-start r p =
-      subst (λ (o : Options). Checks (record { options = o; out = c.out }) 0 s.net (at_start c old) new [] kept r) reads.1
-      (subst (λ (t : DeskState). Checks (how_in s c.out) 0 s.net t new [] kept r) reads.0.1 p)
-
-  pub check-ends : (status : Status) → Checks (how_in s c.out) 0 s.net mid new [] kept (Ok status) → EndsCheck c old new status kept
-  check-ends status p = record {
-    net = s.net;
-    pair = reads.0.0;
-    ends = one-ends (how_of c) s.net (at_start c old) new kept status (at-start (Ok status) p);
-  }
-
-  pub check-stops : (stop : Stop) → Checks (how_in s c.out) 0 s.net mid new [] kept (Err stop) → Stops c old kept new stop
-  check-stops stop p = inr (inr (inr (record {
-    net = s.net;
-    pair = reads.0.0;
-    stops = one-stops (how_of c) s.net (at_start c old) new kept stop (at-start (Err stop) p);
-  })))
+use Rattle.cec_top.specs.Script.{Due, due_behind, plan_of}
+use Rattle.cec_top.specs.Check.{Made, IsMade, IsProof, due_of, kept_of}
+use Rattle.cec_top.specs.Answers.{AsksFor, EndsCheck, Stops, how_of, at_start, script_file, script_of}
+use Rattle.cec_top.specs.Steps.{ReadsScript, ReadsSession, RunsPlan, Settles, TellsStatus, ToldWhole, ToldInPart, due_in, how_in, made_in}
 
 -- the pair isn't read
 pub read-stops : (c : CheckCommand) (old mid : DeskState) (kept : List Kept) (stop : Stop) → kept ≡ []
@@ -96,11 +35,106 @@ pub read-stops : (c : CheckCommand) (old mid : DeskState) (kept : List Kept) (st
 read-stops c old mid kept stop none (inl p) = inl (none, p)
 read-stops c old mid kept stop none (inr p) = inr (inl (none, p))
 
+-- ---- the script
+
+-- the files of a script that is named or isn't
+abbrev inputs : Option (List ℕ) → List Input
+inputs name = option_to_list (option_map script_file name)
+
+abbrev scripts : Option (List ℕ) → List ℕ → List (List ℕ)
+scripts None bytes = []
+scripts (Some name) bytes = bytes ∷ []
+
+module _ (old : DeskState) (earlier : List (List ℕ)) (after : DeskState) where
+  -- it is read, and these are its lines
+  record HasRead (name : Option (List ℕ)) (bytes : List ℕ) : Type 0 where
+    read : AreRead old earlier (inputs name) (scripts name bytes)
+    lines : script_lines bytes ≡ flat_map script_lines (scripts name bytes)
+    at : after ≡ after_reads old (inputs name)
+
+  has-read : (name : Option (List ℕ)) (script : Vec ℕ) → ReadsScript name old after (Ok script) → HasRead name script.items
+  has-read None script r = record { read = tt; lines = ap script_lines r.0; at = r.1 }
+  has-read (Some name) script r = record {
+    read = (r.0, refl, tt);
+    lines = sym (append-nil (script_lines script.items));
+    at = r.1;
+  }
+
+  -- or it isn't, and that ends the program
+  not-read : (name : Option (List ℕ)) (stop : Stop) → ReadsScript name old after (Err stop) → ReadsUpTo 2 earlier (inputs name) old after stop
+  not-read None stop r = absurd r
+  not-read (Some name) (CannotRead file) r = inl r
+  not-read (Some name) (TooLong file) r = inl r
+  not-read (Some name) (BadFile file text) r = absurd r
+  not-read (Some name) (NotAlike text) r = absurd r
+  not-read (Some name) CannotWrite r = absurd r
+  not-read (Some name) OutOfMemory r = inl (inl r)
+
+-- behind a pair that was read, with a session for it
+module _ (c : CheckCommand) (old mid after : DeskState) (s : State) (reads : ReadsSession c old mid (Ok s)) where
+  abbrev earlier : List (List ℕ)
+  earlier = reads.0.0.reads.a ∷ reads.0.0.reads.b ∷ []
+
+  -- the script isn't read
+  pub script-stops : (kept : List Kept) (stop : Stop) → kept ≡ [] → ReadsScript c.edits mid after (Err stop) → Stops c old kept after stop
+  script-stops kept stop none r = inr (inr (inl (
+    none,
+    record {
+      net = s.net;
+      pair = reads.0.0;
+      stops = subst (λ (d : DeskState). ReadsUpTo 2 earlier (script_of c) d after stop) reads.0.1
+          (not-read mid earlier after c.edits stop r);
+    },
+  )))
+
+  -- it is
+  module _ (script : Vec ℕ) (read : ReadsScript c.edits mid after (Ok script)) (text : List ℕ) (text_is : text ≡ script.items)
+      (new : DeskState) (kept : List Kept) where
+    has : HasRead mid earlier after c.edits script.items
+    has = has-read mid earlier after c.edits script read
+
+    asks : AsksFor c old s.net (script_lines script.items)
+    asks = record {
+      pair = reads.0.0;
+      script = record {
+        scripts = scripts c.edits script.items;
+        read = subst (λ (d : DeskState). AreRead d earlier (script_of c) (scripts c.edits script.items)) reads.0.1 has.read;
+        lines_are = has.lines;
+      };
+    }
+
+    at-start : (r : Result Status Stop) → RunsPlan (how_in s c.out) (plan_of s.net (script_lines text)) after new kept r
+        → RunsPlan (how_of c) (plan_of s.net (script_lines script.items)) (at_start c old) new kept r
+    at-start r p =
+        let at : after ≡ at_start c old = has.at ∙ ap (λ (d : DeskState). after_reads d (script_of c)) reads.0.1 in
+        subst (λ (o : Options). RunsPlan (record { options = o; out = c.out }) (plan_of s.net (script_lines script.items)) (at_start c old) new kept r)
+        reads.1
+        (subst (λ (d : DeskState). RunsPlan (how_in s c.out) (plan_of s.net (script_lines script.items)) d new kept r) at
+        (subst (λ (bytes : List ℕ). RunsPlan (how_in s c.out) (plan_of s.net (script_lines bytes)) after new kept r) text_is p))
+
+    -- the checks are all told, or not
+    pub files-ok : (r : Result Status Stop) → RunsPlan (how_in s c.out) (plan_of s.net (script_lines text)) after new kept r
+        → IfOk r (λ status. EndsCheck c old new status kept)
+    files-ok (Ok status) p = record { net = s.net; lines = script_lines script.items; asks = asks; ends = at-start (Ok status) p }
+    files-ok (Err stop) p = tt
+
+    pub files-err : (r : Result Status Stop) → RunsPlan (how_in s c.out) (plan_of s.net (script_lines text)) after new kept r
+        → IfErr r (Stops c old kept new)
+    files-err (Ok status) p = tt
+    files-err (Err stop) p = inr (inr (inr (record {
+      net = s.net;
+      lines = script_lines script.items;
+      asks = asks;
+      stops = at-start (Err stop) p;
+    })))
+
+-- ---- one check
+
 -- a check that was found is right, whatever files it leaves
-pub is-made : (t : State) (v : Verdict) → IsFound t.net t.options t.pool t.book v
+pub is-made : (due : Due) (t : State) (begun : Begun) (v : Verdict) → IsFound t.net t.options begun t.pool t.book v
     → ((f : Finding) → Finds t.net t.book.entries f → IsProof t.net t.book.entries f)
-    → (out : Option (List ℕ)) → IsMade (how_in t out) (made_in t v)
-is-made t v found proves out = record {
+    → (out : Option (List ℕ)) → IsMade (how_in t out) (made_in due t v)
+is-made due t begun v found proves out = record {
   settled = found.settled;
   proof = proves (finding_of v) found.settled.finds;
 }
@@ -113,23 +147,49 @@ proofs-of net one book same net_is book_is proves =
     subst (λ (b : Entries). (f : Finding) → Finds net b.entries f → IsProof net b.entries f) book_is
     (subst (λ (n : AigPair). (f : Finding) → Finds n same.entries f → IsProof n same.entries f) net_is proves)
 
--- the check is told, and its book is kept
-module _ (s t : State) (out : Option (List ℕ)) (number : ℕ) (v : Verdict) (settles : Settles s t v) (before after : List Kept)
-    (keeps : after ≡ before ++ kept_of number (made_in t v) ∷ []) (old new : DeskState) where
-  made : IsMade (how_in s out) (made_in t v)
-  made = subst (λ (o : Options). IsMade (record { options = o; out = out }) (made_in t v)) settles.options_are (settles.is_made out)
+-- what would be checked behind a check
+pub due-now : (s t : State) → t.net ≡ s.net → t.edits ≡ [] → due_in t ≡ due_behind s.net
+due-now s t net none = ap₂ (λ (n : AigPair) (es : List Edit). let d : Due = record { net = n; edits = es } in d) net none
 
-  -- whole, and its status is its own; or in part
-  pub checks-told : (r : Result Status Stop) → TellsStatus (how_in t out) number (made_in t v) old new r
-      → Checks (how_in s out) number s.net old new before after r
-  checks-told (Ok status) p = record {
-    made = made_in t v;
-    same = settles.net_is;
-    told = (new, made, p.0, refl);
-    status_is = p.1;
-    keeps = keeps;
-  }
-  checks-told (Err stop) p = inl (record { half = made_in t v; same = settles.net_is; is_made = made; breaks = p; keeps = keeps })
+-- a check of the session as it is
+module _ (s t : State) (out : Option (List ℕ)) (number : ℕ) (v : Verdict) (settles : Settles s t v) where
+  abbrev check_made : Made
+  check_made = made_in (due_in s) t v
+
+  made : IsMade (how_in s out) check_made
+  made = subst (λ (o : Options). IsMade (record { options = o; out = out }) check_made) settles.options_are (settles.is_made out)
+
+  due-is : due_of check_made ≡ due_in s
+  due-is = ap (λ (n : AigPair). record { net = n; edits = s.edits }) settles.net_is
+
+  module _ (old new : DeskState) (before after : List Kept) where
+    -- it is told whole, and its status is its own
+    pub told-whole : (status : Status) → after ≡ before → TellsStatus (how_in t out) number check_made old new (Ok status)
+        → ToldWhole (how_in s out) number s t old new before after status
+    told-whole status keeps p = record {
+      made = check_made;
+      due_is = due-is;
+      begins = settles.begins;
+      told = (new, made, p.0, refl);
+      status_is = p.1;
+      keeps = keeps;
+      holds = record { last_is = settles.last_is ∙ sym settles.net_is; book_is = refl };
+      behind = settles.due_is ∙ ap due_behind (sym settles.net_is);
+      options_are = settles.options_are;
+    }
+
+    -- or in part, and its book is kept
+    pub told-in-part : (stop : Stop) → after ≡ before ++ kept_of number check_made ∷ []
+        → TellsStatus (how_in t out) number check_made old new (Err stop)
+        → ToldInPart (how_in s out) number s old new before after stop
+    told-in-part stop keeps p = record {
+      half = check_made;
+      due_is = due-is;
+      begins = settles.begins;
+      is_made = made;
+      breaks = p;
+      keeps = keeps;
+    }
 
 -- behind a check that found something
 module _ (t : State) (v : Verdict) (found_is : t.found ≡ Some (finding_of v)) where

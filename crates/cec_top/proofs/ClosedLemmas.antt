@@ -19,12 +19,14 @@ use Rattle.command_line.specs.Words.{CheckCommand, SelfCommand}
 use Rattle.command_line.specs.declared.reading.Refusal.{Refusal}
 use Rattle.command_line.specs.declared.reading.Refusal.TheVariants.{Help, Usage, NoMemory}
 use Rattle.cec_top.specs.declared.kept.Kept.{Kept}
-use Rattle.cec_top.specs.Check.{How, Plan, Made, AreTold, StopsChecks, outputs_of, text_of_check}
-use Rattle.cec_top.specs.Answers.{AnswersCheck, Stops, SaysHelp, pair_of, at_start, how_of, plan_of}
+use Rattle.cec_top.specs.Script.{Plan, plan_of}
+use Rattle.cec_top.specs.Check.{How, Made, AreTold, StopsChecks, outputs_of, text_of_check}
+use Rattle.cec_top.specs.Answers.{AnswersCheck, Stops, SaysHelp, pair_of, script_of, after_pair, at_start, how_of}
 use Rattle.cec_top.specs.SelfCheck.{AnswersSelf, StopsSelf, after_workload, only, own_how}
 use Rattle.cec_top.specs.Texts.{workload_text}
 use Rattle.cec_top.specs.Steps.{AnswersRefusal}
-use Rattle.cec_top.proofs.HeadlineLemmas.{left-whole}
+use Rattle.cec_top.proofs.HeadlineLemmas.{start-keeps}
+use Rattle.cec_top.proofs.ToldLemmas.{left-whole}
 
 -- no file is started
 abbrev pub IsClosed : DeskState → Type 0
@@ -113,7 +115,7 @@ checks-closed how plan old new kept stop (inr (inr p)) other none = told-closed 
 
 -- where no line is refused, checks stop for those causes alone
 pub checks-code : (how : How) (net : AigPair) (old new : DeskState) (kept : List Kept) (stop : Stop)
-    → StopsChecks how (record { checks = net ∷ []; refused = None }) old kept new stop → 6 ≤ code_of (status_of stop)
+    → StopsChecks how (plan_of net []) old kept new stop → 6 ≤ code_of (status_of stop)
 checks-code how net old new kept stop (inl p) = leaves-code _ _ p.mid new stop p.breaks
 checks-code how net old new kept stop (inr (inl p)) = memory-code stop p.out
 checks-code how net old new kept stop (inr (inr p)) = absurd (none-some p.line p.refused)
@@ -123,14 +125,15 @@ checks-code how net old new kept stop (inr (inr p)) = absurd (none-some p.line p
 pub check-closed : (c : CheckCommand) (old new : DeskState) (status : Status) (kept : List Kept) → AnswersCheck c old new status kept
     → code_of status < 6 → IsClosed old → IsClosed new
 check-closed c old new status kept (inl p) below none =
-    told-closed (how_of c) 0 p.ends.made (at_start c old) new p.ends.whole.told none
+    told-closed (how_of c) 0 p.ends.made (at_start c old) new p.ends.whole.told ((start-keeps c old).started ∙ none)
 check-closed c old new status kept (inr p) below none = ends-closed _ _ new status p causes below
   where
     causes : (mid : DeskState) (stop : Stop) → Stops c old kept mid stop → IsOther stop → IsClosed mid
     causes mid stop (inl q) other = reads-closed 0 [] (pair_of c) old mid stop q.1 other none
     causes mid stop (inr (inl q)) other = ap (λ (s : DeskState). s.started) q.1.new_is ∙ none
-    causes mid stop (inr (inr (inl q))) other = absurd q.1.stops
-    causes mid stop (inr (inr (inr q))) other = checks-closed (how_of c) (plan_of q.net) (at_start c old) mid kept stop q.stops other none
+    causes mid stop (inr (inr (inl q))) other = reads-closed 2 _ (script_of c) (after_pair c old) mid stop q.1.stops other none
+    causes mid stop (inr (inr (inr q))) other =
+        checks-closed (how_of c) (plan_of q.net q.lines) (at_start c old) mid kept stop q.stops other ((start-keeps c old).started ∙ none)
 
 pub self-closed : (c : SelfCommand) (old new : DeskState) (status : Status) (kept : List Kept) → AnswersSelf c old new status kept
     → code_of status < 6 → IsClosed old → IsClosed new

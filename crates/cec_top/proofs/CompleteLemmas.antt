@@ -1,6 +1,9 @@
 -- A check that can be made comes to a verdict, where the desk has no fault and memory suffices.
 use Rattle.std.proofs.Common.{◌≡◌, ◌≢◌, ℕ, ◌<◌, ◌≤◌, ◌^◌, inl, inr, List, [], ◌∷◌, ◌++◌, length, map, Option, Some, None, Ok, Err, refl, sym, ap, ap₂, ◌∙◌, subst, arith, eq-eqb}
-use Rattle.std.specs.Prelude.{Result, ◌⊎◌, IfSome, IsSomeAnd}
+use Rattle.std.specs.Prelude.{Result, ◌⊎◌, IfSome, IsSomeAnd, option_map}
+use Rattle.std.specs.List.{AllByRecursion}
+use Rattle.std.specs.Option.{option_to_list}
+use Rattle.std.proofs.lemmas.List.{append-nil, map-append}
 use Rattle.std.proofs.lemmas.Option.{none-some, same_Some}
 use Rattle.desk_port.specs.Desk.{DeskState, Files, Rose, HasMore, after_read}
 use Rattle.byte_scan.specs.declared.errors.AigerErr.{AigerErr}
@@ -20,15 +23,18 @@ use Rattle.endings.specs.Writing.{Output, Leaves, after_file}
 use Rattle.endings.specs.Stops.{IsWarned, Warns, status_of, stop_line}
 use Rattle.command_line.specs.Words.{CheckCommand, Request, CheckIt, LratIt, SelfIt, Asks, WantInfo, AreRefused}
 use Rattle.cec_top.specs.declared.kept.Kept.{Kept}
-use Rattle.cec_top.specs.Headline.{SpellPair}
+use Rattle.netlist_edits.specs.Script.{script_lines}
+use Rattle.cec_top.specs.Headline.{SpellPair, IsScript}
+use Rattle.cec_top.specs.Script.{Due, Plan, plan_of}
 use Rattle.check_session.specs.Finding.{Finding, Equivalent, Different, Undecided}
 use Rattle.check_session.specs.Check.{IsWithinFor}
-use Rattle.cec_top.specs.Check.{How, Made, status_of_finding, AreTold, BreaksOff, StopsChecks, outputs_of as files_of, text_of_check}
-use Rattle.cec_top.specs.Answers.{fault_in, Answers, AnswersCheck, AreUnlike, Stops, IsAtOnce, circuit_file, pair_of, how_of, at_start}
+use Rattle.cec_top.specs.Check.{How, status_of_finding, BreaksOff, due_of, StopsChecks, outputs_of as files_of, text_of_check}
+use Rattle.cec_top.specs.Answers.{fault_in, Answers, AnswersCheck, AreUnlike, AsksFor, Stops, IsAtOnce, circuit_file, pair_of, script_file, how_of, after_pair, at_start}
 use Rattle.cec_top.specs.Complete.{NoFault, IsWithinLimit, CanCheck, IsAmple, HasVerdict}
 use Rattle.cec_top.proofs.OwnLemmas.{taken}
-use Rattle.cec_top.proofs.VerdictLemmas.{only-check}
-use Rattle.cec_top.proofs.HeadlineLemmas.{FileSpells, ends-code, spells-pair}
+use Rattle.cec_top.proofs.VerdictLemmas.{all-last, is-last, made-last}
+use Rattle.cec_top.proofs.HeadlineLemmas.{FileSpells, ends-code, spells-pair, spells-script, start-keeps}
+use Rattle.cec_top.proofs.ToldLemmas.{all-left}
 use Rattle.cec_top.proofs.WordsLemmas.{check_or, same_request}
 
 -- memory ran out, or a fault was counted
@@ -60,29 +66,19 @@ leaves-stops (o ∷ os) text s t (TooLong file) (inl p) = absurd p
 leaves-stops (o ∷ os) text s t (BadFile file why) (inl p) = absurd p
 leaves-stops (o ∷ os) text s t (NotAlike why) (inl p) = absurd p
 
--- what stops the one check that is asked for
-module _ (how : How) (net : AigPair) (old new : DeskState) (kept : List Kept) (stop : Stop) where
-  breaks-stop : BreaksOff how (record { checks = net ∷ []; refused = None }) old new kept stop
-      → (stop ≡ OutOfMemory) ⊎ Rose old.write_faults new.write_faults
-  breaks-stop p = go p.made p.before.checks p.before.told
-      (leaves-stops (files_of how.out (length p.made) p.half) (text_of_check how.out p.half) p.mid new stop p.breaks)
+-- what stops the checks that are asked for, where no line is refused
+module _ (how : How) (plan : Plan) (accepted : plan.refused ≡ None) (old new : DeskState) (kept : List Kept) (stop : Stop) where
+  breaks-stop : BreaksOff how plan old new kept stop → (stop ≡ OutOfMemory) ⊎ Rose old.write_faults new.write_faults
+  breaks-stop p = go (leaves-stops (files_of how.out (length p.made) p.half) (text_of_check how.out p.half) p.mid new stop p.breaks)
     where
-      same : p.mid.write_faults ≡ old.write_faults → (stop ≡ OutOfMemory) ⊎ Rose p.mid.write_faults new.write_faults
-          → (stop ≡ OutOfMemory) ⊎ Rose old.write_faults new.write_faults
-      same is (inl e) = inl e
-      same is (inr r) = inr (subst (λ (n : ℕ). Rose n new.write_faults) is r)
+      go : (stop ≡ OutOfMemory) ⊎ Rose p.mid.write_faults new.write_faults → (stop ≡ OutOfMemory) ⊎ Rose old.write_faults new.write_faults
+      go (inl e) = inl e
+      go (inr r) = inr (subst (λ (n : ℕ). Rose n new.write_faults) (all-left how 0 p.made old p.mid p.before.told).writes r)
 
-      go : (made : List Made) → map (λ (m : Made). m.net) made ++ (p.half.net ∷ p.others) ≡ net ∷ [] → AreTold how 0 made old p.mid
-          → (stop ≡ OutOfMemory) ⊎ Rose p.mid.write_faults new.write_faults → (stop ≡ OutOfMemory) ⊎ Rose old.write_faults new.write_faults
-      go [] checks told q = same (ap (λ (s : DeskState). s.write_faults) told) q
-      go (m ∷ []) checks told q = cc
-      go (m ∷ n ∷ ms) checks told q = cc
-
-  pub checks-stop : StopsChecks how (record { checks = net ∷ []; refused = None }) old kept new stop
-      → (stop ≡ OutOfMemory) ⊎ Rose old.write_faults new.write_faults
+  pub checks-stop : StopsChecks how plan old kept new stop → (stop ≡ OutOfMemory) ⊎ Rose old.write_faults new.write_faults
   checks-stop (inl p) = breaks-stop p
   checks-stop (inr (inl p)) = inl p.out
-  checks-stop (inr (inr p)) = absurd (none-some p.line p.refused)
+  checks-stop (inr (inr p)) = absurd (none-some p.line (sym accepted ∙ p.refused))
 
 -- no bytes are both longer than the limit and within it
 pub too-long : (o : Option (List ℕ)) → IsSomeAnd o (λ b. limit < length b) → IfSome o (λ b. length b ≤ limit) → ⊥
@@ -124,6 +120,33 @@ ok-equal a b e = ap (circuit_or a) e
 alike-from : (a b : Aig) → length a.inputs ≡ length b.inputs → length a.outputs ≡ length b.outputs → unlike_of a b ≡ None
 alike-from a b i o = rw (eq-eqb (length a.inputs) (length b.inputs) i, eq-eqb (length a.outputs) (length b.outputs) o) refl
 
+-- a file spells one circuit at most
+spells-one : (files : Files) (name : List ℕ) (x y : Aig) → FileSpells files name x → FileSpells files name y → x ≡ y
+spells-one files name x y p q = go (files name) p q
+  where
+    go : (o : Option (List ℕ)) → IsSomeAnd o (λ b. SpellsAiger b x) → IsSomeAnd o (λ b. SpellsAiger b y) → x ≡ y
+    go None p q = absurd p
+    go (Some b) p q = ok-equal x y (sym p ∙ q)
+
+-- so two files spell one pair at most
+pair-one : (c : CheckCommand) (files : Files) (m n : AigPair) → SpellPair c files m → SpellPair c files n → m ≡ n
+pair-one c files m n p q =
+    let same_a : m.a ≡ n.a = spells-one files c.a m.a n.a p.spells_a q.spells_a in
+    let same_b : m.b ≡ n.b =
+    matched-is m.a p.second c.by_name m.b p.matched
+    ∙ ap₂ (matched_to c.by_name) same_a (spells-one files c.b p.second q.second p.spells_b q.spells_b)
+    ∙ sym (matched-is n.a q.second c.by_name n.b q.matched) in
+    ap₂ (λ (x y : Aig). record { a = x; b = y }) same_a same_b
+
+-- and a file of a script has one list of lines at most
+script-one : (name : Option (List ℕ)) (files : Files) (m n : List (List ℕ)) → IsScript name files m → IsScript name files n → m ≡ n
+script-one None files m n p q = p ∙ sym q
+script-one (Some name) files m n p q = go (files name) p q
+  where
+    go : (o : Option (List ℕ)) → IsSomeAnd o (λ b. m ≡ script_lines b) → IsSomeAnd o (λ b. n ≡ script_lines b) → m ≡ n
+    go None p q = absurd p
+    go (Some b) p q = p ∙ sym q
+
 module _ (c : CheckCommand) (old : DeskState) (can : CanCheck c old) (kept : List Kept) where
   plain-second : can.pair.second.constraints ≡ []
   plain-second = sym (matched-constraints can.net.a can.pair.second c.by_name can.net.b can.pair.matched) ∙ can.plain_b
@@ -149,15 +172,39 @@ module _ (c : CheckCommand) (old : DeskState) (can : CanCheck c old) (kept : Lis
       (alike-from can.net.a can.net.b can.pair.inputs can.pair.outputs) in
       absurd (none-some p.unlike (sym alike ∙ p.differ))
 
+  -- the script is read
+  not-long : (name : Option (List ℕ)) → IfSome name (IsWithinLimit can.files) → (earlier : List (List ℕ)) (s new : DeskState) (stop : Stop)
+      → s.files ≡ Some can.files → ReadsUpTo 2 earlier (option_to_list (option_map script_file name)) s new stop
+      → (stop ≡ OutOfMemory) ⊎ Rose s.read_faults new.read_faults
+  not-long None within earlier s new stop told p = absurd p
+  not-long (Some name) within earlier s new stop told (inr p) = absurd p.3
+  not-long (Some name) within earlier s new (CannotRead j) told (inl p) = inr p.1.rose
+  not-long (Some name) within earlier s new (TooLong j) told (inl p) =
+      absurd (too-long (can.files name) (subst (λ (o : Option Files). IfSome o (λ f. HasMore f name limit)) told p.1) within)
+  not-long (Some name) within earlier s new (BadFile j text) told (inl p) = absurd (none-some _ p.1.2)
+  not-long (Some name) within earlier s new OutOfMemory told (inl p) = inl refl
+  not-long (Some name) within earlier s new (NotAlike text) told (inl p) = absurd p
+  not-long (Some name) within earlier s new CannotWrite told (inl p) = absurd p
+
+  -- and no line of it is refused
+  line-accepted : (net : AigPair) (lines : List (List ℕ)) → AsksFor c old net lines → (plan_of net lines).refused ≡ None
+  line-accepted net lines asks =
+      let same : net ≡ can.net = pair-one c can.files net can.net (spells-pair c old can.files can.told net asks.pair) can.pair in
+      let lines_same : lines ≡ can.lines =
+      script-one c.edits can.files lines can.lines (spells-script c old can.files can.told net lines asks).0 can.script in
+      ap₂ (λ (n : AigPair) (ls : List (List ℕ)). (plan_of n ls).refused) same lines_same ∙ can.accepted
+
   pub stops-excused : (new : DeskState) (stop : Stop) → Stops c old kept new stop → IsExcused old new stop
   stops-excused new stop (inl p) = reads-stop new stop p.1
   stops-excused new stop (inr (inl p)) = not-unlike new stop p.1
-  stops-excused new stop (inr (inr (inl p))) = absurd p.1.stops
-  stops-excused new stop (inr (inr (inr p))) = go (checks-stop (how_of c) p.net (at_start c old) new kept stop p.stops)
+  stops-excused new stop (inr (inr (inl p))) =
+      excused-read old new stop (not-long c.edits can.edits _ (after_pair c old) new stop can.told p.1.stops)
+  stops-excused new stop (inr (inr (inr p))) =
+      go (checks-stop (how_of c) (plan_of p.net p.lines) (line-accepted p.net p.lines p.asks) (at_start c old) new kept stop p.stops)
     where
-      go : (stop ≡ OutOfMemory) ⊎ Rose old.write_faults new.write_faults → IsExcused old new stop
+      go : (stop ≡ OutOfMemory) ⊎ Rose (at_start c old).write_faults new.write_faults → IsExcused old new stop
       go (inl e) = inl e
-      go (inr r) = inr (inr r)
+      go (inr r) = inr (inr (subst (λ (n : ℕ). Rose n new.write_faults) (start-keeps c old).writes r))
 
 -- the warning changes no count of reads or writes
 pub warned-counts : (mid new : DeskState) (line : List ℕ) → IsWarned mid new line
@@ -184,30 +231,12 @@ excused-verdict line old mid new stop status none (inl w) (inr (inr writes)) =
 pub check-complete : (c : CheckCommand) (old new : DeskState) (status : Status) (kept : List Kept) → CanCheck c old → NoFault old new
     → AnswersCheck c old new status kept → HasVerdict status
 check-complete c old new status kept can none (inl p) =
-    let only = only-check (how_of c) p.net (at_start c old) new status kept p.ends in
-    inl (subst (λ (s : Status). code_of s ≤ 2) only.status_is (finding-code only.check.finding))
+    let l = is-last (how_of c) p.net p.lines (at_start c old) new status kept p.ends in
+    inl (subst (λ (s : Status). code_of s ≤ 2) l.status_is (finding-code l.last.finding))
 check-complete c old new status kept can none (inr p) =
     excused-verdict _ old p.mid new p.stop status none p.warns (stops-excused c old can kept p.mid p.stop p.cause)
 
 -- ---- a budget that no query spends
-
--- a file spells one circuit at most
-spells-one : (files : Files) (name : List ℕ) (x y : Aig) → FileSpells files name x → FileSpells files name y → x ≡ y
-spells-one files name x y p q = go (files name) p q
-  where
-    go : (o : Option (List ℕ)) → IsSomeAnd o (λ b. SpellsAiger b x) → IsSomeAnd o (λ b. SpellsAiger b y) → x ≡ y
-    go None p q = absurd p
-    go (Some b) p q = ok-equal x y (sym p ∙ q)
-
--- so two files spell one pair at most
-pair-one : (c : CheckCommand) (files : Files) (m n : AigPair) → SpellPair c files m → SpellPair c files n → m ≡ n
-pair-one c files m n p q =
-    let same_a : m.a ≡ n.a = spells-one files c.a m.a n.a p.spells_a q.spells_a in
-    let same_b : m.b ≡ n.b =
-    matched-is m.a p.second c.by_name m.b p.matched
-    ∙ ap₂ (matched_to c.by_name) same_a (spells-one files c.b p.second q.second p.spells_b q.spells_b)
-    ∙ sym (matched-is n.a q.second c.by_name n.b q.matched) in
-    ap₂ (λ (x y : Aig). record { a = x; b = y }) same_a same_b
 
 within-code : (net : AigPair) (budget : ℕ) (f : Finding) → IsWithinFor net budget f → code_of (status_of_finding f) ≡ 2
     → budget ≤ 3 ^ length (variables_of net)
@@ -218,15 +247,20 @@ within-code net budget (Different j input) within code = cc
 check-decided : (c : CheckCommand) (old new : DeskState) (status : Status) (kept : List Kept) → IsAmple c old
     → AnswersCheck c old new status kept → code_of status ≢ 2
 check-decided c old new status kept ample (inl p) = λ code.
-    let only = only-check (how_of c) p.net (at_start c old) new status kept p.ends in
-    let settled = only.is_made.settled in
-    let within : only.check.book.out_budget ≤ 3 ^ length (variables_of only.check.net) =
-    within-code only.check.net only.check.book.out_budget only.check.finding settled.within (ap code_of only.status_is ∙ code) in
-    let same : only.check.net ≡ ample.net =
-    only.same ∙ pair-one c ample.files p.net ample.net (spells-pair c old ample.files ample.told p.net p.pair) ample.pair in
-    let count : 3 ^ length (variables_of only.check.net) ≡ 3 ^ length (variables_of ample.net) =
-    ap (λ (n : AigPair). 3 ^ length (variables_of n)) same in
-    absurd (omega (arith, within, count, settled.budget_is, ample.ample))
+    let l = is-last (how_of c) p.net p.lines (at_start c old) new status kept p.ends in
+    let script = spells-script c old ample.files ample.told p.net p.lines p.asks in
+    let settled = (made-last c kept p.net p.lines script.1 (at_start c old) new l.earlier l.last l.whole l.keeps).settled in
+    let within : l.last.book.out_budget ≤ 3 ^ length (variables_of l.last.net) =
+    within-code l.last.net l.last.book.out_budget l.last.finding settled.within (ap code_of l.status_is ∙ code) in
+    let same : p.net ≡ ample.net = pair-one c ample.files p.net ample.net (spells-pair c old ample.files ample.told p.net p.asks.pair) ample.pair in
+    let lines_same : p.lines ≡ ample.lines = script-one c.edits ample.files p.lines ample.lines script.0 ample.script in
+    let dues : (plan_of ample.net ample.lines).checks ≡ map due_of l.earlier ++ due_of l.last ∷ [] =
+    sym (ap₂ (λ (n : AigPair) (ls : List (List ℕ)). (plan_of n ls).checks) same lines_same) ∙ sym l.whole.checks
+    ∙ append-nil (map due_of (l.earlier ++ l.last ∷ [])) ∙ map-append due_of l.earlier (l.last ∷ []) in
+    let enough : 3 ^ length (variables_of l.last.net) < c.budget =
+    all-last (λ (d : Due). 3 ^ length (variables_of d.net) < c.budget) (map due_of l.earlier) (due_of l.last)
+    (subst (AllByRecursion (λ (d : Due). 3 ^ length (variables_of d.net) < c.budget)) dues ample.ample) in
+    absurd (omega (arith, within, settled.budget_is, enough))
 check-decided c old new status kept ample (inr p) = λ code. absurd (omega (arith, code, ends-code _ _ new status p))
 
 -- what ends before any command of the words is run ends for want of memory

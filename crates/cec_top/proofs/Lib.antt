@@ -2,8 +2,13 @@ mod MeansLemmas
 mod TellLemmas
 mod ReadLemmas
 mod CheckLemmas
+mod RunLemmas
+mod ScanLemmas
 mod ClosedLemmas
 mod HelpLemmas
+mod ToldLemmas
+mod PlanLemmas
+mod KeptLemmas
 mod HeadlineLemmas
 mod VerdictLemmas
 mod WordsLemmas

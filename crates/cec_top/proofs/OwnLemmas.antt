@@ -15,9 +15,8 @@ use Rattle.workload_gen.specs.declared.kind.Kind.TheVariants.{Adder, Parity, Com
 use Rattle.command_line.specs.Words.{SelfCommand}
 use Rattle.cec_top.specs.declared.kept.Kept.{Kept}
 use Rattle.cec_top.specs.Answers.{circuit_in}
-use Rattle.cec_top.specs.SelfCheck.{AreWorkload, EndsSelf, StopsSelf, after_workload, own_how}
-use Rattle.cec_top.specs.Steps.{Checks, how_in}
-use Rattle.cec_top.proofs.CheckLemmas.{one-ends, one-stops}
+use Rattle.cec_top.specs.SelfCheck.{AreWorkload, EndsSelf, StopsSelf, after_workload, only, own_how}
+use Rattle.cec_top.specs.Steps.{RunsPlan, how_in}
 
 -- it is of the circuits that were read back
 pub made-own : (c : SelfCommand) (x y : List ℕ) (a b : Aig) (net : AigPair) → x ≡ first_bytes c.kind c.n → y ≡ second_bytes c.kind c.n
@@ -52,33 +51,19 @@ at-workload c one net old mid is at = subst (λ (n : AigPair). mid ≡ after_wor
 -- the check of it, behind what was said of the circuits
 module _ (c : SelfCommand) (s : State) (circuits : AreWorkload c s.net) (options : s.options ≡ own_how.options) (old mid new : DeskState)
     (at : mid ≡ after_workload c s.net old) (kept : List Kept) where
-  behind : (r : Result Status Stop) → Checks (how_in s None) 0 s.net mid new [] kept r
-      → Checks own_how 0 s.net (after_workload c s.net old) new [] kept r
+  behind : (r : Result Status Stop) → RunsPlan (how_in s None) (only s.net) mid new kept r
+      → RunsPlan own_how (only s.net) (after_workload c s.net old) new kept r
   behind r p =
-      subst (λ (o : Options). Checks (record { options = o; out = None }) 0 s.net (after_workload c s.net old) new [] kept r) options
-      (subst (λ (t : DeskState). Checks (how_in s None) 0 s.net t new [] kept r) at p)
-
-  pub own-ends : (status : Status) → Checks (how_in s None) 0 s.net mid new [] kept (Ok status) → EndsSelf c old new status kept
-  own-ends status p = record {
-    net = s.net;
-    circuits = circuits;
-    ends = one-ends own_how s.net (after_workload c s.net old) new kept status (behind (Ok status) p);
-  }
-
-  pub own-stops : (stop : Stop) → Checks (how_in s None) 0 s.net mid new [] kept (Err stop) → StopsSelf c old kept new stop
-  own-stops stop p = inr (inl (record {
-    net = s.net;
-    circuits = circuits;
-    stops = one-stops own_how s.net (after_workload c s.net old) new kept stop (behind (Err stop) p);
-  }))
+      subst (λ (o : Options). RunsPlan (record { options = o; out = None }) (only s.net) (after_workload c s.net old) new kept r) options
+      (subst (λ (t : DeskState). RunsPlan (how_in s None) (only s.net) t new kept r) at p)
 
   -- by what the check answers
-  pub own-ok : (r : Result Status Stop) → Checks (how_in s None) 0 s.net mid new [] kept r
+  pub own-ok : (r : Result Status Stop) → RunsPlan (how_in s None) (only s.net) mid new kept r
       → IfOk r (λ status. EndsSelf c old new status kept)
-  own-ok (Ok status) p = own-ends status p
+  own-ok (Ok status) p = record { net = s.net; circuits = circuits; ends = behind (Ok status) p }
   own-ok (Err stop) p = tt
 
-  pub own-err : (r : Result Status Stop) → Checks (how_in s None) 0 s.net mid new [] kept r
+  pub own-err : (r : Result Status Stop) → RunsPlan (how_in s None) (only s.net) mid new kept r
       → IfErr r (StopsSelf c old kept new)
   own-err (Ok status) p = tt
-  own-err (Err stop) p = own-stops stop p
+  own-err (Err stop) p = inr (inl (record { net = s.net; circuits = circuits; stops = behind (Err stop) p }))

@@ -1,6 +1,6 @@
 -- What each verdict promises of circuits that the program makes, and that the check of them comes to one.
-use Rattle.std.proofs.Common.{◌≡◌, ℕ, ◌<◌, ◌≤◌, inl, inr, List, [], ◌∷◌, ◌++◌, Option, Some, None, refl, sym, ap, ◌∙◌, subst, arith, append_assoc}
-use Rattle.std.specs.Prelude.{◌⊎◌, option_map}
+use Rattle.std.proofs.Common.{◌≡◌, ℕ, ◌<◌, ◌≤◌, inl, inr, List, [], ◌++◌, Option, Some, None, refl, sym, ap, ◌∙◌, subst, arith, append_assoc}
+use Rattle.std.specs.Prelude.{◌⊎◌, Contains, option_map}
 use Rattle.desk_port.specs.Desk.{DeskState, Rose, after_say}
 use Rattle.netlist.specs.Net.{AigPair}
 use Rattle.endings.specs.declared.status.Status.{Status}
@@ -13,10 +13,12 @@ use Rattle.cec_top.specs.declared.kept.Kept.{Kept}
 use Rattle.cec_top.specs.Headline.{Told, AreEquivalent, AreDifferent, AreUndecided, HandsBack, OfWorkload, Shows}
 use Rattle.cec_top.specs.Check.{Made, IsMade, status_of_finding, text_of_check, kept_of}
 use Rattle.cec_top.specs.Answers.{IsAtOnce}
-use Rattle.cec_top.specs.SelfCheck.{AreWorkload, AnswersSelf, EndsSelf, StopsSelf, after_workload, own_how}
+use Rattle.cec_top.specs.SelfCheck.{AreWorkload, AnswersSelf, EndsSelf, StopsSelf, after_workload, only, own_how}
 use Rattle.cec_top.specs.Complete.{NoFault, HasVerdict}
 use Rattle.cec_top.specs.Texts.{workload_text}
-use Rattle.cec_top.proofs.HeadlineLemmas.{ends-code, told_of, hands-back}
+use Rattle.cec_top.proofs.HeadlineLemmas.{ends-code, hands-back}
+use Rattle.cec_top.proofs.ToldLemmas.{told_of}
+use Rattle.cec_top.proofs.KeptLemmas.{has-last}
 use Rattle.cec_top.proofs.VerdictLemmas.{only-check, are-equivalent, are-different, are-undecided}
 use Rattle.cec_top.proofs.ClosedLemmas.{leaves-code, memory-code, checks-code}
 use Rattle.cec_top.proofs.CompleteLemmas.{IsExcused, finding-code, leaves-stops, checks-stop, excused-verdict}
@@ -60,27 +62,28 @@ module _ (c : SelfCommand) (old new : DeskState) (status : Status) (kept : List 
     ]
 
     shows : (Holds : Told → Type 0) (code : ℕ) → code_of status ≡ code → code < 4
-        → ((m : Made) → IsMade own_how m → kept ≡ kept_of 0 m ∷ [] → code_of (status_of_finding m.finding) ≡ code → Holds (told_of None 0 m))
+        → ((m : Made) → IsMade own_how m → Contains kept (kept_of 0 m) → code_of (status_of_finding m.finding) ≡ code → Holds (told_of None 0 m))
         → Shows (OfWorkload c kept Holds) old new
     shows Holds code is below holds =
         let p = ends-whole (omega (arith, is, below)) in
         let o = only-check own_how p.net (after_workload c p.net old) new status kept p.ends in
         promised Holds o.check (subst (λ (n : AigPair). AreWorkload c n) (sym o.same) p.circuits)
         (subst (λ (n : AigPair). new ≡ after_say (after_workload c n old) (text_of_check None o.check)) (sym o.same) o.whole)
-        (holds o.check o.is_made o.keeps (ap code_of o.status_is ∙ is))
-        (hands-back own_how 0 o.check o.is_made kept o.keeps)
+        (holds o.check o.is_made (subst (λ (ks : List Kept). Contains ks (kept_of 0 o.check)) (sym o.keeps) (has-last [] o.check))
+        (ap code_of o.status_is ∙ is))
+        (hands-back own_how [] o.check o.is_made kept o.keeps)
 
     pub own-equivalent : code_of status ≡ 0 → Shows (OfWorkload c kept (AreEquivalent None)) old new
     own-equivalent is = shows (AreEquivalent None) 0 is (omega arith)
-        (λ m made keeps code. are-equivalent own_how 0 m.net m.book m.finding made code)
+        (λ m made has code. are-equivalent own_how 0 m.net m.edits m.book m.finding made code)
 
     pub own-different : code_of status ≡ 1 → Shows (OfWorkload c kept (AreDifferent None)) old new
     own-different is = shows (AreDifferent None) 1 is (omega arith)
-        (λ m made keeps code. are-different own_how 0 m.net m.book m.finding made code)
+        (λ m made has code. are-different own_how 0 m.net m.edits m.book m.finding made code)
 
     pub own-undecided : code_of status ≡ 2 → Shows (OfWorkload c kept (AreUndecided own_how kept)) old new
     own-undecided is = shows (AreUndecided own_how kept) 2 is (omega arith)
-        (λ m made keeps code. are-undecided own_how 0 m.net m.book kept m.finding keeps made code)
+        (λ m made has code. are-undecided own_how 0 m.net m.edits m.book kept m.finding has made code)
 
   -- ---- a verdict, or want of memory
 
@@ -94,7 +97,7 @@ module _ (c : SelfCommand) (old new : DeskState) (status : Status) (kept : List 
       excused-said old mid stop refl (leaves-stops [] (workload_text c p.net) old mid stop p.breaks)
   excused mid stop (inr (inl p)) =
       let s = after_workload c p.net old in
-      excused-said s mid stop refl (checks-stop own_how p.net s mid kept stop p.stops)
+      excused-said s mid stop refl (checks-stop own_how (only p.net) refl s mid kept stop p.stops)
   excused mid stop (inr (inr p)) = inl p.out
 
   pub own-complete : NoFault old new → AnswersSelf c old new status kept ⊎ EndsBy [] (IsAtOnce old) new status → HasVerdict status

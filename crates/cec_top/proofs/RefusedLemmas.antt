@@ -1,6 +1,9 @@
--- Status 4 tells of the file that is at fault.
-use Rattle.std.proofs.Common.{◌≡◌, ℕ, ◌≤◌, inl, inr, List, [], ◌∷◌, length, Option, None, Some, refl, sym, ap, ◌∙◌, subst, arith}
-use Rattle.std.specs.Prelude.{IfSome, IsSomeAnd, codes, string_bytes}
+-- Status 4 tells of the file that is at fault, or of the line of a script.
+use Rattle.std.proofs.Common.{◌≡◌, ℕ, ◌≤◌, inl, inr, List, [], ◌∷◌, ◌++◌, length, Option, None, Some, refl, sym, ap, ap₂, ◌∙◌, subst, arith}
+use Rattle.std.specs.Prelude.{◌⊎◌, IfSome, IsSomeAnd, codes, option_map, string_bytes}
+use Rattle.std.specs.List.{flat_map}
+use Rattle.std.specs.Option.{option_to_list}
+use Rattle.std.proofs.lemmas.Option.{none-some}
 use Rattle.desk_port.specs.Desk.{DeskState, Files, HasMore, after_read}
 use Rattle.netlist.specs.declared.unlike.Unlike.{Unlike}
 use Rattle.endings.specs.declared.status.Status.{Status}
@@ -11,13 +14,18 @@ use Rattle.endings.specs.Reading.{FileIs, StopsAt, ReadsUpTo, limit}
 use Rattle.endings.specs.Stops.{IsWarned, Warns, fault_line, file_line, name_at, status_of, stop_line}
 use Rattle.command_line.specs.Words.{CheckCommand}
 use Rattle.cec_top.specs.declared.kept.Kept.{Kept}
-use Rattle.cec_top.specs.Answers.{AnswersCheck, AreUnlike, NamesUnlike, Stops, circuit_file, circuit_in, fault_in, how_of, names_of, pair_of, at_start}
-use Rattle.cec_top.specs.Lines.{unlike_text}
-use Rattle.cec_top.specs.Refused.{HasFault, HasNone, IsDue, Refuses}
-use Rattle.cec_top.proofs.ClosedLemmas.{checks-code}
+use Rattle.netlist.specs.Net.{AigPair}
+use Rattle.cec_top.specs.Script.{due_behind, asked_from, plan_of}
+use Rattle.cec_top.specs.Check.{Made, GoesOn, SaysFault, StopsChecks, RefusesLine as RefusesChecks, kept_from}
+use Rattle.cec_top.specs.Answers.{AnswersCheck, AreUnlike, AsksFor, NamesUnlike, Stops, circuit_file, circuit_in, fault_in, how_of, names_of, pair_of, script_file, script_of, after_pair, at_start}
+use Rattle.cec_top.specs.Headline.{Told, SpellPair, IsScript, KeepsPromise}
+use Rattle.cec_top.specs.Lines.{unlike_text, refused_text}
+use Rattle.cec_top.specs.Refused.{HasFault, HasNone, IsDue, Refuses, RefusesLine}
+use Rattle.cec_top.proofs.ClosedLemmas.{leaves-code, memory-code}
 use Rattle.cec_top.proofs.CompleteLemmas.{finding-code}
-use Rattle.cec_top.proofs.HeadlineLemmas.{file-spells}
-use Rattle.cec_top.proofs.VerdictLemmas.{only-check}
+use Rattle.cec_top.proofs.HeadlineLemmas.{IsRead, file-spells, spells-pair, spells-script, start-keeps}
+use Rattle.cec_top.proofs.ToldLemmas.{IsLeft, left_all, tolds}
+use Rattle.cec_top.proofs.VerdictLemmas.{HasParts, some-parts, is-last, is-left, promise-last, tells-checks}
 
 module _ (before : Files) (s : DeskState) (told : s.files ≡ Some before) (name : List ℕ) where
   file-at : (bytes : List ℕ) → FileIs s name bytes → before name ≡ Some bytes
@@ -67,13 +75,18 @@ unlike-line names u CannotWrite is = absurd is
 unlike-line names u OutOfMemory is = absurd is
 
 module _ (c : CheckCommand) (old : DeskState) (before : Files) (told : old.files ≡ Some before) (kept : List Kept) where
-  -- what the cause leaves, and its line
+  -- what the cause leaves where a file or the pair is refused, and its line
   record IsTold (mid : DeskState) (stop : Stop) : Type 0 where
     none : kept ≡ []
     due : IsDue c before (stop_line (names_of c) stop)
     files : mid.files ≡ Some before
     said : mid.said ≡ old.said
     warned : mid.warned ≡ old.warned
+
+  -- and where a line of the script is
+  record IsLineTold (mid : DeskState) (stop : Stop) : Type 0 where
+    line : RefusesLine c old mid kept before (stop_line (names_of c) stop)
+    silent : mid.warned ≡ old.warned
 
   reads-told : (mid : DeskState) (stop : Stop) → kept ≡ [] → ReadsUpTo 0 [] (pair_of c) old mid stop → code_of (status_of stop) ≡ 4
       → IsTold mid stop
@@ -103,7 +116,7 @@ module _ (c : CheckCommand) (old : DeskState) (before : Files) (told : old.files
   unlike-told : (mid : DeskState) (stop : Stop) → kept ≡ [] → AreUnlike c old mid stop → IsTold mid stop
   unlike-told mid stop none p = record {
     none = none;
-    due = inr (inr (record {
+    due = inr (inr (inl (record {
       first = p.first;
       second = p.second;
       spells_a = file-spells old before told c.a p.reads.a p.first p.reads.read.0 p.reads.spells_a;
@@ -111,18 +124,123 @@ module _ (c : CheckCommand) (old : DeskState) (before : Files) (told : old.files
       unlike = p.unlike;
       differ = p.differ;
       line_is = unlike-line (names_of c) p.unlike stop p.stop_is;
-    }));
+    })));
     files = ap (λ (s : DeskState). s.files) p.new_is ∙ told;
     said = ap (λ (s : DeskState). s.said) p.new_is;
     warned = ap (λ (s : DeskState). s.warned) p.new_is;
   }
 
-  stops-told : (mid : DeskState) (stop : Stop) → Stops c old kept mid stop → code_of (status_of stop) ≡ 4 → IsTold mid stop
-  stops-told mid stop (inl p) code = reads-told mid stop p.0 p.1 code
-  stops-told mid stop (inr (inl p)) code = unlike-told mid stop p.0 p.1
-  stops-told mid stop (inr (inr (inl p))) code = absurd p.1.stops
-  stops-told mid stop (inr (inr (inr p))) code =
-      absurd (omega (arith, code, checks-code (how_of c) p.net (at_start c old) mid kept stop p.stops))
+  -- the script is named third
+  third : (name : List ℕ) → c.edits ≡ Some name → name_at (names_of c) 2 ≡ name
+  third name is = ap (λ (e : Option (List ℕ)). name_at (c.a ∷ c.b ∷ option_to_list e) 2) is
+
+  -- it is too long
+  script-told : (net : AigPair) → SpellPair c before net → (mid : DeskState) (stop : Stop) → kept ≡ [] → (earlier : List (List ℕ))
+      → ReadsUpTo 2 earlier (script_of c) (after_pair c old) mid stop → code_of (status_of stop) ≡ 4 → IsTold mid stop
+  unfolding stop_line
+  script-told net pair mid stop none earlier p code = go c.edits refl p
+    where
+      at : (name : List ℕ) → c.edits ≡ Some name → (stop : Stop) → code_of (status_of stop) ≡ 4
+          → StopsAt 2 (script_file name) earlier (after_pair c old) mid stop → IsTold mid stop
+      at name is (TooLong j) code q = record {
+        none = none;
+        due = inr (inr (inr (record {
+          net = net;
+          pair = pair;
+          name = name;
+          named = is;
+          more = subst (λ (o : Option Files). IfSome o (λ f. HasMore f name limit)) told q.1;
+          line_is = ap (λ (n : List ℕ). file_line n (codes "longer than 1073741824 bytes")) (ap (name_at (names_of c)) q.0 ∙ third name is);
+        })));
+        files = ap (λ (s : DeskState). s.files) q.2 ∙ told;
+        said = ap (λ (s : DeskState). s.said) q.2;
+        warned = ap (λ (s : DeskState). s.warned) q.2;
+      }
+      at name is (BadFile j text) code q = absurd (none-some (string_bytes text) q.1.2)
+      at name is (CannotRead j) code q = cc
+      at name is OutOfMemory code q = cc
+      at name is (NotAlike text) code q = absurd q
+      at name is CannotWrite code q = absurd q
+
+      go : (e : Option (List ℕ)) → c.edits ≡ e → ReadsUpTo 2 earlier (option_to_list (option_map script_file e)) (after_pair c old) mid stop
+          → IsTold mid stop
+      go None is q = absurd q
+      go (Some name) is (inl q) = at name is stop code q
+      go (Some name) is (inr q) = absurd q.3
+
+  -- one of its lines is refused
+  line-told : (net : AigPair) (lines : List (List ℕ)) → AsksFor c old net lines → (mid : DeskState) (stop : Stop)
+      → RefusesChecks (how_of c) (plan_of net lines) (at_start c old) mid kept stop → IsLineTold mid stop
+  unfolding stop_line
+  line-told net lines asks mid stop p = go c.edits refl
+    where
+      script : IsScript c.edits before lines × (length lines ≤ limit)
+      script = spells-script c old before told net lines asks
+
+      named : (name : List ℕ) → c.edits ≡ Some name → (s : Stop) → SaysFault p.line s → stop_line (names_of c) s ≡ file_line name (refused_text p.line)
+      named name is (BadFile file why) says =
+          ap₂ file_line (ap (name_at (names_of c)) says.0 ∙ third name is) says.1
+      named name is (CannotRead file) says = absurd says
+      named name is (TooLong file) says = absurd says
+      named name is (NotAlike why) says = absurd says
+      named name is CannotWrite says = absurd says
+      named name is OutOfMemory says = absurd says
+
+      k : IsRead old (at_start c old)
+      k = start-keeps c old
+
+      parts : HasParts p.made
+      parts = some-parts p.made (due_behind net) (asked_from 1 (due_behind net) lines).checks p.whole.checks
+
+      whole : GoesOn (how_of c) (plan_of net lines) (at_start c old) (parts.earlier ++ parts.last ∷ []) [] mid
+      whole = subst (λ (made : List Made). GoesOn (how_of c) (plan_of net lines) (at_start c old) made [] mid) parts.made_is p.whole
+
+      keeps : kept ≡ kept_from 0 (parts.earlier ++ parts.last ∷ [])
+      keeps = p.keeps ∙ ap (kept_from 0) parts.made_is
+
+      left : IsLeft c.out (tolds c.out 0 (parts.earlier ++ parts.last ∷ [])) (at_start c old) mid
+      left = is-left c kept net lines script.1 (at_start c old) mid parts.earlier parts.last whole keeps
+
+      at : (name : List ℕ) → c.edits ≡ Some name → IsLineTold mid stop
+      at name is = record {
+        silent = left.quiet ∙ k.warned;
+        line = record {
+          net = net;
+          pair = spells-pair c old before told net asks.pair;
+          name = name;
+          named = is;
+          lines = lines;
+          script = script.0;
+          refused = p.line;
+          refused_is = p.refused;
+          line_is = named name is stop p.stop_is;
+          after = left_all c.out (tolds c.out 0 (parts.earlier ++ parts.last ∷ [])) before;
+          said = flat_map (λ (t : Told). t.said) (tolds c.out 0 (parts.earlier ++ parts.last ∷ []));
+          files = left.files before (k.files ∙ told);
+          heard = λ earlier heard. left.said earlier (k.said ∙ heard);
+          told = tells-checks c kept net lines script.1 (at_start c old) mid parts.earlier parts.last whole keeps (KeepsPromise (how_of c) kept)
+              before (promise-last c kept net lines script.1 (at_start c old) mid parts.earlier parts.last whole keeps);
+        };
+      }
+
+      go : (e : Option (List ℕ)) → c.edits ≡ e → IsLineTold mid stop
+      go (Some name) is = at name is
+      go None is =
+          let none : lines ≡ [] = subst (λ (e : Option (List ℕ)). IsScript e before lines) is script.0 in
+          let accepted : (plan_of net lines).refused ≡ None = ap (λ (ls : List (List ℕ)). (plan_of net ls).refused) none in
+          absurd (none-some p.line (sym accepted ∙ p.refused))
+
+  stops-told : (mid : DeskState) (stop : Stop) → Stops c old kept mid stop → code_of (status_of stop) ≡ 4 → IsTold mid stop ⊎ IsLineTold mid stop
+  stops-told mid stop (inl p) code = inl (reads-told mid stop p.0 p.1 code)
+  stops-told mid stop (inr (inl p)) code = inl (unlike-told mid stop p.0 p.1)
+  stops-told mid stop (inr (inr (inl p))) code =
+      inl (script-told p.1.net (spells-pair c old before told p.1.net p.1.pair) mid stop p.0 _ p.1.stops code)
+  stops-told mid stop (inr (inr (inr p))) code = go p.stops
+    where
+      go : StopsChecks (how_of c) (plan_of p.net p.lines) (at_start c old) kept mid stop → IsTold mid stop ⊎ IsLineTold mid stop
+      go (inl q) = absurd (omega (arith, code, leaves-code _ _ q.mid mid stop q.breaks))
+      go (inr (inl q)) = absurd (omega (arith, code, memory-code stop q.out))
+      go (inr (inr q)) = inr (line-told p.net p.lines p.asks mid stop q)
 
   warned-files : (mid new : DeskState) (line : List ℕ) → IsWarned mid new line → (new.files ≡ mid.files) × (new.said ≡ mid.said)
   warned-files mid new line (inl p) = (ap (λ (s : DeskState). s.files) p, ap (λ (s : DeskState). s.said) p)
@@ -130,22 +248,45 @@ module _ (c : CheckCommand) (old : DeskState) (before : Files) (told : old.files
 
   pub refuses : (new : DeskState) (status : Status) → AnswersCheck c old new status kept → code_of status ≡ 4 → Refuses c old new kept before
   refuses new status (inl p) code =
-      let o = only-check (how_of c) p.net (at_start c old) new status kept p.ends in
-      absurd (omega (arith, code, subst (λ (s : Status). code_of s ≤ 2) o.status_is (finding-code o.check.finding)))
+      let l = is-last (how_of c) p.net p.lines (at_start c old) new status kept p.ends in
+      absurd (omega (arith, code, subst (λ (s : Status). code_of s ≤ 2) l.status_is (finding-code l.last.finding)))
   refuses new status (inr p) code = go p.warns
     where
-      go : Warns (stop_line (names_of c) p.stop) (status_of p.stop) p.mid new status → Refuses c old new kept before
-      go (inl w) =
-          let t = stops-told p.mid p.stop p.cause (subst (λ (s : Status). code_of s ≡ 4) w.0 code) in
-          let w-is = warned-files p.mid new (stop_line (names_of c) p.stop) w.1 in
+      warned : IsWarned p.mid new (stop_line (names_of c) p.stop) → IsTold p.mid p.stop ⊎ IsLineTold p.mid p.stop → Refuses c old new kept before
+      warned w (inl t) =
+          let same = warned-files p.mid new (stop_line (names_of c) p.stop) w in
           record {
             line = stop_line (names_of c) p.stop;
-            due = t.due;
             mid = p.mid;
             silent = t.warned;
-            warned = w.1;
-            files = w-is.0 ∙ t.files;
-            said = w-is.1 ∙ t.said;
-            none = t.none;
+            warned = w;
+            what = inl (record { due = t.due; files = same.0 ∙ t.files; said = same.1 ∙ t.said; none = t.none });
           }
+      warned w (inr t) =
+          let same = warned-files p.mid new (stop_line (names_of c) p.stop) w in
+          record {
+            line = stop_line (names_of c) p.stop;
+            mid = p.mid;
+            silent = t.silent;
+            warned = w;
+            what = inr (record {
+              net = t.line.net;
+              pair = t.line.pair;
+              name = t.line.name;
+              named = t.line.named;
+              lines = t.line.lines;
+              script = t.line.script;
+              refused = t.line.refused;
+              refused_is = t.line.refused_is;
+              line_is = t.line.line_is;
+              after = t.line.after;
+              said = t.line.said;
+              files = same.0 ∙ t.line.files;
+              heard = λ earlier heard. same.1 ∙ t.line.heard earlier heard;
+              told = t.line.told;
+            });
+          }
+
+      go : Warns (stop_line (names_of c) p.stop) (status_of p.stop) p.mid new status → Refuses c old new kept before
+      go (inl w) = warned w.1 (stops-told p.mid p.stop p.cause (subst (λ (s : Status). code_of s ≡ 4) w.0 code))
       go (inr w) = absurd (omega (arith, code, ap code_of w.0))

@@ -1,9 +1,12 @@
 -- What each verdict promises, from what the program answers.
-use Rattle.std.proofs.Common.{◌≡◌, ℕ, suc, zero, ◌+◌, ◌<◌, inl, inr, Bool, true, false, List, [], ◌∷◌, ◌++◌, length, map, filter, option_map, Option, Some, None, refl, sym, ap, ◌∙◌, subst, arith, append_assoc}
-use Rattle.std.specs.Prelude.{slice_index_or, All, IfSome}
-use Rattle.std.specs.List.{AllByRecursion, find}
+use Rattle.std.proofs.Common.{◌≡◌, ℕ, suc, zero, ◌+◌, ◌<◌, ◌≤◌, ◌^◌, lit<, append-nil, inl, inr, Bool, true, false, List, [], ◌∷◌, ◌++◌, length, map, filter, option_map, Option, Some, None, refl, sym, ap, ◌∙◌, subst, arith, append_assoc}
+use Rattle.std.specs.Prelude.{slice_index_or, All, Contains, IfSome}
+use Rattle.std.specs.List.{AllByRecursion, find, flat_map}
+use Rattle.std.proofs.lemmas.List.{length-map}
 use Rattle.std.proofs.lemmas.Option.{none-some, same_Some}
-use Rattle.desk_port.specs.Desk.{DeskState, after_say}
+use Rattle.desk_port.specs.Desk.{DeskState, Files, after_say}
+use Rattle.netlist_edits.specs.declared.edit.Edit.{Edit}
+use Rattle.endings.specs.Reading.{limit}
 use Rattle.netlist.specs.Net.{AigPair}
 use Rattle.unit_prop.specs.Log.{InTurn}
 use Rattle.lemma_book.specs.declared.entry.Entry.{Entry}
@@ -24,17 +27,22 @@ use Rattle.endings.specs.declared.status.Status.{Status}
 use Rattle.endings.specs.Status.{code_of}
 use Rattle.endings.specs.Writing.{after_files}
 use Rattle.cec_top.specs.declared.kept.Kept.{Kept}
-use Rattle.cec_top.specs.Headline.{Told, OfFiles, IsEquivalent, IsDifferent, IsUndecided, AreEquivalent, AreDifferent, AreUndecided, RefutesMiter, SaysOpen, SpendsBudget, HasLog, Shows}
+use Rattle.cec_top.specs.Headline.{Told, OfFiles, IsEquivalent, IsDifferent, IsUndecided, AreEquivalent, AreDifferent, AreUndecided, RefutesMiter, SaysOpen, SpendsBudget, HasLog, KeepsPromise, LeavesUnder, AreNumbered, AreInRow, TellsChecks, Shows, due_of_told}
 use Rattle.check_session.specs.Finding.{Finding, Equivalent, Different, Undecided, open_outputs}
 use Rattle.check_session.specs.Files.{proof_bytes}
-use Rattle.cec_top.specs.Check.{How, Made, IsMade, AreTold, Ends, status_of_finding, outputs_of as files_of, text_of_check, last_finding, kept_of, kept_from}
-use Rattle.cec_top.specs.Answers.{AreAlike, EndsCheck, AnswersCheck, how_of, at_start}
-use Rattle.cec_top.proofs.HeadlineLemmas.{ends-code, spells-pair, left-whole, told_of, left-check, of-files, has-book, hands-back}
+use Rattle.cec_top.specs.Script.{Due, Plan, asked_from, due_behind, plan_of}
+use Rattle.cec_top.specs.Check.{How, Made, IsMade, AreTold, Ends, GoesOn, due_of, is_undecided, status_of_finding, outputs_of as files_of, text_of_check, last_finding, kept_of, kept_from}
+use Rattle.cec_top.specs.Answers.{EndsCheck, AnswersCheck, how_of, at_start}
+use Rattle.cec_top.proofs.HeadlineLemmas.{ends-code, spells-pair, spells-script, start-keeps, has-book, hands-back}
+use Rattle.cec_top.proofs.ToldLemmas.{IsLeft, all-left, leaves-under, left_all, left-whole, told_of, tolds, tolds-due, tolds-last, tolds-numbered}
+use Rattle.cec_top.proofs.KeptLemmas.{HasOpen, has-last, has-open, in-row, kept-of}
+use Rattle.cec_top.proofs.PlanLemmas.{AreChained, plan-chained, plan-count}
+use Rattle.cec_top.proofs.RunLemmas.{finding-last}
 
-head-equal : (x y : AigPair) (xs ys : List AigPair) → (x ∷ xs) ≡ (y ∷ ys) → x ≡ y
+head-equal : (x y : Due) (xs ys : List Due) → (x ∷ xs) ≡ (y ∷ ys) → x ≡ y
 head-equal x y xs ys e = ap (head_or x) e
   where
-    head_or : AigPair → List AigPair → AigPair
+    head_or : Due → List Due → Due
     head_or d [] = d
     head_or d (z ∷ zs) = z
 
@@ -137,9 +145,9 @@ module _ (net : AigPair) (book : Entries) (legal : IsLegal net book) where
 
 -- ---- each verdict
 
-module _ (how : How) (number : ℕ) (net : AigPair) (book : Entries) where
+module _ (how : How) (number : ℕ) (net : AigPair) (edits : List Edit) (book : Entries) where
   abbrev made : Finding → Made
-  made f = record { net = net; book = book; finding = f }
+  made f = record { net = net; edits = edits; book = book; finding = f }
 
   abbrev told : Finding → Told
   told f = told_of how.out number (made f)
@@ -174,11 +182,11 @@ module _ (how : How) (number : ℕ) (net : AigPair) (book : Entries) where
   are-different Equivalent is code = cc
   are-different Undecided is code = cc
 
-  pub are-undecided : (kept : List Kept) → (f : Finding) → kept ≡ kept_of number (made f) ∷ [] → IsMade how (made f)
+  pub are-undecided : (kept : List Kept) → (f : Finding) → Contains kept (kept_of number (made f)) → IsMade how (made f)
       → code_of (status_of_finding f) ≡ 2 → AreUndecided how kept (told f)
-  are-undecided kept Undecided keeps is code = record {
+  are-undecided kept Undecided handed is code = record {
     finding_is = refl;
-    has = has-book how number (made Undecided) is kept keeps;
+    has = has-book how number (made Undecided) is kept handed;
     opens = open_outputs net book.entries;
     opens_are = refl;
     some_open = is.settled.finds.some_open;
@@ -203,10 +211,115 @@ module _ (how : How) (number : ℕ) (net : AigPair) (book : Entries) where
         logs = logs;
         says = refl;
       }
-  are-undecided kept Equivalent keeps is code = cc
-  are-undecided kept (Different j input) keeps is code = cc
+  are-undecided kept Equivalent handed is code = cc
+  are-undecided kept (Different j input) handed is code = cc
 
--- ---- the check that was made
+-- ---- earlier checks
+
+-- whatever was found, what is said of the check is so
+promise-one : (how : How) (number : ℕ) (m : Made) (kept : List Kept) → IsMade how m
+    → (is_undecided m.finding ≡ true → Contains kept (kept_of number m)) → KeepsPromise how kept (told_of how.out number m)
+promise-one how number m kept made handed = go m.finding made handed
+  where
+    go : (f : Finding) → IsMade how (record m { finding = f }) → (is_undecided f ≡ true → Contains kept (kept_of number m))
+        → KeepsPromise how kept (told_of how.out number (record m { finding = f }))
+    go Equivalent is handed = inl (are-equivalent how number m.net m.edits m.book Equivalent is refl)
+    go (Different j input) is handed = inr (inl (are-different how number m.net m.edits m.book (Different j input) is refl))
+    go Undecided is handed = inr (inr (are-undecided how number m.net m.edits m.book kept Undecided (handed refl) is refl))
+
+pub told-made : (how : How) (number : ℕ) (ms : List Made) (old new : DeskState) → AreTold how number ms old new → AllByRecursion (IsMade how) ms
+told-made how number [] old new told = tt
+told-made how number (m ∷ ms) old new told = (told.1, told-made how (number + 1) ms told.0 new told.3)
+
+all-front : {A : Type 0} (P : A → Type 0) (xs ys : List A) → AllByRecursion P (xs ++ ys) → AllByRecursion P xs
+all-front P [] ys all = tt
+all-front P (x ∷ xs) ys all = (all.0, all-front P xs ys all.1)
+
+pub all-last : {A : Type 0} (P : A → Type 0) (xs : List A) (y : A) → AllByRecursion P (xs ++ y ∷ []) → P y
+all-last P [] y all = all.0
+all-last P (x ∷ xs) y all = all-last P xs y all.1
+
+promise-all : (how : How) (number : ℕ) (ms : List Made) (kept : List Kept) → AllByRecursion (IsMade how) ms → HasOpen kept number ms
+    → AllByRecursion (KeepsPromise how kept) (tolds how.out number ms)
+promise-all how number [] kept made opens = tt
+promise-all how number (m ∷ ms) kept made opens =
+    (promise-one how number m kept made.0 opens.0, promise-all how (number + 1) ms kept made.1 opens.1)
+
+-- ---- all checks
+
+-- checks were made, and one of them is the last
+pub record HasParts (made : List Made) : Type 0 where
+  pub earlier : List Made
+  pub last : Made
+  pub made_is : made ≡ earlier ++ last ∷ []
+
+has-one : (m : Made) (ms : List Made) → HasParts (m ∷ ms)
+has-one m [] = record { earlier = []; last = m; made_is = refl }
+has-one m (n ∷ ns) =
+    let p = has-one n ns in
+    record { earlier = m ∷ p.earlier; last = p.last; made_is = ap (λ (ms : List Made). m ∷ ms) p.made_is }
+
+-- where at least one was asked for
+pub some-parts : (made : List Made) (due : Due) (dues : List Due) → map due_of made ++ [] ≡ due ∷ dues → HasParts made
+some-parts [] due dues checks = cc
+some-parts (m ∷ ms) due dues checks = has-one m ms
+
+-- the checks that a script asks for were told, and of the last one this holds
+module _ (c : CheckCommand) (kept : List Kept) (net : AigPair) (lines : List (List ℕ)) (few : length lines ≤ limit) (old new : DeskState)
+    (ms : List Made) (last : Made) (whole : GoesOn (how_of c) (plan_of net lines) old (ms ++ last ∷ []) [] new)
+    (keeps : kept ≡ kept_from 0 (ms ++ last ∷ [])) where
+  abbrev all : List Told
+  all = tolds c.out 0 (ms ++ last ∷ [])
+
+  parts : all ≡ tolds c.out 0 ms ++ told_of c.out (length ms) last ∷ []
+  parts = tolds-last c.out ms last
+
+  dues : map due_of (ms ++ last ∷ []) ≡ (plan_of net lines).checks
+  dues = sym (append-nil (map due_of (ms ++ last ∷ []))) ∙ whole.checks
+
+  all-made : AllByRecursion (IsMade (how_of c)) (ms ++ last ∷ [])
+  all-made = told-made (how_of c) 0 (ms ++ last ∷ []) old new whole.told
+
+  pub made-last : IsMade (how_of c) last
+  made-last = all-last (IsMade (how_of c)) ms last all-made
+
+  small : length (ms ++ last ∷ []) < 2 ^ 64
+  small =
+      let count : length (ms ++ last ∷ []) ≡ length (plan_of net lines).checks =
+      sym (length-map (ms ++ last ∷ []) due_of) ∙ ap (λ (ds : List Due). length ds) dues in
+      omega (arith, count, plan-count net lines, few, lit< {m = 1073741826} {n = 2 ^ 64} tt)
+
+  pub is-left : IsLeft c.out all old new
+  is-left = all-left (how_of c) 0 (ms ++ last ∷ []) old new whole.told
+
+  pub has-the-last : Contains kept (kept_of (length ms) last)
+  has-the-last = subst (λ (ks : List Kept). Contains ks (kept_of (length ms) last)) (sym keeps) (has-last ms last)
+
+  pub promise-last : KeepsPromise (how_of c) kept (told_of c.out (length ms) last)
+  promise-last = promise-one (how_of c) (length ms) last kept made-last (λ opens. has-the-last)
+
+  pub tells-checks : (Holds : Told → Type 0) (before : Files) → Holds (told_of c.out (length ms) last)
+      → TellsChecks c kept Holds (plan_of net lines) before (left_all c.out all before) (flat_map (λ (t : Told). t.said) all)
+  tells-checks Holds before holds = record {
+    earlier = tolds c.out 0 ms;
+    last = told_of c.out (length ms) last;
+    checks = ap (map due_of_told) (sym parts) ∙ tolds-due c.out 0 (ms ++ last ∷ []) ∙ dues;
+    numbers = subst (AreNumbered 0) parts (tolds-numbered c.out 0 (ms ++ last ∷ []));
+    says = ap (flat_map (λ (t : Told). t.said)) parts;
+    files = subst (λ (ts : List Told). LeavesUnder c.out ts before (left_all c.out all before)) parts
+        (leaves-under c.out (ms ++ last ∷ []) before small);
+    in_row = subst (AreInRow kept) parts
+        (in-row c.out kept 0 (ms ++ last ∷ [])
+        (λ k above has. kept-of 0 (ms ++ last ∷ []) k (subst (λ (ks : List Kept). Contains ks k) keeps has))
+        whole.neighbours net
+        (subst (AreChained net) (sym dues) (refl, plan-chained net lines)));
+    promises = promise-all (how_of c) 0 ms kept (all-front (IsMade (how_of c)) ms (last ∷ []) all-made)
+        (subst (λ (ks : List Kept). HasOpen ks 0 ms) (sym keeps) (has-open ms last));
+    holds = holds;
+    books = hands-back (how_of c) ms last made-last kept keeps;
+  }
+
+-- ---- the one check of circuits that the program makes
 
 module _ (how : How) (net : AigPair) (old new : DeskState) (status : Status) (kept : List Kept) where
   -- of checks that end with a verdict: this one is the only one, and it is told whole
@@ -218,21 +331,45 @@ module _ (how : How) (net : AigPair) (old new : DeskState) (status : Status) (ke
     pub status_is : status_of_finding check.finding ≡ status
     pub keeps : kept ≡ kept_of 0 check ∷ []
 
-  pub only-check : Ends how (record { checks = net ∷ []; refused = None }) old new status kept → IsOnly
+  pub only-check : Ends how (plan_of net []) old new status kept → IsOnly
   only-check p = go p.made p.whole.checks p.whole.told p.status_is p.keeps
     where
-      go : (made : List Made) → map (λ (m : Made). m.net) made ++ [] ≡ net ∷ [] → AreTold how 0 made old new
+      go : (made : List Made) → map due_of made ++ [] ≡ due_behind net ∷ [] → AreTold how 0 made old new
           → option_map status_of_finding (last_finding made) ≡ Some status → kept ≡ kept_from 0 made → IsOnly
       go [] checks told status_is keeps = cc
       go (m ∷ []) checks told status_is keeps = record {
         check = m;
-        same = head-equal m.net net [] [] checks;
+        same = ap (λ (d : Due). d.net) (head-equal (due_of m) (due_behind net) [] [] checks);
         is_made = told.1;
         whole = told.3 ∙ left-whole (files_of how.out 0 m) (text_of_check how.out m) old told.0 told.2;
         status_is = same_Some (status_of_finding m.finding) status status_is;
         keeps = keeps;
       }
       go (m ∷ n ∷ ms) checks told status_is keeps = cc
+
+-- ---- a run that comes to a verdict
+
+-- whose status goes with what the last check found
+pub record IsLast (how : How) (plan : Plan) (old new : DeskState) (status : Status) (kept : List Kept) : Type 0 where
+  pub earlier : List Made
+  pub last : Made
+  pub whole : GoesOn how plan old (earlier ++ last ∷ []) [] new
+  pub keeps : kept ≡ kept_from 0 (earlier ++ last ∷ [])
+  pub status_is : status_of_finding last.finding ≡ status
+
+pub is-last : (how : How) (net : AigPair) (lines : List (List ℕ)) (old new : DeskState) (status : Status) (kept : List Kept)
+    → Ends how (plan_of net lines) old new status kept → IsLast how (plan_of net lines) old new status kept
+is-last how net lines old new status kept p =
+    let l = some-parts p.made (due_behind net) (asked_from 1 (due_behind net) lines).checks p.whole.checks in
+    let finding : last_finding p.made ≡ Some l.last.finding = ap last_finding l.made_is ∙ finding-last l.earlier l.last in
+    record {
+      earlier = l.earlier;
+      last = l.last;
+      whole = subst (λ (made : List Made). GoesOn how (plan_of net lines) old made [] new) l.made_is p.whole;
+      keeps = p.keeps ∙ ap (kept_from 0) l.made_is;
+      status_is = same_Some (status_of_finding l.last.finding) status
+          (sym (ap (option_map status_of_finding) finding) ∙ p.status_is);
+    }
 
 -- ---- the laws
 
@@ -244,26 +381,44 @@ module _ (c : CheckCommand) (old new : DeskState) (status : Status) (kept : List
   ]
 
   shows : (Holds : Told → Type 0) (code : ℕ) → code_of status ≡ code → code < 4
-      → ((m : Made) → IsMade (how_of c) m → kept ≡ kept_of 0 m ∷ [] → code_of (status_of_finding m.finding) ≡ code
-      → Holds (told_of c.out 0 m))
+      → ((number : ℕ) (m : Made) → IsMade (how_of c) m → Contains kept (kept_of number m) → code_of (status_of_finding m.finding) ≡ code
+      → Holds (told_of c.out number m))
       → Shows (OfFiles c kept Holds) old new
   shows Holds code is below holds before earlier told heard =
       let p = verdict-ends (omega (arith, is, below)) in
-      let o = only-check (how_of c) p.net (at_start c old) new status kept p.ends in
-      let alike : AreAlike c old o.check.net = subst (λ (n : AigPair). AreAlike c old n) (sym o.same) p.pair in
-      left-check (at_start c old) new before earlier told heard c.out o.check o.whole old refl refl (OfFiles c kept Holds)
-      (of-files c kept Holds before o.check (spells-pair c old before told o.check.net alike)
-      (holds o.check o.is_made o.keeps (ap code_of o.status_is ∙ is))
-      (hands-back (how_of c) 0 o.check o.is_made kept o.keeps))
+      let l = is-last (how_of c) p.net p.lines (at_start c old) new status kept p.ends in
+      let k = start-keeps c old in
+      let script = spells-script c old before told p.net p.lines p.asks in
+      let ts : List Told = tolds c.out 0 (l.earlier ++ l.last ∷ []) in
+      let left = is-left c kept p.net p.lines script.1 (at_start c old) new l.earlier l.last l.whole l.keeps in
+      let made = made-last c kept p.net p.lines script.1 (at_start c old) new l.earlier l.last l.whole l.keeps in
+      let has = has-the-last c kept p.net p.lines script.1 (at_start c old) new l.earlier l.last l.whole l.keeps in
+      record {
+        after = left_all c.out ts before;
+        said = flat_map (λ (t : Told). t.said) ts;
+        left = left.files before (k.files ∙ told);
+        heard = left.said earlier (k.said ∙ heard);
+        quiet = left.quiet ∙ k.warned;
+        closed = λ none. left.closed (k.started ∙ none);
+        promise = record {
+          net = p.net;
+          pair = spells-pair c old before told p.net p.asks.pair;
+          lines = p.lines;
+          script = script.0;
+          accepted = p.ends.accepted;
+          told = tells-checks c kept p.net p.lines script.1 (at_start c old) new l.earlier l.last l.whole l.keeps Holds before
+              (holds (length l.earlier) l.last made has (ap code_of l.status_is ∙ is));
+        };
+      }
 
   pub equivalent : code_of status ≡ 0 → Shows (IsEquivalent c kept) old new
   equivalent is = shows (AreEquivalent c.out) 0 is (omega arith)
-      (λ m made keeps code. are-equivalent (how_of c) 0 m.net m.book m.finding made code)
+      (λ number m made has code. are-equivalent (how_of c) number m.net m.edits m.book m.finding made code)
 
   pub different : code_of status ≡ 1 → Shows (IsDifferent c kept) old new
   different is = shows (AreDifferent c.out) 1 is (omega arith)
-      (λ m made keeps code. are-different (how_of c) 0 m.net m.book m.finding made code)
+      (λ number m made has code. are-different (how_of c) number m.net m.edits m.book m.finding made code)
 
   pub undecided : code_of status ≡ 2 → Shows (IsUndecided c kept) old new
   undecided is = shows (AreUndecided (how_of c) kept) 2 is (omega arith)
-      (λ m made keeps code. are-undecided (how_of c) 0 m.net m.book kept m.finding keeps made code)
+      (λ number m made has code. are-undecided (how_of c) number m.net m.edits m.book kept m.finding has made code)

@@ -1,5 +1,7 @@
 -- What a run of the program answers.
-use Rattle.std.specs.Prelude.{◌≡◌, ◌⊎◌, ℕ, List, [], ◌∷◌, length, None, Some, Err, string_bytes, Option, Result, Ok, ◌==◌, if◌then◌else◌}
+use Rattle.std.specs.Prelude.{◌≡◌, ◌⊎◌, ℕ, List, [], ◌∷◌, length, None, Some, Err, string_bytes, Option, Result, Ok, ◌==◌, if◌then◌else◌, option_map}
+use Rattle.std.specs.List.{flat_map}
+use Rattle.std.specs.Option.{option_to_list}
 use Rattle.desk_port.specs.Desk.{DeskState, after_say}
 use Rattle.netlist.specs.declared.unlike.Unlike.{Unlike}
 use Rattle.netlist.specs.Net.{AigPair}
@@ -21,7 +23,9 @@ use Rattle.endings.specs.declared.stop.Stop.TheVariants.{NotAlike, OutOfMemory}
 use Rattle.lrat_run.specs.Answers.{AnswersLrat}
 use Rattle.cec_top.specs.declared.kept.Kept.{Kept}
 use Rattle.cec_top.specs.Lines.{aiger_text, unlike_text}
-use Rattle.cec_top.specs.Check.{How, Plan, Ends, StopsChecks}
+use Rattle.netlist_edits.specs.Script.{script_lines}
+use Rattle.cec_top.specs.Script.{plan_of}
+use Rattle.cec_top.specs.Check.{How, Ends, StopsChecks}
 use Rattle.cec_top.specs.SelfCheck.{AnswersSelf}
 
 -- ---- a check
@@ -43,16 +47,20 @@ circuit_in bytes = aiger_in bytes >>= unconstrained
 abbrev pub circuit_file : List ℕ → Input
 circuit_file name = record { name = name; fault = λ earlier bytes. fault_in (circuit_in bytes) }
 
--- the files that the command reads, in order: those of the pair, and behind them, before check 0, a script's, of which there
--- is none so far
+-- a script's file: any bytes are a script, since a line that is refused stands in the way of no line before it
+abbrev pub script_file : List ℕ → Input
+script_file name = record { name = name; fault = λ earlier bytes. None }
+
+-- the files that the command reads, in order: those of the pair, and behind them, before check 0, the script's, if there is
+-- one
 abbrev pub pair_of : CheckCommand → List Input
 pair_of c = circuit_file c.a ∷ circuit_file c.b ∷ []
 
 abbrev pub script_of : CheckCommand → List Input
-script_of c = []
+script_of c = option_to_list (option_map script_file c.edits)
 
 abbrev pub names_of : CheckCommand → List (List ℕ)
-names_of c = c.a ∷ c.b ∷ []
+names_of c = c.a ∷ c.b ∷ option_to_list c.edits
 
 -- under which numbers the command makes its checks, how it matches inputs and outputs, and with which prefix for their files
 abbrev pub how_of : CheckCommand → How
@@ -69,10 +77,6 @@ pub record ReadsCircuits (c : CheckCommand) (old : DeskState) (first second : Ai
   pub spells_a : SpellsAiger a first
   pub spells_b : SpellsAiger b second
 
--- what is asked for where the pair is these circuits: check 0 is of them, and a script would ask for more
-abbrev pub plan_of : AigPair → Plan
-plan_of net = record { checks = net ∷ []; refused = None }
-
 -- the circuits can be compared, and the net is their pair: by position the second one is as it is, and by name each of its
 -- inputs and outputs stands where the first one has its name
 pub record AreAlike (c : CheckCommand) (old : DeskState) (net : AigPair) : Type 0 where
@@ -86,14 +90,27 @@ pub record AreAlike (c : CheckCommand) (old : DeskState) (net : AigPair) : Type 
 abbrev pub after_pair : CheckCommand → DeskState → DeskState
 after_pair c old = after_reads old (pair_of c)
 
+-- and then, where the script was read, too
 abbrev pub at_start : CheckCommand → DeskState → DeskState
 at_start c old = after_reads (after_pair c old) (script_of c)
+
+-- the script is read behind files of these bytes, and has these lines; without one there are none
+pub record ReadsLines (c : CheckCommand) (old : DeskState) (earlier : List (List ℕ)) (lines : List (List ℕ)) : Type 0 where
+  pub scripts : List (List ℕ)
+  pub read : AreRead (after_pair c old) earlier (script_of c) scripts
+  pub lines_are : lines ≡ flat_map script_lines scripts
+
+-- what the command asks for: the pair is read and can be compared, and the script is read
+pub record AsksFor (c : CheckCommand) (old : DeskState) (net : AigPair) (lines : List (List ℕ)) : Type 0 where
+  pub pair : AreAlike c old net
+  pub script : ReadsLines c old (pair.reads.a ∷ pair.reads.b ∷ []) lines
 
 -- all checks are made and told
 pub record EndsCheck (c : CheckCommand) (old new : DeskState) (status : Status) (kept : List Kept) : Type 0 where
   pub net : AigPair
-  pub pair : AreAlike c old net
-  pub ends : Ends (how_of c) (plan_of net) (at_start c old) new status kept
+  pub lines : List (List ℕ)
+  pub asks : AsksFor c old net lines
+  pub ends : Ends (how_of c) (plan_of net lines) (at_start c old) new status kept
 
 -- the text of the cause says how the circuits differ
 abbrev pub NamesUnlike : Unlike → Stop → Type 0
@@ -119,10 +136,11 @@ pub record NoScript (c : CheckCommand) (old new : DeskState) (stop : Stop) : Typ
 -- the checks are begun, and end without the last verdict or with more than it
 pub record StopsLater (c : CheckCommand) (old : DeskState) (kept : List Kept) (new : DeskState) (stop : Stop) : Type 0 where
   pub net : AigPair
-  pub pair : AreAlike c old net
-  pub stops : StopsChecks (how_of c) (plan_of net) (at_start c old) kept new stop
+  pub lines : List (List ℕ)
+  pub asks : AsksFor c old net lines
+  pub stops : StopsChecks (how_of c) (plan_of net lines) (at_start c old) kept new stop
 
--- why a check ends without a verdict that was said whole
+-- why a command ends without the last verdict said whole, or behind it at a line that is refused
 abbrev pub Stops : CheckCommand → DeskState → List Kept → DeskState → Stop → Type 0
 Stops c old kept new stop =
     ((kept ≡ []) × ReadsUpTo 0 [] (pair_of c) old new stop)

@@ -9,6 +9,9 @@ use Rattle.endings.specs.declared.status.Status.TheVariants.{Done, No, Undecided
 use Rattle.netlist.specs.Net.{AigPair}
 use Rattle.lemma_book.specs.declared.entry.Entry.{Entry}
 use Rattle.lemma_book.specs.Entry.{Entries}
+use Rattle.lemma_book.specs.Book.{StartsWith}
+use Rattle.netlist_edits.specs.declared.edit.Edit.{Edit}
+use Rattle.keep_lemmas.specs.Kept.{kept}
 use Rattle.proof_stitch.specs.Stitch.{IsRefutation, refutation_of}
 use Rattle.proof_stitch.specs.Derivation.{IsDerivation, AreSpans, derivation_of, spans_of}
 use Rattle.check_session.specs.declared.options.Options.{Options}
@@ -16,6 +19,8 @@ use Rattle.check_session.specs.Finding.{Finding, Equivalent, Different, Undecide
 use Rattle.check_session.specs.Check.{IsSettled}
 use Rattle.check_session.specs.Files.{files_of}
 use Rattle.cec_top.specs.declared.kept.Kept.{Kept}
+use Rattle.cec_top.specs.Script.{Due, Plan, Refused}
+use Rattle.cec_top.specs.Lines.{refused_text}
 use Rattle.cec_top.specs.Texts.{different_text, open_text, open_text_with}
 
 -- the status with which the program ends where the finding was said
@@ -29,9 +34,10 @@ pub record How : Type 0 where
   pub options : Options
   pub out : Option (List ℕ)
 
--- a check that has its verdict: its circuits, its book and what that shows
+-- a check that has its verdict: its circuits and the edits since the check before it, its book and what that shows
 pub record Made : Type 0 where
   pub net : AigPair
+  pub edits : List Edit
   pub book : Entries
   pub finding : Finding
 
@@ -81,9 +87,10 @@ AreTold how number [] old new = new ≡ old
 AreTold how number (m ∷ ms) old new =
     (mid : DeskState) × IsMade how m × Tells how number m old mid (Ok tt) × AreTold how (number + 1) ms mid new
 
--- what a check takes over from the one before it: nothing so far
+-- what a check takes over from the one before it: its book begins with what is kept of that one's over the edits between, the
+-- entries that stand on nothing that was edited
 abbrev pub TakesOver : Made → Made → Type 0
-TakesOver m n = Unit {0}
+TakesOver m n = StartsWith n.book (kept m.net n.edits m.book)
 
 -- each check takes that over from its neighbour
 abbrev pub AreNeighbours : List Made → Type 0
@@ -127,20 +134,13 @@ KeepsOn stop kept all = kept ≡ all
 
 -- ---- the checks that are asked for
 
--- a line that is refused: which of the files that are read has it, and the text of its fault
-pub record Refused : Type 0 where
-  pub file : ℕ
-  pub text : List ℕ
-
--- What is asked for: the circuits of the checks, in order, and a line behind the last of them that is refused, if there is
--- one.
-pub record Plan : Type 0 where
-  pub checks : List AigPair
-  pub refused : Option Refused
+-- what was asked for where the check was made
+abbrev pub due_of : Made → Due
+due_of m = record { net = m.net; edits = m.edits }
 
 -- of the checks that are asked for these are made and told, each whole before the next, and the others aren't begun
-pub record GoesOn (how : How) (plan : Plan) (old : DeskState) (made : List Made) (others : List AigPair) (new : DeskState) : Type 0 where
-  pub checks : map (λ m. m.net) made ++ others ≡ plan.checks
+pub record GoesOn (how : How) (plan : Plan) (old : DeskState) (made : List Made) (others : List Due) (new : DeskState) : Type 0 where
+  pub checks : map due_of made ++ others ≡ plan.checks
   pub told : AreTold how 0 made old new
   pub neighbours : AreNeighbours made
 
@@ -156,24 +156,29 @@ pub record Ends (how : How) (plan : Plan) (old new : DeskState) (status : Status
 pub record BreaksOff (how : How) (plan : Plan) (old new : DeskState) (kept : List Kept) (stop : Stop) : Type 0 where
   pub made : List Made
   pub half : Made
-  pub others : List AigPair
+  pub others : List Due
   pub mid : DeskState
-  pub before : GoesOn how plan old made (half.net ∷ others) mid
+  pub before : GoesOn how plan old made (due_of half ∷ others) mid
   pub is_made : IsMade how half
+  pub neighbours : AreNeighbours (made ++ half ∷ [])
   pub breaks : Tells how (length made) half mid new (Err stop)
   pub keeps : KeepsOn stop kept (kept_from 0 (made ++ half ∷ []))
 
--- memory runs out before the next check has its verdict
+-- memory runs out behind checks that were told, and no other has a verdict
 pub record RunsOut (how : How) (plan : Plan) (old new : DeskState) (kept : List Kept) (stop : Stop) : Type 0 where
   pub out : stop ≡ OutOfMemory
   pub made : List Made
-  pub others : List AigPair
+  pub others : List Due
   pub before : GoesOn how plan old made others new
   pub keeps : AreSome kept (kept_from 0 made)
 
--- the cause is the fault of that line, in its file
+-- the place of the script among the files that are read
+abbrev pub script_place : ℕ
+script_place = 2
+
+-- the cause is the fault of that line of the script
 abbrev pub SaysFault : Refused → Stop → Type 0
-SaysFault line (BadFile file why) = (file ≡ line.file) × (string_bytes why ≡ line.text)
+SaysFault line (BadFile file why) = (file ≡ script_place) × (string_bytes why ≡ refused_text line)
 SaysFault line stop = ⊥
 
 -- all checks are made and told, and the line behind them is refused

@@ -1,5 +1,6 @@
 -- When the program has to come to a verdict: nothing that it was given stands in its way.
-use Rattle.std.specs.Prelude.{◌≡◌, ◌⊎◌, ℕ, ◌<◌, ◌≤◌, ◌^◌, List, [], length, Some, IfSome, IsSomeAnd}
+use Rattle.std.specs.Prelude.{◌≡◌, ◌⊎◌, ℕ, ◌<◌, ◌≤◌, ◌^◌, List, [], length, None, Some, IfSome, IsSomeAnd}
+use Rattle.std.specs.List.{AllByRecursion}
 use Rattle.desk_port.specs.Desk.{DeskState, Files, Rose}
 use Rattle.endings.specs.Reading.{limit}
 use Rattle.endings.specs.Status.{code_of}
@@ -11,7 +12,8 @@ use Rattle.dimacs_text.specs.Reading.{SpellsCnf}
 use Rattle.lrat_text.specs.declared.step.Line.{Line}
 use Rattle.lrat_text.specs.Reading.{SpellsLrat}
 use Rattle.command_line.specs.Words.{CheckCommand, LratCommand}
-use Rattle.cec_top.specs.Headline.{SpellPair}
+use Rattle.cec_top.specs.Headline.{SpellPair, IsScript}
+use Rattle.cec_top.specs.Script.{plan_of}
 
 -- the desk counted no fault of a read, and none of a write
 pub record NoFault (old new : DeskState) : Type 0 where
@@ -22,7 +24,8 @@ pub record NoFault (old new : DeskState) : Type 0 where
 abbrev pub IsWithinLimit : Files → List ℕ → Type 0
 IsWithinLimit files name = IfSome (files name) (λ bytes. length bytes ≤ limit)
 
--- the named files spell two circuits without constraints that can be compared, and neither is too long
+-- the named files spell two circuits without constraints that can be compared, no line of the script is refused, if there is
+-- one, and no file is too long
 pub record CanCheck (c : CheckCommand) (old : DeskState) : Type 0 where
   pub files : Files
   pub told : old.files ≡ Some files
@@ -32,6 +35,10 @@ pub record CanCheck (c : CheckCommand) (old : DeskState) : Type 0 where
   pub plain_b : net.b.constraints ≡ []
   pub a : IsWithinLimit files c.a
   pub b : IsWithinLimit files c.b
+  pub lines : List (List ℕ)
+  pub script : IsScript c.edits files lines
+  pub accepted : (plan_of net lines).refused ≡ None
+  pub edits : IfSome c.edits (IsWithinLimit files)
 
 -- the named files spell a formula and the lines of a proof about it, and neither is too long
 pub record CanVerify (c : LratCommand) (old : DeskState) : Type 0 where
@@ -45,13 +52,16 @@ pub record CanVerify (c : LratCommand) (old : DeskState) : Type 0 where
   pub proof : IsWithinLimit files c.proof
 
 -- the named files spell two circuits, and an output's query has more units than clauses can be learned over the variables
--- of their CNF: 3^V, since each variable is in a clause, its negation is, or neither
+-- of a check's CNF, for each check that the script asks for: 3^V, since each variable is in a clause, its negation is, or
+-- neither
 pub record IsAmple (c : CheckCommand) (old : DeskState) : Type 0 where
   pub files : Files
   pub told : old.files ≡ Some files
   pub net : AigPair
   pub pair : SpellPair c files net
-  pub ample : 3 ^ length (variables_of net) < c.budget
+  pub lines : List (List ℕ)
+  pub script : IsScript c.edits files lines
+  pub ample : AllByRecursion (λ due. 3 ^ length (variables_of due.net) < c.budget) (plan_of net lines).checks
 
 -- the run has a verdict, or memory ran out
 abbrev pub HasVerdict : Status → Type 0

@@ -17,7 +17,11 @@ use Rattle.lemma_book.specs.declared.entry.Entry.{Entry}
 use Rattle.lemma_book.specs.declared.entry.Entry.TheVariants.{OutSpent}
 use Rattle.lemma_book.specs.Entry.{Entries, has_out, has_spent, outputs_of}
 use Rattle.lemma_book.specs.Good.{IsGood}
-use Rattle.lemma_book.specs.Book.{IsLegal}
+use Rattle.lemma_book.specs.Book.{IsLegal, StartsWith}
+use Rattle.netlist_edits.specs.declared.edit.Edit.{Edit}
+use Rattle.netlist_edits.specs.Edited.{edited_all}
+use Rattle.netlist_edits.specs.Script.{script_lines}
+use Rattle.keep_lemmas.specs.Kept.{kept as kept_lemmas}
 use Rattle.lrat_text.specs.declared.step.Line.{Line}
 use Rattle.lrat_text.specs.Reading.{SpellsLrat}
 use Rattle.lrat_text.specs.Derivation.{Derives, Refutes}
@@ -31,6 +35,7 @@ use Rattle.check_session.specs.Files.{cnf_name, proof_name, cnf_text_of}
 use Rattle.command_line.specs.Words.{CheckCommand, LratCommand, SelfCommand}
 use Rattle.workload_gen.specs.Workload.{first_bytes, second_bytes}
 use Rattle.cec_top.specs.declared.kept.Kept.{Kept}
+use Rattle.cec_top.specs.Script.{Due, Plan, plan_of}
 use Rattle.cec_top.specs.Check.{How, is_undecided}
 use Rattle.cec_top.specs.Answers.{how_of}
 use Rattle.cec_top.specs.SelfCheck.{own_how}
@@ -38,11 +43,12 @@ use Rattle.cec_top.specs.Texts.{different_text, open_text, open_text_with, workl
 
 -- ---- a check that was told
 
--- A check that was told: its number, its circuits, what was found of them and what was said, and the bytes of its proof's
--- file, where files are left.
+-- A check that was told: its number, its circuits and the edits since the check before it, what was found of the circuits and
+-- what was said, and the bytes of its proof's file, where files are left.
 pub record Told : Type 0 where
   pub number : ℕ
   pub net : AigPair
+  pub edits : List Edit
   pub finding : Finding
   pub said : List ℕ
   pub proof : List ℕ
@@ -176,22 +182,61 @@ pub record SpellPair (c : CheckCommand) (before : Files) (net : AigPair) : Type 
   pub inputs : length net.a.inputs ≡ length net.b.inputs
   pub outputs : length net.a.outputs ≡ length net.b.outputs
 
--- Checks were told, one after another: check 0 of the circuits that the named files spell, and no other so far. What was said
--- is what was said of each, the files that are left are theirs, each earlier one keeps the promise of what was said of it, and
--- of the last one this holds.
-pub record OfFiles (c : CheckCommand) (kept : List Kept) (Holds : Told → Type 0) (before after : Files) (said : List ℕ) : Type 0 where
-  pub net : AigPair
-  pub pair : SpellPair c before net
+-- the lines of the script that the command names; without one there are none
+abbrev pub IsScript : Option (List ℕ) → Files → List (List ℕ) → Type 0
+IsScript None before lines = lines ≡ []
+IsScript (Some name) before lines = IsSomeAnd (before name) (λ bytes. lines ≡ script_lines bytes)
+
+-- the checks have the numbers from this one on
+abbrev pub AreNumbered : ℕ → List Told → Type 0
+AreNumbered number [] = Unit {0}
+AreNumbered number (t ∷ ts) = (t.number ≡ number) × AreNumbered (number + 1) ts
+
+-- A check goes on from the one before it: its circuits are that one's after the edits between. Where the books of both are
+-- handed back, the later one begins with what is kept of the earlier one over these edits: its lemmas that two values are
+-- equal, in order, each of which stands on no gate and no output that was edited.
+pub record FollowsOn (kept : List Kept) (t u : Told) : Type 0 where
+  pub net_is : u.net ≡ edited_all t.net u.edits
+  pub begins : (m n : Entries) → Contains kept (record { check = t.number; book = m })
+      → Contains kept (record { check = u.number; book = n }) → StartsWith n (kept_lemmas t.net u.edits m)
+
+-- each check goes on from its neighbour
+abbrev pub AreInRow : List Kept → List Told → Type 0
+AreInRow kept [] = Unit {0}
+AreInRow kept (t ∷ []) = Unit {0}
+AreInRow kept (t ∷ u ∷ ts) = FollowsOn kept t u × AreInRow kept (u ∷ ts)
+
+-- what was asked for where the check was told
+abbrev pub due_of_told : Told → Due
+due_of_told t = record { net = t.net; edits = t.edits }
+
+-- The checks that were asked for were told, one after another. What was said is what was said of each, the files that are left
+-- are theirs, each check goes on from the one before it, each earlier one keeps the promise of what was said of it, and of the
+-- last one this holds.
+pub record TellsChecks (c : CheckCommand) (kept : List Kept) (Holds : Told → Type 0) (plan : Plan) (before after : Files) (said : List ℕ) : Type 0 where
   pub earlier : List Told
   pub last : Told
-  pub checks : map {B = ℕ × AigPair} (λ t. (t.number, t.net)) (earlier ++ last ∷ []) ≡ (0, net) ∷ []
+  pub checks : map due_of_told (earlier ++ last ∷ []) ≡ plan.checks
+  pub numbers : AreNumbered 0 (earlier ++ last ∷ [])
   pub says : said ≡ flat_map (λ t. t.said) (earlier ++ last ∷ [])
   pub files : LeavesUnder c.out (earlier ++ last ∷ []) before after
+  pub in_row : AreInRow kept (earlier ++ last ∷ [])
   pub promises : AllByRecursion (KeepsPromise (how_of c) kept) earlier
   pub holds : Holds last
   pub books : HandsBack (how_of c) kept earlier last
 
--- EQUIVALENT, DIFFERENT, UNDECIDED: the files spell circuits of which that is so
+-- The named files spell circuits that can be compared, and no line of the script is refused. Check 0 was told of these
+-- circuits, and for each line `check` another one, of the circuits as all edits before that line leave them; and of the last
+-- one this holds.
+pub record OfFiles (c : CheckCommand) (kept : List Kept) (Holds : Told → Type 0) (before after : Files) (said : List ℕ) : Type 0 where
+  pub net : AigPair
+  pub pair : SpellPair c before net
+  pub lines : List (List ℕ)
+  pub script : IsScript c.edits before lines
+  pub accepted : (plan_of net lines).refused ≡ None
+  pub told : TellsChecks c kept Holds (plan_of net lines) before after said
+
+-- EQUIVALENT, DIFFERENT, UNDECIDED: the last check is of circuits of which that is so
 abbrev pub IsEquivalent : CheckCommand → List Kept → Files → Files → List ℕ → Type 0
 IsEquivalent c kept = OfFiles c kept (AreEquivalent c.out)
 

@@ -1,4 +1,5 @@
 pub mod Lines
+pub mod Script
 pub mod Headline
 pub mod Texts
 pub mod Check

@@ -1,4 +1,4 @@
--- The texts by which the program names a fault of a circuit's file, or of two circuits, on standard error.
+-- The texts by which the program names a fault of a circuit's file, of two circuits, or of a script's line, on standard error.
 use Rattle.std.specs.Prelude.{ℕ, List, ◌++◌, codes, decimal, encode_utf8}
 use Rattle.byte_scan.specs.declared.errors.AigerErr.{AigerErr}
 use Rattle.byte_scan.specs.declared.errors.AigerErr.TheVariants as aiger
@@ -7,6 +7,9 @@ use Rattle.netlist.specs.declared.port.Port.{Port}
 use Rattle.netlist.specs.declared.port.Port.TheVariants as port
 use Rattle.netlist.specs.declared.unlike.Unlike.{Unlike}
 use Rattle.netlist.specs.declared.unlike.Unlike.TheVariants as unlike
+use Rattle.netlist_edits.specs.declared.error.EditErr.{EditErr}
+use Rattle.netlist_edits.specs.declared.error.EditErr.TheVariants as edit
+use Rattle.cec_top.specs.Script.{Refused}
 
 -- a fault of a file that isn't an AIGER file of the kind that the program takes
 unfoldable pub aiger_text : AigerErr → List ℕ
@@ -39,3 +42,19 @@ unlike_text (unlike.Doubled A port k) = port_text port ++ decimal k ++ codes " o
 unlike_text (unlike.Doubled B port k) = port_text port ++ decimal k ++ codes " of b has the name of an earlier one"
 unlike_text (unlike.Missing port k) = port_text port ++ decimal k ++ codes " of a is missing in b"
 unlike_text unlike.NoMemory = codes "out of memory"
+
+-- an edit that isn't made, or a line that spells none
+unfoldable pub edit_text : EditErr → List ℕ
+edit_text edit.BadLine = codes "bad line"
+edit_text (edit.NoGate n) = codes "no gate " ++ decimal n
+edit_text (edit.NoLiteral n) = codes "no literal " ++ decimal n
+edit_text (edit.NotEarlier n) = codes "literal " ++ decimal n ++ codes " is not earlier"
+edit_text (edit.Taken n) = codes "literal " ++ decimal n ++ codes " is taken"
+edit_text (edit.InUse n) = codes "gate " ++ decimal n ++ codes " is in use"
+edit_text (edit.NoOutput j) = codes "no output " ++ decimal j
+edit_text edit.GateLimit = codes "too many gates"
+edit_text edit.NoMemory = codes "out of memory"
+
+-- the line of a script that is refused
+unfoldable pub refused_text : Refused → List ℕ
+refused_text r = codes "line " ++ decimal r.line ++ codes ": " ++ edit_text r.fault

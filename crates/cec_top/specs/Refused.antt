@@ -1,7 +1,9 @@
--- What status 4 promises of a check: which file is at fault, and that the warned line has its name.
-use Rattle.std.specs.Prelude.{◌≡◌, ◌⊎◌, ◌≤◌, List, [], length, codes, ℕ, None, Some, IsSomeAnd}
+-- What status 4 promises of a check: which file is at fault, and that the warned line has its name; and where a line of a script
+-- is refused, that the checks before it stand.
+use Rattle.std.specs.Prelude.{◌≡◌, ◌⊎◌, ◌≤◌, List, [], ◌++◌, length, codes, ℕ, None, Some, IsSomeAnd}
 use Rattle.desk_port.specs.Desk.{DeskState, Files, HasMore}
 use Rattle.netlist.specs.Circuit.{Aig}
+use Rattle.netlist.specs.Net.{AigPair}
 use Rattle.netlist.specs.Pairing.{unlike_in}
 use Rattle.netlist.specs.declared.unlike.Unlike.{Unlike}
 use Rattle.aiger_file.specs.File.{SpellsAiger}
@@ -9,8 +11,10 @@ use Rattle.endings.specs.Reading.{limit}
 use Rattle.endings.specs.Stops.{IsWarned, fault_line, file_line}
 use Rattle.command_line.specs.Words.{CheckCommand}
 use Rattle.cec_top.specs.declared.kept.Kept.{Kept}
-use Rattle.cec_top.specs.Answers.{circuit_in, fault_in}
-use Rattle.cec_top.specs.Lines.{unlike_text}
+use Rattle.cec_top.specs.Answers.{circuit_in, fault_in, how_of}
+use Rattle.cec_top.specs.Headline.{SpellPair, IsScript, KeepsPromise, TellsChecks}
+use Rattle.cec_top.specs.Lines.{unlike_text, refused_text}
+use Rattle.cec_top.specs.Script.{Refused, plan_of}
 
 -- the named file is too long, or its bytes spell no circuit that a check takes, and this is the text of that
 abbrev pub HasFault : Files → List ℕ → List ℕ → Type 0
@@ -46,17 +50,48 @@ pub record OfPair (c : CheckCommand) (before : Files) (line : List ℕ) : Type 0
   pub differ : unlike_in c.by_name first second ≡ Some unlike
   pub line_is : line ≡ fault_line (unlike_text unlike)
 
-abbrev pub IsDue : CheckCommand → Files → List ℕ → Type 0
-IsDue c before line = OfFirst c before line ⊎ OfSecond c before line ⊎ OfPair c before line
+-- the circuits can be compared, and the script is too long and is named
+pub record OfScript (c : CheckCommand) (before : Files) (line : List ℕ) : Type 0 where
+  pub net : AigPair
+  pub pair : SpellPair c before net
+  pub name : List ℕ
+  pub named : c.edits ≡ Some name
+  pub more : HasMore before name limit
+  pub line_is : line ≡ file_line name (codes "longer than 1073741824 bytes")
 
--- The line that is due is warned, or a first part of it where the warning failed. Nothing is said or handed back, and no file
--- is another.
-pub record Refuses (c : CheckCommand) (old new : DeskState) (kept : List Kept) (before : Files) : Type 0 where
-  pub line : List ℕ
+abbrev pub IsDue : CheckCommand → Files → List ℕ → Type 0
+IsDue c before line = OfFirst c before line ⊎ OfSecond c before line ⊎ OfPair c before line ⊎ OfScript c before line
+
+-- a file is refused, or the pair: no check is made, nothing is said or handed back, and no file is another
+pub record RefusesFiles (c : CheckCommand) (old new : DeskState) (kept : List Kept) (before : Files) (line : List ℕ) : Type 0 where
   pub due : IsDue c before line
-  pub mid : DeskState
-  pub silent : mid.warned ≡ old.warned
-  pub warned : IsWarned mid new line
   pub files : new.files ≡ Some before
   pub said : new.said ≡ old.said
   pub none : kept ≡ []
+
+-- A line of the script is refused, and the warned line names the script, the number of its line and the line's fault. All
+-- checks that are asked for before it were told and keep the promise of what was said of them: their verdicts and their files
+-- stand, as after a script that ends there.
+pub record RefusesLine (c : CheckCommand) (old new : DeskState) (kept : List Kept) (before : Files) (line : List ℕ) : Type 0 where
+  pub net : AigPair
+  pub pair : SpellPair c before net
+  pub name : List ℕ
+  pub named : c.edits ≡ Some name
+  pub lines : List (List ℕ)
+  pub script : IsScript c.edits before lines
+  pub refused : Refused
+  pub refused_is : (plan_of net lines).refused ≡ Some refused
+  pub line_is : line ≡ file_line name (refused_text refused)
+  pub after : Files
+  pub said : List ℕ
+  pub files : new.files ≡ Some after
+  pub heard : (earlier : List ℕ) → old.said ≡ Some earlier → new.said ≡ Some (earlier ++ said)
+  pub told : TellsChecks c kept (KeepsPromise (how_of c) kept) (plan_of net lines) before after said
+
+-- The line that is due is warned, or a first part of it where the warning failed.
+pub record Refuses (c : CheckCommand) (old new : DeskState) (kept : List Kept) (before : Files) : Type 0 where
+  pub line : List ℕ
+  pub mid : DeskState
+  pub silent : mid.warned ≡ old.warned
+  pub warned : IsWarned mid new line
+  pub what : RefusesFiles c old new kept before line ⊎ RefusesLine c old new kept before line

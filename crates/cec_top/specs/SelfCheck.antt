@@ -1,5 +1,5 @@
 -- What the program answers to arguments that ask for the check of two circuits that it makes.
-use Rattle.std.specs.Prelude.{◌≡◌, ◌⊎◌, false, List, [], ◌∷◌, None, Err}
+use Rattle.std.specs.Prelude.{◌≡◌, ◌⊎◌, false, List, [], None, Err}
 use Rattle.desk_port.specs.Desk.{DeskState, after_say}
 use Rattle.netlist.specs.Net.{AigPair}
 use Rattle.aiger_file.specs.File.{SpellsAiger}
@@ -11,7 +11,8 @@ use Rattle.endings.specs.declared.status.Status.{Status}
 use Rattle.endings.specs.declared.stop.Stop.{Stop}
 use Rattle.endings.specs.declared.stop.Stop.TheVariants.{OutOfMemory}
 use Rattle.cec_top.specs.declared.kept.Kept.{Kept}
-use Rattle.cec_top.specs.Check.{How, Plan, Ends, StopsChecks}
+use Rattle.cec_top.specs.Script.{Plan, plan_of}
+use Rattle.cec_top.specs.Check.{How, Ends, StopsChecks}
 use Rattle.cec_top.specs.Texts.{workload_text}
 
 -- how it is made: under the numbers of a check without an option, inputs and outputs matched by position; no file is left
@@ -28,7 +29,7 @@ pub record AreWorkload (c : SelfCommand) (net : AigPair) : Type 0 where
 
 -- check 0 is of them, and there is no other
 abbrev pub only : AigPair → Plan
-only net = record { checks = net ∷ []; refused = None }
+only net = plan_of net []
 
 -- the desk after it was said which circuits they are
 abbrev pub after_workload : SelfCommand → AigPair → DeskState → DeskState

@@ -1,12 +1,13 @@
 -- How the program goes about a check, for the crate's own functions.
-use Rattle.std.specs.Prelude.{◌≡◌, ◌≢◌, ◌⊎◌, ℕ, List, [], ◌∷◌, ◌++◌, Option, Some, Result, Ok, Err, string_bytes}
+use Rattle.std.specs.Prelude.{◌≡◌, ◌≢◌, ◌⊎◌, ℕ, Bool, true, false, List, [], ◌∷◌, ◌++◌, Option, None, Some, Result, Ok, Err, string_bytes, if◌then◌else◌}
+use Rattle.std.specs.Global.{Vec}
 use Rattle.desk_port.specs.Desk.{DeskState}
 use Rattle.netlist.specs.Circuit.{Aig}
 use Rattle.netlist.specs.Net.{AigPair}
 use Rattle.netlist.specs.declared.unlike.Unlike.{Unlike}
 use Rattle.netlist.specs.declared.unlike.Unlike.TheVariants.{NoMemory as Memory}
 use Rattle.aiger_file.specs.File.{SpellsAiger}
-use Rattle.endings.specs.Reading.{ReadsUpTo}
+use Rattle.endings.specs.Reading.{ReadsBytes, ReadsUpTo}
 use Rattle.endings.specs.declared.stop.Stop.{Stop}
 use Rattle.endings.specs.declared.stop.Stop.TheVariants.{OutOfMemory}
 use Rattle.endings.specs.Stops.{EndsBy, Warns}
@@ -18,9 +19,15 @@ use Rattle.command_line.specs.Words.{CheckCommand, SelfCommand}
 use Rattle.check_session.specs.declared.verdict.Verdict.{Verdict}
 use Rattle.check_session.specs.declared.verdict.Verdict.TheVariants as verdict
 use Rattle.check_session.specs.Outputs.{ListsOpen, finding_of}
-use Rattle.check_session.specs.Check.{State}
+use Rattle.check_session.specs.Check.{State, with_edit}
+use Rattle.lemma_book.specs.Book.{StartsWith}
+use Rattle.netlist_edits.specs.declared.error.EditErr.{EditErr}
+use Rattle.netlist_edits.specs.declared.error.EditErr.TheVariants as refused
+use Rattle.keep_lemmas.specs.Kept.{kept}
+use Rattle.lemma_book.specs.Entry.{Entries}
 use Rattle.cec_top.specs.declared.kept.Kept.{Kept}
-use Rattle.cec_top.specs.Check.{How, Made, IsMade, Tells, AreTold, status_of_finding, kept_from}
+use Rattle.cec_top.specs.Script.{Due, Plan, Refused, Turn, Passes, Makes, AsksCheck, Fails, due_behind}
+use Rattle.cec_top.specs.Check.{How, Made, IsMade, Tells, AreTold, Ends, StopsChecks, SaysFault, status_of_finding, kept_of, due_of, script_place}
 use Rattle.cec_top.specs.SelfCheck.{AreWorkload, own_how}
 use Rattle.cec_top.specs.Answers.{AreAlike, AreUnlike, NamesUnlike, SaysHelp, IsAtOnce, pair_of, after_pair, how_of}
 
@@ -34,10 +41,16 @@ ReadsPair c old new (Err stop) = ReadsUpTo 0 [] (pair_of c) old new stop ⊎ Are
 abbrev pub StopsUnlike : Unlike → Stop → Type 0
 StopsUnlike unlike stop = (stop ≡ OutOfMemory) ⊎ ((unlike ≢ Memory) × NamesUnlike unlike stop)
 
--- a session for the pair, under the command's numbers
+-- a session for the pair, under the command's numbers, of which nothing is edited
 abbrev pub ReadsSession : CheckCommand → DeskState → DeskState → Result State Stop → Type 0
-ReadsSession c old new (Ok s) = ReadsPair c old new (Ok s.net) × (s.options ≡ (how_of c).options)
+ReadsSession c old new (Ok s) = ReadsPair c old new (Ok s.net) × (s.options ≡ (how_of c).options) × (s.edits ≡ [])
 ReadsSession c old new (Err stop) = ReadsPair c old new (Err stop)
+
+-- the script of this name is read; without one there are no bytes, and nothing is read
+abbrev pub ReadsScript : Option (List ℕ) → DeskState → DeskState → Result (Vec ℕ) Stop → Type 0
+ReadsScript None old new (Ok script) = (script.items ≡ []) × (new ≡ old)
+ReadsScript None old new (Err stop) = ⊥
+ReadsScript (Some name) old new result = ReadsBytes script_place name old new result
 
 -- what the program makes of arguments that ask for nothing, by why they are refused
 abbrev pub AnswersRefusal : Refusal → DeskState → DeskState → Status → Type 0
@@ -57,22 +70,56 @@ opens_in (verdict.Undecided outputs) = outputs
 abbrev pub how_in : State → Option (List ℕ) → How
 how_in s out = record { options = s.options; out = out }
 
--- the session's last check found this
-abbrev pub made_in : State → Verdict → Made
-made_in s v = record { net = s.net; book = s.book; finding = finding_of v }
+-- what a check of the session as it is would be of
+abbrev pub due_in : State → Due
+due_in s = record { net = s.net; edits = s.edits }
 
--- the session's pair is settled
+-- the session's last check found this, behind these edits
+abbrev pub made_in : Due → State → Verdict → Made
+made_in due s v = record { net = s.net; edits = due.edits; book = s.book; finding = finding_of v }
+
+-- the session's pair is settled, and its book goes on from what is kept of the one before
 pub record Settles (s t : State) (v : Verdict) : Type 0 where
   pub net_is : t.net ≡ s.net
   pub options_are : t.options ≡ s.options
+  pub due_is : due_in t ≡ due_behind s.net
+  pub last_is : t.last ≡ s.net
+  pub begins : StartsWith t.book (kept s.last s.edits s.book)
   pub found_is : t.found ≡ Some (finding_of v)
   pub open_are : ListsOpen t.net t.book.entries v
-  pub is_made : (out : Option (List ℕ)) → IsMade (how_in t out) (made_in t v)
+  pub is_made : (out : Option (List ℕ)) → IsMade (how_in t out) (made_in (due_in s) t v)
 
 -- the check is told whole, and the status is that of its verdict; or in part
 abbrev pub TellsStatus : How → ℕ → Made → DeskState → DeskState → Result Status Stop → Type 0
 TellsStatus how number m old new (Ok status) = Tells how number m old new (Ok tt) × (status ≡ status_of_finding m.finding)
 TellsStatus how number m old new (Err stop) = Tells how number m old new (Err stop)
+
+-- the session has the circuits and the book of its last check, which is this one
+pub record Holds (s : State) (m : Made) : Type 0 where
+  pub last_is : s.last ≡ m.net
+  pub book_is : s.book ≡ m.book
+
+-- A check of the session as it is is made, with this number, and told whole: its book goes on from what is kept of the one
+-- before, and the session has it.
+pub record ToldWhole (how : How) (number : ℕ) (s t : State) (old new : DeskState) (before after : List Kept) (status : Status) : Type 0 where
+  pub made : Made
+  pub due_is : due_of made ≡ due_in s
+  pub begins : StartsWith made.book (kept s.last s.edits s.book)
+  pub told : AreTold how number (made ∷ []) old new
+  pub status_is : status ≡ status_of_finding made.finding
+  pub keeps : after ≡ before
+  pub holds : Holds t made
+  pub behind : due_in t ≡ due_behind made.net
+  pub options_are : t.options ≡ s.options
+
+-- it is made and told in part, and its book is kept
+pub record ToldInPart (how : How) (number : ℕ) (s : State) (old new : DeskState) (before after : List Kept) (stop : Stop) : Type 0 where
+  pub half : Made
+  pub due_is : due_of half ≡ due_in s
+  pub begins : StartsWith half.book (kept s.last s.edits s.book)
+  pub is_made : IsMade how half
+  pub breaks : Tells how number half old new (Err stop)
+  pub keeps : after ≡ before ++ kept_of number half ∷ []
 
 -- memory ran out, and nothing was told or kept
 pub record NotMade (old new : DeskState) (before after : List Kept) (stop : Stop) : Type 0 where
@@ -80,32 +127,48 @@ pub record NotMade (old new : DeskState) (before after : List Kept) (stop : Stop
   pub at : new ≡ old
   pub keeps : after ≡ before
 
--- The check with this number of these circuits is made and told whole, and its book is kept; or it is told in part, or isn't
--- made.
-pub record ToldWhole (how : How) (number : ℕ) (net : AigPair) (old new : DeskState) (before after : List Kept) (status : Status) : Type 0 where
-  pub made : Made
-  pub same : made.net ≡ net
-  pub told : AreTold how number (made ∷ []) old new
-  pub status_is : status ≡ status_of_finding made.finding
-  pub keeps : after ≡ before ++ kept_from number (made ∷ [])
+abbrev pub Checks : How → ℕ → State → State → DeskState → DeskState → List Kept → List Kept → Result Status Stop → Type 0
+Checks how number s t old new before after (Ok status) = ToldWhole how number s t old new before after status
+Checks how number s t old new before after (Err stop) =
+    ToldInPart how number s old new before after stop ⊎ NotMade old new before after stop
 
-pub record ToldInPart (how : How) (number : ℕ) (net : AigPair) (old new : DeskState) (before after : List Kept) (stop : Stop) : Type 0 where
-  pub half : Made
-  pub same : half.net ≡ net
-  pub is_made : IsMade how half
-  pub breaks : Tells how number half old new (Err stop)
-  pub keeps : after ≡ before ++ kept_from number (half ∷ [])
+-- the status is that of a check that left outputs open
+abbrev pub is_open : Status → Bool
+is_open ends.Undecided = true
+is_open status = false
 
-abbrev pub Checks : How → ℕ → AigPair → DeskState → DeskState → List Kept → List Kept → Result Status Stop → Type 0
-Checks how number net old new before after (Ok status) = ToldWhole how number net old new before after status
-Checks how number net old new before after (Err stop) =
-    ToldInPart how number net old new before after stop ⊎ NotMade old new before after stop
+-- ---- a line of a script
+
+-- what is done at a line that comes to this: true where it asks for a check, which isn't made yet
+abbrev pub DoesTurn : Turn → State → State → Result Bool EditErr → Type 0
+DoesTurn Passes s t result = (result ≡ Ok false) × (t ≡ s)
+DoesTurn (Makes edit) s t (Ok asked) = (asked ≡ false) × (t ≡ with_edit s edit)
+DoesTurn (Makes edit) s t (Err e) = (e ≡ refused.NoMemory) × (t ≡ s)
+DoesTurn AsksCheck s t result = (result ≡ Ok true) × (t ≡ s)
+DoesTurn (Fails fault) s t result = (result ≡ Err fault) × (t ≡ s)
+
+-- where the line is refused its text is told; or memory ran out, for its edit or for the text
+abbrev pub StopsAtLine : Refused → Stop → Type 0
+StopsAtLine line stop = (stop ≡ OutOfMemory) ⊎ ((line.fault ≢ refused.NoMemory) × SaysFault line stop)
+
+-- the book of a check with this status is kept where outputs were left open; or memory ran out
+abbrev pub KeepsOpen : {A E : Type 0} → ℕ → Status → Entries → List Kept → List Kept → Result A E → Type 0
+KeepsOpen number status book before after (Ok a) =
+    after ≡ before ++ (if is_open status then record { check = number; book = book } ∷ [] else [])
+KeepsOpen number status book before after (Err e) = after ≡ before
+
+-- ---- the checks that a script asks for
+
+-- all are made and told, or that ends without the last verdict or with more than it
+abbrev pub RunsPlan : How → Plan → DeskState → DeskState → List Kept → Result Status Stop → Type 0
+RunsPlan how plan old new kept (Ok status) = Ends how plan old new status kept
+RunsPlan how plan old new kept (Err stop) = StopsChecks how plan old kept new stop
 
 -- ---- circuits that the program makes
 
 -- a session for them, without an option; or memory runs out
 abbrev pub MakesSession : SelfCommand → Result State Stop → Type 0
-MakesSession c (Ok s) = AreWorkload c s.net × (s.options ≡ own_how.options)
+MakesSession c (Ok s) = AreWorkload c s.net × (s.options ≡ own_how.options) × (s.edits ≡ [])
 MakesSession c (Err stop) = stop ≡ OutOfMemory
 
 -- bytes that spell a circuit are read as it; or memory runs out

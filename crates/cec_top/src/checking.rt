@@ -3,6 +3,7 @@ ghost use Rattle.endings.specs.declared.stop.Stop.TheVariants.{OutOfMemory};
 ghost use Rattle.check_session.specs.Files.{stop_of_stitch};
 ghost use Rattle.check_session.specs.Outputs.{ListsOpen, finding_of};
 ghost use Rattle.cec_top.specs.Check.{status_of_finding};
+ghost use Rattle.cec_top.specs.Script.{Due};
 ghost use Rattle.cec_top.specs.Steps.{Checks, Settles, TellsStatus, how_in, made_in};
 
 use crate::kept::Kept;
@@ -17,8 +18,8 @@ use std::sync::Wait;
 use std::thread::Threads;
 
 /// Makes the check with this number, of a session's pair as it is: settles it, leaves its files if there is
-/// a prefix for them, and says its verdict. Once it has its verdict its book is kept: it is taken out of the
-/// session, since no later check goes on from it.
+/// a prefix for them, and says its verdict. The session then has its book, from which the next check goes on;
+/// where the check is told in part no other follows it, and its book is kept.
 pub(crate) fn check<D: Desk, G: Gate + Sync>(
     rt: &(impl Threads + Wait),
     alloc: Global,
@@ -30,17 +31,21 @@ pub(crate) fn check<D: Desk, G: Gate + Sync>(
     kept: &mut Vec<Kept>,
 ) -> Result<Status, Stop>
     requires started { (D.state desk.old).started ≡ None }
-    ensures { Checks (how_in session.old (option_map (λ s. s.now) out.entry)) number session.old.net
+    ensures { Checks (how_in session.old (option_map (λ s. s.now) out.entry)) number session.old session.new
         (D.state desk.old) (D.state desk.new) kept.old.items kept.new.items result }
 {
     kept.reserve(1)?;
     let verdict = settle(rt, alloc, gate, session)?;
-    let told = tell(alloc, desk, session, &verdict, out, number);
-    kept.push_reserved(Kept {
-        check: number,
-        book: session.take_book(alloc),
-    });
-    told
+    match tell(alloc, desk, session, &verdict, out, number) {
+        Ok(status) => Ok(status),
+        Err(stop) => {
+            kept.push_reserved(Kept {
+                check: number,
+                book: session.take_book(alloc),
+            });
+            Err(stop)
+        }
+    }
 }
 
 /// Settles a session's pair.
@@ -71,8 +76,8 @@ fn tell<D: Desk>(
     requires started { (D.state desk.old).started ≡ None }
     requires found { session.now.found ≡ Some (finding_of verdict.now) }
     requires open { ListsOpen session.now.net session.now.book.entries verdict.now }
-    ensures { TellsStatus (how_in session.now (option_map (λ s. s.now) out.entry)) number
-        (made_in session.now verdict.now) (D.state desk.old) (D.state desk.new) result }
+    ensures { (due : Due) → TellsStatus (how_in session.now (option_map (λ s. s.now) out.entry)) number
+        (made_in due session.now verdict.now) (D.state desk.old) (D.state desk.new) result }
 {
     let text = match out {
         None => plain_text(alloc, verdict)?,

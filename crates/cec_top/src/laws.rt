@@ -37,7 +37,7 @@ pub fn verdicts()
         Asks words (LratIt c) → Answers words old new status kept
         → code_of status ≡ 0 → Shows (IsVerified c) old new }
 
-    // What is warned where a file, or the pair, is refused: `specs/Refused.antt`.
+    // What is warned where a file, the pair or a line of a script is refused: `specs/Refused.antt`.
     ensures refused { (words : List (List ℕ)) (c : CheckCommand)
         (old new : DeskState) (status : Status) (kept : List Kept) (before : Files) →
         Asks words (CheckIt c) → Answers words old new status kept

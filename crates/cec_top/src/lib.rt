@@ -1,16 +1,18 @@
 //! Everything that the program does, over a desk that stands for files and streams.
 //!
-//! `run` reads two circuits, checks them, writes the CNF of their miter beside a proof and says the verdict;
-//! or it makes two circuits itself and checks those; or it checks such a proof. What each verdict promises
+//! `run` reads two circuits, checks them, writes the CNF of their miter beside a proof and says the verdict,
+//! and goes on so as an edit script asks for it: each line edits the circuits or has them checked again. Or
+//! it makes two circuits itself and checks those; or it checks such a proof. What each verdict promises
 //! is on one page, `specs/Headline.antt`, and `laws::verdicts` shows it from the contract of `run`, which
-//! says what each status means: `specs/Answers.antt`. What is warned of a file that is refused is in
-//! `specs/Refused.antt`, by the same law. When a run has to come to a verdict is in `specs/Complete.antt`,
-//! and `laws::completeness` shows it.
+//! says what each status means: `specs/Answers.antt`. What is warned of a file or a script's line that is
+//! refused, and what stands then, is in `specs/Refused.antt`, by the same law. When a run has to come to a
+//! verdict is in `specs/Complete.antt`, and `laws::completeness` shows it.
 //!
-//! Definitions on which the answers stand: `specs/Check.antt` (one check, from what it found to its files
-//! and its verdict, and checks one after another), `specs/SelfCheck.antt` (that of two circuits that the
-//! program makes), `specs/Texts.antt` (what is said), `specs/Lines.antt` (what is warned of circuits and
-//! their files); `specs/Steps.antt` is for the crate's own functions. Begin to read at `program.rt`, then
+//! Definitions on which the answers stand: `specs/Script.antt` (what an edit script asks for),
+//! `specs/Check.antt` (one check, from what it found to its files and its verdict, and checks one after
+//! another), `specs/SelfCheck.antt` (that of two circuits that the program makes), `specs/Texts.antt` (what
+//! is said), `specs/Lines.antt` (what is warned of circuits, their files and lines of a script);
+//! `specs/Steps.antt` is for the crate's own functions. Begin to read at `program.rt`, then `script.rt` and
 //! `checking.rt`.
 #![tactic(auto)]
 
@@ -25,4 +27,5 @@ mod lines;
 mod own;
 mod program;
 mod reading;
+mod script;
 mod texts;

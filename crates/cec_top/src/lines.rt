@@ -1,10 +1,11 @@
 ghost use Rattle.std.specs.Prelude.{◌≡◌, ◌++◌, IfOk, string_bytes, codes, decimal, encode_utf8};
-ghost use Rattle.cec_top.specs.Lines.{aiger_text, port_text, unlike_text};
+ghost use Rattle.cec_top.specs.Lines.{aiger_text, edit_text, port_text, refused_text, unlike_text};
 
 use byte_scan::AigerErr;
 use itoa::Buffer;
 use lits::Side;
 use netlist::{Port, Unlike};
+use netlist_edits::EditErr;
 use std::alloc::{AllocError, Global};
 
 /// The text of a fault of an AIGER file.
@@ -96,5 +97,34 @@ fn differing(alloc: Global, what: &str, a: u32, b: u32) -> Result<String, AllocE
     text.push_str(" and ")?;
     text.push_str(Buffer::new().format(b))?;
     text.push_str(" differ")?;
+    Ok(text)
+}
+
+/// The text of a fault of an edit, or of a line that spells none.
+#[tactic(auto, unfolding(crate::specs::Lines::edit_text))]
+fn edit_fault(alloc: Global, fault: EditErr) -> Result<String, AllocError>
+    ensures { IfOk result (λ s. string_bytes s ≡ edit_text fault) }
+{
+    match fault {
+        EditErr::BadLine => String::from_str(alloc, "bad line"),
+        EditErr::NoGate(n) => before(alloc, "no gate ", u64::from(n)),
+        EditErr::NoLiteral(n) => before(alloc, "no literal ", u64::from(n)),
+        EditErr::NotEarlier(n) => around(alloc, "literal ", u64::from(n), " is not earlier"),
+        EditErr::Taken(n) => around(alloc, "literal ", u64::from(n), " is taken"),
+        EditErr::InUse(n) => around(alloc, "gate ", u64::from(n), " is in use"),
+        EditErr::NoOutput(j) => before(alloc, "no output ", u64::from(j)),
+        EditErr::GateLimit => String::from_str(alloc, "too many gates"),
+        EditErr::NoMemory => String::from_str(alloc, "out of memory"),
+    }
+}
+
+/// The text of a script's line that is refused.
+#[tactic(auto, unfolding(crate::specs::Lines::refused_text))]
+pub(crate) fn refused_fault(alloc: Global, line: u64, fault: EditErr) -> Result<String, AllocError>
+    ensures { IfOk result (λ s. string_bytes s ≡ refused_text (record { line = line; fault = fault })) }
+{
+    let mut text = around(alloc, "line ", line, ": ")?;
+    let fault = edit_fault(alloc, fault)?;
+    text.push_str(fault.as_str())?;
     Ok(text)
 }

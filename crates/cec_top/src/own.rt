@@ -8,9 +8,9 @@ ghost use Rattle.cec_top.specs.Texts.{workload_text};
 ghost use Rattle.cec_top.specs.SelfCheck.{EndsSelf, StopsSelf, own_how};
 ghost use Rattle.cec_top.specs.Steps.{MakesSession, ReadsBack};
 
-use crate::checking::check;
 use crate::kept::Kept;
 use crate::reading::circuit_in;
+use crate::script::run_script;
 use crate::texts::workload_text;
 use byte_scan::AigerErr;
 use check_session::{Options, Session};
@@ -61,7 +61,7 @@ fn say_and_settle<D: Desk, G: Gate + Sync>(
         (StopsSelf (self_texts words) (D.state desk.old) kept.new.items (D.state desk.new)) }
 {
     say_workload(alloc, desk, words, session.net())?;
-    check(rt, alloc, desk, gate, session, None, 0, kept)
+    run_script(rt, alloc, desk, gate, session, None, b"", kept)
 }
 
 /// Says which circuits were made.

@@ -1,17 +1,18 @@
-ghost use Rattle.std.specs.Prelude.{◌≡◌, ◌<◌, None, map, string_bytes};
+ghost use Rattle.std.specs.Prelude.{◌≡◌, ◌<◌, [], IfOk, IfErr, None, map, string_bytes};
+ghost use Rattle.endings.specs.Stops.{Warns, status_of, stop_line};
 ghost use Rattle.endings.specs.Status.{code_of};
 ghost use Rattle.command_line.specs.Answers.{check_texts, self_texts};
-ghost use Rattle.cec_top.specs.Answers.{Answers, AnswersCheck, SaysHelp};
+ghost use Rattle.cec_top.specs.Answers.{Answers, AnswersCheck, EndsCheck, SaysHelp, Stops, names_of};
 ghost use Rattle.cec_top.specs.SelfCheck.{AnswersSelf};
 ghost use Rattle.cec_top.specs.Steps.{AnswersRefusal};
 
-use crate::checking::check;
 use crate::kept::Kept;
 use crate::own::check_own;
-use crate::reading::read_session;
+use crate::reading::{read_script, read_session};
+use crate::script::run_script;
 use command_line::{Asked, CheckWords, Refusal, SelfWords};
 use desk_port::{Desk, Gate, PutErr};
-use endings::{Status, end, warn};
+use endings::{Status, Stop, end, warn};
 use std::alloc::Global;
 use std::sync::Wait;
 use std::thread::Threads;
@@ -46,9 +47,8 @@ pub fn run<D: Desk, G: Gate + Sync>(
     }
 }
 
-/// Makes the checks that are asked for of two files' circuits, and warns of what ends them without a
-/// verdict: check 0, of the circuits as they were read. A script's checks will follow it here, each made
-/// after the lines before it.
+/// Makes the checks that are asked for of two files' circuits, and warns of what ends them without the last
+/// verdict, or with more than it.
 fn check_files<D: Desk, G: Gate + Sync>(
     rt: &(impl Threads + Wait),
     alloc: Global,
@@ -61,13 +61,51 @@ fn check_files<D: Desk, G: Gate + Sync>(
         (D.state desk.new) result.0 result.1.items }
 {
     let mut kept = Vec::new(alloc);
-    let mut session = match read_session(alloc, desk, words) {
-        Ok(session) => session,
-        Err(stop) => return (end(alloc, desk, &[words.a, words.b], &stop), kept),
-    };
-    match check(rt, alloc, desk, gate, &mut session, words.out, 0, &mut kept) {
+    match read_and_check(rt, alloc, desk, gate, words, &mut kept) {
         Ok(status) => (status, kept),
-        Err(stop) => (end(alloc, desk, &[words.a, words.b], &stop), kept),
+        Err(stop) => (end_check(alloc, desk, words, &stop), kept),
+    }
+}
+
+/// Reads the pair and the script, and makes the checks: check 0, of the circuits as they were read, and those
+/// that the script asks for.
+fn read_and_check<D: Desk, G: Gate + Sync>(
+    rt: &(impl Threads + Wait),
+    alloc: Global,
+    desk: &mut D,
+    gate: &G,
+    words: CheckWords<'_>,
+    kept: &mut Vec<Kept>,
+) -> Result<Status, Stop>
+    requires started { (D.state desk.old).started ≡ None }
+    requires empty { kept.old.items ≡ [] }
+    ensures ok { IfOk result (λ status.
+        EndsCheck (check_texts words.entry) (D.state desk.old) (D.state desk.new) status kept.new.items) }
+    ensures err { IfErr result
+        (Stops (check_texts words.entry) (D.state desk.old) kept.new.items (D.state desk.new)) }
+{
+    let mut session = read_session(alloc, desk, words)?;
+    let script = read_script(alloc, desk, words.edits)?;
+    run_script(
+        rt,
+        alloc,
+        desk,
+        gate,
+        &mut session,
+        words.out,
+        script.as_slice(),
+        kept,
+    )
+}
+
+/// Warns of the cause why a check of files ends, and gives its status.
+fn end_check<D: Desk>(alloc: Global, desk: &mut D, words: CheckWords<'_>, stop: &Stop) -> Status
+    ensures { Warns (stop_line (names_of (check_texts words.entry)) stop.now) (status_of stop.now)
+        (D.state desk.old) (D.state desk.new) result }
+{
+    match words.edits {
+        Some(edits) => end(alloc, desk, &[words.a, words.b, edits], stop),
+        None => end(alloc, desk, &[words.a, words.b], stop),
     }
 }
 

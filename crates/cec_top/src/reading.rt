@@ -1,13 +1,14 @@
-ghost use Rattle.std.specs.Prelude.{◌≡◌, ℕ, List, [], IfOk};
+ghost use Rattle.std.specs.Prelude.{◌≡◌, ℕ, List, [], IfOk, option_map};
 ghost use Rattle.byte_scan.specs.Reading.{Gives};
 ghost use Rattle.endings.specs.Reading.{ReadsAs};
 ghost use Rattle.aiger_file.specs.File.{SpellsAiger};
 ghost use Rattle.command_line.specs.Answers.{check_texts};
 ghost use Rattle.cec_top.specs.Answers.{circuit_file, circuit_in, how_of};
 ghost use Rattle.check_session.specs.Check.{AreInRange};
-ghost use Rattle.cec_top.specs.Steps.{ReadsSession, StopsUnlike};
+ghost use Rattle.cec_top.specs.Steps.{ReadsScript, ReadsSession, StopsUnlike};
 
 use crate::lines::{aiger_fault, unlike_fault};
+use crate::script::SCRIPT_PLACE;
 use byte_scan::AigerErr;
 use check_session::{Options, Session};
 use command_line::CheckWords;
@@ -95,5 +96,19 @@ fn options_of(words: CheckWords<'_>) -> Options
         sweep_budget: words.sweep_budget,
         out_budget: words.budget,
         by_name: words.by_name,
+    }
+}
+
+/// The bytes of the edit script, if one is named.
+pub(crate) fn read_script<D: Desk>(
+    alloc: Global,
+    desk: &mut D,
+    edits: Option<&str>,
+) -> Result<Vec<u8>, Stop>
+    ensures { ReadsScript (option_map (λ s. s.now) edits.entry) (D.state desk.old) (D.state desk.new) result }
+{
+    match edits {
+        Some(name) => read_file(alloc, desk, name, SCRIPT_PLACE),
+        None => Ok(Vec::new(alloc)),
     }
 }

@@ -74,11 +74,11 @@ check_matched rows word c o word_is given is =
     ap₂ (λ (w : Option Text) (d : Option CheckCommand). option_map (matched w) d) word_is given ∙ ap Some (sym is)
 
 -- options that are given set their fields
-pub options_given : (rows : List Row) (c : CheckCommand) (out : Option Text) (seed words sweep_budget budget : ℕ)
-    → first_of (codes "out") rows ≡ out
+pub options_given : (rows : List Row) (c : CheckCommand) (edits out : Option Text) (seed words sweep_budget budget : ℕ)
+    → first_of (codes "edits") rows ≡ edits → first_of (codes "out") rows ≡ out
     → seed ≡ number_or c.seed seed_option rows → words ≡ number_or c.words words_option rows
     → sweep_budget ≡ number_or c.sweep_budget sweep_budget_option rows → budget ≡ number_or c.budget budget_option rows
     → with_options rows c
-    ≡ record c { out = out; seed = seed; words = words; sweep_budget = sweep_budget; budget = budget }
-options_given rows c out seed words sweep_budget budget out_is seed_is words_is sweep_is budget_is =
-    rw (out_is, seed_is, words_is, sweep_is, budget_is) refl
+    ≡ record c { edits = edits; out = out; seed = seed; words = words; sweep_budget = sweep_budget; budget = budget }
+options_given rows c edits out seed words sweep_budget budget edits_is out_is seed_is words_is sweep_is budget_is =
+    rw (edits_is, out_is, seed_is, words_is, sweep_is, budget_is) refl

@@ -220,6 +220,12 @@ few_words = omega (arith, lit< {m = 64} {n = 18446744073709551615} tt)
 small_budget : BUDGET_LIMIT ≤ most_seed
 small_budget = omega (arith, lit< {m = 1000000000} {n = 18446744073709551615} tt)
 
+pub sets-edits : SetsText (codes "--edits") (λ c f. record c { edits = Some f })
+unfolding outcome_of faults walked walk_fault defaults_fault
+sets-edits a b f plain_a plain_b plain_f program =
+    outcome-marked (completed check_command) (plain a ∷ plain b ∷ flag (codes "--edits") ∷ plain f ∷ [])
+    (plain_a, refl, (plain_b, refl, (plain_f, refl, tt)))
+
 pub sets-out : SetsText (codes "--out") (λ c p. record c { out = Some p })
 unfolding outcome_of faults walked walk_fault defaults_fault
 sets-out a b p plain_a plain_b plain_p program =

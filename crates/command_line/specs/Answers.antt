@@ -14,6 +14,7 @@ abbrev pub check_texts : CheckWords → CheckCommand
 check_texts c = record {
   a = c.a.now;
   b = c.b.now;
+  edits = option_map (λ edits. edits.now) c.edits;
   out = option_map (λ out. out.now) c.out;
   seed = c.seed;
   words = c.words;

@@ -48,10 +48,10 @@ budget_option = record { id = codes "budget"; least = 1; most = BUDGET_LIMIT }
 abbrev pub command : Text → List Rule → Shape
 command name rules = record (new_shape name) { rules = rules }
 
--- `cec check A B [--out PREFIX] [--seed N] [--words N] [--sweep-budget N] [--budget N] [--match BY]`
+-- `cec check A B [--edits F] [--out PREFIX] [--seed N] [--words N] [--sweep-budget N] [--budget N] [--match BY]`
 abbrev pub check_command : Shape
 check_command = command (codes "check")
-    (place (codes "a") ∷ place (codes "b") ∷ text_option (codes "out")
+    (place (codes "a") ∷ place (codes "b") ∷ text_option (codes "edits") ∷ text_option (codes "out")
     ∷ number_option seed_option ∷ number_option words_option ∷ number_option sweep_budget_option
     ∷ number_option budget_option ∷ text_option (codes "match") ∷ [])
 

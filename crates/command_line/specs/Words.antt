@@ -16,12 +16,14 @@ use Rattle.workload_gen.specs.declared.kind.Kind.{Kind}
 use Rattle.workload_gen.specs.declared.kind.Kind.TheVariants.{Adder, Parity, Comparator}
 use Rattle.workload_gen.specs.declared.workload.TheConstants.{MOST_BITS}
 
--- `check A B`: the names of the two circuits' files, what the names of the written files begin with, if any are to be
--- written, from which seed how many words of 64 patterns are drawn, and how many clauses a solver may learn for a pair of
--- nodes and for an output, and whether inputs and outputs are paired by their names, and not by their positions
+-- `check A B`: the names of the two circuits' files and of an edit script's, if there is one, what the names of the written
+-- files begin with, if any are to be written, from which seed how many words of 64 patterns are drawn, and how many clauses a
+-- solver may learn for a pair of nodes and for an output, and whether inputs and outputs are paired by their names, and not by
+-- their positions
 pub record CheckCommand : Type 0 where
   pub a : List ℕ
   pub b : List ℕ
+  pub edits : Option (List ℕ)
   pub out : Option (List ℕ)
   pub seed : ℕ
   pub words : ℕ
@@ -93,7 +95,17 @@ number_of id least most rows = option_and_then (number_in least most) (first_of 
 
 -- a check without an option: the default of each
 abbrev pub plain_check : Text → Text → CheckCommand
-plain_check a b = record { a = a; b = b; out = None; seed = 1; words = 4; sweep_budget = 100; budget = 100000; by_name = false }
+plain_check a b = record {
+  a = a;
+  b = b;
+  edits = None;
+  out = None;
+  seed = 1;
+  words = 4;
+  sweep_budget = 100;
+  budget = 100000;
+  by_name = false;
+}
 
 -- the number that is given for an option, or else its default; a given one is in the range where the words have no fault
 abbrev pub number_or : ℕ → NumberOption → List Row → ℕ
@@ -102,6 +114,7 @@ number_or default o rows = unwrap_or (number_of o.id o.least o.most rows) defaul
 -- the check with the numbers and texts of the options that are given, each of which sets a field of its own
 abbrev pub with_options : List Row → CheckCommand → CheckCommand
 with_options rows c = record c {
+  edits = first_of (codes "edits") rows;
   out = first_of (codes "out") rows;
   seed = number_or c.seed seed_option rows;
   words = number_or c.words words_option rows;

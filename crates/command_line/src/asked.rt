@@ -17,6 +17,8 @@ pub struct CheckWords<'a> {
     pub a: &'a str,
     /// The name of the second circuit's file.
     pub b: &'a str,
+    /// The name of the file of an edit script, if there is one.
+    pub edits: Option<&'a str>,
     /// What the names of the written files begin with, if any are to be written.
     pub out: Option<&'a str>,
     /// What the patterns are drawn from.

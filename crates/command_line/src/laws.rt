@@ -29,6 +29,7 @@ pub fn given_numbers()
 pub fn plain_words()
     ensures check { (a b : List ℕ) → IsPlain a → IsPlain b →
         AskCheck (codes "check" ∷ a ∷ b ∷ []) (plain_check a b) }
+    ensures edits { SetsText (codes "--edits") (λ c f. record c { edits = Some f }) }
     ensures out { SetsText (codes "--out") (λ c p. record c { out = Some p }) }
     ensures seed { SetsNumber (codes "--seed") 0 most_seed (λ c n. record c { seed = n }) }
     ensures words { SetsNumber (codes "--words") 1 WORDS_LIMIT (λ c n. record c { words = n }) }

@@ -47,6 +47,7 @@ impl<'a> CheckWords<'a> {
         CheckWords {
             a,
             b,
+            edits: None,
             out: None,
             seed: 1,
             words: 4,
@@ -77,6 +78,7 @@ fn matched<'a>(check: CheckWords<'a>, word: &'a str) -> Result<Asked<'a>, Misnam
         Some(by_name) => Ok(Asked::Check(CheckWords {
             a: check.a,
             b: check.b,
+            edits: check.edits,
             out: check.out,
             seed: check.seed,
             words: check.words,
@@ -119,6 +121,7 @@ fn check_words<'a>(matches: &ArgMatches<'a>) -> CheckWords<'a>
     CheckWords {
         a: plain.a,
         b: plain.b,
+        edits: matches.get_str("edits"),
         out: matches.get_str("out"),
         seed: number_or(matches, "seed", 0, u64::MAX, plain.seed),
         words: number_or(matches, "words", 1, WORDS_LIMIT, plain.words),

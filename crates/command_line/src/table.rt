@@ -67,6 +67,12 @@ pub(crate) static COMMANDS: [CommandRow; 3] = [
                 help: "Another one, with as many inputs and outputs",
             },
             ArgumentRow {
+                name: "edits",
+                value_name: "F",
+                takes: Takes::Text,
+                help: "Edit the circuits and check them again, as the script in file F says",
+            },
+            ArgumentRow {
                 name: "out",
                 value_name: "PREFIX",
                 takes: Takes::Text,
@@ -169,21 +175,31 @@ Status:
   1  DIFFERENT or REFUSED was said
   2  UNDECIDED was said
   3  the words are not as above
-  4  a file is not of its format, or the circuits are not alike
+  4  a file is not of its format, or the circuits are not alike, or a script's line is refused
   5  a file cannot be read
   6  a file cannot be written, or an answer cannot be said
   7  out of memory";
 
 const CHECK_NOTES: &str = "\
-Says, and ends with the status before it:
+Says of each check, and ends with the status before what it says of the last one:
   0  EQUIVALENT
   1  DIFFERENT, with an output and inputs on which it differs
   2  UNDECIDED, with the outputs that are left open
 Other statuses tell of a fault: see cec --help.
 
-Files, with --out:
-  PREFIX.0.cnf   the miter of the circuits, which has a model exactly if they differ (DIMACS)
-  PREFIX.0.lrat  the proof that it has none, or as much of it as was found (LRAT)";
+Files of check K, with --out:
+  PREFIX.K.cnf   the miter of the circuits, which has a model exactly if they differ (DIMACS)
+  PREFIX.K.lrat  the proof that it has none, or as much of it as was found (LRAT)
+
+Check 0 is of the circuits as they are read. With --edits, each line of the script is one of these,
+where S is a or b, J an output from 0, and LHS, R0, R1 and LIT are AIGER literals of that circuit:
+  set S LHS R0 R1              the gate LHS gets the fanins R0 and R1
+  new S LHS R0 R1 before LHS2  a new gate stands right before the gate LHS2
+  new S LHS R0 R1 end          a new gate stands behind all others
+  drop S LHS                   the gate LHS goes, which no gate and no output reads
+  out S J LIT                  the output J gets the literal LIT
+  check                        the next check is made, of the circuits as they are then
+A line that is refused ends the program, and what was said and left before it stays.";
 
 const LRAT_NOTES: &str = "\
 Says, and ends with the status before it:

@@ -24,7 +24,7 @@ Status:
   1  DIFFERENT or REFUSED was said
   2  UNDECIDED was said
   3  the words are not as above
-  4  a file is not of its format, or the circuits are not alike
+  4  a file is not of its format, or the circuits are not alike, or a script's line is refused
   5  a file cannot be read
   6  a file cannot be written, or an answer cannot be said
   7  out of memory
@@ -40,6 +40,7 @@ Arguments:
   <B>  Another one, with as many inputs and outputs
 
 Options:
+      --edits <F>         Edit the circuits and check them again, as the script in file F says
       --out <PREFIX>      Leave the question and its proof in files whose names begin with PREFIX
       --seed <N>          Draw the first patterns from N, from 0 to 18446744073709551615 [default: 1]
       --words <N>         Draw 64 times N first patterns, N from 1 to 64 [default: 4]
@@ -50,15 +51,25 @@ Options:
       or by the names that the files give them: position or names [default: position]
   -h, --help              Print help
 
-Says, and ends with the status before it:
+Says of each check, and ends with the status before what it says of the last one:
   0  EQUIVALENT
   1  DIFFERENT, with an output and inputs on which it differs
   2  UNDECIDED, with the outputs that are left open
 Other statuses tell of a fault: see cec --help.
 
-Files, with --out:
-  PREFIX.0.cnf   the miter of the circuits, which has a model exactly if they differ (DIMACS)
-  PREFIX.0.lrat  the proof that it has none, or as much of it as was found (LRAT)
+Files of check K, with --out:
+  PREFIX.K.cnf   the miter of the circuits, which has a model exactly if they differ (DIMACS)
+  PREFIX.K.lrat  the proof that it has none, or as much of it as was found (LRAT)
+
+Check 0 is of the circuits as they are read. With --edits, each line of the script is one of these,
+where S is a or b, J an output from 0, and LHS, R0, R1 and LIT are AIGER literals of that circuit:
+  set S LHS R0 R1              the gate LHS gets the fanins R0 and R1
+  new S LHS R0 R1 before LHS2  a new gate stands right before the gate LHS2
+  new S LHS R0 R1 end          a new gate stands behind all others
+  drop S LHS                   the gate LHS goes, which no gate and no output reads
+  out S J LIT                  the output J gets the literal LIT
+  check                        the next check is made, of the circuits as they are then
+A line that is refused ends the program, and what was said and left before it stays.
 ";
 
 const LRAT_HELP: &str = "help: \
@@ -176,6 +187,10 @@ const TAKEN: &str = concat!(
     "cec check x y --match names => x and y by name, to nowhere, by 1, 4, 100 and 100000;",
     "cec check x y --match position => x and y, to nowhere, by 1, 4, 100 and 100000;",
     "cec check --match=names x y --out p => x and y by name, to p, by 1, 4, 100 and 100000;",
+    "cec check x y --edits s => x and y edited by s, to nowhere, by 1, 4, 100 and 100000;",
+    "cec check --out p --edits=s x y => x and y edited by s, to p, by 1, 4, 100 and 100000;",
+    "cec check x --match names y --edits check => \
+        x and y by name edited by check, to nowhere, by 1, 4, 100 and 100000;",
     "cec lrat f p => p of f;",
     "cec self adder 1 => an adder of 1;",
     "cec self parity 4096 => a parity of 4096;",
@@ -194,6 +209,10 @@ const REFUSED: &str = concat!(
     "cec check x y --budget 7 --budget 7 => \
         the argument '--budget <N>' cannot be used multiple times\n;",
     "cec check x y --out => a value is required for '--out <PREFIX>' but none was supplied\n;",
+    "cec check x y --edits => a value is required for '--edits <F>' but none was supplied\n;",
+    "cec check x y --edits s --edits s => \
+        the argument '--edits <F>' cannot be used multiple times\n;",
+    "cec self adder 1 --edits s => unexpected argument '--edits' found\n;",
     "cec check x y --match => a value is required for '--match <BY>' but none was supplied\n;",
     "cec check x y --match name => \
         invalid value 'name' for '--match <BY>'\n  [possible values: position, names]\n;",
@@ -234,11 +253,17 @@ fn words_of(alloc: Global, line: &str) -> Result<Vec<String>, AllocError> {
     Ok(words)
 }
 
-/// The files that a check was given, how they are paired, and where its proof goes.
+/// The files that a check was given, how they are paired and edited, and where its proof goes.
 fn files_of(alloc: Global, check: &CheckWords<'_>) -> Result<String, AllocError> {
     let out = check.out.unwrap_or("nowhere");
     let pairing = if check.by_name { " by name" } else { "" };
-    format!(in alloc; "{} and {}{pairing}, to {out}", check.a, check.b)
+    match check.edits {
+        Some(f) => format!(in alloc;
+            "{} and {}{pairing} edited by {f}, to {out}",
+            check.a, check.b
+        ),
+        None => format!(in alloc; "{} and {}{pairing}, to {out}", check.a, check.b),
+    }
 }
 
 /// The numbers that a check was given.

@@ -18,19 +18,19 @@ abbrev prefix_in : Option (Bor (List ℕ)) → Option (List ℕ)
 prefix_in out = option_map {T = Bor (List ℕ)} {U = List ℕ} (λ s. s.now) out
 
 pub returns-in_err-text-in-None : goal.returns-in_err-text-in-None
-returns-in_err-text-in-None g c =
+returns-in_err-text-in-None g c = λ due.
     let p = err_from_is_err_and c.from_residual.result c.from_residual.ensures.1 in
     let old = g.D.Desk.state c.args.desk.now in
     let t = c.args.session.now in
     let out = prefix_in c.args.out in
     let number = c.args.number in
     let v = c.args.verdict.now in
-    let m = made_in t v in
+    let m = made_in due t v in
     rw (p.1, p.2)
     (untold-plain out number m old old old (ap prefix_in c.in-None.is) refl)
 
 pub returns-in_err-text-in-Ok : goal.returns-in_err-text-in-Ok
-returns-in_err-text-in-Ok g c =
+returns-in_err-text-in-Ok g c = λ due.
     let p = err_from_is_err_and c.from_residual-in_err-text-in-Ok.result c.from_residual-in_err-text-in-Ok.ensures.1 in
     let old = g.D.Desk.state c.args.desk.now in
     let new = g.D.Desk.state c.write.new.desk in
@@ -38,21 +38,21 @@ returns-in_err-text-in-Ok g c =
     let out = prefix_in c.args.out in
     let number = c.args.number in
     let v = c.args.verdict.now in
-    let m = made_in t v in
+    let m = made_in due t v in
     let prefix = c.in-Some.prefix.now in
     rw (p.1, p.2)
     (untold-files out number m old old new prefix (ap prefix_in c.in-Some.is)
     (leaves t v c.requires.found number prefix old new (Ok c.in-Ok.spans) c.in-Ok.ensures.files))
 
 pub returns-in-Err : goal.returns-in-Err
-returns-in-Err g c =
+returns-in-Err g c = λ due.
     let old = g.D.Desk.state c.args.desk.now in
     let new = g.D.Desk.state c.write.new.desk in
     let t = c.args.session.now in
     let out = prefix_in c.args.out in
     let number = c.args.number in
     let v = c.args.verdict.now in
-    let m = made_in t v in
+    let m = made_in due t v in
     let prefix = c.in-Some.prefix.now in
     let stop = stop_of_stitch c.in-Err.fault in
     rw c.stop_of.ensures
@@ -60,7 +60,7 @@ returns-in-Err g c =
     (leaves t v c.requires.found {A = Unit {0}} number prefix old new (Err c.in-Err.fault) c.in-Err.ensures.files))
 
 pub returns-in_err-say : goal.returns-in_err-say
-returns-in_err-say g c =
+returns-in_err-say g c = λ due.
     let p = err_from_is_err_and c.from_residual-in_err-say.result c.from_residual-in_err-say.ensures.1 in
     let old = g.D.Desk.state c.args.desk.now in
     let new = g.D.Desk.state c.say.new.desk in
@@ -68,7 +68,7 @@ returns-in_err-say g c =
     let out = prefix_in c.args.out in
     let number = c.args.number in
     let v = c.args.verdict.now in
-    let m = made_in t v in
+    let m = made_in due t v in
     let mid = g.D.Desk.state c.match-out.desk in
     let r : Result (Unit {0}) Stop = Err c.in_err-say.field-0.0 in
     let said = c.as_slice-2.result.now in
@@ -92,14 +92,14 @@ returns-in_err-say g c =
     rw (p.1, p.2) tells
 
 pub returns : goal.returns
-returns g c =
+returns g c = λ due.
     let old = g.D.Desk.state c.args.desk.now in
     let new = g.D.Desk.state c.say.new.desk in
     let t = c.args.session.now in
     let out = prefix_in c.args.out in
     let number = c.args.number in
     let v = c.args.verdict.now in
-    let m = made_in t v in
+    let m = made_in due t v in
     let mid = g.D.Desk.state c.match-out.desk in
     let r : Result (Unit {0}) Stop = Ok tt in
     let said = c.as_slice-2.result.now in

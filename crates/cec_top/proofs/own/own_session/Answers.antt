@@ -31,4 +31,5 @@ returns-in-Ok c =
           c.in_ok-a.ensures.reads c.in_ok-b.ensures.reads
           (ap (λ (s : State). s.net) p.1 ∙ ap (λ (o : Options). paired o.by_name c.in_ok-a.a c.in_ok-b.b) c.default_options.ensures.options),
       ap (λ (s : State). s.options) p.1 ∙ c.default_options.ensures.options,
+      ap (λ (s : State). s.edits) p.1,
     )

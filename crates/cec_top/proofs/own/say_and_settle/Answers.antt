@@ -1,30 +1,28 @@
-use Rattle.std.proofs.Common.{None}
 use Rattle.command_line.specs.Answers.{self_texts}
-use Rattle.cec_top.specs.Steps.{how_in}
-use Rattle.cec_top.proofs.CheckLemmas.{first-kept}
 use Rattle.cec_top.proofs.OwnLemmas.{at-workload, own-ok, own-err}
 use Rattle.cec_top.proofs.own.say_and_settle.Goals as goal
+
+pub run_script-requires-clause-unedited : goal.run_script-requires-clause-unedited
+run_script-requires-clause-unedited g c κs within = c.requires.made.2
 
 pub returns-clause-ok : goal.returns-clause-ok
 returns-clause-ok g c =
     let old = g.D.Desk.state c.args.desk.now in
     let mid = g.D.Desk.state c.say_workload.new.desk in
-    let new = g.D.Desk.state c.check.new.desk in
+    let new = g.D.Desk.state c.run_script.new.desk in
     let s = c.args.session.now in
     let w = self_texts c.args.words in
-    let kept = c.check.new.kept.items in
     own-ok w s c.requires.made.0 c.requires.made.1 old mid new
-    (at-workload w c.net.result.now s.net old mid c.net.ensures c.in_ok-say_workload.ensures) kept c.check.result
-    (first-kept (how_in s None) s.net mid new c.args.kept.now.items kept c.check.result c.requires.empty c.check.ensures)
+    (at-workload w c.net.result.now s.net old mid c.net.ensures c.in_ok-say_workload.ensures) c.run_script.new.kept.items
+    c.run_script.result c.run_script.ensures
 
 pub returns-clause-err : goal.returns-clause-err
 returns-clause-err g c =
     let old = g.D.Desk.state c.args.desk.now in
     let mid = g.D.Desk.state c.say_workload.new.desk in
-    let new = g.D.Desk.state c.check.new.desk in
+    let new = g.D.Desk.state c.run_script.new.desk in
     let s = c.args.session.now in
     let w = self_texts c.args.words in
-    let kept = c.check.new.kept.items in
     own-err w s c.requires.made.0 c.requires.made.1 old mid new
-    (at-workload w c.net.result.now s.net old mid c.net.ensures c.in_ok-say_workload.ensures) kept c.check.result
-    (first-kept (how_in s None) s.net mid new c.args.kept.now.items kept c.check.result c.requires.empty c.check.ensures)
+    (at-workload w c.net.result.now s.net old mid c.net.ensures c.in_ok-say_workload.ensures) c.run_script.new.kept.items
+    c.run_script.result c.run_script.ensures

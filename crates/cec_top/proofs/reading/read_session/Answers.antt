@@ -32,6 +32,7 @@ returns-in-Ok g c =
           (ap (λ (s : State). s.net) p.1 ∙ ap (λ (o : Options). paired o.by_name a b) c.options_of.ensures.options) alike
           (c.pairs_are_matched.ensures.stands words.by_name alike),
       ap (λ (s : State). s.options) p.1 ∙ c.options_of.ensures.options,
+      ap (λ (s : State). s.edits) p.1,
     )
 
 pub returns-in-Err : goal.returns-in-Err

@@ -1,9 +1,10 @@
-use Rattle.command_line.proofs.PlainLemmas.{asks-check, asks-lrat, asks-self, misnames-match, sets-budget, sets-budget_out, sets-match_names, sets-match_position, sets-out, sets-out_budget, sets-seed, sets-sweep_budget, sets-words}
+use Rattle.command_line.proofs.PlainLemmas.{asks-check, asks-lrat, asks-self, misnames-match, sets-edits, sets-budget, sets-budget_out, sets-match_names, sets-match_position, sets-out, sets-out_budget, sets-seed, sets-sweep_budget, sets-words}
 use Rattle.command_line.proofs.laws.plain_words.Goals as goal
 
 pub returns : goal.returns
 returns c = record {
   check = λ a b plain_a plain_b program. asks-check program a b plain_a plain_b;
+  edits = sets-edits;
   out = sets-out;
   seed = sets-seed;
   words = sets-words;
