@@ -19,7 +19,7 @@ from rounds import SEED, Tally
 import runner
 from second_book import SecondBook, SecondNet, is_new, negated, node_of, simplified
 
-USES = ["lits", "netlist", "unit_prop", "lemma_book"]
+USES = ["lits", "netlist", "unit_prop", "lemma_book", "netlist_edits", "keep_lemmas"]
 OFFERS = 14
 
 
@@ -108,6 +108,8 @@ def all_merges(book):
 def good_merge(rng, book, rows):
     net = book.net
     gates = [node for node in net.order if node in net.fanins and not book.merge_of(node)] or list(net.fanins)
+    if not gates:
+        return None
     node = rng.choice(gates)
     flipped = tuple(not bit for bit in rows[node])
     equal = [other for other in net.order[:net.position[node]] if rows[other] in (rows[node], flipped)]
