@@ -16,25 +16,24 @@ from crates import replaced, unproved_answers
 
 USES = ["lits", "desk_port", "netlist", "aiger_file", "lemma_book", "strash_pass", "check_session"]
 SECONDS = 1000
-NAMES = ["rounds", "merges by structure", "by search", "by cone", "aparts by scratch", "by search", "by cone", "spents", "conflicts",
+NAMES = ["rounds", "merges by structure", "by search", "by cone", "aparts by sieve", "by search", "by cone", "spents", "conflicts",
          "decisions", "entries dropped"]
 
 SEARCH, ENGINE, SESSION = "circuit_search/src/search.rt", "check_session/src/engine.rt", "check_session/src/session.rt"
 
-# file, what stands there, what is put in its place. The counters: rounds, scratch, conflicts, decisions, merges and Aparts that the
-# search found (those by scratch too), entries that were dropped.
+# file, what stands there, what is put in its place. The counters: rounds, Aparts by the sieve, conflicts, decisions, merges and Aparts
+# that the search found (those by the sieve too), entries that were dropped.
 CHANGES = [
-    (SEARCH, "    is_known: bool,", "    is_known: bool,\n    pub tally: [u64; 7],"),
-    (SEARCH, "            is_known: false,", "            is_known: false,\n            tally: [0; 7],"),
-    (SEARCH, "        self.scratch.sift(net, tasks)", "        self.tally[0] += 1;\n        self.scratch.sift(net, tasks)"),
-    (SEARCH, "            self.is_known = true;", "            self.is_known = true;\n            self.tally[1] += 1;"),
+    (SEARCH, "    dropped: u64,\n}", "    dropped: u64,\n    pub tally: [u64; 7],\n}"),
+    (SEARCH, "            dropped: 0,\n", "            dropped: 0,\n            tally: [0; 7],\n"),
     (SEARCH, "        match self.engine.pair(alloc, net, task, caps)? {",
      "        let found = self.engine.pair(alloc, net, task, caps)?;\n        self.spent(caps);\n        match found {"),
     (SEARCH, "        match self.engine.output_by_equalities(alloc, net, output, caps)? {",
      "        let found = self.engine.output_by_equalities(alloc, net, output, caps)?;\n        match found {"),
-    (SEARCH, "            Judgement::Good => Ok(Some(entry)),",
-     "            Judgement::Good => {\n                self.found(&entry);\n                Ok(Some(entry))\n            }"),
-    (SEARCH, "    /// The entry of a pair that a pattern tells apart.",
+    (SEARCH, "        let judged = judged(alloc, net, book, entry)?;",
+     "        let judged = judged(alloc, net, book, entry)?;\n"
+     "        if let Some(entry) = &judged {\n            self.found(entry);\n        }"),
+    (SEARCH, "    /// The entry, if it is good over the book; else it is counted.",
      "    fn spent(&mut self, caps: Caps) {\n"
      "        self.tally[2] += caps.conflicts.saturating_sub(self.engine.left.conflicts);\n"
      "        self.tally[3] += caps.decisions.saturating_sub(self.engine.left.decisions);\n"
@@ -42,7 +41,11 @@ CHANGES = [
      "    fn found(&mut self, entry: &Entry) {\n"
      "        match entry {\n            Entry::Merge { .. } => self.tally[4] += 1,\n"
      "            Entry::Apart { .. } => self.tally[5] += 1,\n            _ => {}\n        }\n    }\n\n"
-     "    /// The entry of a pair that a pattern tells apart."),
+     "    /// The entry, if it is good over the book; else it is counted."),
+    (ENGINE, "        self.sieve.sift(net, tasks)", "        self.search.tally[0] += 1;\n        self.sieve.sift(net, tasks)"),
+    (ENGINE, "        self.is_known = telling.is_some();",
+     "        self.is_known = telling.is_some();\n"
+     "        self.search.tally[1] += u64::from(self.is_known);\n        self.search.tally[5] += u64::from(self.is_known);"),
     (ENGINE, "    search: Search,\n    solver: WatchSolver,\n}", "    pub(crate) search: Search,\n    solver: WatchSolver,\n}"),
     (SESSION, "    verdict: Verdict,\n}", "    verdict: Verdict,\n    tally: [u64; 7],\n}"),
     (SESSION, "    let (book, pool) = sweep.into_parts();",
@@ -104,11 +107,11 @@ fn answer<R: Files + Alloc + Threads + Wait>(rt: &R, alloc: Global, line: &str, 
     let structural = strash_pass::run(alloc, session.net(), &mut book)?;
     let _verdict = session.check(rt, alloc, &OpenGate)?;
     let [merges, aparts, spents] = counts(session.book());
-    let [rounds, scratch, conflicts, decisions, merged, apart, dropped] = session.tally;
+    let [rounds, sieve, conflicts, decisions, merged, apart, dropped] = session.tally;
     let cone = merges.saturating_sub(structural).saturating_sub(merged);
-    let search = apart.saturating_sub(scratch);
+    let search = apart.saturating_sub(sieve);
     let others = aparts.saturating_sub(apart);
-    write!(text, "{rounds} {structural} {merged} {cone} {scratch} {search} {others} {spents} {conflicts} {decisions} {dropped}")?;
+    write!(text, "{rounds} {structural} {merged} {cone} {sieve} {search} {others} {spents} {conflicts} {decisions} {dropped}")?;
     Ok(())
 }
 

@@ -1,5 +1,5 @@
 use crate::pairs::{Case, check, expect, net_of};
-use circuit_search::{Caps, Search};
+use circuit_search::{Caps, Search, Sieve};
 use lemma_book::{Book, Entry, Task};
 use lits::{Lit, Node, Side};
 use netlist::Net;
@@ -71,13 +71,9 @@ fn found_of_output(rt: &impl Abort, alloc: Global, net: &Net, search: &mut Searc
 }
 
 /// Whether a pattern shows the outputs to differ, and on what.
-fn found_of_patterns(
-    rt: &impl Abort,
-    alloc: Global,
-    net: &Net,
-    search: &mut Search,
-) -> &'static str {
-    match search.difference(alloc, net).expect(rt, "memory") {
+fn found_of_patterns(rt: &impl Abort, alloc: Global, net: &Net) -> &'static str {
+    let mut sieve = Sieve::new(alloc, net, 1, 1).expect(rt, "memory");
+    match sieve.difference(alloc, net).expect(rt, "memory") {
         Some(input) => where_first_is_true(input.as_slice()),
         None => "none",
     }
@@ -107,13 +103,13 @@ fn found(
             found_of_pair(rt, alloc, net, search, &task, *decisions)
         }
         Asked::Output => found_of_output(rt, alloc, net, search),
-        Asked::Difference => found_of_patterns(rt, alloc, net, search),
+        Asked::Difference => found_of_patterns(rt, alloc, net),
     }
 }
 
 /// What a new search finds.
 fn found_by_new(rt: &impl Abort, alloc: Global, net: &Net, asked: &Asked) -> &'static str {
-    let mut search = Search::new(alloc, net, 1, 1).expect(rt, "memory");
+    let mut search = Search::new(alloc, net).expect(rt, "memory");
     found(rt, alloc, net, &mut search, asked)
 }
 

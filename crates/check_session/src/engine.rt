@@ -3,19 +3,23 @@ ghost use Rattle.lemma_book.specs.Book.{IsLegal};
 ghost use Rattle.lemma_book.specs.Entry.{about, subject_of};
 ghost use Rattle.lemma_book.specs.Good.{IsGood};
 ghost use Rattle.lemma_book.specs.declared.entry.Subject.TheVariants.{Output};
+ghost use Rattle.circuit_search.specs.Answer.{Finds, SettlesPair};
 ghost use Rattle.cone_query.specs.Query.{SeesAll, task_of};
 ghost use Rattle.check_session.specs.Rounds.{MayAsk};
 
-use circuit_search::{Caps, Search};
+use circuit_search::{Caps, Search, Sieve, apart};
 use equal_outputs::equal_output;
 use lemma_book::{Book, Entry, Task};
 use netlist::Net;
 use solver_watch::WatchSolver;
 use std::alloc::{AllocError, Global};
 
-/// What answers the questions of a check: the lazy search, with patterns of its own, and where it gives up a
-/// query of the whole cone by the solver.
+/// What answers the questions of a check: patterns that may tell a pair apart, then the lazy search, and
+/// where it gives up a query of the whole cone by the solver.
 pub(crate) struct Engine {
+    sieve: Sieve,
+    /// Whether the pair before was told apart by a pattern that is there already.
+    is_known: bool,
     search: Search,
     solver: WatchSolver,
 }
@@ -24,6 +28,8 @@ pub(crate) struct Engine {
 impl Drop for Engine {
     fn drop(self) {
         let Engine {
+            sieve: _,
+            is_known: _,
             search: _,
             solver: _,
         } = self;
@@ -40,28 +46,32 @@ impl Engine {
         words: u32,
     ) -> Result<Engine, AllocError> {
         let solver = WatchSolver::new(alloc)?;
-        let search = Search::new(alloc, net, seed, words)?;
-        Ok(Engine { search, solver })
+        Ok(Engine {
+            sieve: Sieve::new(alloc, net, seed, words)?,
+            is_known: false,
+            search: Search::new(alloc, net)?,
+            solver,
+        })
     }
 
-    /// An input on which an output seems to differ, if one of the search's patterns shows it.
+    /// An input on which an output seems to differ, if one of the sieve's patterns shows it.
     pub(crate) fn difference(
         &mut self,
         alloc: Global,
         net: &Net,
     ) -> Result<Option<Vec<bool>>, AllocError> {
-        self.search.difference(alloc, net)
+        self.sieve.difference(alloc, net)
     }
 
-    /// Takes the pairs of a round, some of which the search's patterns tell apart.
+    /// Takes the pairs of a round, some of which the sieve's patterns tell apart.
     pub(crate) fn sift(&mut self, net: &Net, tasks: &[Task]) -> Result<(), AllocError> {
-        self.search.sift(net, tasks)
+        self.sieve.sift(net, tasks)
     }
 
     /// Takes the entry about a pair: the input of a counterexample may tell later pairs of the round apart.
     pub(crate) fn note(&mut self, net: &Net, entry: &Entry) -> Result<(), AllocError> {
         match entry {
-            Entry::Apart { input, .. } => self.search.note(net, input.as_slice()),
+            Entry::Apart { input, .. } if !self.is_known => self.sieve.note(net, input.as_slice()),
             _ => Ok(()),
         }
     }
@@ -79,12 +89,30 @@ impl Engine {
         ensures about { IfOk result (λ e. task_of e ≡ Some task.now) }
         ensures good { IfOk result (λ e. IsGood net.now book.now e) }
     {
-        match self
-            .search
-            .pair(alloc, net, book, task, pair_caps(book.sweep_budget()))?
-        {
+        match self.found(alloc, net, book, task)? {
             Some(entry) => Ok(entry),
             None => cone_query::pair(alloc, net, book, task, &mut self.solver),
+        }
+    }
+
+    /// What a pattern tells of a pair, or else the search finds.
+    fn found(
+        &mut self,
+        alloc: Global,
+        net: &Net,
+        book: &Book,
+        task: &Task,
+    ) -> Result<Option<Entry>, AllocError>
+        requires { IsLegal net.now book.now }
+        ensures { IfOk result (Finds (SettlesPair task.now) net.now book.now) }
+    {
+        let telling = self.sieve.telling(alloc, net, task)?;
+        self.is_known = telling.is_some();
+        match telling {
+            Some(input) => apart(alloc, net, book, task, input),
+            None => self
+                .search
+                .pair(alloc, net, book, task, pair_caps(book.sweep_budget())),
         }
     }
 

@@ -6,8 +6,8 @@
 //! its parts is lent. A pattern may tell an output apart at once (`patterns`). Else `strash_pass` merges what
 //! the structure alone shows to be equal (`structure`), rounds ask for the candidates that simulation
 //! leaves, from the inputs up (`rounds`), and last each output is asked for (`outputs`). An `Engine` answers
-//! each question: the lazy search of `circuit_search`, and where that gives up a query of the whole cone,
-//! `cone_query`.
+//! each question: a pattern of its sieve or else the lazy search, both of `circuit_search`, and where that
+//! gives up a query of the whole cone, `cone_query`.
 //!
 //! `check` answers with a `Verdict`, and promises that the session's book is legal and shows it, and what it
 //! means for the circuits. The book and the patterns go on from what the check began with. Over the patterns

@@ -10,12 +10,17 @@
 //! `Book::judge`, and it hands out an entry only where the book says that it is good; so its answers are
 //! those of the lemma book, whatever the search. An entry that the book refuses is dropped, and counted.
 //!
+//! A `Sieve` is for rounds of pairs: patterns that may tell a pair apart before any search. It is parted from
+//! the search, so that many searches share one. Its inputs are evaluated too, by `apart`.
+//!
 //! Definitions: `specs/Answer.antt`. Begin to read at `search.rt`, then `round.rt`; `equalities.rt`
-//! has what only the proofs of outputs use.
+//! has what only the proofs of outputs use, `sieve.rt` the patterns.
 #![tactic(auto)]
 
 pub use caps::Caps;
+pub use judged::apart;
 pub use search::Search;
+pub use sieve::Sieve;
 
 mod analysis;
 mod assumptions;
@@ -24,6 +29,7 @@ mod clauses;
 mod engine;
 mod equalities;
 mod equating;
+mod judged;
 mod justify;
 mod lessons;
 mod loading;
@@ -31,8 +37,8 @@ mod merges;
 mod propagation;
 mod proposal;
 mod round;
-mod scratch;
 mod search;
+mod sieve;
 mod steps;
 mod table;
 mod trail;

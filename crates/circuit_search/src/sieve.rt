@@ -34,9 +34,10 @@ struct Asked {
 /// them tells apart needs no query.
 ///
 /// The pool keeps the few patterns that are needed, while these may be many: each word is simulated by
-/// itself, so that no node has more than one.
-#[derive(Drop)]
-pub(crate) struct Scratch {
+/// itself, so that no node has more than one. A round has one sieve, however many workers settle its pairs:
+/// what is simulated is simulated once. Nothing is claimed of its patterns: an input that it gives is
+/// evaluated, as `apart` does before it hands out an entry.
+pub struct Sieve {
     inputs: u32,
     /// The inputs' words: word w of input i stands at w times the inputs and i.
     words: Vec<u64>,
@@ -50,19 +51,29 @@ pub(crate) struct Scratch {
     noted: u32,
 }
 
-impl Scratch {
-    /// The patterns that the seed draws behind its first words.
-    pub(crate) fn of(
-        alloc: Global,
-        net: &Net,
-        seed: u64,
-        words: u32,
-    ) -> Result<Scratch, AllocError> {
+// Written out, so that a drop is one call and not one for each field at each exit of a function.
+impl Drop for Sieve {
+    fn drop(self) {
+        let Sieve {
+            inputs: _,
+            words: _,
+            row: _,
+            asked: _,
+            found: _,
+            noted: _,
+        } = self;
+    }
+}
+
+impl Sieve {
+    /// A sieve of a net's pairs. Its patterns are drawn behind the first words of the seed, which are the
+    /// pool's.
+    pub fn new(alloc: Global, net: &Net, seed: u64, words: u32) -> Result<Sieve, AllocError> {
         let positions = net.positions();
         let inputs = positions
             .saturating_sub(count(net.all_fanins().len()))
             .saturating_sub(1);
-        Ok(Scratch {
+        Ok(Sieve {
             inputs,
             words: draw(alloc, inputs, seed, words)?,
             row: vec![in alloc; 0; positions as usize]?,
@@ -73,7 +84,7 @@ impl Scratch {
     }
 
     /// Takes the pairs of a round, and looks for those that the patterns tell apart.
-    pub(crate) fn sift(&mut self, net: &Net, tasks: &[Task]) -> Result<(), AllocError> {
+    pub fn sift(&mut self, net: &Net, tasks: &[Task]) -> Result<(), AllocError> {
         self.forget();
         list_pairs(&mut self.asked, net, tasks)?;
         for word in 0..DRAWN {
@@ -99,7 +110,7 @@ impl Scratch {
 
     /// Takes a counterexample of the round. They are simulated when 1, 2, 4 and so on up to 64 of them are
     /// waiting.
-    pub(crate) fn note(&mut self, net: &Net, input: &[bool]) -> Result<(), AllocError> {
+    pub fn note(&mut self, net: &Net, input: &[bool]) -> Result<(), AllocError> {
         let bit = self.noted % 64;
         let word = DRAWN.saturating_add(self.noted / 64);
         if bit == 0 {
@@ -115,8 +126,9 @@ impl Scratch {
         Ok(())
     }
 
-    /// The input of a drawn pattern on which an output differs: of the first such word the least such output.
-    pub(crate) fn difference(
+    /// The input of a drawn pattern on which an output seems to differ: of the first such word the least such
+    /// output.
+    pub fn difference(
         &mut self,
         alloc: Global,
         net: &Net,
@@ -133,8 +145,24 @@ impl Scratch {
         Ok(None)
     }
 
+    /// The input of a pattern that seems to tell a pair of the round apart.
+    pub fn telling(
+        &self,
+        alloc: Global,
+        net: &Net,
+        task: &Task,
+    ) -> Result<Option<Vec<bool>>, AllocError> {
+        let Some(position) = net.position(task.node) else {
+            return Ok(None);
+        };
+        match self.pattern(position) {
+            Some(pattern) => Ok(Some(self.input(alloc, pattern)?)),
+            None => Ok(None),
+        }
+    }
+
     /// The inputs' truth values in a pattern.
-    pub(crate) fn input(&self, alloc: Global, pattern: u32) -> Result<Vec<bool>, AllocError> {
+    fn input(&self, alloc: Global, pattern: u32) -> Result<Vec<bool>, AllocError> {
         let mut input = Vec::new(alloc);
         for index in 0..self.inputs {
             input.push(self.is_true(pattern, index))?;
@@ -156,7 +184,7 @@ impl Scratch {
     }
 
     /// The pattern that tells the pair of a position apart.
-    pub(crate) fn pattern(&self, position: u32) -> Option<u32> {
+    fn pattern(&self, position: u32) -> Option<u32> {
         match at(&self.found, position) {
             0 => None,
             pattern => Some(pattern - 1),
