@@ -1,13 +1,14 @@
 -- What a round without tasks, and a sweep, leave.
-use Rattle.std.proofs.Common.{◌≡◌, ◌≢◌, ℕ, ◌+◌, ◌*◌, ◌<◌, suc, append_assoc, get_or, drop-cons, add-one, Bool, true, false, ◌||◌, List, [], ◌∷◌, ◌++◌, length, map, drop, Option, Some, None, inl, inr, refl, sym, ap, ◌∙◌, subst, arith, Result, Ok, Err, IfOk, OnOk}
+use Rattle.std.proofs.Common.{◌≡◌, ◌≢◌, ◌⊎◌, ℕ, ◌+◌, ◌*◌, ◌<◌, suc, append_assoc, get_or, drop-cons, add-one, Bool, true, false, ◌||◌, List, [], ◌∷◌, ◌++◌, length, map, drop, Option, Some, None, inl, inr, refl, sym, ap, ◌∙◌, subst, arith, Result, Ok, Err, IfOk, OnOk}
 use Rattle.std.specs.Prelude.{◌==◌}
 use Rattle.std.specs.List.{AllByRecursion, find, list_all, list_any, range_with_len}
 use Rattle.std.proofs.lemmas.List.{append-nil}
+use Rattle.std.proofs.lemmas.List.Folds.{find-append}
 use Rattle.std.proofs.lemmas.List.FromFn.{length-map-range_with_len}
 use Rattle.std.proofs.lemmas.Bool.Decides.{nat_tests}
 use Rattle.std.specs.Option.{option_and_then}
 use Rattle.std.specs.declared.alloc.AllocError.{AllocError}
-use Rattle.std.specs.Prelude.{IfSome, slice_get, unwrap_or}
+use Rattle.std.specs.Prelude.{IfSome, MatchOption, slice_get, unwrap_or}
 use Rattle.lits.specs.declared.node.Node.{Node}
 use Rattle.lits.proofs.Facts.{all-append}
 use Rattle.netlist.specs.Place.{place_of}
@@ -19,18 +20,19 @@ use Rattle.lemma_book.specs.declared.entry.Subject.TheVariants.{Merged}
 use Rattle.lemma_book.specs.declared.entry.Task.{Task}
 use Rattle.lemma_book.specs.Entry.{Entries, is_on, is_spent_on, subject_of, with_last}
 use Rattle.lemma_book.specs.Root.{IsRoot, merge_in}
-use Rattle.lemma_book.specs.Book.{IsLegal}
+use Rattle.lemma_book.specs.Book.{IsLegal, StartsWith}
 use Rattle.lemma_book.specs.Agreement.{IsTrue}
 use Rattle.lemma_book.proofs.Facts.{root-unsettled}
 use Rattle.sig_classes.specs.Leader.{IsDue, AreTasks, IsReduced, IsSwept}
 use Rattle.strash_pass.specs.Strash.{IsMerge, AddsMerges}
 use Rattle.check_session.specs.declared.options.Options.{Options}
+use Rattle.check_session.specs.declared.patterns.Difference.{Difference}
 use Rattle.check_session.specs.declared.verdict.Verdict.{Verdict}
 use Rattle.check_session.specs.declared.verdict.Verdict.TheVariants as verdict
 use Rattle.check_session.specs.Finding.{Finding, Equivalent, Different, Undecided, Finds, Means, SeesMerges}
 use Rattle.check_session.specs.Growth.{Grows, is_of_pair}
-use Rattle.check_session.specs.Outputs.{SeeMerges, ListsOpen, is_of_output, finding_of}
-use Rattle.check_session.specs.Pool.{Extends, Fits, IsFirstApart, IsPoolOf, NoneApart, first_pool, tells_apart}
+use Rattle.check_session.specs.Outputs.{AreSettled, SeeMerges, ListsOpen, is_of_output, finding_of}
+use Rattle.check_session.specs.Pool.{Extends, Fits, IsAmongOrJoins, IsFirstApart, IsPoolOf, NoneApart, first_pool, tells_apart}
 use Rattle.check_session.specs.Rounds.{MayAsk, AreAsked, Settles}
 use Rattle.check_session.specs.declared.sweep.Sweep.{Sweep}
 use Rattle.check_session.specs.Begun.{GoesOn, MayBegin, is_equal}
@@ -80,6 +82,15 @@ none-first : (net : AigPair) (old new : Patterns) → Extends old new → NoneAp
 none-first net old new extends none j below =
     find-front (tells_apart net j) old.patterns extends.added
     (subst (λ (ps : List (List Bool)). find (tells_apart net j) ps ≡ None) extends.is (none j below))
+
+-- where none of the first patterns passes the test, the one that is found behind them is the last
+last-found : (test : List Bool → Bool) (xs : List (List Bool)) (y found : List Bool) → find test xs ≡ None
+    → find test (xs ++ y ∷ []) ≡ Some found → found ≡ y
+last-found test xs y found none some = go (test y) refl (rw (find-append test xs (y ∷ []), none) at some)
+  where
+    go : (b : Bool) → test y ≡ b → find test (y ∷ []) ≡ Some found → found ≡ y
+    go true is s = let t : Some y ≡ Some found = rw is at s in cc
+    go false is s = let t : None ≡ Some found = rw is at s in cc
 
 -- ---- a round
 
@@ -211,18 +222,18 @@ swept-for net es Equivalent swept = swept
 swept-for net es (Different j input) swept = inl swept
 swept-for net es Undecided swept = swept
 
--- what a sweep and the queries about the outputs find
-pub found-by_sweep : (net : AigPair) (o : Options) (pool seen : Patterns) (first mid swept last : Entries) (v : Verdict)
-    → MayBegin net o (record { book = first; pool = pool }) → NoneApart net pool.patterns
+-- what a sweep and the queries about the outputs find, where patterns may have joined before
+pub found-by_sweep : (net : AigPair) (o : Options) (begun pool seen : Patterns) (first mid swept last : Entries) (v : Verdict)
+    → IsPoolOf net o begun → Extends begun pool → MayBegin net o (record { book = first; pool = pool }) → NoneApart net pool.patterns
     → Grows net is_of_pair first mid → Grows net is_of_pair mid swept → Fits net seen → Extends pool seen
     → IsReduced net swept.entries seen.patterns → Grows net is_of_output swept last
-    → Finds net last.entries (finding_of v) → ListsOpen net last.entries v
+    → AreSettled net last.entries → Finds net last.entries (finding_of v) → ListsOpen net last.entries v
     → ((f : Finding) → Finds net last.entries f → Means net last.entries f)
     → ((f : Finding) → Finds net last.entries f → IsWithinFor net last.out_budget f)
     → ((es : List Entry) (ps : List (List Bool)) → AllByRecursion (λ bits. length bits ≡ length net.a.inputs) ps
     → IsReduced net es ps → IsSwept net es)
-    → IsFound net o (record { book = first; pool = pool }) (Some seen) last v
-found-by_sweep net o pool seen first mid swept last v ready none structure rounds fits extends reduced outputs finds opens means within sweeps = record {
+    → IsFound net o (record { book = first; pool = begun }) (Some seen) last v
+found-by_sweep net o begun pool seen first mid swept last v of before ready none structure rounds fits extends reduced outputs settled finds opens means within sweeps = record {
   settled = record {
     sweep_is = outputs.sweep_budget ∙ rounds.sweep_budget ∙ structure.sweep_budget ∙ ready.book.sweep_is;
     budget_is = outputs.out_budget ∙ rounds.out_budget ∙ structure.out_budget ∙ ready.book.budget_is;
@@ -236,8 +247,8 @@ found-by_sweep net o pool seen first mid swept last v ready none structure round
   patterns = seen;
   pool_is = refl;
   pool_of = record { fits = fits; begins = extends-twice (first_pool net o) pool seen ready.pool.begins extends };
-  begun_of = ready.pool;
-  way = inr (record { none = none; reduced = reduced-last });
+  begun_of = of;
+  way = inr (record { none = none-first net begun pool before none; reduced = reduced-last; settled = settled });
 }
   where
     reduced-last : IsReduced net last.entries seen.patterns
@@ -258,15 +269,16 @@ goes_on-sweep net pool seen first mid swept last structure rounds outputs extend
 
 -- ---- at once
 
--- what a pattern shows at once
-pub found-at_once : (net : AigPair) (o : Options) (pool : Patterns) (first last : Entries) (j : ℕ) (input told : List Bool)
+-- what a pattern shows at once, which may have joined those that a check began with
+pub found-at_once : (net : AigPair) (o : Options) (begun pool : Patterns) (first last : Entries) (j : ℕ) (input told : List Bool)
+    → IsPoolOf net o begun → IsAmongOrJoins net begun.patterns pool.patterns input
     → MayBegin net o (record { book = first; pool = pool }) → AllByRecursion (IsTrue net) first.entries
     → DiffersOn net j input → IsFirstApart net pool.patterns j input
     → last ≡ with_last first (OutApart j input) → IsLegal net last → told ≡ input
     → ((f : Finding) → Finds net last.entries f → Means net last.entries f)
-    → IsFound net o (record { book = first; pool = pool }) (Some pool) last (verdict.Different j told)
-found-at_once net o pool first last j input told ready true_all differs apart put legal same means =
-    subst (λ (bits : List Bool). IsFound net o (record { book = first; pool = pool }) (Some pool) last (verdict.Different j bits)) (sym same) (record {
+    → IsFound net o (record { book = first; pool = begun }) (Some pool) last (verdict.Different j told)
+found-at_once net o begun pool first last j input told of from ready true_all differs apart put legal same means =
+    subst (λ (bits : List Bool). IsFound net o (record { book = first; pool = begun }) (Some pool) last (verdict.Different j bits)) (sym same) (record {
       settled = record {
         sweep_is = ap (λ (b : Entries). b.sweep_budget) put ∙ ready.book.sweep_is;
         budget_is = ap (λ (b : Entries). b.out_budget) put ∙ ready.book.budget_is;
@@ -280,8 +292,8 @@ found-at_once net o pool first last j input told ready true_all differs apart pu
       patterns = pool;
       pool_is = refl;
       pool_of = ready.pool;
-      begun_of = ready.pool;
-      way = inl (record { output = j; input = input; finding_is = refl; first = apart; entries_are = entries-are });
+      begun_of = of;
+      way = inl (record { output = j; input = input; finding_is = refl; first = apart; from = from; entries_are = entries-are });
     })
   where
     entries-are : last.entries ≡ first.entries ++ OutApart j input ∷ []
@@ -296,34 +308,51 @@ found-at_once net o pool first last j input told ready true_all differs apart pu
 
 -- ---- where patterns joined before anything was found
 
--- what was found from there on was found from the beginning
-found-sooner : (net : AigPair) (o : Options) (book : Entries) (start mid : Patterns) (pool : Option Patterns) (last : Entries) (v : Verdict)
-    → IsPoolOf net o start → Extends start mid → IsFound net o (record { book = book; pool = mid }) pool last v
-    → IsFound net o (record { book = book; pool = start }) pool last v
-found-sooner net o book start mid pool last v of extends found = record {
-  settled = found.settled;
-  open_are = found.open_are;
-  patterns = found.patterns;
-  pool_is = found.pool_is;
-  pool_of = found.pool_of;
-  begun_of = of;
-  way = elim found.way [
-    | inl once ↦ inl once
-    | inr sweep ↦ inr (record { none = none-first net start mid extends sweep.none; reduced = sweep.reduced })
-  ];
-}
-
--- so of a check that goes on
-pub run-sooner : (r : Result Verdict AllocError) (old mid new : Sweep) → Stays old mid → OnOk r (Stays mid new) → mid.book ≡ old.book
-    → Extends old.pool mid.pool → IsPoolOf old.net.now old.options old.pool
-    → IfOk r (IsFound new.net.now new.options (held mid) (Some new.pool) new.book)
+-- what was found over whatever the check began with was found from the beginning
+pub run-sooner : (r : Result Verdict AllocError) (old mid new : Sweep) (Before : AigPair → Patterns → Type 0) → Stays old mid
+    → OnOk r (Stays mid new) → mid.book ≡ old.book → Before mid.net.now old.pool → IsPoolOf old.net.now old.options old.pool
+    → IfOk r (λ v. (begun : Patterns) → IsPoolOf new.net.now new.options begun → Before new.net.now begun
+    → IsFound new.net.now new.options (record { book = mid.book; pool = begun }) (Some new.pool) new.book v)
     → IfOk r (IsFound new.net.now new.options (held old) (Some new.pool) new.book)
-run-sooner (Ok v) old mid new first second same extends of found =
-    found-sooner new.net.now new.options old.book old.pool mid.pool (Some new.pool) new.book v
+run-sooner (Ok v) old mid new Before first second same before of found =
+    subst (λ (b : Entries). IsFound new.net.now new.options (record { book = b; pool = old.pool }) (Some new.pool) new.book v) same
+    (found old.pool
     (subst (λ (o : Options). IsPoolOf new.net.now o old.pool) (sym (second.options ∙ first.options))
-    (subst (λ (n : AigPair). IsPoolOf n old.options old.pool) (sym (second.net ∙ first.net)) of)) extends
-    (subst (λ (b : Entries). IsFound new.net.now new.options (record { book = b; pool = mid.pool }) (Some new.pool) new.book v) same found)
-run-sooner (Err e) old mid new first second same extends of found = tt
+    (subst (λ (n : AigPair). IsPoolOf n old.options old.pool) (sym (second.net ∙ first.net)) of))
+    (subst (λ (n : AigPair). Before n old.pool) (sym second.net) before))
+run-sooner (Err e) old mid new Before first second same before of found = tt
+
+-- and it goes on from there
+pub goes_on-sooner : (r : Result Verdict AllocError) (old mid new : Sweep) → mid.book ≡ old.book → Extends old.pool mid.pool
+    → OnOk r (GoesOn (held mid) new.book new.pool) → OnOk r (GoesOn (held old) new.book new.pool)
+goes_on-sooner (Ok v) old mid new same extends on = record {
+  entries = subst (λ (b : Entries). StartsWith new.book b) same on.entries;
+  patterns = extends-twice old.pool mid.pool new.pool extends on.patterns;
+}
+goes_on-sooner (Err e) old mid new same extends on = tt
+
+-- the input that tells an output apart where none of the first patterns does is the one that joined
+joined-told : (net : AigPair) (j : ℕ) (before patterns : List (List Bool)) (joined input : List Bool) → NoneApart net before
+    → IsFirstApart net patterns j input → patterns ≡ before ++ joined ∷ [] → input ≡ joined
+joined-told net j before patterns joined input none first is =
+    last-found (tells_apart net j) before joined input (none j first.within)
+    (subst (λ (ps : List (List Bool)). find (tells_apart net j) ps ≡ Some input) is first.first)
+
+-- so where it comes from
+pub among-found : (r : Result (Option Difference) AllocError) (net : AigPair) (before patterns : List (List Bool)) (joined : List Bool)
+    → NoneApart net before → (patterns ≡ before) ⊎ (patterns ≡ before ++ joined ∷ [])
+    → IfOk r (λ d. MatchOption d (NoneApart net patterns) (λ x. IsFirstApart net patterns x.output x.input))
+    → IfOk r (λ d. IfSome d (λ x. IsAmongOrJoins net before patterns x.input))
+among-found (Err e) net before patterns joined none joins first = tt
+among-found (Ok None) net before patterns joined none joins first = tt
+among-found (Ok (Some x)) net before patterns joined none joins first = elim joins [
+  | inl same ↦ inl same
+  | inr more ↦ inr (
+    none,
+    subst (λ (bits : List Bool). patterns ≡ before ++ bits ∷ [])
+        (sym (joined-told net x.output before patterns joined x.input none first more)) more,
+  )
+]
 
 -- when the pair at a place is settled those behind it may be asked for
 pub asked-drop : (net : AigPair) (ts : List Task) (i : ℕ) (d : Task) (old new : Entries) → i < length ts → Settles net (get_or ts i d) old new

@@ -15,8 +15,8 @@ use Rattle.sig_classes.specs.Leader.{IsReduced, IsSwept}
 use Rattle.check_session.specs.declared.options.Options.{Options}
 use Rattle.check_session.specs.declared.verdict.Verdict.{Verdict}
 use Rattle.check_session.specs.Finding.{Finding, Equivalent, Different, Undecided, Finds, Means}
-use Rattle.check_session.specs.Outputs.{ListsOpen, finding_of}
-use Rattle.check_session.specs.Pool.{IsPoolOf, IsFirstApart, NoneApart}
+use Rattle.check_session.specs.Outputs.{AreSettled, ListsOpen, finding_of}
+use Rattle.check_session.specs.Pool.{IsPoolOf, IsFirstApart, IsAmongOrJoins, NoneApart}
 use Rattle.check_session.specs.Begun.{Begun, GoesOn, IsBookOf, begun_from}
 
 -- the numbers are in their ranges
@@ -119,18 +119,22 @@ pub record IsSettled (net : AigPair) (sweep_budget out_budget : ℕ) (book : Ent
   pub within : IsWithinFor net book.out_budget finding
 
 -- at once: some pattern tells an output apart; the least such output is told with the first pattern that does, and behind what
--- the check began with the book has that one entry
-pub record IsAtOnce (net : AigPair) (patterns : List (List Bool)) (begun entries : List Entry) (f : Finding) : Type 0 where
+-- the check began with the book has that one entry. The pattern is one that the check began with, or none of those tells an
+-- output apart and it alone joined them.
+pub record IsAtOnce (net : AigPair) (begun : Begun) (patterns : List (List Bool)) (entries : List Entry) (f : Finding) : Type 0 where
   pub output : ℕ
   pub input : List Bool
   pub finding_is : f ≡ Different output input
   pub first : IsFirstApart net patterns output input
-  pub entries_are : entries ≡ begun ++ OutApart output input ∷ []
+  pub from : IsAmongOrJoins net begun.pool.patterns patterns input
+  pub entries_are : entries ≡ begun.book.entries ++ OutApart output input ∷ []
 
--- by the sweep: no pattern that the check began with tells an output apart, and the book is reduced over all patterns
+-- by the sweep: no pattern that the check began with tells an output apart, the book is reduced over all patterns, and each
+-- output has an entry
 pub record IsBySweep (net : AigPair) (begun patterns : List (List Bool)) (entries : List Entry) : Type 0 where
   pub none : NoneApart net begun
   pub reduced : IsReduced net entries patterns
+  pub settled : AreSettled net entries
 
 -- What a check found: its book shows the verdict, which names the outputs that it leaves open; over the patterns that the
 -- session keeps it was found at once or by the sweep. These patterns, and those that the check began with, begin with the
@@ -142,7 +146,7 @@ pub record IsFound (net : AigPair) (o : Options) (begun : Begun) (pool : Option 
   pub pool_is : pool ≡ Some patterns
   pub pool_of : IsPoolOf net o patterns
   pub begun_of : IsPoolOf net o begun.pool
-  pub way : IsAtOnce net patterns.patterns begun.book.entries book.entries (finding_of v)
+  pub way : IsAtOnce net begun patterns.patterns book.entries (finding_of v)
       ⊎ IsBySweep net begun.pool.patterns patterns.patterns book.entries
 
 -- the numbers are in range; the pair is what the edits make of that of the last check, over which the book is legal under the

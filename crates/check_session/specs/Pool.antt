@@ -1,5 +1,5 @@
 -- The patterns of a check, and what they show of the outputs before any query.
-use Rattle.std.specs.Prelude.{◌≡◌, ℕ, ◌+◌, ◌/◌, ◌%◌, ◌<◌, Bool, true, false, Option, None, Some, List, [], ◌++◌, length, map}
+use Rattle.std.specs.Prelude.{◌≡◌, ◌⊎◌, ℕ, ◌+◌, ◌/◌, ◌%◌, ◌<◌, Bool, true, false, Option, None, Some, List, [], ◌∷◌, ◌++◌, length, map}
 use Rattle.std.specs.List.{find, range_with_len, slice_index_or, AllByRecursion}
 use Rattle.netlist.specs.Circuit.{output_value}
 use Rattle.netlist.specs.Net.{AigPair, differs}
@@ -39,6 +39,10 @@ pub record IsFirstApart (net : AigPair) (patterns : List (List Bool)) (j : ℕ) 
   pub within : j < length net.a.outputs
   pub first : find (tells_apart net j) patterns ≡ Some input
   pub least : (k : ℕ) → k < j → find (tells_apart net k) patterns ≡ None
+
+-- no pattern joined those of before; or none of those tells an output apart, and this input joined behind them
+abbrev pub IsAmongOrJoins : AigPair → List (List Bool) → List (List Bool) → List Bool → Type 0
+IsAmongOrJoins net before patterns input = (patterns ≡ before) ⊎ (NoneApart net before × (patterns ≡ before ++ input ∷ []))
 
 -- ---- as the rows of simulation show it
 

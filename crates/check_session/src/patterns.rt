@@ -1,10 +1,10 @@
-ghost use Rattle.std.specs.Prelude.{◌≡◌, ◌<◌, Some, [], length, Bool, List, IfOk, OnOk, MatchOption, bit_xor};
+ghost use Rattle.std.specs.Prelude.{◌≡◌, ◌⊎◌, ◌<◌, ◌∷◌, ◌++◌, Some, [], length, Bool, List, IfOk, IfSome, OnOk, MatchOption, bit_xor};
 ghost use Rattle.std.specs.List.{slice_index_or};
 ghost use Rattle.lits.specs.declared.literal.Lit.{Lit};
 ghost use Rattle.netlist.specs.Net.{differs, nodes_of, output_of};
 ghost use Rattle.word_sim.specs.Patterns.{is_set, words_of};
 ghost use Rattle.word_sim.specs.Rows.{AreSignatures, IsRow, mask_of};
-ghost use Rattle.check_session.specs.Pool.{Extends, Fits, HasBitsOf, IsFirstApart, IsFirstOf, IsPoolOf, NoneApart, bit_of, tells_apart};
+ghost use Rattle.check_session.specs.Pool.{Extends, Fits, HasBitsOf, IsAmongOrJoins, IsFirstApart, IsFirstOf, IsPoolOf, NoneApart, bit_of, tells_apart};
 ghost use Rattle.check_session.specs.Sweep.{Stays};
 
 use crate::sweep::Sweep;
@@ -22,7 +22,7 @@ pub(crate) struct Difference {
 
 impl Sweep<'_> {
     /// The least output that a pattern tells apart, with the first such pattern: one of the pool's, or else
-    /// one of the search's own, which then joins the pool.
+    /// one of the sieve's own, which then joins the pool.
     pub(crate) fn patterns(&mut self) -> Result<Option<Difference>, AllocError>
         requires { IsPoolOf self.old.net.now self.old.options self.old.pool }
         ensures stays { OnOk result (Stays self.old self.new) }
@@ -31,6 +31,8 @@ impl Sweep<'_> {
         ensures extends { OnOk result (Extends self.old.pool self.new.pool) }
         ensures first { IfOk result (λ d. MatchOption d (NoneApart self.new.net.now self.new.pool.patterns)
             (λ x. IsFirstApart self.new.net.now self.new.pool.patterns x.output x.input)) }
+        ensures from { IfOk result (λ d. IfSome d (λ x.
+            IsAmongOrJoins self.new.net.now self.old.pool.patterns self.new.pool.patterns x.input)) }
     {
         match difference_in(self.alloc, self.net, &self.pool)? {
             Some(difference) => Ok(Some(difference)),
@@ -48,6 +50,8 @@ impl Sweep<'_> {
         ensures extends { OnOk result (Extends self.old.pool self.new.pool) }
         ensures first { IfOk result (λ d. MatchOption d (NoneApart self.new.net.now self.new.pool.patterns)
             (λ x. IsFirstApart self.new.net.now self.new.pool.patterns x.output x.input)) }
+        ensures from { IfOk result (λ d. IfSome d (λ x.
+            IsAmongOrJoins self.new.net.now self.old.pool.patterns self.new.pool.patterns x.input)) }
     {
         let Some(input) = self.engine.difference(self.alloc, self.net)? else {
             return Ok(None);
@@ -63,6 +67,8 @@ impl Sweep<'_> {
         ensures book { OnOk result (self.new.book ≡ self.old.book) }
         ensures pool { OnOk result (IsPoolOf self.new.net.now self.new.options self.new.pool) }
         ensures extends { OnOk result (Extends self.old.pool self.new.pool) }
+        ensures joins { OnOk result ((self.new.pool.patterns ≡ self.old.pool.patterns)
+            ⊎ (self.new.pool.patterns ≡ self.old.pool.patterns ++ input.now ∷ [])) }
     {
         if input.len() == self.pool.inputs() as usize {
             self.pool.add(input)

@@ -1,10 +1,11 @@
 ghost use Rattle.std.specs.Prelude.{◌≡◌, Some, IfOk, OnOk};
+ghost use Rattle.word_sim.specs.Patterns.{Patterns};
 ghost use Rattle.lemma_book.specs.Book.{IsLegal};
 ghost use Rattle.lemma_book.specs.Entry.{with_last};
 ghost use Rattle.lemma_book.specs.Good.{IsGood};
 ghost use Rattle.check_session.specs.Begun.{GoesOn};
 ghost use Rattle.check_session.specs.Check.{IsFound};
-ghost use Rattle.check_session.specs.Pool.{IsFirstApart, NoneApart};
+ghost use Rattle.check_session.specs.Pool.{Extends, IsAmongOrJoins, IsFirstApart, IsPoolOf, NoneApart};
 ghost use Rattle.check_session.specs.Sweep.{IsBegun, IsReady, Stays, held};
 
 use crate::engine::Engine;
@@ -93,15 +94,17 @@ impl<'a> Sweep<'a> {
         }
     }
 
-    /// The verdict that a pattern shows.
+    /// The verdict that a pattern shows, which the check began with or which joined before anything was found.
     fn verdict_at_once(&mut self, difference: Difference) -> Result<Verdict, AllocError>
         requires ready { IsReady self.old }
         requires first { IsFirstApart self.old.net.now self.old.pool.patterns
             difference.output difference.input }
         ensures stays { OnOk result (Stays self.old self.new) }
         ensures goes_on { OnOk result (GoesOn (held self.old) self.new.book self.new.pool) }
-        ensures found { IfOk result
-            (IsFound self.new.net.now self.new.options (held self.old) (Some self.new.pool) self.new.book) }
+        ensures found { IfOk result (λ v. (begun : Patterns) → IsPoolOf self.new.net.now self.new.options begun
+            → IsAmongOrJoins self.new.net.now begun.patterns self.old.pool.patterns difference.input
+            → IsFound self.new.net.now self.new.options (record { book = self.old.book; pool = begun })
+            (Some self.new.pool) self.new.book v) }
     {
         // So the book has no entry of an output that differs.
         entries_are_true(self.net, &self.book);
@@ -126,8 +129,10 @@ impl<'a> Sweep<'a> {
         requires none { NoneApart self.old.net.now self.old.pool.patterns }
         ensures stays { OnOk result (Stays self.old self.new) }
         ensures goes_on { OnOk result (GoesOn (held self.old) self.new.book self.new.pool) }
-        ensures found { IfOk result
-            (IsFound self.new.net.now self.new.options (held self.old) (Some self.new.pool) self.new.book) }
+        ensures found { IfOk result (λ v. (begun : Patterns) → IsPoolOf self.new.net.now self.new.options begun
+            → Extends begun self.old.pool
+            → IsFound self.new.net.now self.new.options (record { book = self.old.book; pool = begun })
+            (Some self.new.pool) self.new.book v) }
     {
         self.structure()?;
         self.rounds()?;

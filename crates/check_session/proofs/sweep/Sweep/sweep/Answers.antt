@@ -66,8 +66,11 @@ returns-clause-found c =
     let n1 : one.net.now ≡ end.net.now = sym s2.stays.net ∙ n2 in
     let n0 : zero.net.now ≡ end.net.now = sym s1.stays.net ∙ n1 in
     let o0 : zero.options ≡ end.options = sym (s3.stays.options ∙ s2.stays.options ∙ s1.stays.options) in
-    subst (λ (p : Patterns). IsFound end.net.now end.options (held zero) (Some p) end.book c.in_ok-verdict.verdict) (sym s3.pool)
-    (found-by_sweep end.net.now end.options zero.pool two.pool zero.book one.book two.book end.book c.in_ok-verdict.verdict
+    λ begun of before.
+    subst (λ (p : Patterns). IsFound end.net.now end.options (record { book = zero.book; pool = begun }) (Some p) end.book
+    c.in_ok-verdict.verdict) (sym s3.pool)
+    (found-by_sweep end.net.now end.options begun zero.pool two.pool zero.book one.book two.book end.book c.in_ok-verdict.verdict
+    of before
     (subst (λ (o : Options). MayBegin end.net.now o (held zero)) o0
     (subst (λ (n : AigPair). MayBegin n zero.options (held zero)) n0 c.requires.ready))
     (subst (λ (n : AigPair). NoneApart n zero.pool.patterns) n0 c.requires.none)
@@ -76,4 +79,4 @@ returns-clause-found c =
     (subst (λ (n : AigPair). Fits n two.pool) n2 s2.fits)
     (subst (λ (p : Patterns). Extends p two.pool) s1.pool s2.pool)
     (subst (λ (n : AigPair). IsReduced n two.book.entries two.pool.patterns) n2 s2.reduced)
-    s3.grows c.in_ok-verdict.ensures.finds c.in_ok-verdict.ensures.open c.means.ensures c.is_within.ensures c.is_swept.ensures)
+    s3.grows s3.settled c.in_ok-verdict.ensures.finds c.in_ok-verdict.ensures.open c.means.ensures c.is_within.ensures c.is_swept.ensures)

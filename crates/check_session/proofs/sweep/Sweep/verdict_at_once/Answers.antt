@@ -28,7 +28,8 @@ pub returns-clause-found : goal.returns-clause-found
 returns-clause-found c =
     let s = c.args.self.now in
     let d = c.args.difference in
-    found-at_once s.net.now s.options s.pool s.book c.put.new.book d.output d.input c.of-told.result c.requires.ready c.entries_are_true.ensures
+    λ begun of from.
+    found-at_once s.net.now s.options begun s.pool s.book c.put.new.book d.output d.input c.of-told.result of from c.requires.ready c.entries_are_true.ensures
     (first-differs s.net.now s.pool.patterns d.output d.input c.requires.ready.pool.fits.whole c.requires.first) c.requires.first
     c.in_ok-put.ensures.ok c.in_ok-put.ensures.legal (c.of-told.ensures ∙ (c.in_ok-from_slice.ensures.items ∙ c.as_slice.ensures))
     c.means.ensures
