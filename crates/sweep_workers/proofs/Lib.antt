@@ -1,0 +1,6 @@
+mod WeightLemmas
+mod OfferLemmas
+mod TurnLemmas
+mod WorkLemmas
+mod ClosedLemmas
+mod AnswerLemmas

@@ -1,0 +1,73 @@
+-- What the two calls of many workers leave: a book that has grown, and a pool with the inputs of the counterexamples.
+use Rattle.std.specs.Prelude.{◌≡◌, ◌≢◌, ℕ, ◌<◌, Bool, true, ⊤, None, List, [], ◌∷◌, ◌++◌, length}
+use Rattle.std.specs.List.{AllByRecursion, list_all}
+use Rattle.netlist.specs.Net.{AigPair}
+use Rattle.word_sim.specs.Patterns.{Patterns}
+use Rattle.lemma_book.specs.declared.entry.Entry.{Entry}
+use Rattle.lemma_book.specs.declared.entry.Entry.TheVariants.{Merge, Apart, Spent, Out, OutApart, OutSpent}
+use Rattle.lemma_book.specs.Entry.{Entries, about, asks_pair, asks_output, question_of}
+use Rattle.lemma_book.specs.Book.{IsLegal}
+use Rattle.sig_classes.specs.Leader.{IsReduced}
+use Rattle.sweep_workers.specs.Answered.{sees_first}
+
+-- the entry is about two nodes; about an output
+abbrev pub is_of_pair : Entry → Bool
+is_of_pair e = asks_pair (question_of e)
+
+abbrev pub is_of_output : Entry → Bool
+is_of_output e = asks_output (question_of e)
+
+-- the inputs on which pairs of nodes differ, in the order of the entries
+abbrev pub with_input : Entry → List (List Bool) → List (List Bool)
+with_input (Apart node lit input) rest = input ∷ rest
+with_input (Merge node lit steps) rest = rest
+with_input (Spent node lit seen log) rest = rest
+with_input (Out j steps) rest = rest
+with_input (OutApart j input) rest = rest
+with_input (OutSpent j seen log) rest = rest
+
+abbrev pub apart_inputs : List Entry → List (List Bool)
+apart_inputs [] = []
+apart_inputs (e ∷ es) = with_input e (apart_inputs es)
+
+-- a counterexample of a pair has so many truth values
+abbrev pub HasInputs : ℕ → Entry → Type 0
+HasInputs n (Apart node lit input) = length input ≡ n
+HasInputs n (Merge node lit steps) = ⊤
+HasInputs n (Spent node lit seen log) = ⊤
+HasInputs n (Out j steps) = ⊤
+HasInputs n (OutApart j input) = ⊤
+HasInputs n (OutSpent j seen log) = ⊤
+
+-- each pattern has one truth value for each input of the pair
+pub record IsPoolFor (net : AigPair) (pool : Patterns) : Type 0 where
+  pub inputs : pool.inputs ≡ length net.a.inputs
+  pub whole : AllByRecursion (λ bits. length bits ≡ length net.a.inputs) pool.patterns
+
+-- The book is legal, has its budgets and begins as before; what was added is about pairs of nodes, and the inputs of the
+-- counterexamples stand behind the old patterns, in the same order.
+pub record Sweeps (net : AigPair) (old_book new_book : Entries) (old_pool new_pool : Patterns) : Type 0 where
+  pub sweep_budget : new_book.sweep_budget ≡ old_book.sweep_budget
+  pub out_budget : new_book.out_budget ≡ old_book.out_budget
+  pub added : List Entry
+  pub begins : new_book.entries ≡ old_book.entries ++ added
+  pub kinds : list_all is_of_pair added ≡ true
+  pub legal : IsLegal net new_book
+  pub inputs : new_pool.inputs ≡ old_pool.inputs
+  pub patterns : new_pool.patterns ≡ old_pool.patterns ++ apart_inputs added
+
+-- each output has an entry
+abbrev pub AreSettled : AigPair → List Entry → Type 0
+AreSettled net entries = (j : ℕ) → j < length net.a.outputs → about entries j ≢ None
+
+-- The book is legal, has its budgets and begins as before; what was added is about outputs, each of which has its entry,
+-- and an added query that spent its budget saw at least the old book.
+pub record SettlesOutputs (net : AigPair) (old new : Entries) : Type 0 where
+  pub sweep_budget : new.sweep_budget ≡ old.sweep_budget
+  pub out_budget : new.out_budget ≡ old.out_budget
+  pub added : List Entry
+  pub begins : new.entries ≡ old.entries ++ added
+  pub kinds : list_all is_of_output added ≡ true
+  pub legal : IsLegal net new
+  pub settled : AreSettled net new.entries
+  pub seen : list_all (sees_first (length old.entries)) added ≡ true

@@ -1,0 +1,71 @@
+-- What a worker's pass shows of the round between two of its tasks, and when it has come to the end.
+use Rattle.std.specs.Prelude.{◌≡◌, ℕ, ◌≤◌, ◌<◌, true, Option, None, Some, List, [], ◌∷◌, ◌++◌, length, map, slice_get}
+use Rattle.std.specs.List.{AllByRecursion, list_all}
+use Rattle.netlist.specs.Net.{AigPair}
+use Rattle.lemma_book.specs.declared.entry.Entry.{Entry}
+use Rattle.lemma_book.specs.Entry.{Entries, Question, question_of}
+use Rattle.lemma_book.specs.Book.{IsLegal, StartsWith}
+use Rattle.board_lock.specs.declared.view.Said.{Said}
+use Rattle.board_lock.specs.declared.view.Said.TheVariants.{At, Already, Known}
+use Rattle.board_lock.specs.declared.view.Note.{Note}
+use Rattle.board_lock.specs.Totals.{times}
+use Rattle.board_lock.specs.Pass.{Held, Post, share_of}
+use Rattle.sweep_workers.specs.declared.asked.Asked.{Asked}
+use Rattle.sweep_workers.specs.Asked.{IsAskable, questions}
+use Rattle.sweep_workers.specs.Answered.{sees_first}
+
+-- the question of a number, if there is one, and those behind it
+abbrev pub with_question : Option Question → List Question → List Question
+with_question None rest = rest
+with_question (Some q) rest = q ∷ rest
+
+-- the questions of the numbers that were drawn, in that order
+abbrev pub drawn_of : List Question → List ℕ → List Question
+drawn_of asked [] = []
+drawn_of asked (n ∷ ns) = with_question (slice_get asked n) (drawn_of asked ns)
+
+-- the entry that was offered, if one was, and those behind it
+abbrev pub with_offer : Said → List Entry → List Entry
+with_offer (At i e) rest = e ∷ rest
+with_offer (Already i e) rest = e ∷ rest
+with_offer (Known n) rest = rest
+
+-- the entries that were offered, in order
+abbrev pub offers : List Note → List Entry
+offers [] = []
+offers (n ∷ ns) = with_offer n.said (offers ns)
+
+-- the board is over this net and has these tasks, each of which may be asked
+pub record IsRound (net : AigPair) (board : Post) (tasks : List Asked) : Type 0 where
+  pub net_is : net ≡ board.root.net
+  pub count : length tasks ≡ board.tasks
+  pub askable : AllByRecursion (IsAskable net) tasks
+
+-- The pass is of this board. It knows a legal book that begins with the opening one; it has offered an entry about each
+-- question that it drew, in this order, and those that it took over so did too; and what spent a budget saw the opening book.
+pub record Works (board : Post) (asked : List Question) (h : Held) : Type 0 where
+  pub own : h.table ≡ board.table
+  pub legal : IsLegal board.root.net h.known
+  pub begins : StartsWith h.known board.root.opening
+  pub offered : map question_of (offers h.notes) ≡ drawn_of asked h.draws
+  pub seen : list_all (sees_first (length board.root.opening.entries)) (offers h.notes) ≡ true
+
+-- a number was drawn behind all tasks
+pub record IsAtEnd (tasks : ℕ) (h : Held) : Type 0 where
+  pub number : ℕ
+  pub behind : tasks ≤ number
+  pub drawn : 1 ≤ times number h.draws
+
+-- the pass has come to the end of the tasks, with the turns that it was given or has taken over
+pub record HasWorked (board : Post) (asked : List Question) (old new : Held) : Type 0 where
+  pub works : Works board asked new
+  pub end : IsAtEnd (length asked) new
+  pub share : share_of new ≡ share_of old
+
+-- the same right after a question was drawn, before its entry is offered
+pub record Owes (board : Post) (asked : List Question) (q : Question) (h : Held) : Type 0 where
+  pub own : h.table ≡ board.table
+  pub legal : IsLegal board.root.net h.known
+  pub begins : StartsWith h.known board.root.opening
+  pub offered : map question_of (offers h.notes) ++ q ∷ [] ≡ drawn_of asked h.draws
+  pub seen : list_all (sees_first (length board.root.opening.entries)) (offers h.notes) ≡ true

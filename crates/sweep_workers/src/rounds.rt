@@ -1,0 +1,103 @@
+ghost use Rattle.std.specs.Prelude.{◌≡◌, ◌≤◌, length, map, IfOk};
+ghost use Rattle.std.specs.List.{AllByRecursion};
+ghost use Rattle.lemma_book.specs.Book.{IsLegal};
+ghost use Rattle.lemma_book.specs.Good.{IsEarlier};
+ghost use Rattle.cone_query.specs.Query.{IsGate};
+ghost use Rattle.sig_classes.specs.Leader.{IsReduced};
+ghost use Rattle.sweep_workers.specs.Asked.{IsAskable};
+ghost use Rattle.sweep_workers.specs.Swept.{IsPoolFor, Sweeps};
+ghost use Rattle.sweep_workers.specs.declared.asked.Asked.TheVariants.{Pair};
+
+use crate::asked::Asked;
+use crate::inputs::join_inputs;
+use crate::round::round;
+use crate::worker::Worker;
+use circuit_search::Sieve;
+use desk_port::Gate;
+use lemma_book::{Book, Task};
+use netlist::Net;
+use sig_classes::{KeptClasses, laws};
+use std::alloc::{AllocError, Global};
+use std::sync::{Mutex, Wait};
+use std::thread::Threads;
+use unit_prop::Refuter;
+use word_sim::Pool;
+
+/// What a sweep works on: the book, the patterns, and the sieve of its rounds.
+#[derive(Drop)]
+pub struct Swept {
+    pub book: Book,
+    pub pool: Pool,
+    pub sieve: Mutex<Sieve>,
+}
+
+/// Settles the pairs of nodes that no pattern tells apart, round after round, until simulation has no
+/// candidates left.
+///
+/// In a round each pair that is due is a task, which the workers draw. Counterexamples join the pool behind
+/// the round, so the next one has other candidates; a pair whose budget was spent is no candidate again.
+pub fn sweep_by<T: Threads + Wait + Sync, R: Refuter + Send, G: Gate + Sync>(
+    rt: &T,
+    alloc: Global,
+    net: &Net,
+    swept: Swept,
+    gate: &G,
+    workers: &mut [Worker<R>],
+) -> Result<Swept, AllocError>
+    requires legal { IsLegal net.now swept.book }
+    requires pool { IsPoolFor net.now swept.pool }
+    requires some { 1 ≤ length workers.old }
+    ensures sweeps { IfOk result (λ s. Sweeps net.now swept.book s.book swept.pool s.pool) }
+    ensures reduced { IfOk result (λ s. IsReduced net.now s.book.entries s.pool.patterns) }
+{
+    let mut classes = KeptClasses::new(alloc, net)?;
+    let mut swept = swept;
+    for _ in 0..u64::MAX {
+        let due = classes.tasks(alloc, net, &swept.pool, &swept.book)?;
+        let pairs = due.as_slice();
+        if pairs.is_empty() {
+            laws::reduced_without_tasks();
+            return Ok(swept);
+        }
+        let next = settle_due(rt, alloc, net, swept, gate, workers, pairs)?;
+        swept = next;
+    }
+    Err(AllocError)
+}
+
+/// A round: settles the pairs that are due, and lets the inputs of its counterexamples join the patterns.
+fn settle_due<T: Threads + Wait + Sync, R: Refuter + Send, G: Gate + Sync>(
+    rt: &T,
+    alloc: Global,
+    net: &Net,
+    swept: Swept,
+    gate: &G,
+    workers: &mut [Worker<R>],
+    due: &[Task],
+) -> Result<Swept, AllocError>
+    requires legal { IsLegal net.now swept.book }
+    requires pool { IsPoolFor net.now swept.pool }
+    requires some { 1 ≤ length workers.old }
+    requires due { AllByRecursion (λ t. IsGate t.node × IsEarlier net.now t.node t.lit) due.now }
+    ensures sweeps { IfOk result (λ s. Sweeps net.now swept.book s.book swept.pool s.pool) }
+{
+    let Swept { book, pool, sieve } = swept;
+    sieve.lock(rt).sift(net, due)?;
+    let tasks = pairs(alloc, due)?;
+    let known = book.len();
+    let (book, sieve) = round(rt, alloc, net, book, tasks, sieve, gate, workers)?;
+    let mut pool = pool;
+    join_inputs(net, &book, known, &mut pool)?;
+    Ok(Swept { book, pool, sieve })
+}
+
+/// The tasks that ask about pairs.
+fn pairs(alloc: Global, due: &[Task]) -> Result<Vec<Asked>, AllocError>
+    ensures { IfOk result (λ v. v.items ≡ map Pair due.now) }
+{
+    let mut tasks = Vec::with_capacity(alloc, due.len())?;
+    for task in due {
+        tasks.push(Asked::Pair(*task))?;
+    }
+    Ok(tasks)
+}

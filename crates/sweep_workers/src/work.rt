@@ -1,0 +1,103 @@
+ghost use Rattle.std.specs.Prelude.{◌≡◌, ◌≤◌, false, length, IfOk, OnOk};
+ghost use Rattle.board_lock.specs.Pass.{share_of};
+ghost use Rattle.sweep_workers.specs.Asked.{IsAskable, question_in, questions};
+ghost use Rattle.sweep_workers.specs.Working.{HasWorked, IsAtEnd, IsRound, Owes, Works};
+
+use crate::asked::Asked;
+use crate::worker::Worker;
+use board_lock::{Board, Pass};
+use circuit_search::Sieve;
+use desk_port::Gate;
+use netlist::Net;
+use std::alloc::{AllocError, Global};
+use std::sync::{Mutex, Wait};
+use unit_prop::Refuter;
+
+/// What the workers of a round share: the board over the book, the tasks by number, and one sieve.
+#[derive(Drop)]
+pub(crate) struct Round {
+    pub(crate) board: Board,
+    pub(crate) tasks: Vec<Asked>,
+    pub(crate) sieve: Mutex<Sieve>,
+}
+
+/// Draws tasks and settles them, until there are no more.
+pub(crate) fn work<T: Wait, R: Refuter + Send, G: Gate>(
+    rt: &T,
+    alloc: Global,
+    net: &Net,
+    round: &Round,
+    gate: &G,
+    pass: Pass,
+    worker: &mut Worker<R>,
+) -> Result<Pass, AllocError>
+    requires round { IsRound net.now round.now.board round.now.tasks.items }
+    requires works { Works round.now.board (questions round.now.tasks.items) pass }
+    ensures { IfOk result (HasWorked round.now.board (questions round.now.tasks.items) pass) }
+{
+    let mut pass = pass;
+    for _ in 0..u64::MAX {
+        if !settle_next(rt, alloc, net, round, gate, &mut pass, worker)? {
+            return Ok(pass);
+        }
+    }
+    Err(AllocError)
+}
+
+/// Draws a task, passes the gate and settles the task. Tells whether there was one.
+fn settle_next<T: Wait, R: Refuter + Send, G: Gate>(
+    rt: &T,
+    alloc: Global,
+    net: &Net,
+    round: &Round,
+    gate: &G,
+    pass: &mut Pass,
+    worker: &mut Worker<R>,
+) -> Result<bool, AllocError>
+    requires round { IsRound net.now round.now.board round.now.tasks.items }
+    requires works { Works round.now.board (questions round.now.tasks.items) pass.old }
+    ensures works { OnOk result (Works round.now.board (questions round.now.tasks.items) pass.new) }
+    ensures end { IfOk result (λ more. more ≡ false
+        → IsAtEnd (length (questions round.now.tasks.items)) pass.new) }
+    ensures share { OnOk result (share_of pass.new ≡ share_of pass.old) }
+{
+    if pass.left() < 3 {
+        return Err(AllocError);
+    }
+    match pass.draw(&round.board) {
+        Some(number) => {
+            gate.pass(worker.number(), number);
+            let asked = round.tasks[number as usize];
+            settle(rt, alloc, net, round, pass, worker, asked)?;
+            Ok(true)
+        }
+        None => Ok(false),
+    }
+}
+
+/// Settles the task that was drawn last over what the pass has seen, offers the entry, and looks at the book.
+fn settle<T: Wait, R: Refuter + Send>(
+    rt: &T,
+    alloc: Global,
+    net: &Net,
+    round: &Round,
+    pass: &mut Pass,
+    worker: &mut Worker<R>,
+    asked: Asked,
+) -> Result<(), AllocError>
+    requires round { IsRound net.now round.now.board round.now.tasks.items }
+    requires askable { IsAskable net.now asked }
+    requires owes { Owes round.now.board (questions round.now.tasks.items) (question_in asked) pass.old }
+    requires left { 2 ≤ pass.old.left }
+    ensures works { OnOk result (Works round.now.board (questions round.now.tasks.items) pass.new) }
+    ensures share { OnOk result (share_of pass.new ≡ share_of pass.old) }
+{
+    let entry = worker.answer(rt, alloc, net, &round.sieve, pass.seen(), asked)?;
+    match pass.offer(rt, alloc, net, &round.board, entry) {
+        Ok(_offered) => {
+            let _known = pass.refresh(rt, alloc, &round.board)?;
+            Ok(())
+        }
+        Err((_entry, error)) => Err(error),
+    }
+}

@@ -1,0 +1,226 @@
+ghost use Rattle.std.specs.Prelude.{◌≡◌, ◌<◌, None, Some, length, IfOk};
+ghost use Rattle.lemma_book.specs.Book.{IsLegal};
+ghost use Rattle.lemma_book.specs.Entry.{about, question_of, subject_of};
+ghost use Rattle.lemma_book.specs.Good.{IsEarlier, IsGood};
+ghost use Rattle.lemma_book.specs.Root.{IsRoot};
+ghost use Rattle.lemma_book.specs.declared.entry.Subject.TheVariants.{Output};
+ghost use Rattle.circuit_search.specs.Answer.{Finds, SettlesPair};
+ghost use Rattle.cone_query.specs.Query.{IsGate, SeesAll, task_of};
+ghost use Rattle.sweep_workers.specs.Asked.{IsAskable, question_in};
+
+use crate::asked::Asked;
+use circuit_search::{Caps, Search, Sieve, apart};
+use equal_outputs::equal_output;
+use lemma_book::{Book, Entry, Task};
+use netlist::Net;
+use std::alloc::{AllocError, Global};
+use std::sync::{Mutex, Wait};
+use unit_prop::Refuter;
+
+/// One worker's memory, kept from round to round: its search, and its solver for queries of whole cones.
+#[derive(Drop)]
+pub struct Worker<R: Refuter> {
+    number: u32,
+    search: Search,
+    refuter: R,
+}
+
+impl<R: Refuter + Send> Worker<R> {
+    /// A worker on a net, with this number, by which gates know it, and this solver.
+    pub fn new(alloc: Global, net: &Net, number: u32, refuter: R) -> Result<Worker<R>, AllocError> {
+        Ok(Worker {
+            number,
+            search: Search::new(alloc, net)?,
+            refuter,
+        })
+    }
+
+    /// The solver back.
+    pub fn into_refuter(self) -> R {
+        let Worker {
+            number: _,
+            search: _,
+            refuter,
+        } = self;
+        refuter
+    }
+
+    /// The number by which gates know the worker.
+    pub(crate) fn number(&self) -> u32 {
+        self.number
+    }
+
+    /// A good entry about what is asked.
+    ///
+    /// Each number is drawn once, so nobody else has settled it; where a book says otherwise, nothing is
+    /// answered.
+    pub(crate) fn answer<T: Wait>(
+        &mut self,
+        rt: &T,
+        alloc: Global,
+        net: &Net,
+        sieve: &Mutex<Sieve>,
+        seen: &Book,
+        asked: Asked,
+    ) -> Result<Entry, AllocError>
+        requires legal { IsLegal net.now seen.now }
+        requires askable { IsAskable net.now asked }
+        ensures about { IfOk result (λ e. question_of e ≡ question_in asked) }
+        ensures good { IfOk result (λ e. IsGood net.now seen.now e) }
+        ensures seen { IfOk result (SeesAll seen.now) }
+    {
+        match asked {
+            Asked::Pair(task) => self.pair(rt, alloc, net, sieve, seen, &task),
+            Asked::Output(output) => self.output(alloc, net, seen, output),
+        }
+    }
+
+    /// A good entry about a pair, if its node isn't merged.
+    fn pair<T: Wait>(
+        &mut self,
+        rt: &T,
+        alloc: Global,
+        net: &Net,
+        sieve: &Mutex<Sieve>,
+        seen: &Book,
+        task: &Task,
+    ) -> Result<Entry, AllocError>
+        requires legal { IsLegal net.now seen.now }
+        requires gate { IsGate task.now.node }
+        requires earlier { IsEarlier net.now task.now.node task.now.lit }
+        ensures about { IfOk result (λ e. task_of e ≡ Some task.now) }
+        ensures good { IfOk result (λ e. IsGood net.now seen.now e) }
+        ensures seen { IfOk result (SeesAll seen.now) }
+    {
+        if seen.is_merged(task.node) {
+            return Err(AllocError);
+        }
+        match told_apart(rt, alloc, net, sieve, seen, task)? {
+            Some(entry) => Ok(entry),
+            None => self.ask(rt, alloc, net, sieve, seen, task),
+        }
+    }
+
+    /// A good entry about a pair that no pattern of the sieve tells apart: what the search finds, else what
+    /// the query of the whole cone answers. A counterexample may tell later pairs of the round apart.
+    fn ask<T: Wait>(
+        &mut self,
+        rt: &T,
+        alloc: Global,
+        net: &Net,
+        sieve: &Mutex<Sieve>,
+        seen: &Book,
+        task: &Task,
+    ) -> Result<Entry, AllocError>
+        requires legal { IsLegal net.now seen.now }
+        requires gate { IsGate task.now.node }
+        requires root { IsRoot seen.now.entries task.now.node }
+        requires earlier { IsEarlier net.now task.now.node task.now.lit }
+        ensures about { IfOk result (λ e. task_of e ≡ Some task.now) }
+        ensures good { IfOk result (λ e. IsGood net.now seen.now e) }
+        ensures seen { IfOk result (SeesAll seen.now) }
+    {
+        let entry = self.found(alloc, net, seen, task)?;
+        note(rt, net, sieve, &entry)?;
+        Ok(entry)
+    }
+
+    /// What the search finds of a pair, else what the query of the whole cone answers.
+    fn found(
+        &mut self,
+        alloc: Global,
+        net: &Net,
+        seen: &Book,
+        task: &Task,
+    ) -> Result<Entry, AllocError>
+        requires legal { IsLegal net.now seen.now }
+        requires gate { IsGate task.now.node }
+        requires root { IsRoot seen.now.entries task.now.node }
+        requires earlier { IsEarlier net.now task.now.node task.now.lit }
+        ensures about { IfOk result (λ e. task_of e ≡ Some task.now) }
+        ensures good { IfOk result (λ e. IsGood net.now seen.now e) }
+        ensures seen { IfOk result (SeesAll seen.now) }
+    {
+        match self
+            .search
+            .pair(alloc, net, seen, task, pair_caps(seen.sweep_budget()))?
+        {
+            Some(entry) => Ok(entry),
+            None => cone_query::pair(alloc, net, seen, task, &mut self.refuter),
+        }
+    }
+
+    /// A good entry about an output that has none yet: what its equal roots show, else what the search finds,
+    /// else what the query of the whole cone answers.
+    fn output(
+        &mut self,
+        alloc: Global,
+        net: &Net,
+        seen: &Book,
+        output: u32,
+    ) -> Result<Entry, AllocError>
+        requires legal { IsLegal net.now seen.now }
+        requires output { output < length net.now.a.outputs }
+        ensures about { IfOk result (λ e. subject_of e ≡ Some (Output output)) }
+        ensures good { IfOk result (λ e. IsGood net.now seen.now e) }
+        ensures seen { IfOk result (SeesAll seen.now) }
+    {
+        if seen.about(output).is_some() {
+            return Err(AllocError);
+        }
+        if let Some(entry) = equal_output(alloc, net, seen, output)? {
+            return Ok(entry);
+        }
+        match self
+            .search
+            .output(alloc, net, seen, output, output_caps(seen.out_budget()))?
+        {
+            Some(entry) => Ok(entry),
+            None => cone_query::output(alloc, net, seen, output, &mut self.refuter),
+        }
+    }
+}
+
+/// The entry of a pair that a pattern of the sieve tells apart.
+fn told_apart<T: Wait>(
+    rt: &T,
+    alloc: Global,
+    net: &Net,
+    sieve: &Mutex<Sieve>,
+    seen: &Book,
+    task: &Task,
+) -> Result<Option<Entry>, AllocError>
+    requires legal { IsLegal net.now seen.now }
+    ensures { IfOk result (Finds (SettlesPair task.now) net.now seen.now) }
+{
+    let telling = sieve.lock(rt).telling(alloc, net, task)?;
+    match telling {
+        Some(input) => apart(alloc, net, seen, task, input),
+        None => Ok(None),
+    }
+}
+
+/// Lets the sieve take the input of a counterexample.
+fn note<T: Wait>(rt: &T, net: &Net, sieve: &Mutex<Sieve>, entry: &Entry) -> Result<(), AllocError> {
+    match entry {
+        Entry::Apart { input, .. } => sieve.lock(rt).note(net, input.as_slice()),
+        _ => Ok(()),
+    }
+}
+
+/// How far the lazy search goes for a pair of this budget. More conflicts are left to the solver, and deep
+/// candidates that are false would take many thousand choices.
+fn pair_caps(budget: u64) -> Caps {
+    Caps {
+        conflicts: budget.min(100),
+        decisions: 2000,
+    }
+}
+
+/// How far the lazy search for an output of this budget goes: as far as the query of the whole cone may.
+fn output_caps(budget: u64) -> Caps {
+    Caps {
+        conflicts: budget,
+        decisions: u64::MAX,
+    }
+}
