@@ -6,9 +6,9 @@
 //! stands in the books that they hand back, `own.rt` checks of circuits that the program makes, `shapes.rt`
 //! answers whose shape a small case doesn't reach, `faults.rt` checks in which each call of the desk fails
 //! in turn, `scripts.rt` checks with an edit script between, `script_faults.rt` those in which a call fails,
-//! `proofs.rt` the check of proofs, forged ones among them, `readers.rt` files that are refused, and those that
-//! are cut at each byte. `files.rt` has the circuits that most of them use, and `desk.rt`
-//! runs the program on a table of files and words. Begin to read at `cases.rt`.
+//! `proofs.rt` the check of proofs, forged ones among them, `readers.rt` files that are refused, and those
+//! that are cut at each byte. `files.rt` has the circuits that most of them use, and `desk.rt` runs the
+//! program on a table of files and words. Begin to read at `cases.rt`.
 #![tactic(auto)]
 
 #[cfg(test)]

@@ -7,8 +7,8 @@ use std::sync::Wait;
 use std::test::*;
 use std::thread::Threads;
 
-/// Calls from the first to the last, by their numbers from 0: the status where one of them fails, and how many
-/// checks are said whole then. Where the call says a verdict, a first part of it may be said behind them.
+/// Calls from the first to the last, by their numbers from 0: the status where one of them fails, and how
+/// many checks are said whole then. Where the call says a verdict, a first part of it may be said behind them.
 #[derive(Clone, Copy)]
 struct Calls {
     first: u64,
