@@ -1,7 +1,7 @@
 use crate::clause::Clause;
 use crate::listed::Listed;
 use crate::literal::Lit;
-use crate::node::Node;
+use crate::node::{Node, Side};
 
 /// The name of a clause that a proof step cites.
 #[derive(Clone, Copy, PartialEq, Eq)]
@@ -12,6 +12,8 @@ pub enum Ref {
     Entry(u64, u8),
     /// The clause of an earlier step of the same list, from 0.
     Own(u64),
+    /// The unit clause that says that constraint `k`, from 0, of one side is true.
+    Bound(Side, u32),
 }
 
 /// A step of a proof: a clause, and the clauses that show it by unit propagation, in order.

@@ -1,6 +1,6 @@
 -- Over which nodes the clauses are that define a node: the node itself and its fanins or outputs. All of them have CNF
 -- variables if the node has one.
-use Rattle.std.proofs.Common.{◌≡◌, ℕ, ◌<◌, Bool, true, false, not, ◌||◌, Option, Some, None, List, [], ◌∷◌, map, flat_map, length, refl, sym, ap, ◌∙◌, subst, arith}
+use Rattle.std.proofs.Common.{◌≡◌, ℕ, ◌<◌, Bool, true, false, not, ◌||◌, Option, Some, None, List, [], ◌∷◌, ◌++◌, map, flat_map, length, refl, sym, ap, ◌∙◌, subst, arith}
 use Rattle.std.specs.Prelude.{◌==◌, slice_get, slice_index, ⊤}
 use Rattle.std.specs.Option.{option_map, option_map_or}
 use Rattle.std.specs.List.{AllByRecursion}
@@ -16,16 +16,17 @@ use Rattle.lits.specs.declared.node.Node.TheVariants.{Const, Input, Gate, Xor}
 use Rattle.lits.specs.declared.literal.Lit.{Lit}
 use Rattle.netlist.specs.declared.gate.And.{And}
 use Rattle.netlist.specs.Circuit.{var_of, gate_vars, variables_in, Aig}
-use Rattle.netlist.specs.Net.{AigPair, IsNet, circuit_of, node_of, lit_named, output_of, definition_of, gate_at, nodes_of}
+use Rattle.netlist.specs.Net.{AigPair, IsNet, bounds_of, circuit_of, node_of, lit_named, output_of, definition_of, gate_at, nodes_of}
 use Rattle.lits.specs.Same.{same_node, same_lit, opposite}
 use Rattle.lits.proofs.Facts.{exact-node, same-node_self, all-append, all-parts, all-filter, all-map}
-use Rattle.netlist.specs.Miter.{positive, axioms_of, xor_axioms, gate_clauses, xor_clauses, kept, xors_of, variables_of, clauses_of}
+use Rattle.netlist.specs.Miter.{positive, axioms_of, xor_axioms, gate_clauses, xor_clauses, kept, xors_of, variables_of, defining_clauses, units_of, clauses_of}
 use Rattle.netlist.proofs.SameNodes.{equal-number, found-one, no-facts}
 use Rattle.netlist.proofs.RunValues.{IsAmong, all-over}
 use Rattle.netlist.proofs.NodeValues.{is_circuit}
 use Rattle.netlist.proofs.NodesThere.{has-variable, length-outputs, has-named, output-there}
 use Rattle.netlist.proofs.ConeValues.{HasFanins}
 use Rattle.netlist.proofs.ConeModels.{HasOutputs}
+use Rattle.netlist.proofs.BoundLemmas.{bounds-variables, over-units}
 
 -- each literal of the clauses is over the set
 abbrev pub AreOver : (Node → Bool) → List (List Lit) → Type 0
@@ -154,9 +155,11 @@ module _ (net : AigPair) (is : IsNet net) where
   -- each literal of the miter has a CNF variable
   pub over-clauses : AreOver (has same_node (variables_of net)) (clauses_of net)
   over-clauses =
-      all-append (λ c. AllByRecursion (λ l. has same_node (variables_of net) l.node ≡ true) c) (flat_map (axioms_of net) (variables_of net)) (map positive (xors_of net) ∷ [])
+      all-append (λ c. AllByRecursion (λ l. has same_node (variables_of net) l.node ≡ true) c) (defining_clauses net ++ units_of net) (map positive (xors_of net) ∷ [])
+      (all-append (λ c. AllByRecursion (λ l. has same_node (variables_of net) l.node ≡ true) c) (defining_clauses net) (units_of net)
       (all-flat_map (λ c. AllByRecursion (λ l. has same_node (variables_of net) l.node ≡ true) c) (axioms_of net) (variables_of net)
-      (all-members (λ n. AreOver (has same_node (variables_of net)) (axioms_of net n)) (variables_of net) over-variables)) (
+      (all-members (λ n. AreOver (has same_node (variables_of net)) (axioms_of net n)) (variables_of net) over-variables))
+      (over-units (λ l. has same_node (variables_of net) l.node ≡ true) (bounds_of net) (bounds-variables net is))) (
         all-map (λ l. has same_node (variables_of net) l.node ≡ true) positive (xors_of net)
             (all-members (λ n. has same_node (variables_of net) n ≡ true) (xors_of net)
             (λ n h. list_any-append (λ y. same_node y n) (nodes_of net) (xors_of net) ∙ or_right (has same_node (nodes_of net) n) (has same_node (xors_of net) n) h)),

@@ -29,7 +29,7 @@ use Rattle.netlist.proofs.SameNodes.{place_from_any}
 use Rattle.netlist.proofs.VariableLemmas.{list_any-vars}
 use Rattle.netlist.proofs.NetLemmas.{length-definitions, length-nodes, length-variables, position-gate, variable-node, variable_of-xor}
 use Rattle.netlist.proofs.EditLemmas.{swap, vars-swap, set-swap, same_number}
-use Rattle.netlist.proofs.OneNode.{DifferAt, were_starts}
+use Rattle.netlist.proofs.OneNode.{were_starts}
 
 -- a variable one higher than a place
 place_from : (o : Option ℕ) (k : ℕ) → option_map (λ n. n + 1) o ≡ Some (k + 1) → o ≡ Some k

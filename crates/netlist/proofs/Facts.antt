@@ -121,3 +121,13 @@ pub use Rattle.netlist.proofs.ClauseMeaning.{gate_from_meets, xor_from_meets}
 pub use Rattle.netlist.proofs.PairingLemmas.{matched-is, none-against}
 -- both circuits have equal numbers of inputs and outputs, and the second one keeps its constraints
 pub use Rattle.netlist.proofs.PairingLemmas.{matched-counts, matched-constraints}
+-- ---- constraints: each constraint's literal, and that its node has a position
+pub use Rattle.netlist.proofs.BoundLemmas.{bound-below, bound_of-lit, bound-there}
+-- the nodes of all constraints have positions, and CNF variables
+pub use Rattle.netlist.proofs.BoundLemmas.{bounds-there, bounds-variables}
+-- an input is admitted exactly where the literals of all constraints are true
+pub use Rattle.netlist.proofs.BoundLemmas.{admitted-bounds, bounds-admitted}
+-- the units of literals ask that each of them is true
+pub use Rattle.netlist.proofs.BoundLemmas.{units-hold, hold-units, over-units}
+-- as many literals as constraints, how many clauses the miter has, and the number of a unit
+pub use Rattle.netlist.proofs.StartLemmas.{length-bounds, length-miter, bound_number}

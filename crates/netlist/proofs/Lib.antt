@@ -7,6 +7,7 @@ mod NodeValues
 mod NodesThere
 mod ConeValues
 mod ConeModels
+mod BoundLemmas
 mod ClausesOver
 mod NumberedClauses
 mod SatisfiableMiter

@@ -4,17 +4,19 @@ use Rattle.std.specs.Prelude.{◌&&◌, ◌||◌, slice_get}
 use Rattle.std.specs.Option.{option_map, option_map_or}
 use Rattle.std.specs.List.{AllByRecursion, range_with_len, flat_map}
 use Rattle.std.proofs.Math.Seq.{take-length}
-use Rattle.std.proofs.lemmas.List.{map-append, take_all}
+use Rattle.std.proofs.lemmas.List.{append_assoc, length-map, map-append, take_all}
 use Rattle.std.proofs.lemmas.Option.{none-some, slice_get-get_or}
 use Rattle.lits.specs.Clause.{has, no_repeat, has_pair, IsClause}
 use Rattle.lits.specs.Dimacs.{DimacsLiteral}
+use Rattle.lits.specs.declared.node.Side.{Side}
+use Rattle.lits.specs.declared.node.Side.TheVariants.{A, B}
 use Rattle.lits.specs.declared.node.Node.{Node}
 use Rattle.lits.specs.declared.node.Node.TheVariants.{Const, Xor}
 use Rattle.lits.specs.declared.literal.Lit.{Lit}
-use Rattle.netlist.specs.Net.{AigPair, IsNet}
+use Rattle.netlist.specs.Net.{AigPair, IsNet, bound_of, bounds_on, circuit_of, lit_named}
 use Rattle.lits.specs.Same.{same_node, same_lit, opposite, same_dim, opposite_dim}
 use Rattle.lits.proofs.Facts.{take_next, all-parts, exact-lit, all-slice_get}
-use Rattle.netlist.specs.Miter.{positive, axioms_of, axiom_of, xors_of, variables_of, variable_of, numbered, miter_of}
+use Rattle.netlist.specs.Miter.{positive, axioms_of, axiom_of, xors_of, variables_of, variable_of, numbered, miter_of, unit, units_of, defining_clauses}
 use Rattle.netlist.specs.Numbered.{AreThere, numbered_at, numbered_before}
 use Rattle.netlist.proofs.StartLemmas.{flat_next}
 use Rattle.netlist.proofs.NumberedClauses.{numbered-same}
@@ -180,7 +182,7 @@ xors-clause net = record {
 
 pub xors-there : (net : AigPair) → IsNet net → AreThere net (map positive (xors_of net))
 xors-there net is =
-    (all-parts (λ c. AllByRecursion (λ l. has same_node (variables_of net) l.node ≡ true) c) (flat_map (axioms_of net) (variables_of net))
+    (all-parts (λ c. AllByRecursion (λ l. has same_node (variables_of net) l.node ≡ true) c) (defining_clauses net ++ units_of net)
     (map positive (xors_of net) ∷ []) (over-clauses net is)).1.0
 
 next_part : {X Y Z : Type 0} (f : X → List Y) (h : Y → Z) (xs : List X) (i : ℕ) (x : X) → slice_get xs i ≡ Some x
@@ -189,11 +191,39 @@ next_part f h xs i x e =
     ap (map h) (flat_next f xs i x e) ∙ map-append h (flat_map f (take i xs)) (f x)
     ∙ ap (λ o. map h (flat_map f (take i xs)) ++ map h (option_map_or f o [])) (sym e)
 
-all_parts : {X Y Z : Type 0} (f : X → List Y) (h : Y → Z) (xs : List X) (y : Y) (i : ℕ) → i ≡ length xs
-    → map h (flat_map f (take i xs)) ++ (h y ∷ []) ≡ map h (flat_map f xs ++ (y ∷ []))
-all_parts f h xs y i e =
-    ap (λ ys. map h (flat_map f ys) ++ (h y ∷ [])) (ap (λ (n : ℕ). take n xs) e ∙ take-length xs)
-    ∙ sym (map-append h (flat_map f xs) (y ∷ []))
+-- clauses, those of two lists of literals behind them, and one clause more
+in_parts : {X C D : Type 0} (h : C → D) (f : X → C) (cs : List C) (xs ys : List X) (c : C)
+    → ((map h cs ++ map h (map f xs)) ++ map h (map f ys)) ++ (h c ∷ []) ≡ map h ((cs ++ map f (xs ++ ys)) ++ (c ∷ []))
+in_parts h f cs xs ys c =
+    ap (λ ds. ds ++ (h c ∷ [])) (
+    append_assoc (map h cs) (map h (map f xs)) (map h (map f ys))
+    ∙ ap (λ ds. map h cs ++ ds) (sym (ap (map h) (map-append f xs ys) ∙ map-append h (map f xs) (map f ys)))
+    ∙ sym (map-append h cs (map f (xs ++ ys)))
+    )
+    ∙ sym (map-append h (cs ++ map f (xs ++ ys)) (c ∷ []))
+
+-- the first k units of one side, by their numbers
+pub numbered_units : AigPair → Side → ℕ → List (List DimacsLiteral)
+numbered_units net side k = map (λ c. map (numbered net) c) (map unit (take k (bounds_on net side)))
+
+pub units_none : (net : AigPair) (side : Side) → numbered_units net side 0 ≡ []
+unfolding numbered_units
+units_none net side = refl
+
+pub units_more : (net : AigPair) (side : Side) (k : ℕ) (l : Lit) → bound_of net side k ≡ Some l
+    → numbered_units net side (k + 1) ≡ numbered_units net side k ++ map (numbered net) (l ∷ []) ∷ []
+unfolding numbered_units
+units_more net side k l e =
+    ap (λ (ls : List Lit). map (λ c. map (numbered net) c) (map unit ls)) (take_next (bounds_on net side) k l e)
+    ∙ ap (map (λ c. map (numbered net) c)) (map-append unit (take k (bounds_on net side)) (l ∷ []))
+    ∙ map-append (λ c. map (numbered net) c) (map unit (take k (bounds_on net side))) (unit l ∷ [])
+
+pub units_all : (net : AigPair) (side : Side) (k : ℕ) → length (circuit_of net side).constraints ≤ k
+    → numbered_units net side k ≡ map (λ c. map (numbered net) c) (map unit (bounds_on net side))
+unfolding numbered_units
+units_all net side k past =
+    ap (λ (ls : List Lit). map (λ c. map (numbered net) c) (map unit ls))
+    (take_all k (bounds_on net side) (omega (arith, past, length-map (circuit_of net side).constraints (lit_named side (circuit_of net side)))))
 
 -- the clauses, node by node
 pub before_none : (net : AigPair) → numbered_before net 0 ≡ []
@@ -206,10 +236,13 @@ before_more net place l =
     next_part (axioms_of net) (λ c. map (numbered net) c) (variables_of net) place _ (slice_get-get_or (variables_of net) place Const l)
 
 pub before_all : (net : AigPair) (place : ℕ) → place ≡ length (variables_of net)
-    → numbered_before net place ++ (map (numbered net) (map positive (xors_of net)) ∷ []) ≡ miter_of net
+    → ((numbered_before net place ++ map (λ c. map (numbered net) c) (map unit (bounds_on net A))) ++ map (λ c. map (numbered net) c) (map unit (bounds_on net B)))
+    ++ (map (numbered net) (map positive (xors_of net)) ∷ []) ≡ miter_of net
 unfolding numbered_before
 before_all net place e =
-    all_parts (axioms_of net) (λ c. map (numbered net) c) (variables_of net) (map positive (xors_of net)) place e
+    ap (λ (ns : List Node). ((map (λ c. map (numbered net) c) (flat_map (axioms_of net) ns) ++ map (λ c. map (numbered net) c) (map unit (bounds_on net A))) ++ map (λ c. map (numbered net) c) (map unit (bounds_on net B))) ++ (map (numbered net) (map positive (xors_of net)) ∷ []))
+    (ap (λ (n : ℕ). take n (variables_of net)) e ∙ take-length (variables_of net))
+    ∙ in_parts (λ c. map (numbered net) c) unit (defining_clauses net) (bounds_on net A) (bounds_on net B) (map positive (xors_of net))
 
 -- the clause of all numbers of an array
 pub numbered_clause : (net : AigPair) (lits : List Lit) (numbers : List DimacsLiteral) (i : ℕ) → length lits ≡ i → AreThere net lits

@@ -1,7 +1,7 @@
--- B in A's order has the values of B, each input and output being the one of the same name.
+-- B in A's order has the values of B, each input and output being the one of the same name, and its constraints are B's.
 use Rattle.std.proofs.Common.{◌≡◌, ℕ, zero, suc, ◌<◌, Bool, true, false, not, Option, None, Some, List, [], ◌∷◌, length, get_or, refl, sym, ap, ◌∙◌, subst, arith, add-one}
 use Rattle.std.specs.Prelude.{◌==◌}
-use Rattle.std.specs.List.{slice_index_or}
+use Rattle.std.specs.List.{list_all, slice_index_or}
 use Rattle.std.specs.Option.{option_map_or, unwrap_or, is_some}
 use Rattle.std.proofs.Math.Path.{fun_ext}
 use Rattle.std.proofs.lemmas.Bool.{and_parts}
@@ -13,7 +13,7 @@ use Rattle.lits.specs.Clause.{has, no_repeat}
 use Rattle.symbol_names.specs.NameList.{name_at}
 use Rattle.netlist.specs.Place.{place_of}
 use Rattle.netlist.specs.Circuit.{Aig, IsCircuit, run, given, lit_value, value_in, output_value}
-use Rattle.netlist.specs.Net.{IsNet}
+use Rattle.netlist.specs.Net.{IsNet, meets_constraints}
 use Rattle.netlist.specs.Unlike.{unlike_of}
 use Rattle.netlist.specs.declared.unlike.Unlike.TheVariants.{Inputs, Outputs}
 use Rattle.netlist.specs.ByName.{same_name, place_named, arranged, at_name, in_order, put_back, namesake_value, unlike_ports, unlike_by_name, HasNamesake}
@@ -116,6 +116,11 @@ module _ (a b : Aig) (net : IsNet (record { a = a; b = b })) (none : unlike_port
       let lit = get_or-in_order a.names.outputs b.names.outputs outputs b.outputs (sym net.b.names.output_places) j (omega (arith, below, net.a.names.output_places)) in
       ap (value_in (arranged a b) bits) lit
       ∙ ap (λ (v : ℕ → Bool). lit_value (run b.gates v) (at_name a.names.outputs b.names.outputs b.outputs j)) (fun_ext (given-same bits))
+
+  -- and its constraints are true exactly where B's are
+  pub namesake-constraints : (bits : List Bool) → meets_constraints (arranged a b) bits ≡ meets_constraints b (put_back a b bits)
+  namesake-constraints bits =
+      ap (λ (v : ℕ → Bool). list_all (lit_value (run b.gates v)) b.constraints) (fun_ext (given-same bits))
 
   pub namesake-inputs : (k : ℕ) → k < length a.inputs → HasNamesake a.names.inputs b.names.inputs b.inputs (arranged a b).inputs k
   namesake-inputs k below = has-namesake a.names.inputs b.names.inputs b.inputs inputs few k (omega (arith, below, net.a.names.input_places))

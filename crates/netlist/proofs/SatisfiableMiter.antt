@@ -1,22 +1,23 @@
--- The miter is satisfiable exactly if the two circuits differ.
-use Rattle.std.proofs.Common.{◌≡◌, ◌≢◌, ℕ, ◌<◌, Bool, true, false, ◌||◌, List, [], ◌∷◌, map, flat_map, arith, length, refl, sym, ap, ◌∙◌}
+-- The miter is satisfiable exactly if the two circuits differ on an admitted input.
+use Rattle.std.proofs.Common.{◌≡◌, ◌≢◌, ℕ, ◌<◌, Bool, true, false, not, ◌||◌, List, [], ◌∷◌, ◌++◌, map, arith, length, refl, sym, ap, ◌∙◌, if◌then◌else◌}
 use Rattle.std.specs.Prelude.{◌↔◌, ◌==◌}
-use Rattle.std.specs.List.{list_any, range_with_len}
+use Rattle.std.specs.List.{AllByRecursion, list_any, range_with_len}
 use Rattle.std.proofs.lemmas.Bool.{or_left, or_right}
 use Rattle.lits.specs.Clause.{has}
 use Rattle.lits.specs.Assignment.{Holds, Meets, IsSatisfiable}
 use Rattle.lits.specs.declared.node.Node.{Node}
 use Rattle.lits.specs.declared.node.Node.TheVariants.{Xor}
 use Rattle.netlist.specs.Circuit.{output_value}
-use Rattle.netlist.specs.Net.{AigPair, IsNet, DiffersOn, Agree, Differ, value_of, lit_holds, differs}
+use Rattle.netlist.specs.Net.{AigPair, IsNet, DiffersOn, Agree, Differ, bounds_of, nodes_of, value_of, lit_holds, differs}
 use Rattle.lits.specs.Same.{same_node, opposite_dim}
 use Rattle.lits.proofs.Facts.{list_any-map, all-append, all-parts}
-use Rattle.netlist.specs.Miter.{positive, axioms_of, xors_of, variables_of, clauses_of, miter_of}
-use Rattle.netlist.proofs.SameNodes.{equal-number, same-number, range-has}
+use Rattle.netlist.specs.Miter.{positive, axioms_of, xors_of, variables_of, defining_clauses, units_of, clauses_of, miter_of}
+use Rattle.netlist.proofs.SameNodes.{both-all, equal-number, same-number, range-has}
 use Rattle.netlist.proofs.NodeValues.{values-meet}
-use Rattle.netlist.proofs.NodesThere.{has-xor, xor-below}
+use Rattle.netlist.proofs.NodesThere.{has-variable, has-xor, xor-below}
 use Rattle.netlist.proofs.ConeValues.{inputs_under, length-inputs_under, inputs_under-at}
-use Rattle.netlist.proofs.ConeModels.{IsModelOver, model-all}
+use Rattle.netlist.proofs.ConeModels.{IsModelOver, model-all, model-node}
+use Rattle.netlist.proofs.BoundLemmas.{admitted-bounds, bounds-admitted, bounds-there, hold-units, units-hold}
 use Rattle.netlist.proofs.ClausesOver.{all-members, all-flat_map, flat_map-member, variables-fanins, variables-outputs, over-clauses}
 use Rattle.netlist.proofs.NumberedClauses.{satisfiable-numbers}
 
@@ -64,13 +65,13 @@ any-xors net v =
     ∙ list_any-map (λ n. lit_holds v (positive n)) Xor (range_with_len 0 (length net.a.outputs))
 
 module _ (net : AigPair) (is : IsNet net) where
-  -- values that meet the miter's clauses make two outputs differ
+  -- values that meet the miter's clauses are those of an admitted input on which two outputs differ
   pub differ_from_model : (v : Node → Bool) → Meets (lit_holds v) (clauses_of net) → Differ net
   differ_from_model v m = record {
     output = xor.0;
     bits = bits;
     differs = record {
-      whole = length-inputs_under net v;
+      admitted = bounds-admitted net is bits (length-inputs_under net v) all;
       within = xor-below net xor.0 there;
       apart = apart_from_differs (output_value net.a bits xor.0) (output_value net.b bits xor.0)
           (sym (model-all net is (has same_node (variables_of net)) v bits model (variables-outputs net is) (Xor xor.0) there there)
@@ -81,13 +82,16 @@ module _ (net : AigPair) (is : IsNet net) where
       bits : List Bool
       bits = inputs_under net v
 
-      parts : Meets (lit_holds v) (flat_map (axioms_of net) (variables_of net)) × Meets (lit_holds v) (map positive (xors_of net) ∷ [])
-      parts = all-parts (Holds (lit_holds v)) (flat_map (axioms_of net) (variables_of net)) (map positive (xors_of net) ∷ []) m
+      parts : Meets (lit_holds v) (defining_clauses net ++ units_of net) × Meets (lit_holds v) (map positive (xors_of net) ∷ [])
+      parts = all-parts (Holds (lit_holds v)) (defining_clauses net ++ units_of net) (map positive (xors_of net) ∷ []) m
+
+      first_parts : Meets (lit_holds v) (defining_clauses net) × Meets (lit_holds v) (units_of net)
+      first_parts = all-parts (Holds (lit_holds v)) (defining_clauses net) (units_of net) parts.0
 
       model : IsModelOver net (has same_node (variables_of net)) v bits
       model = record {
         fanins = variables-fanins net is;
-        meets = flat_map-member (Holds (lit_holds v)) (axioms_of net) (variables_of net) parts.0;
+        meets = flat_map-member (Holds (lit_holds v)) (axioms_of net) (variables_of net) first_parts.0;
         inputs = λ k below q. inputs_under-at net v k below;
       }
 
@@ -97,12 +101,23 @@ module _ (net : AigPair) (is : IsNet net) where
       there : has same_node (variables_of net) (Xor xor.0) ≡ true
       there = has-xor net xor.0 ∙ xor.2
 
-  -- truth values of the inputs that make two outputs differ meet the miter's clauses
+      -- the units hold, and so the values of the constraints' literals are true
+      all : AllByRecursion (λ l. lit_holds (value_of net bits) l ≡ true) (bounds_of net)
+      all =
+          both-all (λ l. has same_node (nodes_of net) l.node ≡ true) (λ l. lit_holds v l ≡ true) (λ l. lit_holds (value_of net bits) l ≡ true)
+          (λ l there holds.
+          let same = model-node net is (has same_node (variables_of net)) v bits model l.node there (has-variable net l.node there) in
+          ap (λ (b : Bool). if l.neg then not b else b) (sym same) ∙ holds)
+          (bounds_of net) (bounds-there net is) (units-hold (lit_holds v) (bounds_of net) first_parts.1)
+
+  -- an admitted input on which two outputs differ meets the miter's clauses
   pub model_from_differ : (d : Differ net) → Meets (lit_holds (value_of net d.bits)) (clauses_of net)
   model_from_differ d =
-      all-append (Holds (lit_holds v)) (flat_map (axioms_of net) (variables_of net)) (map positive (xors_of net) ∷ [])
+      all-append (Holds (lit_holds v)) (defining_clauses net ++ units_of net) (map positive (xors_of net) ∷ [])
+      (all-append (Holds (lit_holds v)) (defining_clauses net) (units_of net)
       (all-flat_map (Holds (lit_holds v)) (axioms_of net) (variables_of net)
       (all-members (λ n. Meets (lit_holds v) (axioms_of net n)) (variables_of net) (λ n h. values-meet net is d.bits n)))
+      (hold-units (lit_holds v) (bounds_of net) (admitted-bounds net is d.bits d.differs.admitted)))
       (any-xors net v ∙ any_from_number (λ j. v (Xor j)) (range_with_len 0 (length net.a.outputs)) d.output there apart, tt)
     where
       v : Node → Bool
@@ -124,12 +139,12 @@ module _ (net : AigPair) (is : IsNet net) where
       (λ s. let r = numbers.0 s in differ_from_model r.0 r.1, λ d. numbers.1 (value_of net d.bits, model_from_differ d))
 
   agree_from_same : ¬ Differ net → Agree net
-  agree_from_same none j within bits whole = go (output_value net.a bits j) (output_value net.b bits j) refl refl
+  agree_from_same none j within bits admitted = go (output_value net.a bits j) (output_value net.b bits j) refl refl
     where
       apart : output_value net.a bits j ≢ output_value net.b bits j
           → output_value net.a bits j ≡ output_value net.b bits j
       apart d =
-          let differs : DiffersOn net j bits = record { whole = whole; within = within; apart = d } in
+          let differs : DiffersOn net j bits = record { admitted = admitted; within = within; apart = d } in
           absurd (none (record { output = j; bits = bits; differs = differs }))
 
       go : (x y : Bool) → output_value net.a bits j ≡ x → output_value net.b bits j ≡ y → output_value net.a bits j ≡ output_value net.b bits j
@@ -142,5 +157,5 @@ module _ (net : AigPair) (is : IsNet net) where
   pub unsatisfiable : (¬ IsSatisfiable opposite_dim (miter_of net)) ↔ Agree net
   unsatisfiable = (
     λ none. agree_from_same (λ d. none (satisfiable.1 d)),
-    λ agree s. let d = satisfiable.0 s in d.differs.apart (agree d.output d.differs.within d.bits d.differs.whole),
+    λ agree s. let d = satisfiable.0 s in d.differs.apart (agree d.output d.differs.within d.bits d.differs.admitted),
   )

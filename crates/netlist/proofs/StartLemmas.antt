@@ -9,12 +9,14 @@ use Rattle.std.specs.Option.{option_map}
 use Rattle.std.proofs.lemmas.List.{length-map, append-nil, length-take-le, get_or-take}
 use Rattle.std.proofs.lemmas.Grind.{flat_map-append}
 use Rattle.std.proofs.lemmas.Option.{none-some, same_Some}
+use Rattle.lits.specs.declared.node.Side.{Side}
+use Rattle.lits.specs.declared.node.Side.TheVariants.{A, B}
 use Rattle.lits.specs.declared.node.Node.{Node}
 use Rattle.lits.specs.declared.literal.Lit.{Lit}
 use Rattle.netlist.specs.Place.{place_of, before}
-use Rattle.netlist.specs.Net.{AigPair}
+use Rattle.netlist.specs.Net.{AigPair, bounds_of, bounds_on, circuit_of, lit_named}
 use Rattle.lits.specs.Same.{same_node}
-use Rattle.netlist.specs.Miter.{positive, axioms_of, xors_of, variables_of, variable_of, numbered, miter_of, clause_number_of}
+use Rattle.netlist.specs.Miter.{positive, axioms_of, xors_of, variables_of, variable_of, numbered, miter_of, clause_number_of, unit, units_of, defining_clauses, clauses_of, first_unit, bound_number_of}
 use Rattle.netlist.specs.Starts.{first_clause, AreStarts, AreFirst, WereStarts}
 use Rattle.std.proofs.lemmas.Bool.Decides.{nat_tests}
 use Rattle.lits.proofs.Facts.{take_next, exact-node}
@@ -40,16 +42,40 @@ pub first_clause-more : (net : AigPair) (place : ℕ) (node : Node) → slice_ge
 unfolding first_clause
 first_clause-more net place node e = length-next (axioms_of net) (variables_of net) place node e
 
-length-whole : {X Y Z : Type 0} (f : X → List Y) (g : Y → Z) (xs : List X) (y : Y)
-    → length (flat_map f (take (length xs) xs)) + 1 ≡ length (map g (flat_map f xs ++ y ∷ []))
-length-whole f g xs y =
-    let same : length (flat_map f (take (length xs) xs)) ≡ length (flat_map f xs) = ap (λ ys. length (flat_map f ys)) (take-length xs) in
-    omega (arith, same, length-map (flat_map f xs ++ y ∷ []) g, length-append (flat_map f xs) (y ∷ []))
-
-pub first_clause-all : (net : AigPair) → first_clause net (length (variables_of net)) ≡ length (miter_of net)
+pub first_clause-all : (net : AigPair) → first_clause net (length (variables_of net)) ≡ length (defining_clauses net) + 1
 unfolding first_clause
-first_clause-all net =
-    length-whole (axioms_of net) (λ c. map (numbered net) c) (variables_of net) (map positive (xors_of net))
+first_clause-all net = ap (λ (ns : List Node). length (flat_map (axioms_of net) ns) + 1) (take-length (variables_of net))
+
+pub length-bounds : (net : AigPair) (side : Side) → length (bounds_on net side) ≡ length (circuit_of net side).constraints
+length-bounds net side = length-map (circuit_of net side).constraints (lit_named side (circuit_of net side))
+
+-- behind the clauses that define the nodes stand as many units as there are constraints, and one clause more
+pub length-miter : (net : AigPair)
+    → length (miter_of net) ≡ length (defining_clauses net) + 1 + (length net.a.constraints + length net.b.constraints)
+length-miter net =
+    omega (
+      arith,
+      length-map (clauses_of net) (λ c. map (numbered net) c),
+      length-append (defining_clauses net ++ units_of net) (map positive (xors_of net) ∷ []),
+      length-append (defining_clauses net) (units_of net),
+      length-map (bounds_of net) unit,
+      length-append (bounds_on net A) (bounds_on net B),
+      length-bounds net A,
+      length-bounds net B,
+    )
+
+-- the number of the unit of constraint k, and that there is none
+pub bound_number : (net : AigPair) (side : Side) (k n : ℕ) → k < length (circuit_of net side).constraints
+    → n ≡ length (defining_clauses net) + 1 + first_unit net side + k → Some n ≡ bound_number_of net side k
+bound_number net side k n below e =
+    let t : nat_lt k (length (circuit_of net side).constraints) ≡ true = grind (arith, nat_tests, below) in
+    let same : n ≡ length (defining_clauses net) + (first_unit net side + k) + 1 = omega (arith, e) in
+    rw t (ap Some same)
+
+pub no_bound_number : (net : AigPair) (side : Side) (k : ℕ) → length (circuit_of net side).constraints ≤ k → None ≡ bound_number_of net side k
+no_bound_number net side k past =
+    let t : nat_lt k (length (circuit_of net side).constraints) ≡ false = grind (arith, nat_tests, past) in
+    rw t refl
 
 number_at : (b : Bool) (m n k : ℕ) → m ≡ n → cond b (Some (m + k + 1)) None ≡ cond b (Some ((n + 1) + k)) None
 number_at true m n k e = let f : m + k + 1 ≡ (n + 1) + k = omega (arith, e) in ap Some f
@@ -73,7 +99,7 @@ clause_number_of-none net node k e =
 
 -- what a net's table of numbers says
 module _ (net : AigPair) (starts : List ℕ) (table : AreStarts net starts) where
-  pub count_of : (n : ℕ) → n ≡ length (variables_of net) → slice_index starts n ≡ length (miter_of net)
+  pub count_of : (n : ℕ) → n ≡ length (variables_of net) → slice_index starts n ≡ length (defining_clauses net) + 1
   count_of n e =
       let here = table.each n (omega arith) in
       here ∙ ap (first_clause net) e ∙ first_clause-all net

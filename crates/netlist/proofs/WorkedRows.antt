@@ -1,12 +1,12 @@
 -- The definitions on small circuits, worked out by hand from the text of `specs/Miter.antt`.
 use Rattle.std.specs.Prelude.{◌≡◌, ℕ, true, false, None, Some, List, [], ◌∷◌, refl}
 use Rattle.lits.specs.Dimacs.{DimacsLiteral}
-use Rattle.lits.specs.declared.node.Side.TheVariants.{B}
+use Rattle.lits.specs.declared.node.Side.TheVariants.{A, B}
 use Rattle.lits.specs.declared.node.Node.TheVariants.{Gate, Xor}
 use Rattle.netlist.specs.declared.gate.And.{And}
 use Rattle.netlist.specs.Circuit.{plain, Aig, value_in}
-use Rattle.netlist.specs.Net.{AigPair, position_of, value_of}
-use Rattle.netlist.specs.Miter.{miter_of, clause_number_of, cnf_number_of}
+use Rattle.netlist.specs.Net.{AigPair, meets_constraints, position_of, value_of}
+use Rattle.netlist.specs.Miter.{miter_of, bound_number_of, clause_number_of, cnf_number_of}
 
 abbrev p : ℕ → DimacsLiteral
 p v = record { var = v; neg = false }
@@ -61,3 +61,34 @@ x1 = refl
 
 none : clause_number_of (pair a1 b1) (Gate B 4) 0 ≡ None
 none = refl
+
+-- the same with constraints: those of A have units before those of B, behind the clauses that define the nodes
+abbrev bound : Aig → List ℕ → Aig
+bound c literals = record c { constraints = literals }
+
+abbrev input_true : Aig
+input_true = bound (aig (1 ∷ []) [] []) (2 ∷ [])
+
+both_bound : miter_of (pair input_true input_true) ≡ (p 1 ∷ []) ∷ (p 2 ∷ []) ∷ (p 2 ∷ []) ∷ [] ∷ []
+both_bound = refl
+
+both_bound_b : bound_number_of (pair input_true input_true) B 0 ≡ Some 3
+both_bound_b = refl
+
+abbrev and_bound : AigPair
+and_bound = pair (bound a1 (2 ∷ [])) (aig (1 ∷ 2 ∷ []) [] (4 ∷ []))
+
+first_input_true : miter_of and_bound ≡ (p 1 ∷ []) ∷ (n 4 ∷ p 2 ∷ []) ∷ (n 4 ∷ p 3 ∷ []) ∷ (p 4 ∷ n 2 ∷ n 3 ∷ []) ∷ (n 5 ∷ p 4 ∷ p 3 ∷ []) ∷ (n 5 ∷ n 4 ∷ n 3 ∷ []) ∷ (p 5 ∷ n 4 ∷ p 3 ∷ []) ∷ (p 5 ∷ p 4 ∷ n 3 ∷ []) ∷ (p 2 ∷ []) ∷ (p 5 ∷ []) ∷ []
+first_input_true = refl
+
+ninth : bound_number_of and_bound A 0 ≡ Some 9
+ninth = refl
+
+no_bound_b : bound_number_of and_bound B 0 ≡ None
+no_bound_b = refl
+
+second_true_alone : meets_constraints and_bound.a (false ∷ true ∷ []) ≡ false
+second_true_alone = refl
+
+none_admitted : miter_of (pair (bound (aig [] [] (1 ∷ [])) (0 ∷ [])) (aig [] [] (0 ∷ []))) ≡ (p 1 ∷ []) ∷ (p 2 ∷ n 1 ∷ []) ∷ (p 2 ∷ p 1 ∷ []) ∷ (n 1 ∷ []) ∷ (p 2 ∷ []) ∷ []
+none_admitted = refl

@@ -1,17 +1,19 @@
 -- The miter of two circuits in conjunctive normal form: the clauses of the gates and of one XOR per output (Tseitin
--- 1968), and one clause that says that some XOR is true (Brand 1993). They are numbered for DIMACS files.
+-- 1968), a unit per constraint, and one clause that says that some XOR is true (Brand 1993). They are numbered for DIMACS
+-- files.
 use Rattle.std.specs.Prelude.{ℕ, ◌+◌, nat_lt, true, false, Option, None, Some, List, [], ◌∷◌, ◌++◌, length, map, slice_get, if◌then◌else◌}
 use Rattle.std.specs.List.{flat_map, range_with_len}
 use Rattle.std.specs.Option.{option_map, option_map_or, unwrap_or}
 use Rattle.lits.specs.Clause.{firsts, has_pair}
 use Rattle.lits.specs.Dimacs.{DimacsLiteral}
+use Rattle.lits.specs.declared.node.Side.{Side}
 use Rattle.lits.specs.declared.node.Side.TheVariants.{A, B}
 use Rattle.lits.specs.declared.node.Node.{Node}
 use Rattle.lits.specs.declared.node.Node.TheVariants.{Const, Input, Gate, Xor}
 use Rattle.lits.specs.declared.literal.Lit.{Lit}
 use Rattle.netlist.specs.Place.{place_of, before}
 use Rattle.netlist.specs.declared.gate.Definition.{Definition}
-use Rattle.netlist.specs.Net.{AigPair, circuit_of, definition_of, gate_at, output_of, nodes_of}
+use Rattle.netlist.specs.Net.{AigPair, bounds_of, circuit_of, definition_of, gate_at, output_of, nodes_of}
 use Rattle.lits.specs.Same.{same_node, same_lit, opposite}
 
 abbrev pub positive : Node → Lit
@@ -71,10 +73,21 @@ variable_of net node = option_map (λ k. k + 1) (place_of (λ n. same_node n nod
 abbrev pub cnf_number_of : AigPair → Lit → Option DimacsLiteral
 cnf_number_of net l = option_map (λ v. record { var = v; neg = l.neg }) (variable_of net l.node)
 
--- the miter's clauses over nodes: those that define each node, in the order of the variables, and last the clause of
--- all XORs
+-- the clause of one literal
+abbrev pub unit : Lit → List Lit
+unit l = l ∷ []
+
+-- the clauses that define the nodes, in the order of the variables
+abbrev pub defining_clauses : AigPair → List (List Lit)
+defining_clauses net = flat_map (axioms_of net) (variables_of net)
+
+-- the unit clauses that say that the constraints are true, those of A in order, then those of B
+abbrev pub units_of : AigPair → List (List Lit)
+units_of net = map unit (bounds_of net)
+
+-- the miter's clauses over nodes: those that define the nodes, the constraints' units, and last the clause of all XORs
 abbrev pub clauses_of : AigPair → List (List Lit)
-clauses_of net = flat_map (axioms_of net) (variables_of net) ++ (map positive (xors_of net) ∷ [])
+clauses_of net = (defining_clauses net ++ units_of net) ++ (map positive (xors_of net) ∷ [])
 
 -- a literal by its number; each literal of the miter has one
 abbrev pub numbered : AigPair → Lit → DimacsLiteral
@@ -89,4 +102,16 @@ abbrev pub clause_number_of : AigPair → Node → ℕ → Option ℕ
 clause_number_of net node k =
     if nat_lt k (length (axioms_of net node))
     then Some (length (flat_map (axioms_of net) (before (λ n. same_node n node) (variables_of net))) + k + 1)
+    else None
+
+-- the place among all units at which those of one side begin
+abbrev pub first_unit : AigPair → Side → ℕ
+first_unit net A = 0
+first_unit net B = length net.a.constraints
+
+-- the number in the miter, from 1, of the unit of constraint k of one side
+abbrev pub bound_number_of : AigPair → Side → ℕ → Option ℕ
+bound_number_of net side k =
+    if nat_lt k (length (circuit_of net side).constraints)
+    then Some (length (defining_clauses net) + (first_unit net side + k) + 1)
     else None

@@ -1,6 +1,6 @@
 -- A pair of circuits over the same inputs, its nodes, their order and their values.
 use Rattle.std.specs.Prelude.{◌≡◌, ◌≢◌, ℕ, ◌<◌, ◌==◌, Bool, true, false, not, Option, None, Some, List, ◌∷◌, ◌++◌, length, map, slice_get, if◌then◌else◌}
-use Rattle.std.specs.List.{find, range_with_len, slice_index_or}
+use Rattle.std.specs.List.{find, list_all, range_with_len, slice_index_or}
 use Rattle.std.specs.Option.{option_map, option_map_or, unwrap_or}
 use Rattle.lits.specs.declared.node.Side.{Side}
 use Rattle.lits.specs.declared.node.Side.TheVariants.{A, B}
@@ -13,7 +13,7 @@ use Rattle.netlist.specs.declared.gate.Definition.{Definition}
 use Rattle.netlist.specs.declared.gate.Placed.{Placed}
 use Rattle.netlist.specs.declared.gate.Fanins.{Fanins}
 use Rattle.netlist.specs.Place.{place_of}
-use Rattle.netlist.specs.Circuit.{var_of, is_negated, is_over, Aig, IsCircuit, variables_in, values_in, output_value}
+use Rattle.netlist.specs.Circuit.{var_of, is_negated, is_over, Aig, IsCircuit, variables_in, values_in, value_in, output_value}
 
 -- the two circuits
 pub record AigPair : Type 0 where
@@ -50,6 +50,18 @@ lit_of net side lit =
 -- the literal of output j of one side
 abbrev pub output_of : AigPair → Side → ℕ → Option Lit
 output_of net side j = option_map (lit_named side (circuit_of net side)) (slice_get (circuit_of net side).outputs j)
+
+-- the literals of one side's constraints, in order
+abbrev pub bounds_on : AigPair → Side → List Lit
+bounds_on net side = map (lit_named side (circuit_of net side)) (circuit_of net side).constraints
+
+-- the literal of constraint k of one side
+abbrev pub bound_of : AigPair → Side → ℕ → Option Lit
+bound_of net side k = slice_get (bounds_on net side) k
+
+-- the literals of all constraints: those of A in order, then those of B
+abbrev pub bounds_of : AigPair → List Lit
+bounds_of net = bounds_on net A ++ bounds_on net B
 
 -- a gate with its fanins as literals
 abbrev pub definition_of : Side → Aig → And → Definition
@@ -123,22 +135,32 @@ value_of net bits (Xor j) = differs (output_value net.a bits j) (output_value ne
 abbrev pub lit_holds : (Node → Bool) → Lit → Bool
 lit_holds v l = if l.neg then not (v l.node) else v l.node
 
--- output j is there, and differs on an input, one truth value for each of the circuits' inputs
-pub record DiffersOn (net : AigPair) (j : ℕ) (bits : List Bool) : Type 0 where
+-- each constraint of a circuit is true for the inputs' truth values
+abbrev pub meets_constraints : Aig → List Bool → Bool
+meets_constraints c bits = list_all (value_in c bits) c.constraints
+
+-- An input is admitted: it has one truth value for each of the circuits' inputs, and each constraint of both circuits is
+-- true on it (invariant constraints of AIGER 1.9).
+pub record IsAdmitted (net : AigPair) (bits : List Bool) : Type 0 where
   pub whole : length bits ≡ length net.a.inputs
+  pub of_a : meets_constraints net.a bits ≡ true
+  pub of_b : meets_constraints net.b bits ≡ true
+
+-- output j is there, and differs on an admitted input
+pub record DiffersOn (net : AigPair) (j : ℕ) (bits : List Bool) : Type 0 where
+  pub admitted : IsAdmitted net bits
   pub within : j < length net.a.outputs
   pub apart : output_value net.a bits j ≢ output_value net.b bits j
 
--- output j agrees: on each input both circuits give it one value
+-- output j agrees: on each admitted input both circuits give it one value
 abbrev pub AgreesOn : AigPair → ℕ → Type 0
-AgreesOn net j =
-    (bits : List Bool) → length bits ≡ length net.a.inputs → output_value net.a bits j ≡ output_value net.b bits j
+AgreesOn net j = (bits : List Bool) → IsAdmitted net bits → output_value net.a bits j ≡ output_value net.b bits j
 
 -- each output agrees
 abbrev pub Agree : AigPair → Type 0
 Agree net = (j : ℕ) → j < length net.a.outputs → AgreesOn net j
 
--- some output differs on some input
+-- some output differs on some admitted input
 pub record Differ (net : AigPair) : Type 0 where
   pub output : ℕ
   pub bits : List Bool

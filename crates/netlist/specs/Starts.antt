@@ -8,7 +8,7 @@ use Rattle.netlist.specs.Miter.{variables_of, axioms_of}
 unfoldable pub first_clause : AigPair → ℕ → ℕ
 first_clause net place = length (flat_map (axioms_of net) (take place (variables_of net))) + 1
 
--- they are the numbers of the first clauses of all nodes, and behind them that of the miter's last clause
+-- they are the numbers of the first clauses of all nodes, and last that of the first clause behind theirs
 pub record AreStarts (net : AigPair) (starts : List ℕ) : Type 0 where
   pub count : length starts ≡ length (variables_of net) + 1
   pub each : (place : ℕ) → place ≤ length (variables_of net) → slice_index starts place ≡ first_clause net place

@@ -20,8 +20,8 @@ use symbol_names::Names;
 /// order, and the inputs' and outputs' names.
 ///
 /// Variables are those of AIGER, from 1 to 16,777,216, each defined once, as an input or by a gate. A gate's
-/// fanins are constants, inputs or earlier gates. A constraint says of an input of the whole circuit that its
-/// literal is true.
+/// fanins are constants, inputs or earlier gates. A constraint is a literal: only truth values of the inputs
+/// on which each constraint is true count.
 pub struct Circuit {
     parts: Parts,
     table: VariableTable,

@@ -1,11 +1,11 @@
 ghost use Rattle.std.specs.Prelude.{◌↔◌, ◌≡◌, ◌<◌, ℕ, Bool, List, None, length};
 ghost use Rattle.lits.specs.Assignment.{IsSatisfiable};
 ghost use Rattle.netlist.specs.Circuit.{Aig, output_value};
-ghost use Rattle.netlist.specs.Net.{Agree, Differ, IsNet};
+ghost use Rattle.netlist.specs.Net.{Agree, Differ, IsNet, meets_constraints};
 ghost use Rattle.netlist.specs.Unlike.{unlike_of};
 ghost use Rattle.netlist.specs.Pairing.{IsMatched, matched_to, unlike_in};
 ghost use Rattle.netlist.specs.Miter.{miter_of};
-ghost use Rattle.netlist.specs.ByName.{arranged, namesake_value, unlike_by_name, HasNamesake};
+ghost use Rattle.netlist.specs.ByName.{arranged, namesake_value, put_back, unlike_by_name, HasNamesake};
 
 use crate::circuit::Circuit;
 use crate::net::Net;
@@ -20,8 +20,8 @@ pub fn is_net(net: &Net)
     let _circuit = net.circuit(Side::A);
 }
 
-/// A law of every net: its miter is satisfiable exactly if, for some truth values of the inputs, some output
-/// differs.
+/// A law of every net: its miter is satisfiable exactly if some output differs on some admitted input, one on
+/// which the constraints of both circuits are true.
 ///
 /// It does nothing when it runs.
 #[tactic(auto, using(crate::proofs::SatisfiableMiter::satisfiable))]
@@ -31,7 +31,8 @@ pub fn satisfiable_if_different(net: &Net)
     is_net(net);
 }
 
-/// A law of every net: its miter is unsatisfiable exactly if both circuits agree on every input.
+/// A law of every net: its miter is unsatisfiable exactly if both circuits agree on every admitted input. Where
+/// no input is admitted, they do.
 ///
 /// It does nothing when it runs.
 #[tactic(auto, using(crate::proofs::SatisfiableMiter::unsatisfiable))]
@@ -42,8 +43,8 @@ pub fn unsatisfiable_if_equal(net: &Net)
 }
 
 /// A law of two circuits that are a net by their names: B in A's order has at each input and output what B
-/// has under the same name, and each output the value of B's output of that name, for truth values of the
-/// inputs that are put under their names.
+/// has under the same name, each output has the value of B's output of that name, and the constraints are
+/// true exactly where B's are, for truth values of the inputs that are put under their names.
 ///
 /// It does nothing when it runs.
 pub fn same_by_name(a: &Circuit, b: &Circuit)
@@ -54,6 +55,8 @@ pub fn same_by_name(a: &Circuit, b: &Circuit)
         → HasNamesake a.now.names.outputs b.now.names.outputs b.now.outputs (arranged a.now b.now).outputs j }
     ensures values { (bits : List Bool) (j : ℕ) → j < length a.now.outputs
         → output_value (arranged a.now b.now) bits j ≡ namesake_value a.now b.now bits j }
+    ensures constraints { (bits : List Bool)
+        → meets_constraints (arranged a.now b.now) bits ≡ meets_constraints b.now (put_back a.now b.now bits) }
 {
     let _a = a.names();
     let _b = b.names();

@@ -1,17 +1,17 @@
 ghost use Rattle.std.specs.Prelude.{◌≡◌, ◌++◌, ◌<◌, ◌≤◌, IfOk, OnOk, length, map};
 ghost use Rattle.lits.specs.Clause.{IsClause};
-ghost use Rattle.netlist.specs.Miter.{axioms_of, miter_of, numbered, positive};
+ghost use Rattle.netlist.specs.Miter.{axioms_of, miter_of, numbered, positive, unit};
 ghost use Rattle.lits.specs.Same.{same_lit, opposite};
 ghost use Rattle.netlist.specs.Miter.{xors_of};
-ghost use Rattle.netlist.specs.Net.{IsNet};
+ghost use Rattle.netlist.specs.Net.{IsNet, bounds_on};
 ghost use Rattle.netlist.specs.Numbered.{AreThere};
 
 use crate::pair::CircuitPair;
-use lits::{Clause, Dim, Lit, Literal, Node};
+use lits::{Clause, Dim, Lit, Literal, Node, Side};
 use std::alloc::{AllocError, Global};
 
-/// The clauses of the miter: those that define each node, in the order of the variables, and last the clause
-/// that some pair of outputs differs.
+/// The clauses of the miter: those that define each node, in the order of the variables, then those that the
+/// constraints are true, and last the clause that some pair of outputs differs.
 ///
 /// Room for `count` clauses is taken at once: of a net with millions of gates it is most of what a check
 /// needs.
@@ -22,6 +22,8 @@ pub fn miter(alloc: Global, pair: &CircuitPair, count: u32) -> Result<Vec<Clause
     for place in 0..pair.variables() {
         push_axioms(alloc, &mut clauses, pair, pair.node(place))?;
     }
+    push_units(alloc, &mut clauses, pair, Side::A)?;
+    push_units(alloc, &mut clauses, pair, Side::B)?;
     let last = some_xor(alloc, pair)?;
     clauses.push(last)?;
     Ok(clauses)
@@ -41,6 +43,25 @@ fn push_axioms(
     let axioms = pair.axioms(node);
     for axiom in axioms.as_slice() {
         let clause = numbered(alloc, pair, axiom.lits())?;
+        clauses.push(clause)?;
+    }
+    Ok(())
+}
+
+/// Puts the clauses last that the constraints of one side are true.
+fn push_units(
+    alloc: Global,
+    clauses: &mut Vec<Clause<Dim>>,
+    pair: &CircuitPair,
+    side: Side,
+) -> Result<(), AllocError>
+    requires { IsNet pair.now }
+    ensures { OnOk result (clauses.new.items
+        ≡ clauses.old.items ++ map (λ c. map (numbered pair.now) c) (map unit (bounds_on pair.now side))) }
+{
+    for k in 0..pair.constraints(side) {
+        let lit = pair.constraint(side, k).unwrap();
+        let clause = numbered(alloc, pair, &[lit])?;
         clauses.push(clause)?;
     }
     Ok(())

@@ -1,8 +1,8 @@
-ghost use Rattle.std.specs.Prelude.{◌≡◌, ◌⊎◌, [], ◌<◌, true, IfOk, IfSome, IfNone, IsOk, OnOk, OnErr, MatchResult, length};
-ghost use Rattle.netlist.specs.Circuit.{is_over, variables_in};
+ghost use Rattle.std.specs.Prelude.{◌≡◌, ◌⊎◌, ◌+◌, ◌*◌, ◌<◌, ◌≤◌, true, IfOk, IfSome, IfNone, IsOk, OnOk, OnErr, MatchResult, length};
+ghost use Rattle.netlist.specs.Circuit.{is_over, most, variables_in};
 ghost use Rattle.netlist.specs.Edit.{CanSet, CanPut, CanDrop, with_gate, with_new, without_gate, with_output, with_side};
-ghost use Rattle.netlist.specs.Net.{IsNet, all_fanins, circuit_of, defined_by, fanins_at, lit_of, node_at, nodes_of, output_of, position_of};
-ghost use Rattle.netlist.specs.Miter.{axiom_of, axioms_of, clause_number_of, cnf_number_of, miter_of, variables_of};
+ghost use Rattle.netlist.specs.Net.{IsNet, all_fanins, bound_of, circuit_of, defined_by, fanins_at, lit_of, node_at, nodes_of, output_of, position_of};
+ghost use Rattle.netlist.specs.Miter.{axiom_of, axioms_of, bound_number_of, clause_number_of, cnf_number_of, defining_clauses, miter_of, variables_of};
 ghost use Rattle.netlist.specs.Unlike.{unlike_of};
 ghost use Rattle.netlist.specs.ByName.{arranged, unlike_by_name};
 
@@ -48,10 +48,8 @@ impl Model for Net {
 }
 
 impl Net {
-    /// The net of two circuits without constraints. The circuits are given up where there is none.
+    /// The net of two circuits. The circuits are given up where there is none.
     pub fn of(alloc: Global, a: Circuit, b: Circuit) -> Result<Net, Unlike>
-        requires a { a.constraints ≡ [] }
-        requires b { b.constraints ≡ [] }
         ensures unlike { IfSome (unlike_of a b) (λ u. result ≡ Err u) }
         ensures like { IfNone (unlike_of a b)
             (MatchResult result (λ n. n ≡ record { a = a; b = b }) (λ e. e ≡ Unlike.NoMemory)) }
@@ -62,11 +60,9 @@ impl Net {
         Net::of_pair(alloc, CircuitPair::of(a, b))
     }
 
-    /// The net of A and of B by their names: B has its inputs and outputs in A's order. Neither circuit has
-    /// constraints. The circuits are given up where there is no net.
+    /// The net of A and of B by their names: B has its inputs and outputs in A's order. The circuits are given
+    /// up where there is no net.
     pub fn of_named(alloc: Global, a: Circuit, b: Circuit) -> Result<Net, Unlike>
-        requires a { a.constraints ≡ [] }
-        requires b { b.constraints ≡ [] }
         ensures counts { IfSome (unlike_of a b) (λ u. result ≡ Err u) }
         ensures unlike { IfSome (unlike_by_name a b)
             (λ u. (result ≡ Err u) ⊎ (result ≡ Err Unlike.NoMemory)) }
@@ -213,6 +209,16 @@ impl Net {
         ensures count { result ≡ length (miter_of self.now) }
         ensures net { IsNet self.now }
     {
+        let units = self.pair.constraints(Side::A) + self.pair.constraints(Side::B);
+        self.behind_nodes() + units
+    }
+
+    /// The number in the miter of the first clause behind those that define the nodes.
+    fn behind_nodes(&self) -> u32
+        ensures number { result ≡ length (defining_clauses self.now) + 1 }
+        ensures few { result ≤ 4 * (3 * most + 1) + 1 }
+        ensures net { IsNet self.now }
+    {
         self.tables.first(self.pair.variables())
     }
 
@@ -229,6 +235,26 @@ impl Net {
         ensures { result ≡ output_of self.now side j }
     {
         self.pair.output(side, j)
+    }
+
+    /// The literal of constraint k of one side, from 0; none exactly where there is no such constraint. An
+    /// input is admitted where the literals of all constraints of both sides are true.
+    pub fn constraint(&self, side: Side, k: u32) -> Option<Lit>
+        ensures { result ≡ bound_of self.now side k }
+    {
+        self.pair.constraint(side, k)
+    }
+
+    /// The number in the miter, from 1, of the clause that constraint k of one side is true; none exactly
+    /// where there is no such constraint.
+    pub fn constraint_number(&self, side: Side, k: u32) -> Option<u32>
+        ensures { result ≡ bound_number_of self.now side k }
+    {
+        if k < self.pair.constraints(side) {
+            Some(self.behind_nodes() + self.pair.constraints_before(side) + k)
+        } else {
+            None
+        }
     }
 
     /// Gives a gate of one side these fanins. Its place stays. No memory is taken, and the answer is Ok.

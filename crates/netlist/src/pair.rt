@@ -4,9 +4,9 @@ ghost use Rattle.std.specs.Option.{option_map};
 ghost use Rattle.lits.specs.Clause.{has};
 ghost use Rattle.netlist.specs.Circuit.{most, is_over, variables_in};
 ghost use Rattle.netlist.specs.Edit.{CanSet, CanPut, CanDrop, with_gate, with_new, without_gate, with_output, with_side};
-ghost use Rattle.netlist.specs.Net.{IsNet, all_fanins, circuit_of, defined_by, definition_of, definitions, difference, fanins_at, fanins_of, placed, lit_named, lit_of, nodes_of, output_of, position_of};
+ghost use Rattle.netlist.specs.Net.{IsNet, all_fanins, bound_of, circuit_of, defined_by, definition_of, definitions, difference, fanins_at, fanins_of, placed, lit_named, lit_of, nodes_of, output_of, position_of};
 ghost use Rattle.lits.specs.Same.{same_node};
-ghost use Rattle.netlist.specs.Miter.{axiom_of, axioms_of, numbered, variable_of, variables_of};
+ghost use Rattle.netlist.specs.Miter.{axiom_of, axioms_of, first_unit, numbered, variable_of, variables_of};
 ghost use Rattle.netlist.specs.Short.{IsApart};
 ghost use Rattle.netlist.specs.Starts.{first_clause};
 ghost use Rattle.netlist.specs.Pair.{AreSizes, gate_node, first_gate, lit_from};
@@ -153,6 +153,33 @@ impl CircuitPair {
         ensures { result ≡ output_of self.now side j }
     {
         let lit = self.circuit(side).outputs().get(j as usize)?;
+        self.lit(side, *lit)
+    }
+
+    /// How many constraints one side has.
+    pub fn constraints(&self, side: Side) -> u32
+        ensures count { result ≡ length (circuit_of self.now side).constraints }
+        ensures few { result ≤ most }
+    {
+        self.circuit(side).constraints().len() as u32
+    }
+
+    /// How many constraints of the pair come before those of one side.
+    pub fn constraints_before(&self, side: Side) -> u32
+        ensures count { result ≡ first_unit self.now side }
+        ensures few { result ≤ most }
+    {
+        match side {
+            Side::A => 0,
+            Side::B => self.constraints(Side::A),
+        }
+    }
+
+    /// The literal of constraint k of one side.
+    pub fn constraint(&self, side: Side, k: u32) -> Option<Lit>
+        ensures { result ≡ bound_of self.now side k }
+    {
+        let lit = self.circuit(side).constraints().get(k as usize)?;
         self.lit(side, *lit)
     }
 

@@ -6,7 +6,7 @@ ghost use Rattle.netlist.specs.Starts.{AreStarts, AreFirst, WereStarts};
 use crate::pair::CircuitPair;
 
 /// Fills a vector with the numbers of the first clauses of the pair's nodes, in the order of their variables,
-/// and last that of the miter's last clause, in the room that the vector has.
+/// and last that of the first clause behind them, in the room that the vector has.
 pub fn fill_starts(numbers: &mut Vec<u32>, pair: &CircuitPair)
     requires { length (variables_of pair.now) + 1 ≤ vec_capacity numbers.old }
     ensures starts { AreStarts pair.now numbers.new.items }

@@ -14,7 +14,7 @@ pub struct Tables {
     /// The fanins of all gates, in the order of positions.
     pub fanins: Vec<Fanins>,
     /// The numbers of the nodes' first clauses in the miter, in the order of the CNF variables, and last
-    /// that of the miter's last clause.
+    /// that of the first clause behind them.
     pub starts: Vec<u32>,
 }
 

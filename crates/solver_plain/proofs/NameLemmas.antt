@@ -9,7 +9,7 @@ use Rattle.lits.specs.declared.literal.Lit.{Lit}
 use Rattle.lits.specs.declared.step.Named.{Named}
 use Rattle.lits.specs.declared.step.Step.{Step}
 use Rattle.lits.specs.declared.step.Ref.{Ref}
-use Rattle.lits.specs.declared.step.Ref.TheVariants.{Axiom, Entry, Own}
+use Rattle.lits.specs.declared.step.Ref.TheVariants.{Axiom, Entry, Own, Bound}
 use Rattle.lits.specs.contracts.step.RefEq.TheImpl.Laws as ref_eq
 use Rattle.lits.proofs.Facts.{all-slice_get, all-append}
 use Rattle.solver_plain.specs.Effect.{IsHint}
@@ -38,6 +38,7 @@ pub all-named : (P : List Lit → Type 0) (base : List Named) (log : List Step) 
     → AllByRecursion P (clauses_of base log) → with_own (base_clause base) log name ≡ Some c → P c
 all-named P base log (Axiom node k) c all e = all-base P base (Axiom node k) c (all-left P (base_clauses base) (map (λ s. s.clause) log) all) e
 all-named P base log (Entry entry k) c all e = all-base P base (Entry entry k) c (all-left P (base_clauses base) (map (λ s. s.clause) log) all) e
+all-named P base log (Bound side k) c all e = all-base P base (Bound side k) c (all-left P (base_clauses base) (map (λ s. s.clause) log) all) e
 all-named P base log (Own k) c all e = go (slice_get log k) refl
   where
     go : (o : Option Step) → slice_get log k ≡ o → P c
@@ -97,6 +98,7 @@ foreign-none (x ∷ xs) k e = go x.by refl (foreign-none xs k)
         → base_clause (x ∷ xs) (Own k) ≡ None
     go (Axiom node j) f rest = let g = rw f at e in rw f (rest g)
     go (Entry entry j) f rest = let g = rw f at e in rw f (rest g)
+    go (Bound side j) f rest = let g = rw f at e in rw f (rest g)
     go (Own j) f rest = let g : true ≡ false = rw f at e in cc
 
 -- a clause of the base keeps its name beside a log
@@ -104,6 +106,7 @@ pub named-base : (base : List Named) (log : List Step) (name : Ref) (c : List Li
     → base_clause base name ≡ Some c → with_own (base_clause base) log name ≡ Some c
 named-base base log (Axiom node k) c foreign e = e
 named-base base log (Entry entry k) c foreign e = e
+named-base base log (Bound side k) c foreign e = e
 named-base base log (Own k) c foreign e = let f = foreign-none base k foreign in cc
 
 -- a clause of the log is the one of its own step
@@ -111,6 +114,7 @@ pub named-log : (base : List Named) (log : List Step) (name : Ref) (c : List Lit
     → with_own (λ _. None) log name ≡ Some c → with_own (base_clause base) log name ≡ Some c
 named-log base log (Axiom node k) c e = let f : None ≡ Some c = e in cc
 named-log base log (Entry entry k) c e = let f : None ≡ Some c = e in cc
+named-log base log (Bound side k) c e = let f : None ≡ Some c = e in cc
 named-log base log (Own k) c e = e
 
 pub own-at : (log : List Step) (i : ℕ) (s : Step) → i < length log → s ≡ get_or log i s

@@ -7,7 +7,7 @@ use Rattle.lits.specs.declared.literal.Lit.{Lit}
 use Rattle.lits.specs.declared.step.Named.{Named}
 use Rattle.lits.specs.declared.step.Step.{Step}
 use Rattle.lits.specs.declared.step.Ref.{Ref}
-use Rattle.lits.specs.declared.step.Ref.TheVariants.{Axiom, Entry, Own}
+use Rattle.lits.specs.declared.step.Ref.TheVariants.{Axiom, Entry, Own, Bound}
 use Rattle.lits.proofs.Facts.{IsLiteral, all-slice_get, all-append}
 use Rattle.unit_prop.specs.Step.{IsStep, AllHold}
 use Rattle.unit_prop.specs.Log.{same_name, base_clause, base_clauses, with_own, InTurn, IsStepAfter, IsChain, IsLearned, IsLog}
@@ -46,6 +46,7 @@ module _ (laws : IsLiteral same_lit opposite) (v : Lit → Bool) (assigns : IsAs
       → with_own find steps n ≡ Some c → Holds v c
   with_own-holds steps all (Axiom node k) c e = holds (Axiom node k) c e
   with_own-holds steps all (Entry entry k) c e = holds (Entry entry k) c e
+  with_own-holds steps all (Bound side k) c e = holds (Bound side k) c e
   with_own-holds steps all (Own k) c e = go (slice_get steps k) refl
     where
       go : (o : Option Step) → slice_get steps k ≡ o → Holds v c

@@ -7,7 +7,7 @@ use Rattle.lits.specs.declared.literal.Lit.{Lit}
 use Rattle.lits.specs.declared.step.Named.{Named}
 use Rattle.lits.specs.declared.step.Step.{Step}
 use Rattle.lits.specs.declared.step.Ref.{Ref}
-use Rattle.lits.specs.declared.step.Ref.TheVariants.{Axiom, Entry, Own}
+use Rattle.lits.specs.declared.step.Ref.TheVariants.{Axiom, Entry, Own, Bound}
 use Rattle.lits.specs.contracts.step.RefPartialEq.TheImpl as ref_eq
 use Rattle.lits.specs.Same.{same_lit, opposite}
 use Rattle.unit_prop.specs.New.{IsNew}
@@ -22,6 +22,7 @@ abbrev pub is_own : Ref → Bool
 is_own (Axiom node k) = false
 is_own (Entry entry k) = false
 is_own (Own k) = true
+is_own (Bound side k) = false
 
 -- the names of a base differ, and none is that of an own step
 pub record IsBase (base : List Named) : Type 0 where
@@ -38,6 +39,7 @@ abbrev pub with_own : (Ref → Option (List Lit)) → List Step → Ref → Opti
 with_own find steps (Axiom node k) = find (Axiom node k)
 with_own find steps (Entry entry k) = find (Entry entry k)
 with_own find steps (Own k) = option_map (λ s. s.clause) (slice_get steps k)
+with_own find steps (Bound side k) = find (Bound side k)
 
 -- the clauses of a base
 abbrev pub base_clauses : List Named → List (List Lit)

@@ -2,12 +2,13 @@
 //!
 //! `circuit` and `and` write a circuit down as a line or two of a test; `swapped_ands` and `two_xors` are the
 //! pairs that most cases are about. What `circuit` promises is exact, so that a test may ask for what a
-//! call requires of its circuits. `specs/Worked.antt` has the circuit of one gate. Begin to read here.
+//! call requires of its circuits. `specs/Worked.antt` has the circuit of one gate and circuits with
+//! constraints. Begin to read here.
 #![tactic(auto)]
 
 ghost use Rattle.std.specs.Prelude.{◌≡◌, [], ◌∷◌, IfOk};
 ghost use Rattle.netlist.specs.Circuit.{IsCircuit, plain};
-ghost use Rattle.worked_circuits.specs.Worked.{one_gate};
+ghost use Rattle.worked_circuits.specs.Worked.{constrained, one_gate};
 
 use netlist::{And, Circuit, Names};
 use std::alloc::{AllocError, Global};
@@ -29,13 +30,27 @@ pub fn circuit(
     requires { IsCircuit (plain inputs.now gates.now outputs.now) }
     ensures { IfOk result (λ c. c ≡ plain inputs.now gates.now outputs.now) }
 {
+    constrained_circuit(alloc, inputs, gates, outputs, &[])
+}
+
+/// The circuit of input variables, gates, output literals and constraint literals, without names.
+pub fn constrained_circuit(
+    alloc: Global,
+    inputs: &[u32],
+    gates: &[And],
+    outputs: &[u32],
+    constraints: &[u32],
+) -> Result<Circuit, AllocError>
+    requires { IsCircuit (constrained inputs.now gates.now outputs.now constraints.now) }
+    ensures { IfOk result (λ c. c ≡ constrained inputs.now gates.now outputs.now constraints.now) }
+{
     let names = Names::none(alloc, inputs.len() as u32, outputs.len() as u32);
     Circuit::of(
         alloc,
         Vec::from_slice(alloc, inputs)?,
         Vec::from_slice(alloc, gates)?,
         Vec::from_slice(alloc, outputs)?,
-        Vec::new(alloc),
+        Vec::from_slice(alloc, constraints)?,
         names,
     )
 }

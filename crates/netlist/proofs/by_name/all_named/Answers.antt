@@ -1,6 +1,5 @@
-use Rattle.std.proofs.Common.{◌≡◌, ◌<◌, ℕ, length, List, Option, None, Some, not, Bool, true, false, refl, sym, ap, ◌∙◌, arith, Bor}
+use Rattle.std.proofs.Common.{◌≡◌, ◌<◌, ℕ, length, List, Option, None, Some, not, true, false, refl, sym, ap, ◌∙◌, arith, Bor}
 use Rattle.std.specs.Option.{option_map, option_copied, is_some}
-use Rattle.symbol_names.specs.NameList.{name_at}
 use Rattle.netlist.specs.declared.unlike.Unlike.TheVariants.{NoName}
 use Rattle.netlist.specs.ByName.{is_nameless}
 use Rattle.netlist.proofs.LeastLemmas.{least-here, least-next}

@@ -1,8 +1,7 @@
-use Rattle.std.proofs.Common.{◌≡◌, ◌∙◌, ℕ, length, List, None, ap, sym, subst, arith}
-use Rattle.symbol_names.specs.declared.names.Names.{Names}
+use Rattle.std.proofs.Common.{◌≡◌, ◌∙◌, length, None, ap, sym, subst, arith}
 use Rattle.netlist.specs.declared.port.Port.TheVariants.{Input, Output}
 use Rattle.netlist.specs.Circuit.{Aig, IsCircuit}
-use Rattle.netlist.specs.ByName.{arranged, in_order, unlike_names}
+use Rattle.netlist.specs.ByName.{arranged, unlike_names}
 use Rattle.netlist.proofs.ArrangedLemmas.{IsCircuit-arranged, arranged-is}
 use Rattle.netlist.proofs.UnlikeLemmas.{names-paired}
 use Rattle.netlist.proofs.VariableLemmas.{few_inputs_of}

@@ -1,4 +1,3 @@
-use Rattle.std.proofs.Common.{◌≡◌}
 use Rattle.std.proofs.lemmas.Result.{err_from_is_err_and}
 use Rattle.netlist.specs.NameIndex.{IsIndex}
 use Rattle.netlist.proofs.UnlikeLemmas.{sides-unnamed_a, sides-unnamed_b, sides-doubled_a, sides-doubled_b}

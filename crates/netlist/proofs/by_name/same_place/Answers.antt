@@ -1,4 +1,4 @@
-use Rattle.std.proofs.Common.{◌≡◌, ◌∙◌, Option, None, List, ℕ, [], ◌∷◌, sym, ap, refl}
+use Rattle.std.proofs.Common.{◌∙◌, sym, ap}
 use Rattle.std.specs.Option.{option_copied}
 use Rattle.netlist.specs.ByName.{place_named}
 use Rattle.netlist.proofs.IndexLemmas.{place-unnamed}

@@ -1,5 +1,9 @@
 use Rattle.std.proofs.Common.{◌∙◌, ◌++◌, ◌∷◌, List, [], ap, sym, arith}
+use Rattle.std.specs.Prelude.{map}
 use Rattle.lits.specs.Dimacs.{DimacsLiteral}
+use Rattle.lits.specs.declared.node.Side.TheVariants.{A, B}
+use Rattle.netlist.specs.Miter.{numbered, unit}
+use Rattle.netlist.specs.Net.{bounds_on}
 use Rattle.netlist.specs.Numbered.{numbered_at}
 use Rattle.netlist.proofs.MiterLemmas.{numbered_at-node, before_none, before_more, before_all}
 use Rattle.netlist.proofs.miter.miter.Goals as goal
@@ -16,7 +20,10 @@ loop-place-preserved c =
 
 pub returns : goal.returns
 returns c =
+    let net = c.args.pair.now in
     c.in_ok-push.ensures.items
-    ∙ ap (λ (cs : List (List DimacsLiteral)). cs ++ c.in_ok-last.last ∷ []) c.loop-place.invariant
+    ∙ ap (λ (cs : List (List DimacsLiteral)). cs ++ c.in_ok-last.last ∷ []) (c.in_ok-push_units-2.ensures
+    ∙ ap (λ (cs : List (List DimacsLiteral)). cs ++ map (λ d. map (numbered net) d) (map unit (bounds_on net B))) (c.in_ok-push_units.ensures
+    ∙ ap (λ (cs : List (List DimacsLiteral)). cs ++ map (λ d. map (numbered net) d) (map unit (bounds_on net A))) c.loop-place.invariant))
     ∙ rw c.in_ok-last.ensures
-    (before_all c.args.pair.now c.loop-place.place (omega (arith, c.variables-place-end.ensures.count, c.loop-place-test.false)))
+    (before_all net c.loop-place.place (omega (arith, c.variables-place-end.ensures.count, c.loop-place-test.false)))

@@ -1,10 +1,9 @@
-use Rattle.std.proofs.Common.{take, subst, Bor, ◌≡◌, ℕ, length, List, None, Option, Some, ◌+◌, ◌<◌, true, false, refl, sym, ap, ◌∙◌, inl, inr, arith}
+use Rattle.std.proofs.Common.{take, subst, Bor, ◌≡◌, ℕ, length, List, None, Some, ◌+◌, ◌<◌, true, false, sym, ap, ◌∙◌, inl, arith}
 use Rattle.std.specs.Option.{option_map, option_copied, is_some}
 use Rattle.std.specs.BTreeMap.{BTreeMap}
 use Rattle.symbol_names.specs.NameList.{name_at}
-use Rattle.netlist.specs.declared.unlike.Unlike.{Unlike}
 use Rattle.netlist.specs.declared.unlike.Unlike.TheVariants.{Doubled}
-use Rattle.netlist.specs.ByName.{doubled, is_doubled, place_named, IsTold}
+use Rattle.netlist.specs.ByName.{is_doubled}
 use Rattle.netlist.specs.NameIndex.{IsIndex}
 use Rattle.netlist.proofs.LeastLemmas.{least-next, least-here}
 use Rattle.netlist.proofs.IndexLemmas.{found-at, doubled-found, doubled-unnamed, index-unnamed, index-next}

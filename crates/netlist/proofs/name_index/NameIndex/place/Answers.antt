@@ -1,4 +1,4 @@
-use Rattle.std.proofs.Common.{◌≡◌, ◌∙◌}
+use Rattle.std.proofs.Common.{◌∙◌}
 use Rattle.netlist.proofs.IndexLemmas.{found-at}
 use Rattle.netlist.proofs.name_index.NameIndex.place.Goals as goal
 

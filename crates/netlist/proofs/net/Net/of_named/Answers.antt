@@ -1,5 +1,4 @@
-use Rattle.std.proofs.Common.{◌≡◌, None, sym, subst}
-use Rattle.std.specs.Prelude.{IfNone}
+use Rattle.std.proofs.Common.{sym, subst}
 use Rattle.netlist.specs.Circuit.{Aig}
 use Rattle.netlist.specs.Net.{IsNet}
 use Rattle.netlist.proofs.NamedNet.{IsNet-arranged}
