@@ -30,7 +30,7 @@ use Rattle.lemma_book.proofs.ThereLemmas.{variables-distinct, is_some-variable}
 use Rattle.lemma_book.proofs.FaninLemmas.{there-closed}
 use Rattle.lemma_book.proofs.MergedNodes.{merged-one, merge-placed, placed-there}
 
-abbrev names : List Named → List Ref
+abbrev pub names : List Named → List Ref
 names ns = map (λ n. n.by) ns
 
 -- ---- the names of clauses that count from a place on differ
@@ -41,29 +41,29 @@ module _ (name : ℕ → Ref) (exact : (j k : ℕ) → same_name (name j) (name 
       let apart : (k == j) ≡ false = grind (arith, nat_tests) in
       rw (exact k j, apart, below-none cs j (k + 1) (omega arith)) refl
 
-  own-names : (cs : List (List Lit)) (k : ℕ) → no_repeat same_name (names (named_from name k cs)) ≡ true
+  pub own-names : (cs : List (List Lit)) (k : ℕ) → no_repeat same_name (names (named_from name k cs)) ≡ true
   own-names [] k = refl
   own-names (c ∷ cs) k = rw (below-none cs k (k + 1) (omega arith), own-names cs (k + 1)) refl
 
 -- names that differ from one aren't that one
-other-none : (name : ℕ → Ref) (other : Ref) → ((j : ℕ) → same_name (name j) other ≡ false) → (cs : List (List Lit)) (k : ℕ)
+pub other-none : (name : ℕ → Ref) (other : Ref) → ((j : ℕ) → same_name (name j) other ≡ false) → (cs : List (List Lit)) (k : ℕ)
     → has same_name (names (named_from name k cs)) other ≡ false
 other-none name other apart [] k = refl
 other-none name other apart (c ∷ cs) k = rw (apart k, other-none name other apart cs (k + 1)) refl
 
-all-names : (P : Ref → Type 0) (name : ℕ → Ref) (cs : List (List Lit)) (k : ℕ) → ((j : ℕ) → P (name j)) → AllByRecursion P (names (named_from name k cs))
+pub all-names : (P : Ref → Type 0) (name : ℕ → Ref) (cs : List (List Lit)) (k : ℕ) → ((j : ℕ) → P (name j)) → AllByRecursion P (names (named_from name k cs))
 all-names P name [] k each = tt
 all-names P name (c ∷ cs) k each = (each k, all-names P name cs (k + 1) each)
 
-none-own : (name : ℕ → Ref) → ((j : ℕ) → is_own (name j) ≡ false) → (cs : List (List Lit)) (k : ℕ) → list_any (λ x. is_own x.by) (named_from name k cs) ≡ false
+pub none-own : (name : ℕ → Ref) → ((j : ℕ) → is_own (name j) ≡ false) → (cs : List (List Lit)) (k : ℕ) → list_any (λ x. is_own x.by) (named_from name k cs) ≡ false
 none-own name foreign [] k = refl
 none-own name foreign (c ∷ cs) k = rw (foreign k, none-own name foreign cs (k + 1)) refl
 
 -- ---- those of a node: by its merge, or by itself
-abbrev name_by : Node → Option MergeAt → ℕ → Ref
+abbrev pub name_by : Node → Option MergeAt → ℕ → Ref
 name_by n o = option_map_or (λ m. Shown m.entry) o (Axiom n)
 
-abbrev clauses_by : AigPair → Node → Option MergeAt → List (List Lit)
+abbrev pub clauses_by : AigPair → Node → Option MergeAt → List (List Lit)
 clauses_by net n o = option_map_or (λ m. merge_clauses n m.lit) o (axioms_of net n)
 
 exact-by : (n : Node) (o : Option MergeAt) (j k : ℕ) → same_name (name_by n o j) (name_by n o k) ≡ (j == k)
@@ -75,7 +75,7 @@ foreign-by n None j = refl
 foreign-by n (Some m) j = refl
 
 module _ (net : AigPair) (es : List Entry) where
-  named-by : (n : Node) → named_clauses net es n ≡ named_from (name_by n (merge_of es n)) 0 (clauses_by net n (merge_of es n))
+  pub named-by : (n : Node) → named_clauses net es n ≡ named_from (name_by n (merge_of es n)) 0 (clauses_by net n (merge_of es n))
   named-by n = go (merge_of es n)
     where
       go : (o : Option MergeAt) → option_map_or (λ m. named_from (Shown m.entry) 0 (merge_clauses n m.lit)) o (named_from (Axiom n) 0 (axioms_of net n))
@@ -99,7 +99,7 @@ module _ (net : AigPair) (es : List Entry) where
               let one = merged-one es m n a b e f (equal-number a.entry b.entry g) in
               contrary (same_node m n) (subst (λ (x : Node). same_node m x ≡ true) one (same-node_self m)) apart
 
-  abbrev clauses_of_nodes : List Node → List Named
+  abbrev pub clauses_of_nodes : List Node → List Named
   clauses_of_nodes ns = flat_map (named_clauses net es) ns
 
   nodes-none : (ns : List Node) (n : Node) (j : ℕ) → has same_node ns n ≡ false → has same_name (names (clauses_of_nodes ns)) (name_by n (merge_of es n) j) ≡ false

@@ -1,7 +1,7 @@
 -- What other crates may cite of this one.
 
 -- each clause of a cone is the one that its name has
-pub use Rattle.lemma_book.proofs.NamedClauses.{cone-named}
+pub use Rattle.lemma_book.proofs.NamedClauses.{cone-named, output_cone-named}
 -- what is found under a name, where each clause is the one that its name has
 pub use Rattle.lemma_book.proofs.NamedClauses.{found-clause}
 -- what entries show, longer lists of entries show too
@@ -32,6 +32,10 @@ pub use Rattle.lemma_book.proofs.ConeLemmas.{cone-base}
 pub use Rattle.lemma_book.proofs.ConeLemmas.{cone-one}
 -- what the miter's variables reach, and what a cone speaks of, are nodes that have variables
 pub use Rattle.lemma_book.proofs.ConeLemmas.{reach-there, cone-over}
+-- so it is with an output's cone: its names differ, there is one, and what it speaks of has variables
+pub use Rattle.lemma_book.proofs.OutputCones.{output_cone-base, output_cone-one, cone_of-one, output_cone-over}
+-- the nodes at which it begins have variables, and it reaches those of the constraints
+pub use Rattle.lemma_book.proofs.OutputCones.{seeds-there, bounds-reached}
 -- a node has a variable exactly where it is among the nodes
 pub use Rattle.lemma_book.proofs.ThereLemmas.{is_some-variable}
 -- the root of a literal of a legal book isn't merged, its position isn't above the literal's, and merges of later nodes keep it

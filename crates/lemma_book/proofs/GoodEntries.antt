@@ -1,7 +1,6 @@
 -- Good entries are built of chains of steps and of logs, and these are found in them.
 use Rattle.std.proofs.Common.{◌≡◌, ℕ, ◌+◌, ◌<◌, ◌≤◌, Bool, List, [], ◌∷◌, length, take, Option, None, refl}
 use Rattle.lits.specs.declared.node.Node.{Node}
-use Rattle.lits.specs.declared.node.Node.TheVariants.{Xor}
 use Rattle.lits.specs.declared.literal.Lit.{Lit}
 use Rattle.lits.specs.declared.step.Ref.{Ref}
 use Rattle.lits.specs.declared.step.Step.{Step}
@@ -12,7 +11,7 @@ use Rattle.unit_prop.specs.Log.{base_clause, IsStepAfter, IsChain, IsLearned, Is
 use Rattle.lemma_book.specs.declared.entry.Entry.{Entry}
 use Rattle.lemma_book.specs.declared.entry.Entry.TheVariants.{Merge, Apart, Spent, Out, OutApart, OutSpent}
 use Rattle.lemma_book.specs.Entry.{Entries, settled_at, merge_clauses, equal_clause}
-use Rattle.lemma_book.specs.Cone.{IsCone}
+use Rattle.lemma_book.specs.Cone.{IsCone, IsOutputCone}
 use Rattle.lemma_book.specs.Good.{NoNode, Already, NotEarlier, NotApart, Shape, Count, Seen, NoStep, NotNew, AreOver, ArePlaced, IsEarlier, IsApart, EndsIn, out_clause, node_clause, IsStepAt, IsNewAt, IsUndecidedAt, IsGood}
 use Rattle.lemma_book.proofs.InTurn.{in_turn-at, in_turn-each}
 
@@ -108,9 +107,9 @@ module _ (net : AigPair) (book : Entries) where
   good-out_apart j input below new apart (NoStep k) = tt
   good-out_apart j input below new apart (NotNew k) = tt
 
-  -- the log of a whole budget over the cone of the output's XOR, before each of whose clauses the output is undecided
+  -- the log of a whole budget over the output's cone, before each of whose clauses the output is undecided
   pub good-out_spent : (j seen : ℕ) (log : List Step) (cone : List Named) → j < length net.a.outputs → AreOver net log
-      → settled_at book.entries (OutSpent j seen log) ≡ None → seen ≤ length book.entries → IsCone net (take seen book.entries) (Xor j ∷ []) cone
+      → settled_at book.entries (OutSpent j seen log) ≡ None → seen ≤ length book.entries → IsOutputCone net (take seen book.entries) j cone
       → IsBudgetLog cone book.out_budget log → StaysUndecided cone (equal_clause j) [] log → IsGood net book (OutSpent j seen log)
   good-out_spent j seen log cone below over new within is_cone spent undecided NoNode = (below, over)
   good-out_spent j seen log cone below over new within is_cone spent undecided Already = new

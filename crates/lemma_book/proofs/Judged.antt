@@ -1,5 +1,5 @@
 -- What the first bad step and the first clause that isn't new make of an entry.
-use Rattle.std.proofs.Common.{◌≡◌, ℕ, List, [], ◌∷◌, take, length, Option, None, Some, Result, Ok, Err, IfOk, IfErr, OnErr, inl, refl, sym, ◌∙◌, subst, arith}
+use Rattle.std.proofs.Common.{◌≡◌, ℕ, ◌<◌, List, [], ◌∷◌, take, length, Option, None, Some, Result, Ok, Err, IfOk, IfErr, OnErr, inl, refl, sym, ◌∙◌, subst, arith}
 use Rattle.std.specs.Option.{IsSome}
 use Rattle.std.proofs.lemmas.Option.{none-some}
 use Rattle.lits.specs.declared.node.Node.{Node}
@@ -10,7 +10,6 @@ use Rattle.lits.specs.declared.step.Step.{Step}
 use Rattle.lits.specs.declared.step.Named.{Named}
 use Rattle.netlist.specs.Net.{AigPair}
 use Rattle.netlist.specs.Miter.{positive, variable_of}
-use Rattle.netlist.proofs.Facts.{has-xor, range-has}
 use Rattle.unit_prop.specs.declared.why.BadStep.{BadStep}
 use Rattle.unit_prop.specs.Log.{base_clause}
 use Rattle.lemma_book.specs.declared.entry.Entry.{Entry}
@@ -24,15 +23,14 @@ use Rattle.lemma_book.specs.declared.refused.Judgement.TheVariants as judged
 use Rattle.std.specs.declared.alloc.AllocError.{AllocError}
 use Rattle.lemma_book.specs.declared.refused.Offered.{Offered}
 use Rattle.lemma_book.specs.declared.refused.Offered.TheVariants.{At}
-use Rattle.lemma_book.specs.Entry.{Entries, with_last}
+use Rattle.lemma_book.specs.Entry.{Entries, Question, OfPair, OfOutput, with_last}
 use Rattle.lemma_book.specs.Book.{IsLegal}
-use Rattle.lemma_book.specs.Cone.{IsCone}
-use Rattle.lemma_book.specs.Good.{NoNode, NoStep, node_clause, out_clause, IsStepAt, IsNewAt, IsUndecidedAt, OfCone, IsGood}
+use Rattle.lemma_book.specs.Cone.{IsCone, IsOutputCone, IsConeOf}
+use Rattle.lemma_book.specs.Good.{NoNode, NoStep, node_clause, out_clause, IsStepAt, IsNewAt, IsUndecidedAt, OfQuery, IsGood}
 use Rattle.lemma_book.specs.Fault.{IsFreeBefore, FailsAt, IsFault, IsSettled, IsJudgement, IsRefusal, Takes}
 use Rattle.lemma_book.specs.Judging.{IsFirstBad, IsFirstPlace, IsFresh, standing_of}
-use Rattle.lemma_book.proofs.ConeLemmas.{cone-one}
+use Rattle.lemma_book.proofs.OutputCones.{cone_of-one}
 use Rattle.lemma_book.proofs.MergedNodes.{placed-there}
-use Rattle.lemma_book.proofs.ThereLemmas.{is_some-variable}
 use Rattle.lemma_book.proofs.LongerBooks.{legal-last}
 use Rattle.lemma_book.proofs.CauseOrder.{first-step, first-new, good-all}
 
@@ -58,75 +56,72 @@ module _ (net : AigPair) (book : Entries) where
       → IsFirstBad (out_clause net book.entries) steps None → IsGood net book (Out j steps)
   out-good j steps free first = good-all net book (Out j steps) free first (λ k. tt)
 
-  module _ (seen : ℕ) (seeds : List Node) (cone : List Named) (is_cone : IsCone net (take seen book.entries) seeds cone) where
-    of : (P : List Named → Type 0) → P cone → OfCone net (take seen book.entries) seeds P
+  module _ (seen : ℕ) (q : Question) (cone : List Named) (is_cone : IsConeOf net (take seen book.entries) q cone) where
+    of : (P : List Named → Type 0) → P cone → OfQuery net (take seen book.entries) q P
     of P holds = record { cone = cone; is_cone = is_cone; holds = holds }
 
-    not-of : (P : List Named → Type 0) → ¬ P cone → ¬ OfCone net (take seen book.entries) seeds P
-    not-of P never o = never (subst P (cone-one net (take seen book.entries) seeds o.cone cone o.is_cone is_cone) o.holds)
+    not-of : (P : List Named → Type 0) → ¬ P cone → ¬ OfQuery net (take seen book.entries) q P
+    not-of P never o = never (subst P (cone_of-one net (take seen book.entries) q o.cone cone o.is_cone is_cone) o.holds)
 
   module _ (node : Node) (lit : Lit) (seen : ℕ) (log : List Step) (free : IsFreeBefore net book (Spent node lit seen log) (NoStep 0))
       (cone : List Named) (is_cone : IsCone net (take seen book.entries) (node ∷ lit.node ∷ []) cone) where
     pub spent-bad : (k : ℕ) (bad : BadStep) → IsFirstBad (base_clause cone) log (Some (k, bad)) → IsFault net book (Spent node lit seen log) (fault.Step k bad)
     spent-bad k bad first = (
       first-step net book (Spent node lit seen log) free k
-          (λ j less. of seen (node ∷ lit.node ∷ []) cone is_cone (λ c. IsStepAt (base_clause c) log j) (first.0 j less))
-          (not-of seen (node ∷ lit.node ∷ []) cone is_cone (λ c. IsStepAt (base_clause c) log k) (fails-stands (base_clause cone) log k bad first.1)),
-      of seen (node ∷ lit.node ∷ []) cone is_cone (λ c. FailsAt (base_clause c) log k bad) first.1,
+          (λ j less. of seen (OfPair node lit) cone is_cone (λ c. IsStepAt (base_clause c) log j) (first.0 j less))
+          (not-of seen (OfPair node lit) cone is_cone (λ c. IsStepAt (base_clause c) log k) (fails-stands (base_clause cone) log k bad first.1)),
+      of seen (OfPair node lit) cone is_cone (λ c. FailsAt (base_clause c) log k bad) first.1,
     )
 
     pub spent-stale : (k : ℕ) → IsFirstBad (base_clause cone) log None → IsFirstPlace (IsFresh cone None log) (Some k)
         → IsFault net book (Spent node lit seen log) (fault.NotNew k)
     spent-stale k steps first =
         first-new net book (Spent node lit seen log) free k
-        (λ j. of seen (node ∷ lit.node ∷ []) cone is_cone (λ c. IsStepAt (base_clause c) log j) (steps j))
-        (λ j less. of seen (node ∷ lit.node ∷ []) cone is_cone (λ c. IsNewAt c log j) (first.0 j less).new)
-        (not-of seen (node ∷ lit.node ∷ []) cone is_cone (λ c. IsNewAt c log k) (λ new. first.1 (record { new = new; undecided = λ s at. tt })))
+        (λ j. of seen (OfPair node lit) cone is_cone (λ c. IsStepAt (base_clause c) log j) (steps j))
+        (λ j less. of seen (OfPair node lit) cone is_cone (λ c. IsNewAt c log j) (first.0 j less).new)
+        (not-of seen (OfPair node lit) cone is_cone (λ c. IsNewAt c log k) (λ new. first.1 (record { new = new; undecided = λ s at. tt })))
 
     pub spent-good : IsFirstBad (base_clause cone) log None → IsFirstPlace (IsFresh cone None log) None → IsGood net book (Spent node lit seen log)
     spent-good steps news =
         good-all net book (Spent node lit seen log) free
-        (λ j. of seen (node ∷ lit.node ∷ []) cone is_cone (λ c. IsStepAt (base_clause c) log j) (steps j))
-        (λ j. of seen (node ∷ lit.node ∷ []) cone is_cone (λ c. IsNewAt c log j) (news j).new)
+        (λ j. of seen (OfPair node lit) cone is_cone (λ c. IsStepAt (base_clause c) log j) (steps j))
+        (λ j. of seen (OfPair node lit) cone is_cone (λ c. IsNewAt c log j) (news j).new)
 
   module _ (j seen : ℕ) (log : List Step) (free : IsFreeBefore net book (OutSpent j seen log) (NoStep 0))
-      (cone : List Named) (is_cone : IsCone net (take seen book.entries) (Xor j ∷ []) cone) where
+      (cone : List Named) (is_cone : IsOutputCone net (take seen book.entries) j cone) where
     pub out_spent-bad : (k : ℕ) (bad : BadStep) → IsFirstBad (base_clause cone) log (Some (k, bad)) → IsFault net book (OutSpent j seen log) (fault.Step k bad)
     out_spent-bad k bad first = (
       first-step net book (OutSpent j seen log) free k
-          (λ i less. of seen (Xor j ∷ []) cone is_cone (λ c. IsStepAt (base_clause c) log i) (first.0 i less))
-          (not-of seen (Xor j ∷ []) cone is_cone (λ c. IsStepAt (base_clause c) log k) (fails-stands (base_clause cone) log k bad first.1)),
-      of seen (Xor j ∷ []) cone is_cone (λ c. FailsAt (base_clause c) log k bad) first.1,
+          (λ i less. of seen (OfOutput j) cone is_cone (λ c. IsStepAt (base_clause c) log i) (first.0 i less))
+          (not-of seen (OfOutput j) cone is_cone (λ c. IsStepAt (base_clause c) log k) (fails-stands (base_clause cone) log k bad first.1)),
+      of seen (OfOutput j) cone is_cone (λ c. FailsAt (base_clause c) log k bad) first.1,
     )
 
     pub out_spent-stale : (k : ℕ) → IsFirstBad (base_clause cone) log None → IsFirstPlace (IsFresh cone (Some (positive (Xor j))) log) (Some k)
         → IsFault net book (OutSpent j seen log) (fault.NotNew k)
     out_spent-stale k steps first =
         first-new net book (OutSpent j seen log) free k
-        (λ i. of seen (Xor j ∷ []) cone is_cone (λ c. IsStepAt (base_clause c) log i) (steps i))
-        (λ i less. of seen (Xor j ∷ []) cone is_cone (λ c. IsNewAt c log i × IsUndecidedAt c j log i) ((first.0 i less).new, (first.0 i less).undecided))
-        (not-of seen (Xor j ∷ []) cone is_cone (λ c. IsNewAt c log k × IsUndecidedAt c j log k) (λ both. first.1 (record { new = both.0; undecided = both.1 })))
+        (λ i. of seen (OfOutput j) cone is_cone (λ c. IsStepAt (base_clause c) log i) (steps i))
+        (λ i less. of seen (OfOutput j) cone is_cone (λ c. IsNewAt c log i × IsUndecidedAt c j log i) ((first.0 i less).new, (first.0 i less).undecided))
+        (not-of seen (OfOutput j) cone is_cone (λ c. IsNewAt c log k × IsUndecidedAt c j log k) (λ both. first.1 (record { new = both.0; undecided = both.1 })))
 
     pub out_spent-good : IsFirstBad (base_clause cone) log None → IsFirstPlace (IsFresh cone (Some (positive (Xor j))) log) None
         → IsGood net book (OutSpent j seen log)
     out_spent-good steps news =
         good-all net book (OutSpent j seen log) free
-        (λ i. of seen (Xor j ∷ []) cone is_cone (λ c. IsStepAt (base_clause c) log i) (steps i))
-        (λ i. of seen (Xor j ∷ []) cone is_cone (λ c. IsNewAt c log i × IsUndecidedAt c j log i) ((news i).new, (news i).undecided))
+        (λ i. of seen (OfOutput j) cone is_cone (λ c. IsStepAt (base_clause c) log i) (steps i))
+        (λ i. of seen (OfOutput j) cone is_cone (λ c. IsNewAt c log i × IsUndecidedAt c j log i) ((news i).new, (news i).undecided))
 
--- the nodes of what is judged have CNF variables
+-- the nodes of what is judged have CNF variables, and its output is there
 pub pair-there : (net : AigPair) (book : Entries) (node : Node) (lit : Lit) (seen : ℕ) (log : List Step)
     → IsFreeBefore net book (Spent node lit seen log) (NoStep 0) → IsSome (variable_of net node) × IsSome (variable_of net lit.node)
 pair-there net book node lit seen log free =
     let there = free NoNode (inl (omega arith)) in
     (placed-there net node there.0.0, placed-there net lit.node there.0.1)
 
-pub output-there : (net : AigPair) (book : Entries) (j seen : ℕ) (log : List Step) → IsFreeBefore net book (OutSpent j seen log) (NoStep 0)
-    → IsSome (variable_of net (Xor j))
-output-there net book j seen log free =
-    let there = free NoNode (inl (omega arith)) in
-    let below = there.0 in
-    is_some-variable net (Xor j) ∙ has-xor net j ∙ range-has 0 (length net.a.outputs) j (omega arith) (omega (arith, below))
+pub output-below : (net : AigPair) (book : Entries) (j seen : ℕ) (log : List Step) → IsFreeBefore net book (OutSpent j seen log) (NoStep 0)
+    → j < length net.a.outputs
+output-below net book j seen log free = let there = free NoNode (inl (omega arith)) in there.0
 
 -- a book that took a good entry, or stayed as it was
 pub legal-taken : (net : AigPair) (old new : Entries) (e : Entry) (r : Result Offered (Entry × Refused)) → IsLegal net old → IsGood net old e

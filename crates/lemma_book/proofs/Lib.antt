@@ -16,6 +16,8 @@ mod WalkLemmas
 mod ReachLemmas
 mod MergedNodes
 mod ConeLemmas
+mod OutputCones
+mod BoundLists
 mod UnmergedRoots
 mod Telling
 mod CauseOrder
@@ -23,5 +25,6 @@ mod NewClauses
 mod Judged
 mod PartLemmas
 mod ConeValueLemmas
+mod AdmittedInputs
 mod AlongMerges
 mod OutputXor

@@ -4,23 +4,22 @@ use Rattle.std.specs.Prelude.{slice_get}
 use Rattle.std.specs.Option.{option_and_then, option_map_or}
 use Rattle.std.proofs.lemmas.List.{length-append, take-append-le, take-append-drop}
 use Rattle.std.proofs.lemmas.Option.{none-some, same_Some, slice_get_within}
-use Rattle.lits.specs.declared.node.Node.{Node}
 use Rattle.lits.specs.declared.node.Node.TheVariants.{Const, Input, Gate, Xor}
 use Rattle.lits.specs.declared.literal.Lit.{Lit}
 use Rattle.lits.specs.declared.step.Ref.{Ref}
-use Rattle.lits.specs.declared.step.Ref.TheVariants.{Axiom, Entry as Shown, Own}
+use Rattle.lits.specs.declared.step.Ref.TheVariants.{Axiom, Entry as Shown, Own, Bound}
 use Rattle.lits.specs.declared.step.Named.{Named}
 use Rattle.netlist.specs.Net.{AigPair}
 use Rattle.netlist.proofs.Facts.{slice_get-left}
 use Rattle.unit_prop.proofs.Facts.{in_turn-append}
 use Rattle.lemma_book.specs.declared.entry.Entry.{Entry}
 use Rattle.lemma_book.specs.declared.entry.Entry.TheVariants.{Merge, Apart, Spent, Out, OutApart, OutSpent}
-use Rattle.lemma_book.specs.Entry.{Entries, first_entries, subject_of, is_on, place_on, settled_at, with_last, lemmas_of}
+use Rattle.lemma_book.specs.Entry.{Entries, first_entries, subject_of, is_on, place_on, settled_at, with_last, lemmas_of, Question, OfPair, OfOutput}
 use Rattle.lemma_book.specs.declared.entry.Subject.{Subject}
 use Rattle.netlist.specs.Place.{place_of}
 use Rattle.lemma_book.specs.declared.refused.Offered.TheVariants as Offered
 use Rattle.lemma_book.specs.Book.{IsLegal, StartsWith, answer_to}
-use Rattle.lemma_book.specs.Good.{NoNode, Already, NotEarlier, NotApart, Shape, Count, Seen, NoStep, NotNew, HasCount, HasSeen, HasStep, HasNew, merge_clause, out_clause, node_clause, OfCone, IsGood}
+use Rattle.lemma_book.specs.Good.{NoNode, Already, NotEarlier, NotApart, Shape, Count, Seen, NoStep, NotNew, HasCount, HasSeen, HasStep, HasNew, merge_clause, out_clause, node_clause, OfQuery, IsGood}
 use Rattle.lemma_book.proofs.MoreClauses.{step_after-more}
 
 module _ (entries rest : List Entry) where
@@ -37,6 +36,7 @@ module _ (entries rest : List Entry) where
   out_clause-longer net (Axiom node k) c e = e
   out_clause-longer net (Shown i k) c e = merge_clause-longer i k c e
   out_clause-longer net (Own k) c e = e
+  out_clause-longer net (Bound side k) c e = e
 
   pub node_clause-longer : (net : AigPair) (n : Ref) (c : List Lit) → node_clause net entries n ≡ Some c → node_clause net (entries ++ rest) n ≡ Some c
   node_clause-longer net (Axiom Const k) c e = e
@@ -45,29 +45,30 @@ module _ (entries rest : List Entry) where
   node_clause-longer net (Axiom (Xor j) k) c e = e
   node_clause-longer net (Shown i k) c e = merge_clause-longer i k c e
   node_clause-longer net (Own k) c e = e
+  node_clause-longer net (Bound side k) c e = e
 
-  -- the cone over entries that were seen is the same
-  cone-longer : (net : AigPair) (seeds : List Node) (seen : ℕ) (P : List Named → Type 0) → seen ≤ length entries
-      → OfCone net (take seen entries) seeds P → OfCone net (take seen (entries ++ rest)) seeds P
-  cone-longer net seeds seen P within o = subst (λ (es : List Entry). OfCone net es seeds P) (sym (take-append-le seen entries rest within)) o
+  -- what a query is over is the same, where the entries are those that were seen
+  query-longer : (net : AigPair) (q : Question) (seen : ℕ) (P : List Named → Type 0) → seen ≤ length entries
+      → OfQuery net (take seen entries) q P → OfQuery net (take seen (entries ++ rest)) q P
+  query-longer net q seen P within o = subst (λ (es : List Entry). OfQuery net es q P) (sym (take-append-le seen entries rest within)) o
 
   step-longer : (net : AigPair) (k : ℕ) (e : Entry) (book : Entries) → book.entries ≡ entries → HasSeen book e → HasStep net entries k e → HasStep net (entries ++ rest) k e
   step-longer net k (Merge node lit steps) book is seen has =
       λ s at. step_after-more (node_clause net entries) (node_clause net (entries ++ rest)) (node_clause-longer net) (take k steps) s.clause s.hints (has s at)
   step-longer net k (Apart node lit input) book is seen has = tt
-  step-longer net k (Spent node lit n log) book is seen has = cone-longer net (node ∷ lit.node ∷ []) n _ (subst (λ (es : List Entry). n ≤ length es) is seen) has
+  step-longer net k (Spent node lit n log) book is seen has = query-longer net (OfPair node lit) n _ (subst (λ (es : List Entry). n ≤ length es) is seen) has
   step-longer net k (Out j steps) book is seen has =
       λ s at. step_after-more (out_clause net entries) (out_clause net (entries ++ rest)) (out_clause-longer net) (take k steps) s.clause s.hints (has s at)
   step-longer net k (OutApart j input) book is seen has = tt
-  step-longer net k (OutSpent j n log) book is seen has = cone-longer net (Xor j ∷ []) n _ (subst (λ (es : List Entry). n ≤ length es) is seen) has
+  step-longer net k (OutSpent j n log) book is seen has = query-longer net (OfOutput j) n _ (subst (λ (es : List Entry). n ≤ length es) is seen) has
 
   new-longer : (net : AigPair) (k : ℕ) (e : Entry) (book : Entries) → book.entries ≡ entries → HasSeen book e → HasNew net entries k e → HasNew net (entries ++ rest) k e
   new-longer net k (Merge node lit steps) book is seen has = tt
   new-longer net k (Apart node lit input) book is seen has = tt
-  new-longer net k (Spent node lit n log) book is seen has = cone-longer net (node ∷ lit.node ∷ []) n _ (subst (λ (es : List Entry). n ≤ length es) is seen) has
+  new-longer net k (Spent node lit n log) book is seen has = query-longer net (OfPair node lit) n _ (subst (λ (es : List Entry). n ≤ length es) is seen) has
   new-longer net k (Out j steps) book is seen has = tt
   new-longer net k (OutApart j input) book is seen has = tt
-  new-longer net k (OutSpent j n log) book is seen has = cone-longer net (Xor j ∷ []) n _ (subst (λ (es : List Entry). n ≤ length es) is seen) has
+  new-longer net k (OutSpent j n log) book is seen has = query-longer net (OfOutput j) n _ (subst (λ (es : List Entry). n ≤ length es) is seen) has
 
 count-longer : (book more : Entries) (e : Entry) → StartsWith more book → HasCount book e → HasCount more e
 count-longer book more (Merge node lit steps) starts count = subst (λ (b : ℕ). length steps ≤ b + 2) (sym starts.sweep) count

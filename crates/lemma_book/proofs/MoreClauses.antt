@@ -3,7 +3,7 @@ use Rattle.std.proofs.Common.{◌≡◌, List, Option, Some, []}
 use Rattle.lits.specs.declared.literal.Lit.{Lit}
 use Rattle.lits.specs.declared.step.Step.{Step}
 use Rattle.lits.specs.declared.step.Ref.{Ref}
-use Rattle.lits.specs.declared.step.Ref.TheVariants.{Axiom, Entry, Own}
+use Rattle.lits.specs.declared.step.Ref.TheVariants.{Axiom, Entry, Own, Bound}
 use Rattle.lits.specs.Same.{same_lit, opposite}
 use Rattle.unit_prop.specs.Step.{IsStep}
 use Rattle.unit_prop.specs.Log.{with_own, IsStepAfter, IsChain}
@@ -15,6 +15,7 @@ module _ (find more : Ref → Option (List Lit)) (within : (n : Ref) (c : List L
   with_own-more steps (Axiom node k) c e = within (Axiom node k) c e
   with_own-more steps (Entry entry k) c e = within (Entry entry k) c e
   with_own-more steps (Own k) c e = e
+  with_own-more steps (Bound side k) c e = within (Bound side k) c e
 
   -- a step after others is one over more clauses too
   pub step_after-more : (before : List Step) (clause : List Lit) (hints : List Ref)

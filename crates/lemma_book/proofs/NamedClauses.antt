@@ -1,29 +1,31 @@
--- The clauses that an entry's steps stand on: each clause of a cone is the one that its name has, an axiom of the miter or
--- a clause of a merge. So each step of a good entry is one over those.
-use Rattle.std.proofs.Common.{◌≡◌, ℕ, ◌+◌, Bool, true, false, Option, Some, None, List, [], ◌∷◌, ◌++◌, length, take, refl, sym, ap, ◌∙◌, subst, arith, append_assoc, length-append}
+-- The clauses that an entry's steps stand on: each clause of a cone is the one that its name has, an axiom of the miter, a
+-- clause of a merge or, in an output's cone, a constraint's unit. So each step of a good entry is one over those.
+use Rattle.std.proofs.Common.{◌≡◌, ℕ, ◌+◌, Bool, true, false, Option, Some, None, List, [], ◌∷◌, ◌++◌, length, map, take, refl, sym, ap, ◌∙◌, subst, arith, append_assoc, length-append}
 use Rattle.std.specs.Prelude.{slice_get, filter}
 use Rattle.std.specs.Option.{option_and_then}
 use Rattle.std.specs.List.{flat_map, AllByRecursion}
-use Rattle.std.proofs.lemmas.Option.{none-some, same_Some, slice_get_within}
+use Rattle.std.proofs.lemmas.Option.{none-some, same_Some, slice_get-map, slice_get_within}
+use Rattle.lits.specs.declared.node.Side.{Side}
+use Rattle.lits.specs.declared.node.Side.TheVariants.{A, B}
 use Rattle.lits.specs.declared.node.Node.{Node}
 use Rattle.lits.specs.declared.node.Node.TheVariants.{Const, Input, Gate, Xor}
 use Rattle.lits.specs.declared.literal.Lit.{Lit}
 use Rattle.lits.specs.declared.step.Ref.{Ref}
-use Rattle.lits.specs.declared.step.Ref.TheVariants.{Axiom, Entry as Shown, Own}
+use Rattle.lits.specs.declared.step.Ref.TheVariants.{Axiom, Entry as Shown, Own, Bound}
 use Rattle.lits.specs.declared.step.Named.{Named}
 use Rattle.lits.specs.declared.step.Step.{Step}
 use Rattle.lits.proofs.Facts.{exact-node, all-append}
-use Rattle.netlist.specs.Net.{AigPair}
-use Rattle.netlist.specs.Miter.{axioms_of, variables_of}
+use Rattle.netlist.specs.Net.{AigPair, bounds_on}
+use Rattle.netlist.specs.Miter.{axioms_of, unit, variables_of}
 use Rattle.netlist.proofs.Facts.{slice_get-left, slice_get-right, at_place}
 use Rattle.unit_prop.specs.Log.{same_name, base_clause, IsChain}
 use Rattle.unit_prop.proofs.Facts.{exact-name}
 use Rattle.lemma_book.specs.declared.entry.Entry.{Entry}
 use Rattle.lemma_book.specs.declared.entry.Entry.TheVariants.{Merge, Apart, Spent, Out, OutApart, OutSpent}
 use Rattle.lemma_book.specs.declared.entry.Subject.TheVariants.{Merged}
-use Rattle.lemma_book.specs.Entry.{Entries, same_subject, is_on, place_on, merge_clauses, lemmas_of}
+use Rattle.lemma_book.specs.Entry.{Entries, OfOutput, seeds_of, same_subject, is_on, place_on, merge_clauses, lemmas_of}
 use Rattle.lemma_book.specs.Root.{MergeAt, merge_in, merge_of}
-use Rattle.lemma_book.specs.Cone.{named_from, named_clauses, IsCone}
+use Rattle.lemma_book.specs.Cone.{named_from, named_clauses, named_bounds, named_units, IsCone, IsOutputCone}
 use Rattle.lemma_book.proofs.GoodEntries.{merge-chain, steps-chain}
 use Rattle.lemma_book.proofs.MoreClauses.{step_after-more, chain-more}
 use Rattle.lemma_book.specs.Good.{NoStep, out_clause, node_clause, merge_clause, IsGood}
@@ -98,6 +100,20 @@ cone-named net entries seeds cone is =
     subst (λ (l : List Named). AllByRecursion (HasItsName net entries) l) (sym is.clauses)
     (named-all net entries (filter is.reached (variables_of net)))
 
+-- so is each unit of a constraint
+named-bounds : (net : AigPair) (entries : List Entry) (side : Side) → AllByRecursion (HasItsName net entries) (named_bounds net side)
+named-bounds net entries side =
+    named-each (out_clause net entries) (Bound side) (map unit (bounds_on net side)) (λ k. sym (slice_get-map unit (bounds_on net side) k))
+    [] (map unit (bounds_on net side)) 0 refl refl
+
+-- and each clause of an output's cone
+pub output_cone-named : (net : AigPair) (entries : List Entry) (j : ℕ) (cone : List Named) → IsOutputCone net entries j cone
+    → AllByRecursion (HasItsName net entries) cone
+output_cone-named net entries j cone is =
+    subst (λ (l : List Named). AllByRecursion (HasItsName net entries) l) (sym is.clauses)
+    (all-append (HasItsName net entries) is.nodes (named_units net) (cone-named net entries (seeds_of net (OfOutput j)) is.nodes is.is_cone)
+    (all-append (HasItsName net entries) (named_bounds net A) (named_bounds net B) (named-bounds net entries A) (named-bounds net entries B)))
+
 -- so what is found under a name is the clause of that name
 pub found-clause : (find : Ref → Option (List Lit)) (cone : List Named) → AllByRecursion (λ n. find n.by ≡ Some n.clause) cone
     → (name : Ref) (c : List Lit) → base_clause cone name ≡ Some c → find name ≡ Some c
@@ -115,6 +131,7 @@ pub clause-more : (net : AigPair) (entries more : List Entry) (name : Ref) (c : 
     → out_clause net (entries ++ more) name ≡ Some c
 clause-more net entries more (Axiom node k) c e = e
 clause-more net entries more (Own k) c e = absurd (none-some c e)
+clause-more net entries more (Bound side k) c e = e
 clause-more net entries more (Shown i k) c e = go (slice_get entries i) refl
   where
     go : (o : Option Entry) → slice_get entries i ≡ o → out_clause net (entries ++ more) (Shown i k) ≡ Some c
@@ -133,6 +150,7 @@ node-clause net entries (Axiom (Gate side v) k) c e = e
 node-clause net entries (Axiom (Xor j) k) c e = absurd (none-some c e)
 node-clause net entries (Shown i k) c e = e
 node-clause net entries (Own k) c e = absurd (none-some c e)
+node-clause net entries (Bound side k) c e = absurd (none-some c e)
 
 -- the steps of a merge that is good are a chain over what an output's steps may cite
 pub merge-chain_out : (net : AigPair) (book : Entries) (node : Node) (lit : Lit) (steps : List Step) → IsGood net book (Merge node lit steps)
@@ -148,5 +166,5 @@ out_spent-chain net book j seen log good =
     steps-chain (out_clause net (take seen book.entries)) log
     (λ k s e. let over = good (NoStep k) in
     step_after-more (base_clause over.cone) (out_clause net (take seen book.entries))
-    (found-clause (out_clause net (take seen book.entries)) over.cone (cone-named net (take seen book.entries) (Xor j ∷ []) over.cone over.is_cone))
+    (found-clause (out_clause net (take seen book.entries)) over.cone (output_cone-named net (take seen book.entries) j over.cone over.is_cone))
     (take k log) s.clause s.hints (over.holds s e))

@@ -1,6 +1,6 @@
 -- The XOR of an output: it has a variable and no position, no book merges it, and which clauses define it. And an output
 -- without an entry is none's subject.
-use Rattle.std.proofs.Common.{◌≡◌, ℕ, ◌<◌, Bool, true, false, Option, Some, None, List, length, take, refl, sym, ap, ◌∙◌, arith}
+use Rattle.std.proofs.Common.{◌≡◌, ℕ, ◌<◌, true, false, Option, Some, None, List, length, take, refl, sym, ap, ◌∙◌, arith}
 use Rattle.std.specs.Prelude.{slice_get, slice_index}
 use Rattle.std.specs.Option.{IsSome, is_some, option_and_then}
 use Rattle.std.specs.List.{find}

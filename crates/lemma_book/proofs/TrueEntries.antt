@@ -1,7 +1,8 @@
--- What the entries of a legal book say of all inputs is so, by way of their steps; and a literal has its root's value.
+-- In a legal book what merges say holds on all inputs, and what Outs say on all admitted ones, by way of their steps; and
+-- a literal has its root's value.
 use Rattle.std.proofs.Common.{◌≡◌, ℕ, zero, suc, Bool, true, false, not, ◌||◌, List, [], ◌∷◌, ◌++◌, map, length, Option, None, Some, refl, sym, ap, ◌∙◌, subst, append_assoc}
 use Rattle.std.specs.Prelude.{if◌then◌else◌, slice_get}
-use Rattle.std.specs.Option.{option_and_then, option_map_or}
+use Rattle.std.specs.Option.{option_and_then, option_map, option_map_or}
 use Rattle.std.specs.List.{AllByRecursion}
 use Rattle.std.proofs.lemmas.List.{append-nil}
 use Rattle.std.proofs.lemmas.Option.{none-some, same_Some}
@@ -9,15 +10,18 @@ use Rattle.std.proofs.Math.Bool.{or-false}
 use Rattle.lits.specs.Assignment.{IsAssignment, Holds}
 use Rattle.lits.specs.Same.{opposite}
 use Rattle.lits.specs.declared.literal.Lit.{Lit}
+use Rattle.lits.specs.declared.node.Side.{Side}
+use Rattle.lits.specs.declared.node.Side.TheVariants.{A, B}
 use Rattle.lits.specs.declared.node.Node.{Node}
+use Rattle.lits.specs.declared.node.Node.TheVariants.{Const, Input, Gate, Xor}
 use Rattle.lits.specs.declared.step.Ref.{Ref}
-use Rattle.lits.specs.declared.step.Ref.TheVariants.{Axiom, Entry as Shown, Own}
+use Rattle.lits.specs.declared.step.Ref.TheVariants.{Axiom, Entry as Shown, Own, Bound}
 use Rattle.lits.specs.declared.step.Step.{Step}
 use Rattle.lits.proofs.Facts.{all-parts, exact-node, all-slice_get, all-append}
 use Rattle.netlist.specs.Circuit.{output_value}
-use Rattle.netlist.specs.Net.{AigPair, IsNet, value_of, lit_holds}
-use Rattle.netlist.specs.Miter.{axioms_of}
-use Rattle.netlist.proofs.Facts.{values-meet, at_place, lit_holds-assigns, same-values}
+use Rattle.netlist.specs.Net.{AigPair, IsNet, IsAdmitted, bound_of, bounds_on, value_of, lit_holds}
+use Rattle.netlist.specs.Miter.{axiom_of, axioms_of, unit}
+use Rattle.netlist.proofs.Facts.{values-meet, at_place, lit_holds-assigns, same-values, admitted-bounds}
 use Rattle.unit_prop.specs.Step.{AllHold}
 use Rattle.unit_prop.specs.Log.{IsChain, InTurn}
 use Rattle.lemma_book.specs.declared.entry.Entry.{Entry}
@@ -26,10 +30,9 @@ use Rattle.lemma_book.specs.declared.entry.Subject.TheVariants.{Merged}
 use Rattle.lemma_book.specs.Entry.{Entries, is_on, place_on, lemmas_of, merge_clauses, equal_clause}
 use Rattle.lemma_book.specs.Root.{MergeAt, merge_in, merge_of, carried, follow, root_of}
 use Rattle.lemma_book.specs.Book.{IsLegal}
-use Rattle.lemma_book.specs.Good.{EndsIn, Shape, out_clause, IsGood}
+use Rattle.lemma_book.specs.Good.{EndsIn, Shape, merge_clause, out_clause, node_clause, IsGood}
 use Rattle.lemma_book.specs.Agreement.{HasValueOf, HaveOneValue, IsTrue}
-use Rattle.lemma_book.proofs.GoodEntries.{out-chain}
-use Rattle.lemma_book.proofs.NamedClauses.{merge-chain_out}
+use Rattle.lemma_book.proofs.GoodEntries.{merge-chain, out-chain}
 
 -- what a merge's two clauses say: node and literal have one value
 module _ (v : Node → Bool) (node : Node) (lit : Lit) where
@@ -74,13 +77,10 @@ module _ (net : AigPair) (is : IsNet net)
     (steps_hold : (find : Ref → Option (List Lit)) (steps : List Step) (v : Lit → Bool)
     → IsAssignment opposite v → AllHold v find
     → IsChain find steps → AllByRecursion (λ s. Holds v s.clause) steps) where
-  -- what steps may cite holds under the nodes' values, where the entries are true
-  clauses-hold : (entries : List Entry) → AllByRecursion (IsTrue net) entries → (bits : List Bool) → length bits ≡ length net.a.inputs
-      → AllHold (lit_holds (value_of net bits)) (out_clause net entries)
-  clauses-hold entries true_all bits whole (Axiom node k) c found =
-      all-slice_get (Holds (lit_holds (value_of net bits))) (axioms_of net node) k c (values-meet net is bits node) found
-  clauses-hold entries true_all bits whole (Own k) c found = absurd (none-some c found)
-  clauses-hold entries true_all bits whole (Shown i k) c found = go (slice_get entries i) refl
+  -- the clauses of true entries hold under the nodes' values
+  shown-holds : (entries : List Entry) → AllByRecursion (IsTrue net) entries → (bits : List Bool) → length bits ≡ length net.a.inputs
+      → (i k : ℕ) (c : List Lit) → merge_clause entries i k ≡ Some c → Holds (lit_holds (value_of net bits)) c
+  shown-holds entries true_all bits whole i k c found = go (slice_get entries i) refl
     where
       of : (x : Entry) → IsTrue net x → slice_get (lemmas_of x) k ≡ Some c → Holds (lit_holds (value_of net bits)) c
       of (Merge node lit steps) t f =
@@ -96,21 +96,59 @@ module _ (net : AigPair) (is : IsNet net)
       go (Some x) f =
           of x (all-slice_get (IsTrue net) entries i x true_all f) (sym (ap (option_and_then (λ y. slice_get (lemmas_of y) k)) f) ∙ found)
 
+  -- so do the axioms
+  axiom-holds : (bits : List Bool) (node : Node) (k : ℕ) (c : List Lit) → axiom_of net node k ≡ Some c → Holds (lit_holds (value_of net bits)) c
+  axiom-holds bits node k c found = all-slice_get (Holds (lit_holds (value_of net bits))) (axioms_of net node) k c (values-meet net is bits node) found
+
+  -- and on an admitted input the constraints' units
+  unit-holds : (bits : List Bool) → IsAdmitted net bits → (side : Side) (k : ℕ) (c : List Lit) → option_map unit (bound_of net side k) ≡ Some c
+      → Holds (lit_holds (value_of net bits)) c
+  unit-holds bits admitted side k c found = go (bound_of net side k) refl
+    where
+      on : (s : Side) → AllByRecursion (λ l. lit_holds (value_of net bits) l ≡ true) (bounds_on net s)
+      on A = (all-parts (λ l. lit_holds (value_of net bits) l ≡ true) (bounds_on net A) (bounds_on net B) (admitted-bounds net is bits admitted)).0
+      on B = (all-parts (λ l. lit_holds (value_of net bits) l ≡ true) (bounds_on net A) (bounds_on net B) (admitted-bounds net is bits admitted)).1
+
+      go : (o : Option Lit) → bound_of net side k ≡ o → Holds (lit_holds (value_of net bits)) c
+      go None f = absurd (none-some c (sym (ap (option_map unit) f) ∙ found))
+      go (Some l) f =
+          subst (Holds (lit_holds (value_of net bits))) (same_Some (unit l) c (sym (ap (option_map unit) f) ∙ found))
+          (ap (λ (b : Bool). b || false) (all-slice_get (λ m. lit_holds (value_of net bits) m ≡ true) (bounds_on net side) k l (on side) f))
+
+  -- what the steps of a Merge may cite holds on each input, where the entries are true
+  nodes-hold : (entries : List Entry) → AllByRecursion (IsTrue net) entries → (bits : List Bool) → length bits ≡ length net.a.inputs
+      → AllHold (lit_holds (value_of net bits)) (node_clause net entries)
+  nodes-hold entries true_all bits whole (Axiom Const k) c found = axiom-holds bits Const k c found
+  nodes-hold entries true_all bits whole (Axiom (Input i) k) c found = axiom-holds bits (Input i) k c found
+  nodes-hold entries true_all bits whole (Axiom (Gate s v) k) c found = axiom-holds bits (Gate s v) k c found
+  nodes-hold entries true_all bits whole (Axiom (Xor j) k) c found = absurd (none-some c found)
+  nodes-hold entries true_all bits whole (Bound side k) c found = absurd (none-some c found)
+  nodes-hold entries true_all bits whole (Shown i k) c found = shown-holds entries true_all bits whole i k c found
+  nodes-hold entries true_all bits whole (Own k) c found = absurd (none-some c found)
+
+  -- what the steps of an Out may cite holds on each admitted input
+  clauses-hold : (entries : List Entry) → AllByRecursion (IsTrue net) entries → (bits : List Bool) → IsAdmitted net bits
+      → AllHold (lit_holds (value_of net bits)) (out_clause net entries)
+  clauses-hold entries true_all bits admitted (Axiom node k) c found = axiom-holds bits node k c found
+  clauses-hold entries true_all bits admitted (Bound side k) c found = unit-holds bits admitted side k c found
+  clauses-hold entries true_all bits admitted (Shown i k) c found = shown-holds entries true_all bits admitted.whole i k c found
+  clauses-hold entries true_all bits admitted (Own k) c found = absurd (none-some c found)
+
   -- an entry that is good over true ones is true
   pub good-true : (book : Entries) → AllByRecursion (IsTrue net) book.entries → (e : Entry) → IsGood net book e → IsTrue net e
   good-true book true_all (Merge node lit steps) good =
       λ bits whole. clauses-equal (value_of net bits) node lit
       (ends-hold (lit_holds (value_of net bits)) (merge_clauses node lit) steps (good Shape)
-      (steps_hold (out_clause net book.entries) steps (lit_holds (value_of net bits)) (lit_holds-assigns (value_of net bits))
-      (clauses-hold book.entries true_all bits whole) (merge-chain_out net book node lit steps good)))
+      (steps_hold (node_clause net book.entries) steps (lit_holds (value_of net bits)) (lit_holds-assigns (value_of net bits))
+      (nodes-hold book.entries true_all bits whole) (merge-chain net book node lit steps good)))
   good-true book true_all (Apart node lit input) good = tt
   good-true book true_all (Spent node lit seen log) good = tt
   good-true book true_all (Out j steps) good =
-      λ bits whole. same-values (output_value net.a bits j) (output_value net.b bits j)
+      λ bits admitted. same-values (output_value net.a bits j) (output_value net.b bits j)
       (sym (or-false _) ∙
       (ends-hold (lit_holds (value_of net bits)) (equal_clause j ∷ []) steps (good Shape)
       (steps_hold (out_clause net book.entries) steps (lit_holds (value_of net bits)) (lit_holds-assigns (value_of net bits))
-      (clauses-hold book.entries true_all bits whole) (out-chain net book j steps good))).0)
+      (clauses-hold book.entries true_all bits admitted) (out-chain net book j steps good))).0)
   good-true book true_all (OutApart j input) good = tt
   good-true book true_all (OutSpent j seen log) good = tt
 

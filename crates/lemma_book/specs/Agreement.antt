@@ -1,4 +1,4 @@
--- What entries say of all inputs.
+-- What entries say of all inputs, or of all admitted ones.
 use Rattle.std.specs.Prelude.{◌≡◌, Bool, ⊤, List, length}
 use Rattle.lits.specs.declared.node.Node.{Node}
 use Rattle.lits.specs.declared.literal.Lit.{Lit}
@@ -16,7 +16,8 @@ abbrev pub HaveOneValue : AigPair → Lit → Lit → Type 0
 HaveOneValue net l m = (bits : List Bool) → length bits ≡ length net.a.inputs
     → lit_holds (value_of net bits) l ≡ lit_holds (value_of net bits) m
 
--- the values of the question are equal, for all truth values of the inputs
+-- the values of the question are equal: those of a pair for all truth values of the inputs, an output's on each admitted
+-- input
 abbrev pub AreEqual : AigPair → Question → Type 0
 AreEqual net (OfPair node lit) = HasValueOf net node lit
 AreEqual net (OfOutput j) = AgreesOn net j
@@ -26,6 +27,6 @@ IsTrueOf net q (Equal steps) = AreEqual net q
 IsTrueOf net q (Differ input) = ⊤
 IsTrueOf net q (Open seen log) = ⊤
 
--- what the entry says of all inputs is so
+-- where the entry says that values are equal, they are
 abbrev pub IsTrue : AigPair → Entry → Type 0
 IsTrue net e = IsTrueOf net (question_of e) (answer_of e)

@@ -1,22 +1,24 @@
 -- The cone of some nodes over a book: the clauses that define these nodes, those that define what the clauses speak of,
--- and so on down to the inputs (the transitive fanin cone of Berkeley's ABC), where a merged node stands for its target.
+-- and so on down to the inputs (the transitive fanin cone of Berkeley's ABC), where a merged node stands for its target. An
+-- output's cone has the constraints' units besides.
 use Rattle.std.specs.Prelude.{◌≡◌, ℕ, ◌+◌, Bool, true, List, [], ◌∷◌, ◌++◌, map, filter}
 use Rattle.std.specs.Option.{option_map_or, option_to_list, IsSome}
 use Rattle.std.specs.List.{flat_map, AllByRecursion}
 use Rattle.lits.specs.Clause.{has}
 use Rattle.lits.specs.Same.{same_node}
+use Rattle.lits.specs.declared.node.Side.{Side}
 use Rattle.lits.specs.declared.node.Side.TheVariants.{A, B}
 use Rattle.lits.specs.declared.node.Node.{Node}
 use Rattle.lits.specs.declared.node.Node.TheVariants.{Const, Input, Gate, Xor}
 use Rattle.lits.specs.declared.literal.Lit.{Lit}
 use Rattle.lits.specs.declared.step.Ref.{Ref}
-use Rattle.lits.specs.declared.step.Ref.TheVariants.{Axiom, Entry as Shown}
+use Rattle.lits.specs.declared.step.Ref.TheVariants.{Axiom, Entry as Shown, Bound}
 use Rattle.lits.specs.declared.step.Named.{Named}
 use Rattle.netlist.specs.Circuit.{var_of}
-use Rattle.netlist.specs.Net.{AigPair, circuit_of, node_of, gate_at, output_of}
-use Rattle.netlist.specs.Miter.{axioms_of, variables_of, variable_of}
+use Rattle.netlist.specs.Net.{AigPair, bounds_on, circuit_of, node_of, gate_at, output_of}
+use Rattle.netlist.specs.Miter.{axioms_of, unit, variables_of, variable_of}
 use Rattle.lemma_book.specs.declared.entry.Entry.{Entry}
-use Rattle.lemma_book.specs.Entry.{merge_clauses}
+use Rattle.lemma_book.specs.Entry.{Question, OfPair, OfOutput, merge_clauses, seeds_of}
 use Rattle.lemma_book.specs.Root.{merge_of}
 
 -- the literals are over nodes that the miter has variables for
@@ -76,6 +78,26 @@ pub record IsCone (net : AigPair) (entries : List Entry) (seeds : List Node) (co
   pub reached : Node → Bool
   pub reach : IsReach (next_of net entries) seeds reached
   pub clauses : cone ≡ flat_map (named_clauses net entries) (filter reached (variables_of net))
+
+-- the units of one side's constraints, with their names
+abbrev pub named_bounds : AigPair → Side → List Named
+named_bounds net side = named_from (Bound side) 0 (map unit (bounds_on net side))
+
+-- the units of all constraints, with their names: those of A in order, then those of B
+abbrev pub named_units : AigPair → List Named
+named_units net = named_bounds net A ++ named_bounds net B
+
+-- the cone of an output: that of its XOR and of the constraints' nodes, and behind it the units of all constraints
+pub record IsOutputCone (net : AigPair) (entries : List Entry) (j : ℕ) (cone : List Named) : Type 0 where
+  pub nodes : List Named
+  pub is_cone : IsCone net entries (seeds_of net (OfOutput j)) nodes
+  pub clauses : cone ≡ nodes ++ named_units net
+
+-- the clauses that a query of the question is over: about a pair the cone of its two nodes, which no constraint joins, and
+-- about an output its cone
+abbrev pub IsConeOf : AigPair → List Entry → Question → List Named → Type 0
+IsConeOf net entries (OfPair node lit) cone = IsCone net entries (seeds_of net (OfPair node lit)) cone
+IsConeOf net entries (OfOutput j) cone = IsOutputCone net entries j cone
 
 -- the clauses that a cone has of some of its nodes, in its order
 abbrev pub clauses_on : AigPair → List Entry → List Node → List Named

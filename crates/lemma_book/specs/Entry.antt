@@ -1,6 +1,6 @@
 -- The entries of a book, the question and the answer of each, and the clauses that it shows. An entry is a lemma about
 -- two nodes or about an output (the lemmas of SAT sweeping; Kuehlmann, Paruthi, Krohm and Ganai 2002).
-use Rattle.std.specs.Prelude.{ℕ, Bool, true, false, ◌&&◌, Option, None, Some, List, [], ◌∷◌, ◌++◌, length, take, if◌then◌else◌}
+use Rattle.std.specs.Prelude.{ℕ, Bool, true, false, ◌&&◌, Option, None, Some, List, [], ◌∷◌, ◌++◌, length, map, take, if◌then◌else◌}
 use Rattle.std.specs.Option.{option_map_or}
 use Rattle.std.specs.List.{list_any, find, range_with_len}
 use Rattle.lits.specs.declared.node.Node.{Node}
@@ -8,7 +8,7 @@ use Rattle.lits.specs.declared.node.Node.TheVariants.{Xor}
 use Rattle.lits.specs.declared.literal.Lit.{Lit}
 use Rattle.lits.specs.declared.step.Step.{Step}
 use Rattle.lits.specs.Same.{same_node, same_lit, opposite}
-use Rattle.netlist.specs.Net.{AigPair}
+use Rattle.netlist.specs.Net.{AigPair, bounds_of}
 use Rattle.netlist.specs.Miter.{positive, negative}
 use Rattle.netlist.specs.Place.{place_of}
 use Rattle.lemma_book.specs.declared.entry.Entry.{Entry}
@@ -31,7 +31,8 @@ first_entries n book = record { sweep_budget = book.sweep_budget; out_budget = b
 abbrev pub with_last : Entries → Entry → Entries
 with_last book e = record { sweep_budget = book.sweep_budget; out_budget = book.out_budget; entries = book.entries ++ e ∷ [] }
 
--- what an entry is about: whether a node has the value of a literal, or whether both circuits give an output one value
+-- what an entry is about: whether a node has the value of a literal on every input, or whether both circuits give an output one
+-- value on every admitted input
 pub data Question : Type 0 where
   OfPair : Node → Lit → Question
   OfOutput : ℕ → Question
@@ -61,10 +62,11 @@ answer_of (Out j steps) = Equal steps
 answer_of (OutApart j input) = Differ input
 answer_of (OutSpent j seen log) = Open seen log
 
--- the nodes whose cone a query of the question is over: the two nodes, or the output's XOR
-abbrev pub seeds_of : Question → List Node
-seeds_of (OfPair node lit) = node ∷ lit.node ∷ []
-seeds_of (OfOutput j) = Xor j ∷ []
+-- the nodes whose cone a query of the question is over: the two nodes, or the output's XOR and the constraints' nodes, whose
+-- units that query is over besides
+abbrev pub seeds_of : AigPair → Question → List Node
+seeds_of net (OfPair node lit) = node ∷ lit.node ∷ []
+seeds_of net (OfOutput j) = Xor j ∷ map (λ l. l.node) (bounds_of net)
 
 -- the budget of such a query
 abbrev pub budget_of : Entries → Question → ℕ
@@ -112,7 +114,7 @@ about entries j = find (is_on (Output j)) entries
 abbrev pub merge_clauses : Node → Lit → List (List Lit)
 merge_clauses node lit = (negative node ∷ lit ∷ []) ∷ (positive node ∷ opposite lit ∷ []) ∷ []
 
--- the clause that says that both circuits give the output one value: its XOR is false
+-- the clause that says that both circuits give the output one value, shown with the constraints' units: its XOR is false
 abbrev pub equal_clause : ℕ → List Lit
 equal_clause j = negative (Xor j) ∷ []
 

@@ -17,9 +17,9 @@ use Rattle.lemma_book.specs.declared.refused.Offered.{Offered}
 use Rattle.lemma_book.specs.declared.refused.Offered.TheVariants.{At, Already as AlreadyAt}
 use Rattle.lemma_book.specs.declared.refused.Judgement.{Judgement}
 use Rattle.lemma_book.specs.declared.refused.Judgement.TheVariants as judged
-use Rattle.lemma_book.specs.Entry.{Question, Answer, Equal, Differ, Open, question_of, answer_of, seeds_of}
+use Rattle.lemma_book.specs.Entry.{Question, Answer, Equal, Differ, Open, question_of, answer_of}
 use Rattle.lemma_book.specs.Entry.{Entries, settled_at, with_last}
-use Rattle.lemma_book.specs.Good.{Cause, NoNode, Already, NotEarlier, NotApart, Shape, Count, Seen, NoStep, NotNew, clause_for, OfCone, IsFreeOf, IsGood}
+use Rattle.lemma_book.specs.Good.{Cause, NoNode, Already, NotEarlier, NotApart, Shape, Count, Seen, NoStep, NotNew, clause_for, OfQuery, IsFreeOf, IsGood}
 
 abbrev pub Stands : AigPair → Entries → Entry → Cause → Type 0
 Stands net book e cause = ¬ IsFreeOf net book e cause
@@ -65,7 +65,7 @@ abbrev pub HasBadStepOf : AigPair → List Entry → ℕ → BadStep → Questio
 HasBadStepOf net entries k bad q (Equal steps) = FailsAt (clause_for net entries q) steps k bad
 HasBadStepOf net entries k bad q (Differ input) = ⊥
 HasBadStepOf net entries k bad q (Open seen log) =
-    OfCone net (take seen entries) (seeds_of q) (λ cone. FailsAt (base_clause cone) log k bad)
+    OfQuery net (take seen entries) q (λ cone. FailsAt (base_clause cone) log k bad)
 
 -- the entry's step at place k does
 abbrev pub HasBadStep : AigPair → List Entry → ℕ → BadStep → Entry → Type 0

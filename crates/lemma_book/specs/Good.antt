@@ -1,24 +1,24 @@
 -- When an entry is good over the entries before it: none of the causes stands for which one is refused.
 use Rattle.std.specs.Prelude.{◌≡◌, ◌≢◌, ℕ, ◌+◌, ◌<◌, ◌≤◌, Bool, ⊤, Option, None, Some, List, ◌++◌, length, map, take, slice_get}
-use Rattle.std.specs.Option.{option_and_then, IsSome}
+use Rattle.std.specs.Option.{option_and_then, option_map, IsSome}
 use Rattle.std.specs.List.{AllByRecursion}
 use Rattle.lits.specs.declared.node.Node.{Node}
 use Rattle.lits.specs.declared.node.Node.TheVariants.{Xor}
 use Rattle.lits.specs.declared.literal.Lit.{Lit}
 use Rattle.lits.specs.declared.step.Ref.{Ref}
-use Rattle.lits.specs.declared.step.Ref.TheVariants.{Axiom, Entry as Shown, Own}
+use Rattle.lits.specs.declared.step.Ref.TheVariants.{Axiom, Entry as Shown, Own, Bound}
 use Rattle.lits.specs.declared.step.Step.{Step}
 use Rattle.lits.specs.declared.step.Named.{Named}
 use Rattle.lits.specs.Same.{same_lit, opposite}
-use Rattle.netlist.specs.Net.{AigPair, DiffersOn, position_of, value_of, lit_holds}
-use Rattle.netlist.specs.Miter.{axiom_of}
+use Rattle.netlist.specs.Net.{AigPair, DiffersOn, bound_of, position_of, value_of, lit_holds}
+use Rattle.netlist.specs.Miter.{axiom_of, unit}
 use Rattle.unit_prop.specs.New.{IsNew}
 use Rattle.unit_prop.specs.Refuter.{IsUndecided}
 use Rattle.unit_prop.specs.Log.{base_clause, clauses_of, IsStepAfter}
 use Rattle.lemma_book.specs.declared.entry.Entry.{Entry}
 use Rattle.lemma_book.specs.Entry.{Question, OfPair, OfOutput, Answer, Equal, Differ, Open, question_of, answer_of}
-use Rattle.lemma_book.specs.Entry.{Entries, seeds_of, budget_of, equal_clause, equal_clauses, settled_at, lemmas_of}
-use Rattle.lemma_book.specs.Cone.{AreThere, IsCone}
+use Rattle.lemma_book.specs.Entry.{Entries, budget_of, equal_clause, equal_clauses, settled_at, lemmas_of}
+use Rattle.lemma_book.specs.Cone.{AreThere, IsCone, IsConeOf}
 
 -- why an entry is refused
 pub data Cause : Type 0 where
@@ -28,7 +28,7 @@ pub data Cause : Type 0 where
   Already : Cause
   -- the target isn't earlier in position than the node
   NotEarlier : Cause
-  -- the input has another length, or the values are equal on it
+  -- the input has another length, or the values are equal on it, or for an output it isn't admitted
   NotApart : Cause
   -- the last clauses aren't those that the entry shows
   Shape : Cause
@@ -85,7 +85,7 @@ pub record IsApart (net : AigPair) (node : Node) (lit : Lit) (input : List Bool)
   pub whole : length input ≡ length net.a.inputs
   pub apart : value_of net input node ≢ lit_holds (value_of net input) lit
 
--- the values of the question differ on the input
+-- the values of the question differ on the input, which for an output is admitted
 abbrev pub DifferFor : AigPair → Question → List Bool → Type 0
 DifferFor net (OfPair node lit) input = IsApart net node lit input
 DifferFor net (OfOutput j) input = DiffersOn net j input
@@ -95,7 +95,7 @@ HasApartOf net q (Equal steps) = ⊤
 HasApartOf net q (Differ input) = DifferFor net q input
 HasApartOf net q (Open seen log) = ⊤
 
--- where the entry says that values differ, they do
+-- where the entry says that values differ on an input, they do so
 abbrev pub HasApart : AigPair → Entry → Type 0
 HasApart net e = HasApartOf net (question_of e) (answer_of e)
 
@@ -137,15 +137,18 @@ HasSeen book e = HasSeenOf book (answer_of e)
 abbrev pub merge_clause : List Entry → ℕ → ℕ → Option (List Lit)
 merge_clause entries i k = option_and_then (λ e. slice_get (lemmas_of e) k) (slice_get entries i)
 
--- the clauses that the steps of an Out may cite: the miter's axioms, and those of earlier merges
+-- the clauses that the steps of an Out may cite: the miter's axioms, the constraints' units, and those of earlier merges
 abbrev pub out_clause : AigPair → List Entry → Ref → Option (List Lit)
 out_clause net entries (Axiom node k) = axiom_of net node k
+out_clause net entries (Bound side k) = option_map unit (bound_of net side k)
 out_clause net entries (Shown i k) = merge_clause entries i k
 out_clause net entries (Own k) = None
 
--- the clauses that the steps of a Merge may cite: the same but for the axioms of XORs
+-- the clauses that the steps of a Merge may cite: the same but for the axioms of XORs and the units of constraints, so
+-- what is merged has one value on every input, admitted or not
 abbrev pub node_clause : AigPair → List Entry → Ref → Option (List Lit)
 node_clause net entries (Axiom (Xor j) k) = None
+node_clause net entries (Bound side k) = None
 node_clause net entries name = out_clause net entries name
 
 -- the clauses that the steps of an answer to the question may cite
@@ -163,11 +166,17 @@ pub record OfCone (net : AigPair) (entries : List Entry) (seeds : List Node) (P 
   pub is_cone : IsCone net entries seeds cone
   pub holds : P cone
 
+-- P holds of the clauses that a query of the question is over
+pub record OfQuery (net : AigPair) (entries : List Entry) (q : Question) (P : List Named → Type 0) : Type 0 where
+  pub cone : List Named
+  pub is_cone : IsConeOf net entries q cone
+  pub holds : P cone
+
 abbrev pub HasStepOf : AigPair → List Entry → ℕ → Question → Answer → Type 0
 HasStepOf net entries k q (Equal steps) = IsStepAt (clause_for net entries q) steps k
 HasStepOf net entries k q (Differ input) = ⊤
 HasStepOf net entries k q (Open seen log) =
-    OfCone net (take seen entries) (seeds_of q) (λ cone. IsStepAt (base_clause cone) log k)
+    OfQuery net (take seen entries) q (λ cone. IsStepAt (base_clause cone) log k)
 
 -- the step at place k is one: that of a log stands on the cone over the entries that were seen
 abbrev pub HasStep : AigPair → List Entry → ℕ → Entry → Type 0
@@ -189,7 +198,7 @@ IsNewFor (OfOutput j) cone log k = IsNewAt cone log k × IsUndecidedAt cone j lo
 abbrev pub HasNewOf : AigPair → List Entry → ℕ → Question → Answer → Type 0
 HasNewOf net entries k q (Equal steps) = ⊤
 HasNewOf net entries k q (Differ input) = ⊤
-HasNewOf net entries k q (Open seen log) = OfCone net (take seen entries) (seeds_of q) (λ cone. IsNewFor q cone log k)
+HasNewOf net entries k q (Open seen log) = OfQuery net (take seen entries) q (λ cone. IsNewFor q cone log k)
 
 -- so is the clause at place k of the entry's log
 abbrev pub HasNew : AigPair → List Entry → ℕ → Entry → Type 0

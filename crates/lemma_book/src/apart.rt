@@ -1,7 +1,8 @@
-ghost use Rattle.std.specs.Prelude.{◌≡◌, ◌<◌, length, IfOk};
+ghost use Rattle.std.specs.Prelude.{◌≡◌, ◌<◌, length, IfOk, IfSome};
+ghost use Rattle.std.specs.List.{list_all};
 ghost use Rattle.std.specs.Option.{IsSome};
 ghost use Rattle.netlist.specs.Circuit.{output_value};
-ghost use Rattle.netlist.specs.Net.{DiffersOn, circuit_of, position_of, value_of};
+ghost use Rattle.netlist.specs.Net.{DiffersOn, IsAdmitted, bound_of, bounds_on, circuit_of, lit_holds, position_of, value_of};
 ghost use Rattle.lemma_book.specs.Good.{IsThere, ArePlaced, IsApart, HasApart};
 ghost use Rattle.lemma_book.specs.Judging.{Tells};
 ghost use Rattle.lemma_book.specs.ConeValue.{AreValues};
@@ -15,7 +16,7 @@ use std::alloc::{AllocError, Global};
 use std::collections::HashMap;
 
 /// Whether values differ where the entry says so: two nodes are evaluated by their cones, and for an output
-/// both circuits.
+/// both circuits, where the input is admitted.
 pub(crate) fn has_apart(alloc: Global, net: &Net, entry: &Entry) -> Result<bool, AllocError>
     requires there { IsThere net.now entry.now }
     ensures { IfOk result (Tells (HasApart net.now entry.now)) }
@@ -74,7 +75,7 @@ fn node_value(
     }
 }
 
-/// Whether the output differs on the input.
+/// Whether the output differs on the input, and the input is admitted.
 fn outputs_are_apart(
     alloc: Global,
     net: &Net,
@@ -87,9 +88,71 @@ fn outputs_are_apart(
     if input.len() != net.circuit(Side::A).inputs().len() {
         return Ok(false);
     }
+    if !is_admitted(alloc, net, input)? {
+        return Ok(false);
+    }
     let first = output_of(alloc, net, input, Side::A, output)?;
     let second = output_of(alloc, net, input, Side::B, output)?;
     Ok(first != second)
+}
+
+/// Whether each constraint of both circuits is true on the input. They are evaluated by their cones, which
+/// often have nodes in common, so each node that is reached gets its value once.
+fn is_admitted(alloc: Global, net: &Net, input: &[bool]) -> Result<bool, AllocError>
+    requires whole { length input.now ≡ length net.now.a.inputs }
+    ensures { IfOk result (Tells (IsAdmitted net.now input.now)) }
+{
+    laws::is_net(net);
+    let mut known = HashMap::with_hasher(alloc, NodeHasher::new());
+    Ok(
+        are_met(alloc, net, input, &mut known, Side::A)?
+            && are_met(alloc, net, input, &mut known, Side::B)?,
+    )
+}
+
+/// Whether each constraint of one side is true on the input.
+fn are_met(
+    alloc: Global,
+    net: &Net,
+    input: &[bool],
+    known: &mut Known,
+    side: Side,
+) -> Result<bool, AllocError>
+    requires whole { length input.now ≡ length net.now.a.inputs }
+    requires known { AreValues known.old net.now input.now }
+    ensures value { IfOk result (λ b.
+        b ≡ list_all (lit_holds (value_of net.now input.now)) (bounds_on net.now side)) }
+    ensures known { AreValues known.new net.now input.now }
+{
+    for k in 0..net.circuit(side).constraints().len() as u32 {
+        if !is_met(alloc, net, input, known, side, k)? {
+            return Ok(false);
+        }
+    }
+    Ok(true)
+}
+
+/// Whether constraint k of one side is true on the input.
+fn is_met(
+    alloc: Global,
+    net: &Net,
+    input: &[bool],
+    known: &mut Known,
+    side: Side,
+    k: u32,
+) -> Result<bool, AllocError>
+    requires there { k < length (circuit_of net.now side).constraints }
+    requires whole { length input.now ≡ length net.now.a.inputs }
+    requires known { AreValues known.old net.now input.now }
+    ensures value { IfOk result (λ b.
+        IfSome (bound_of net.now side k) (λ l. b ≡ lit_holds (value_of net.now input.now) l)) }
+    ensures known { AreValues known.new net.now input.now }
+{
+    laws::is_net(net);
+    match net.constraint(side, k) {
+        Some(lit) => Ok(node_value(alloc, net, input, known, lit.node)? != lit.neg),
+        None => unreachable!(),
+    }
 }
 
 /// The value of one side's output on the input.

@@ -1,12 +1,13 @@
-ghost use Rattle.std.specs.Prelude.{◌≡◌, ◌≤◌, None, [], ◌++◌, length, slice_get, take, is_some, IfOk, IfErr, OnOk, OnErr};
+ghost use Rattle.std.specs.Prelude.{◌≡◌, ◌<◌, ◌≤◌, None, [], ◌++◌, length, slice_get, take, is_some, IfOk, IfErr, IfSome, OnOk, OnErr};
 ghost use Rattle.std.specs.Option.{option_copied, option_map};
 ghost use Rattle.lemma_book.specs.Entry.{place_on, has_spent_on, about, with_last};
 ghost use Rattle.lemma_book.specs.Root.{merge_of, carried, passed_by, path_of, PutsSome, root_of};
-ghost use Rattle.lemma_book.specs.Cone.{AreThere, clauses_on, nodes_in, IsCone};
+ghost use Rattle.lemma_book.specs.Cone.{AreThere, clauses_on, nodes_in, IsCone, IsOutputCone};
 ghost use Rattle.lemma_book.specs.Book.{IsLegal, StartsWith};
 
 use crate::cones::{clauses_on, cone_over};
 use crate::entry::{Entry, Subject, Task};
+use crate::output_cone::output_cone_over;
 use crate::shelf::{Key, Shelf};
 use lits::{Lit, Literal, Named, Node};
 use netlist::Net;
@@ -210,7 +211,7 @@ impl Book {
 
     /// The cone of the literals' nodes over the first `seen` entries: the clauses that define these
     /// nodes, those that define what the clauses speak of, and so on, in the order of the miter; a
-    /// merged node has its merge's clauses.
+    /// merged node has its merge's clauses. No constraint is in it.
     ///
     /// The work is that of the cone, whatever the length of the book and the size of the net.
     pub fn cone(
@@ -225,6 +226,25 @@ impl Book {
         ensures { IfOk result (λ v. IsCone net.now (take seen self.now.entries) (nodes_in lits.now) v.items) }
     {
         cone_over(alloc, net, self, seen, lits)
+    }
+
+    /// The cone of an output over the first `seen` entries: that of its XOR and of the constraints' nodes,
+    /// and behind it the units of all constraints, those of A in order, then those of B.
+    ///
+    /// The work is that of this cone.
+    pub fn output_cone(
+        &self,
+        alloc: Global,
+        net: &Net,
+        seen: u64,
+        output: u32,
+    ) -> Result<Vec<Named>, AllocError>
+        requires legal { IsLegal net.now self.now }
+        requires there { output < length net.now.a.outputs }
+        ensures { IfOk result
+            (λ v. IsOutputCone net.now (take seen self.now.entries) output v.items) }
+    {
+        output_cone_over(alloc, net, self, seen, output)
     }
 
     /// The clauses that a cone over the first `seen` entries has of the literals' nodes alone, in its order.
@@ -272,6 +292,16 @@ impl Book {
         ensures err { IfErr result (λ e. (e.0 ≡ entry) × (self.new ≡ self.old)) }
     {
         self.shelf.push(alloc, entry)
+    }
+
+    /// Puts entry `i` of another book last, shared with it. Where memory is refused, the book is as it was.
+    pub(crate) fn push_shared(&mut self, from: &Book, i: u64) -> Result<(), AllocError>
+        requires { i < length from.now.entries }
+        ensures ok { OnOk result
+            (IfSome (slice_get from.now.entries i) (λ e. self.new ≡ with_last self.old e)) }
+        ensures err { OnErr result (self.new ≡ self.old) }
+    {
+        self.shelf.push_shared(&from.shelf, i)
     }
 }
 

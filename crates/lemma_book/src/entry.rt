@@ -35,12 +35,13 @@ pub enum Entry {
         seen: u64,
         log: Listed<Step>,
     },
-    /// Both circuits give the output one value: the steps end with the unit that says so.
+    /// Both circuits give the output one value on each admitted input: the steps end with the unit that says
+    /// so.
     Out {
         output: u32,
         steps: Listed<Step>,
     },
-    /// The output differs on these truth values of the inputs.
+    /// The output differs on these truth values of the inputs, which make all constraints true.
     OutApart {
         output: u32,
         input: Listed<bool>,

@@ -126,7 +126,7 @@ fn judge_spent(
     }
 }
 
-/// Judges the log of an output, clause by clause over the cone of its XOR.
+/// Judges the log of an output, clause by clause over its cone.
 fn judge_out_spent(
     alloc: Global,
     net: &Net,
@@ -139,12 +139,12 @@ fn judge_out_spent(
     requires free { IsFreeBefore net.now book.now (Entry.OutSpent output seen log.now) (NoStep 0) }
     ensures { IfOk result (IsJudgement net.now book.now (Entry.OutSpent output seen log.now)) }
 {
-    let differs = positive(Node::Xor(output));
-    let cone = book.cone(alloc, net, seen, &[differs])?;
+    let cone = book.output_cone(alloc, net, seen, output)?;
     let cone = cone.as_slice();
     if let Some((k, bad)) = first_bad(alloc, &ConeClauses { cone }, log)? {
         return Ok(Judgement::Bad(Fault::Step(k, bad)));
     }
+    let differs = positive(Node::Xor(output));
     match first_stale(alloc, cone, Some(differs), log)? {
         Some(k) => Ok(Judgement::Bad(Fault::NotNew(k))),
         None => Ok(Judgement::Good),

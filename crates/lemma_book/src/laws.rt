@@ -9,8 +9,8 @@ ghost use Rattle.lemma_book.specs.Agreement.{IsTrue, HaveOneValue};
 use crate::book::Book;
 use netlist::Net;
 
-/// For all truth values of the inputs, each node that a legal book merges has its target's value, and
-/// both circuits give the output of each `Out` one value.
+/// For all truth values of the inputs, each node that a legal book merges has its target's value; on each
+/// admitted input both circuits give the output of each `Out` one value.
 pub fn entries_are_true(net: &Net, book: &Book)
     requires { IsLegal net.now book.now }
     ensures { AllByRecursion (IsTrue net.now) book.now.entries }

@@ -6,15 +6,16 @@
 //! `OutApart` and `OutSpent` say the same of an output. Later entries may cite the clauses of earlier
 //! merges. `Book::judge` decides whether an entry is good over a book, `Book::offer` takes it where it is,
 //! and `Book::append` takes one that is known to be good. In a legal book a merge's node and target have one
-//! value on every input, and so have an `Out`'s outputs (`laws`).
+//! value on every input, and an `Out`'s outputs on every admitted one (`laws`): an input is admitted where all
+//! constraints of both circuits are true on it. So the steps of an `Out` may cite the constraints, and the log
+//! of an `OutSpent` stands on them; what is said of two nodes never rests on a constraint.
 //!
 //! Definitions: `specs/Entry.antt` (entries and their subjects), `specs/Root.antt` (roots),
 //! `specs/Cone.antt` (cones), `specs/Good.antt` (good entry), `specs/Fault.antt` (first cause of a refusal),
-//! `specs/Book.antt` (legal book), `specs/Agreement.antt` (what entries say of all inputs),
-//! `specs/Machine.antt` (many workers at one book). For the crate's own functions: `specs/Judging.antt`,
-//! `specs/Walk.antt` (through a cone), `specs/Shelf.antt` (the index of entries), `specs/NodeHasher.antt`
-//! (its hash). Begin to read at
-//! `entry.rt`, then `book.rt`, `judge.rt`.
+//! `specs/Book.antt` (legal book), `specs/Agreement.antt` (what entries say of all inputs, or of all admitted
+//! ones), `specs/Machine.antt` (many workers at one book). For the crate's own functions:
+//! `specs/Judging.antt`, `specs/Walk.antt` (through a cone), `specs/Shelf.antt` (the index of entries),
+//! `specs/NodeHasher.antt` (its hash). Begin to read at `entry.rt`, then `book.rt`, `judge.rt`.
 #![tactic(auto)]
 
 pub use book::Book;
@@ -33,6 +34,7 @@ pub mod laws;
 mod newness;
 mod node_hasher;
 mod offer;
+mod output_cone;
 mod presence;
 mod refused;
 mod shape;

@@ -1,4 +1,4 @@
-ghost use Rattle.std.specs.Prelude.{◌≡◌, ◌≤◌, None, length, IfOk, IfErr, OnOk, OnErr};
+ghost use Rattle.std.specs.Prelude.{◌≡◌, ◌<◌, ◌≤◌, None, length, slice_get, IfOk, IfErr, IfSome, OnOk, OnErr};
 ghost use Rattle.lemma_book.specs.Entry.{first_entries, settled_at, with_last};
 ghost use Rattle.lemma_book.specs.Good.{IsGood};
 ghost use Rattle.lemma_book.specs.Fault.{IsJudgement, IsRefusal, Takes};
@@ -77,6 +77,40 @@ impl Book {
                 Ok(()) => Ok(Offered::At(place)),
                 Err(refused) => Err(refused),
             },
+        }
+    }
+
+    /// Takes entry `i` of another book as `append` does, and shares it with that book, so that a long list of
+    /// steps isn't copied.
+    pub fn append_shared(
+        &mut self,
+        net: &Net,
+        known: u64,
+        from: &Book,
+        i: u64,
+    ) -> Result<Offered, AllocError>
+        requires legal { IsLegal net.now self.old }
+        requires known { known ≤ length self.old.entries }
+        requires there { i < length from.now.entries }
+        requires good { IfSome (slice_get from.now.entries i)
+            (λ e. IsGood net.now (first_entries known self.old) e) }
+        ensures answer { IfSome (slice_get from.now.entries i)
+            (λ e. IfOk result (λ o. (o ≡ answer_to self.old e) × IsFrom known o)) }
+        ensures after { IfSome (slice_get from.now.entries i)
+            (λ e. OnOk result (self.new ≡ book_after self.old e)) }
+        ensures refused { OnErr result (self.new ≡ self.old) }
+        ensures stays_legal { IsLegal net.now self.new }
+    {
+        let place = self.len();
+        match from.entry(i) {
+            Some(entry) => match self.settled_at(entry) {
+                Some(place) => Ok(Offered::Already(place)),
+                None => {
+                    self.push_shared(from, i)?;
+                    Ok(Offered::At(place))
+                }
+            },
+            None => unreachable!(),
         }
     }
 

@@ -31,7 +31,7 @@ pub enum Fault {
 #[derive(Clone, Copy, Debug)]
 pub enum Refused {
     Bad(Fault),
-    /// The input has another length, or the values are equal on it.
+    /// The input has another length, or the values are equal on it, or for an output it isn't admitted.
     NotApart,
     NoMemory,
 }
@@ -42,7 +42,7 @@ pub enum Judgement {
     Good,
     /// The entry at this place settles it.
     Settled(u64),
-    /// The input has another length, or the values are equal on it.
+    /// The input has another length, or the values are equal on it, or for an output it isn't admitted.
     NotApart,
     Bad(Fault),
 }

@@ -1,4 +1,4 @@
-ghost use Rattle.std.specs.Prelude.{◌≡◌, ◌<◌, ◌≤◌, ◌+◌, [], ◌∷◌, ◌++◌, length, drop, map, slice_get, vec_len, vec_capacity, IfOk, IfErr, OnOk, OnErr};
+ghost use Rattle.std.specs.Prelude.{◌≡◌, ◌<◌, ◌≤◌, ◌+◌, [], ◌∷◌, ◌++◌, length, drop, map, slice_get, vec_len, vec_capacity, IfOk, IfErr, IfSome, OnOk, OnErr};
 ghost use Rattle.std.specs.Arc.{arc_value};
 ghost use Rattle.std.specs.Option.{option_copied};
 ghost use Rattle.std.specs.HashMap.{spare};
@@ -103,6 +103,19 @@ impl Shelf {
             }
             Err(failed) => Err((failed.value, AllocError)),
         }
+    }
+
+    /// Puts entry `i` of another list last, shared with it. Where memory is refused nothing has changed.
+    pub fn push_shared(&mut self, from: &Shelf, i: u64) -> Result<(), AllocError>
+        requires { i < length from.now }
+        ensures ok { OnOk result (IfSome (slice_get from.now i) (λ e. self.new ≡ self.old ++ e ∷ [])) }
+        ensures err { OnErr result (self.new ≡ self.old) }
+    {
+        self.entries.reserve(1)?;
+        self.index.reserve(1)?;
+        let shared = Arc::try_clone(&from.entries[i as usize])?;
+        put(&mut self.entries, &mut self.index, shared);
+        Ok(())
     }
 
     /// Appends what a longer list has behind these entries, shared with it. Where memory is refused

@@ -13,7 +13,7 @@ use lits::{Lit, Literal, Named, Node, Ref};
 use netlist::Net;
 use unit_prop::{StepCheck, StepErr, Why};
 
-/// What the steps of an `Out` may cite: the miter's axioms, and the clauses of merges.
+/// What the steps of an `Out` may cite: the miter's axioms, the constraints' units, and the clauses of merges.
 #[derive(Drop)]
 pub(crate) struct OutClauses<'a> {
     pub net: &'a Net,
@@ -31,13 +31,18 @@ impl Sources for OutClauses<'_> {
                 Some(axiom) => check.hint(axiom.lits()),
                 None => Err(StepErr::Bad(Why::NoClause)),
             },
+            Ref::Bound(side, k) => match self.net.constraint(side, k) {
+                Some(lit) => check.hint(&[lit]),
+                None => Err(StepErr::Bad(Why::NoClause)),
+            },
             Ref::Entry(entry, k) => hint_merge(check, self.book, entry, k),
             Ref::Own(_) => Err(StepErr::Bad(Why::NoClause)),
         }
     }
 }
 
-/// What the steps of a `Merge` may cite: no axiom of an XOR, so that merges stand without any output.
+/// What the steps of a `Merge` may cite: no axiom of an XOR and no constraint's unit, so that merges stand
+/// without any output, and on each input, admitted or not.
 #[derive(Drop)]
 pub(crate) struct NodeClauses<'a> {
     pub all: OutClauses<'a>,
@@ -50,7 +55,7 @@ impl Sources for NodeClauses<'_> {
 
     fn hint(&self, check: &mut StepCheck<Lit>, name: Ref) -> Result<(), StepErr> {
         match name {
-            Ref::Axiom(Node::Xor(_), _) => Err(StepErr::Bad(Why::NoClause)),
+            Ref::Axiom(Node::Xor(_), _) | Ref::Bound(_, _) => Err(StepErr::Bad(Why::NoClause)),
             _ => self.all.hint(check, name),
         }
     }

@@ -81,7 +81,7 @@ fn take_hint<S: Sources>(
             Some(step) => check.hint(step.clause.lits()),
             None => Err(StepErr::Bad(Why::NoClause)),
         },
-        Ref::Axiom(_, _) | Ref::Entry(_, _) => sources.hint(check, name),
+        Ref::Axiom(_, _) | Ref::Entry(_, _) | Ref::Bound(_, _) => sources.hint(check, name),
     }
 }
 

@@ -7,8 +7,9 @@ use Rattle.std.proofs.lemmas.Option.{slice_get_read, slice_get_past}
 use Rattle.lits.specs.Same.{same_lit, opposite}
 use Rattle.lits.specs.declared.literal.Lit.{Lit}
 use Rattle.lits.specs.declared.node.Node.{Node}
+use Rattle.lits.specs.declared.node.Side.{Side}
 use Rattle.lits.specs.declared.step.Ref.{Ref}
-use Rattle.lits.specs.declared.step.Ref.TheVariants.{Axiom, Entry, Own}
+use Rattle.lits.specs.declared.step.Ref.TheVariants.{Axiom, Entry, Own, Bound}
 use Rattle.lits.specs.declared.step.Step.{Step}
 use Rattle.unit_prop.specs.Step.{after_found, IfBad}
 use Rattle.unit_prop.specs.Log.{with_own}
@@ -16,9 +17,11 @@ use Rattle.lemma_book.proofs.steps.take_hint.Goals as goal
 
 -- a name that isn't that of an own step
 from-sources : (find : Ref → Option (List Lit)) (before : List Step) (name : Ref)
-    → (((x : Node) × (k : ℕ) × (name ≡ Axiom x k)) ⊎ ((e : ℕ) × (k : ℕ) × (name ≡ Entry e k))) → find name ≡ with_own find before name
+    → (((x : Node) × (k : ℕ) × (name ≡ Axiom x k)) ⊎ (((e : ℕ) × (k : ℕ) × (name ≡ Entry e k)) ⊎ ((s : Side) × (k : ℕ) × (name ≡ Bound s k))))
+    → find name ≡ with_own find before name
 from-sources find before name (inl (x, k, e)) = ap find e ∙ sym (ap (with_own find before) e)
-from-sources find before name (inr (i, k, e)) = ap find e ∙ sym (ap (with_own find before) e)
+from-sources find before name (inr (inl (i, k, e))) = ap find e ∙ sym (ap (with_own find before) e)
+from-sources find before name (inr (inr (s, k, e))) = ap find e ∙ sym (ap (with_own find before) e)
 
 pub returns-in-Axiom : goal.returns-in-Axiom
 returns-in-Axiom g c =
