@@ -3,18 +3,22 @@ use crate::trail::{FREE, Trail};
 use std::alloc::AllocError;
 
 impl Trail {
-    /// Assumes two codes at a level of their own. Tells the clause that has made one of them false before, if
-    /// one has.
-    pub(crate) fn assume(&mut self, first: u32, second: u32) -> Result<u32, AllocError> {
+    /// The clause that has made one of two codes false, and did so first; `NONE` where neither is false.
+    pub(crate) fn refuted(&self, first: u32, second: u32) -> u32 {
         for code in self.lits() {
             if *code == first ^ 1 || *code == second ^ 1 {
-                return Ok(self.cause(*code / 2).reason);
+                return self.cause(*code / 2).reason;
             }
         }
+        NONE
+    }
+
+    /// Assumes two codes, neither of which is false, at a level of their own.
+    pub(crate) fn assume(&mut self, first: u32, second: u32) -> Result<(), AllocError> {
         self.begin()?;
         self.choose(first);
         self.choose(second);
-        Ok(NONE)
+        Ok(())
     }
 
     /// Makes a code true for no reason, if it is free.

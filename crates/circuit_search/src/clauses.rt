@@ -1,5 +1,6 @@
 use crate::table::{at, count, part};
 use crate::trail::Trail;
+use lits::Side;
 use std::alloc::{AllocError, Global};
 
 /// What a clause is called.
@@ -13,6 +14,8 @@ pub(crate) enum Name {
     Shown(u32),
     /// The lesson of this number.
     Lesson(u32),
+    /// The unit of a constraint of one side.
+    Bound(Side, u32),
 }
 
 /// Where a clause's codes stand.

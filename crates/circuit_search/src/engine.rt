@@ -3,6 +3,7 @@ use crate::clauses::{Clauses, Name};
 use crate::equalities::Equalities;
 use crate::lessons::Lessons;
 use crate::merges::Merges;
+use crate::table::NONE;
 use crate::trail::Trail;
 use crate::variables::Variables;
 use crate::watches::Watches;
@@ -24,6 +25,8 @@ pub(crate) struct Engine {
     pub(crate) lessons: Lessons,
     /// The variables that the query assumes a value of.
     pub(crate) assumed: (u32, u32),
+    /// A clause that is false whatever is assumed, which is there only under constraints; else `NONE`.
+    pub(crate) denied: u32,
     /// What is left of the caps.
     pub(crate) left: Caps,
     /// Whether equalities were searched for.
@@ -43,6 +46,7 @@ impl Engine {
             trail: Trail::new(alloc),
             lessons: Lessons::new(alloc),
             assumed: (0, 0),
+            denied: NONE,
             left: Caps {
                 conflicts: 0,
                 decisions: 0,
@@ -67,6 +71,7 @@ impl Engine {
         self.trail.clear();
         self.lessons.clear();
         self.left = caps;
+        self.denied = NONE;
         let constant = self.code(0)?;
         let _loaded = self.variables.is_loaded(0);
         self.put(&[constant], Name::Axiom(0, 0))?;

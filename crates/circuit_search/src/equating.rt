@@ -3,9 +3,10 @@ ghost use Rattle.circuit_search.specs.Answer.{SettlesOutput};
 
 use crate::caps::Caps;
 use crate::engine::Engine;
-use crate::proposal::Found;
+use crate::proposal::{Domain, Found};
 use crate::steps::lit_at;
 use lemma_book::Entry;
+use lits::Side;
 use netlist::Net;
 use std::alloc::{AllocError, Global};
 
@@ -35,7 +36,7 @@ impl Engine {
             conflicts: caps.conflicts.min(FEW),
             decisions: caps.decisions.min(CHOICES),
         };
-        if let Some(entry) = self.output(alloc, net, output, few)? {
+        if let Some(entry) = self.output_shortly(alloc, net, output, few)? {
             return Ok(Some(entry));
         }
         if !self.is_equated {
@@ -46,7 +47,29 @@ impl Engine {
             conflicts: caps.conflicts.min(CONFLICTS),
             decisions: caps.decisions.min(DECISIONS),
         };
-        self.output(alloc, net, output, more)
+        self.output(alloc, net, output, more, Domain::Admitted)
+    }
+
+    /// The entry that a short search proposes for an output.
+    ///
+    /// Most outputs agree on all inputs, and to show that takes no constraint: only where that fails are the
+    /// constraints loaded, of which there may be many.
+    fn output_shortly(
+        &mut self,
+        alloc: Global,
+        net: &Net,
+        output: u32,
+        caps: Caps,
+    ) -> Result<Option<Entry>, AllocError>
+        ensures { IfOk result (λ o. IfSome o (SettlesOutput output)) }
+    {
+        if has_constraints(net) {
+            let entry = self.output(alloc, net, output, caps, Domain::All)?;
+            if let Some(Entry::Out { .. }) = &entry {
+                return Ok(entry);
+            }
+        }
+        self.output(alloc, net, output, caps, Domain::Admitted)
     }
 
     /// Searches once more for why pairs are equal whose queries spent their budgets, from the inputs up.
@@ -86,10 +109,15 @@ impl Engine {
         let node = lit_at(net, position.wrapping_mul(2));
         let lit = lit_at(net, target);
         self.shown = self.equalities.len();
-        if let Found::Equal(there, back) = self.compare(net, node, lit, caps)? {
+        if let Found::Equal(there, back) = self.compare(net, node, lit, caps, Domain::All)? {
             let steps = self.merge_steps(alloc, net, node, lit, there, back)?;
             self.equalities.push(position, target, steps)?;
         }
         Ok(())
     }
+}
+
+/// Whether some circuit has a constraint.
+fn has_constraints(net: &Net) -> bool {
+    !net.circuit(Side::A).constraints().is_empty() || !net.circuit(Side::B).constraints().is_empty()
 }

@@ -4,7 +4,8 @@
 //! A `Search` assumes that two nodes differ and justifies that from the nodes down towards the inputs: a
 //! node's clauses are loaded when it first has a value, so most of a cone is never looked at. It learns from
 //! conflicts as a solver does, and gives up at its caps. This is the justification of ATPG (Goel 1981) with
-//! clauses learned as in Kuehlmann, Paruthi, Krohm and Ganai's circuit-based reasoning (2002).
+//! clauses learned as in Kuehlmann, Paruthi, Krohm and Ganai's circuit-based reasoning (2002). A pair is
+//! searched on all inputs, and an output on those that are admitted: there the constraints are assumed too.
 //!
 //! It may be wrong: nothing is claimed of how it searches. What it finds is an entry that it gives to
 //! `Book::judge`, and it hands out an entry only where the book says that it is good; so its answers are

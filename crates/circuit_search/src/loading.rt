@@ -1,7 +1,8 @@
 use crate::clauses::Name;
 use crate::engine::Engine;
-use crate::merges::Source;
-use crate::table::NONE;
+use crate::merges::{Source, lit_code};
+use crate::table::{NONE, count};
+use lits::{Lit, Side};
 use netlist::Net;
 use std::alloc::AllocError;
 
@@ -26,6 +27,36 @@ impl Engine {
             }
             Source::Gate(left, right) => self.load_gate(var, left, right),
         }
+    }
+
+    /// Loads the units of all constraints: the search is then for an admitted input, and what it refutes is so
+    /// on each of these.
+    pub(crate) fn load_constraints(&mut self, net: &Net) -> Result<(), AllocError> {
+        self.load_constraints_of(net, Side::A)?;
+        self.load_constraints_of(net, Side::B)
+    }
+
+    /// Loads those of one side.
+    fn load_constraints_of(&mut self, net: &Net, side: Side) -> Result<(), AllocError> {
+        for k in 0..count(net.circuit(side).constraints().len()) {
+            if let Some(lit) = net.constraint(side, k) {
+                self.load_unit(net, lit, Name::Bound(side, k))?;
+            }
+        }
+        Ok(())
+    }
+
+    /// Loads a constraint's unit.
+    fn load_unit(&mut self, net: &Net, lit: Lit, name: Name) -> Result<(), AllocError> {
+        let Some(placed) = lit_code(net, lit) else {
+            return Ok(());
+        };
+        let code = self.code(placed)?;
+        let denied = self.put(&[code], name)?;
+        if denied != NONE {
+            self.denied = denied;
+        }
+        Ok(())
     }
 
     /// Loads the two clauses, by these names, that say that a variable is equal to a code.

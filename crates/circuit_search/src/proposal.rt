@@ -12,6 +12,15 @@ use lits::{Listed, Lit, Literal, Node, Ref, Side, Step};
 use netlist::Net;
 use std::alloc::{AllocError, Global};
 
+/// On which inputs a search looks.
+#[derive(Clone, Copy)]
+pub(crate) enum Domain {
+    /// On all. What it shows holds on each input, and an input that it finds may not be admitted.
+    All,
+    /// On those that are admitted. What it shows may rest on the constraints' units.
+    Admitted,
+}
+
 /// What was found out of two codes.
 #[derive(Clone, Copy)]
 pub(crate) enum Found {
@@ -37,7 +46,7 @@ impl Engine {
         let Task { node, lit } = *task;
         let positive = Lit { node, neg: false };
         self.shown = 0;
-        match self.compare(net, positive, lit, caps)? {
+        match self.compare(net, positive, lit, caps, Domain::All)? {
             Found::Equal(there, back) => {
                 let steps = self.merge_steps(alloc, net, positive, lit, there, back)?;
                 let steps = Listed::of(steps);
@@ -51,13 +60,14 @@ impl Engine {
         }
     }
 
-    /// The entry that a search proposes for an output.
+    /// The entry that a search over these inputs proposes for an output.
     pub(crate) fn output(
         &mut self,
         alloc: Global,
         net: &Net,
         output: u32,
         caps: Caps,
+        domain: Domain,
     ) -> Result<Option<Entry>, AllocError>
         ensures { IfOk result (λ o. IfSome o (SettlesOutput output)) }
     {
@@ -69,7 +79,7 @@ impl Engine {
             return self.out_of_one(alloc, net, output);
         }
         self.shown = self.equalities.len();
-        match self.compare(net, first, second, caps)? {
+        match self.compare(net, first, second, caps, domain)? {
             Found::Equal(there, back) => self.out(alloc, net, output, first, there, back),
             Found::Apart => {
                 let input = self.input(alloc, net)?;
@@ -79,13 +89,14 @@ impl Engine {
         }
     }
 
-    /// Asks whether two literals have one value.
+    /// Asks whether two literals have one value on these inputs.
     pub(crate) fn compare(
         &mut self,
         net: &Net,
         first: Lit,
         second: Lit,
         caps: Caps,
+        domain: Domain,
     ) -> Result<Found, AllocError> {
         let codes = (lit_code(net, first), lit_code(net, second));
         let (Some(first), Some(second)) = codes else {
@@ -96,6 +107,9 @@ impl Engine {
         let second = self.code(second)?;
         if first / 2 == second / 2 {
             return Ok(Found::Open);
+        }
+        if let Domain::Admitted = domain {
+            self.load_constraints(net)?;
         }
         self.ask_both(net, first, second)
     }

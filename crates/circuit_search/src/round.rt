@@ -35,17 +35,41 @@ impl Engine {
 
     /// Propagates, and then learns from a conflict or makes a choice.
     fn round(&mut self, net: &Net, first: u32, second: u32) -> Result<Option<Outcome>, AllocError> {
-        let conflict = self.propagate(net)?;
+        let conflict = self.conflict(net)?;
+        if self.trail.level() == 0 {
+            return self.assume(first, second, conflict);
+        }
         if conflict != NONE {
             return self.meet(conflict);
         }
-        if self.trail.level() > 0 {
-            return self.go_on();
+        self.go_on()
+    }
+
+    /// The number of a clause that is false; `NONE` where propagation finds none.
+    fn conflict(&mut self, net: &Net) -> Result<u32, AllocError> {
+        if self.denied != NONE {
+            return Ok(self.denied);
         }
-        let refuted = self.trail.assume(first, second)?;
+        self.propagate(net)
+    }
+
+    /// Assumes the codes, unless they are refuted before anything is assumed: one of them is false already, or
+    /// a clause is. Such a clause stands for the whole query; there is one only where no input is admitted.
+    fn assume(
+        &mut self,
+        first: u32,
+        second: u32,
+        conflict: u32,
+    ) -> Result<Option<Outcome>, AllocError> {
+        let refuted = self.trail.refuted(first, second);
         if refuted != NONE {
             return self.meet(refuted);
         }
+        if conflict != NONE {
+            self.denied = conflict;
+            return self.meet(conflict);
+        }
+        self.trail.assume(first, second)?;
         Ok(None)
     }
 

@@ -1,7 +1,7 @@
 use crate::merges::lit_code;
 use crate::table::{at, count, put};
 use lemma_book::Task;
-use lits::Side;
+use lits::{Lit, Side};
 use netlist::Net;
 use rand_core::SeedableRng;
 use rand_core::utils::NextWord;
@@ -126,8 +126,8 @@ impl Sieve {
         Ok(())
     }
 
-    /// The input of a drawn pattern on which an output seems to differ: of the first such word the least such
-    /// output.
+    /// The input of a drawn pattern that seems to be admitted and on which an output seems to differ: of the
+    /// first such word the least such output.
     pub fn difference(
         &mut self,
         alloc: Global,
@@ -135,11 +135,9 @@ impl Sieve {
     ) -> Result<Option<Vec<bool>>, AllocError> {
         for word in 0..DRAWN {
             self.simulate(net, word);
-            for output in 0..net.outputs() {
-                if let Some(bit) = first_apart(&self.row, net, output) {
-                    let pattern = word.saturating_mul(64).saturating_add(bit);
-                    return Ok(Some(self.input(alloc, pattern)?));
-                }
+            if let Some(bit) = first_difference(&self.row, net) {
+                let pattern = word.saturating_mul(64).saturating_add(bit);
+                return Ok(Some(self.input(alloc, pattern)?));
             }
         }
         Ok(None)
@@ -302,11 +300,36 @@ fn simulate(row: &mut [u64], net: &Net, words: &[u64], first: usize, inputs: u32
     }
 }
 
-/// The first pattern of the simulated word on which an output differs.
-fn first_apart(row: &[u64], net: &Net, output: u32) -> Option<u32> {
-    let first = output_word(row, net, Side::A, output)?;
-    let second = output_word(row, net, Side::B, output)?;
-    let apart = first ^ second;
+/// The first admitted pattern of the simulated word on which the least such output differs.
+fn first_difference(row: &[u64], net: &Net) -> Option<u32> {
+    let admitted = constraints_word(row, net, Side::A) & constraints_word(row, net, Side::B);
+    if admitted == 0 {
+        return None;
+    }
+    for output in 0..net.outputs() {
+        if let Some(bit) = first_apart(row, net, output, admitted) {
+            return Some(bit);
+        }
+    }
+    None
+}
+
+/// The patterns of the simulated word on which each constraint of one side is true.
+fn constraints_word(row: &[u64], net: &Net, side: Side) -> u64 {
+    let mut word = u64::MAX;
+    for k in 0..count(net.circuit(side).constraints().len()) {
+        if let Some(lit) = net.constraint(side, k) {
+            word &= lit_word(row, net, lit);
+        }
+    }
+    word
+}
+
+/// The first of these patterns of the simulated word on which an output differs.
+fn first_apart(row: &[u64], net: &Net, output: u32, among: u64) -> Option<u32> {
+    let first = lit_word(row, net, net.output(Side::A, output)?);
+    let second = lit_word(row, net, net.output(Side::B, output)?);
+    let apart = (first ^ second) & among;
     if apart != 0 {
         Some(apart.trailing_zeros())
     } else {
@@ -314,11 +337,12 @@ fn first_apart(row: &[u64], net: &Net, output: u32) -> Option<u32> {
     }
 }
 
-/// The values of an output of one side on the simulated word.
-fn output_word(row: &[u64], net: &Net, side: Side, output: u32) -> Option<u64> {
-    let lit = net.output(side, output)?;
-    let position = net.position(lit.node)?;
-    Some(word_at(row, position as usize) ^ turn(lit.neg))
+/// The values of a literal on the simulated word; false where the net hasn't its node.
+fn lit_word(row: &[u64], net: &Net, lit: Lit) -> u64 {
+    match net.position(lit.node) {
+        Some(position) => word_at(row, position as usize) ^ turn(lit.neg),
+        None => 0,
+    }
 }
 
 /// Forgets which patterns tell these pairs apart.

@@ -84,6 +84,7 @@ impl Engine {
             Some(Name::Lesson(number)) => self.own(
                 self.lessons.get(number).order.saturating_sub(1),
             ),
+            Some(Name::Bound(side, k)) => Ref::Bound(side, k),
             // Nothing has this name, so the book refuses the entry.
             None => Ref::Own(u64::MAX),
         }

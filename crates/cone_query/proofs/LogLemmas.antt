@@ -1,5 +1,5 @@
--- What logs over a cone are over the whole book: chains over what steps may cite, and over nodes that the miter has
--- variables for.
+-- What logs over a base are over the whole book: chains over what steps may cite, and over nodes that the miter has
+-- variables for where the base is.
 use Rattle.std.proofs.Common.{◌≡◌, ℕ, ◌+◌, Bool, true, false, ◌||◌, Option, Some, None, List, [], ◌∷◌, ◌++◌, take, refl, sym, ap, ◌∙◌, subst}
 use Rattle.std.specs.Option.{IsSome, is_some, option_map_or}
 use Rattle.std.specs.List.{AllByRecursion}
@@ -28,7 +28,7 @@ use Rattle.lemma_book.specs.Cone.{AreThere, AreIn, named_from, named_clauses, ne
 use Rattle.lemma_book.specs.Entry.{Entries, merge_clauses}
 use Rattle.lemma_book.specs.Good.{AreOver, IsBefore, out_clause, node_clause}
 use Rattle.lemma_book.specs.Root.{MergeAt, merge_of}
-use Rattle.lemma_book.proofs.Facts.{is_some-variable, cone-over, cone-named, found-clause, chain-more, merge-placed, placed-there}
+use Rattle.lemma_book.proofs.Facts.{is_some-variable, cone-named, found-clause, chain-more, merge-placed, placed-there}
 use Rattle.cone_query.proofs.ConeModel.{cone-at, cone-from}
 use Rattle.cone_query.proofs.GateOrder.{left-earlier, right-earlier}
 
@@ -74,10 +74,9 @@ module _ (P : Node → Type 0) where
       each [] all = tt
       each (l ∷ ls) all = (occurs-over (clauses_of base before) l (clauses_of-over base before b s) all.0, each ls all.1)
 
-module _ (net : AigPair) (is : IsNet net) (book : Entries) (legal : IsLegal net book) (seen : ℕ) (seeds : List Node) (cone : List Named)
-    (is_cone : IsCone net (take seen book.entries) seeds cone) where
-  all-there : AllByRecursion (λ m. AllByRecursion (λ l. IsSome (variable_of net l.node)) m.clause) cone
-  all-there = named cone (cone-over net is book legal seen seeds cone is_cone)
+module _ (net : AigPair) (base : List Named) (over : AllByRecursion (λ m. AllByRecursion (λ l. has same_node (variables_of net) l.node ≡ true) m.clause) base) where
+  all-there : AllByRecursion (λ m. AllByRecursion (λ l. IsSome (variable_of net l.node)) m.clause) base
+  all-there = named base over
     where
       named : (ms : List Named) → AllByRecursion (λ m. AllByRecursion (λ l. has same_node (variables_of net) l.node ≡ true) m.clause) ms
           → AllByRecursion (λ m. AllByRecursion (λ l. IsSome (variable_of net l.node)) m.clause) ms
@@ -88,20 +87,22 @@ module _ (net : AigPair) (is : IsNet net) (book : Entries) (legal : IsLegal net 
           clause [] a = tt
           clause (l ∷ ls) a = (is_some-variable net l.node ∙ a.0, clause ls a.1)
 
-  -- a log over a cone is over nodes that the miter has variables for
-  pub log-over : (log : List Step) → IsLog cone log → AreOver net log
-  log-over log learned = learned-over (λ n. IsSome (variable_of net n)) cone [] log all-there tt learned
+  -- a log over such a base is over nodes that the miter has variables for
+  pub log-over : (log : List Step) → IsLog base log → AreOver net log
+  log-over log learned = learned-over (λ n. IsSome (variable_of net n)) base [] log all-there tt learned
 
-  -- so are literals whose variables occur in a cone
-  pub over-there : (ls : List Lit) → IsOver cone ls → AreThere net ls
+  -- so are literals whose variables occur in it
+  pub over-there : (ls : List Lit) → IsOver base ls → AreThere net ls
   over-there [] all = tt
-  over-there (l ∷ ls) all = (occurs-over (λ n. IsSome (variable_of net n)) (base_clauses cone) l (bare cone all-there) all.0, over-there ls all.1)
+  over-there (l ∷ ls) all = (occurs-over (λ n. IsSome (variable_of net n)) (base_clauses base) l (bare base all-there) all.0, over-there ls all.1)
     where
       bare : (ms : List Named) → AllByRecursion (λ m. AllByRecursion (λ k. IsSome (variable_of net k.node)) m.clause) ms
           → AllByRecursion (λ c. AllByRecursion (λ k. IsSome (variable_of net k.node)) c) (base_clauses ms)
       bare [] a = tt
       bare (m ∷ ms) a = (a.0, bare ms a.1)
 
+module _ (net : AigPair) (is : IsNet net) (book : Entries) (legal : IsLegal net book) (seen : ℕ) (seeds : List Node) (cone : List Named)
+    (is_cone : IsCone net (take seen book.entries) seeds cone) where
   abbrev IsPlaced : Node → Bool
   IsPlaced n = is_some (position_of net n)
 
@@ -157,9 +158,6 @@ module _ (net : AigPair) (is : IsNet net) (book : Entries) (legal : IsLegal net 
 
   pub node-found : AreIn IsPlaced seeds → (name : Ref) (c : List Lit) → base_clause cone name ≡ Some c → node_clause net (take seen book.entries) name ≡ Some c
   node-found starts = found-clause (node_clause net (take seen book.entries)) cone (node-named starts)
-
-  pub out-found : (name : Ref) (c : List Lit) → base_clause cone name ≡ Some c → out_clause net (take seen book.entries) name ≡ Some c
-  out-found = found-clause (out_clause net (take seen book.entries)) cone (cone-named net (take seen book.entries) seeds cone is_cone)
 
 -- a log over a cone is a chain over what its clauses are found in
 pub log-chain : (find : Ref → Option (List Lit)) (cone : List Named) (log : List Step)

@@ -1,6 +1,5 @@
 -- Which variables occur in a cone: those of its nodes that are gates, merged or the constant.
-use Rattle.std.proofs.Common.{◌≡◌, ℕ, Bool, true, false, not, ◌||◌, Some, None, List, [], ◌∷◌, length, take, refl, sym, ap, ◌∙◌, subst}
-use Rattle.std.specs.Bool.{OnTrue, OnFalse}
+use Rattle.std.proofs.Common.{◌≡◌, ℕ, Bool, true, false, ◌||◌, Some, None, List, [], ◌∷◌, length, take, refl, sym, ap, ◌∙◌, subst}
 use Rattle.std.specs.List.{list_any, AllByRecursion}
 use Rattle.std.proofs.lemmas.Bool.{or_left, or_parts}
 use Rattle.std.proofs.Math.Seq.{take-length}

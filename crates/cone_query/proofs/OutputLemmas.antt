@@ -1,11 +1,11 @@
--- What each answer over the cone of an output's XOR shows of the output.
-use Rattle.std.proofs.Common.{◌≡◌, ℕ, ◌+◌, ◌≤◌, ◌^◌, Bool, true, false, ◌||◌, Option, Some, None, List, [], ◌∷◌, ◌++◌, length, take, refl, sym, ap, ap₂, ◌∙◌, subst, length-append, arith}
-use Rattle.std.specs.Prelude.{slice_get, slice_index}
-use Rattle.std.specs.Option.{IsSome, is_some, option_and_then, option_to_list}
-use Rattle.std.specs.List.{list_any, find, AllByRecursion}
+-- What each answer over an output's cone shows of the output.
+use Rattle.std.proofs.Common.{◌≡◌, ℕ, ◌+◌, ◌≤◌, ◌^◌, Bool, true, false, ◌||◌, Some, List, [], ◌∷◌, ◌++◌, length, map, take, refl, sym, ap, ap₂, ◌∙◌, subst, length-append, arith}
+use Rattle.std.specs.Prelude.{slice_index}
+use Rattle.std.specs.Option.{IsSome, option_to_list}
+use Rattle.std.specs.List.{list_any, AllByRecursion}
 use Rattle.std.proofs.lemmas.Bool.{and_parts, not-false, or_right}
-use Rattle.std.proofs.lemmas.Option.{none-some}
 use Rattle.std.proofs.Math.Seq.{take-length}
+use Rattle.std.proofs.Math.Bool.{or-false}
 use Rattle.lits.specs.Assignment.{Holds, Meets}
 use Rattle.lits.specs.Clause.{has, has_pair, firsts}
 use Rattle.lits.specs.declared.node.Side.{Side}
@@ -16,30 +16,29 @@ use Rattle.lits.specs.declared.literal.Lit.{Lit}
 use Rattle.lits.specs.declared.step.Named.{Named}
 use Rattle.lits.specs.declared.step.Step.{Step}
 use Rattle.lits.specs.declared.step.Ref.{Ref}
-use Rattle.lits.specs.declared.step.Ref.TheVariants.{Axiom}
+use Rattle.lits.specs.declared.step.Ref.TheVariants.{Axiom, Bound}
 use Rattle.lits.specs.Same.{same_node, same_lit, opposite}
 use Rattle.lits.specs.contracts.literal.LitLiteral.TheImpl.Laws as lit
-use Rattle.lits.proofs.Facts.{exact-lit, exact-node, same-node_self, all-append, same-lit_self}
+use Rattle.lits.proofs.Facts.{exact-lit, all-append, all-parts, same-lit_self}
 use Rattle.netlist.specs.Circuit.{var_of, output_value}
-use Rattle.netlist.specs.Net.{AigPair, circuit_of, output_of, nodes_of, position_of, differs, value_of, lit_holds}
-use Rattle.netlist.specs.Miter.{positive, negative, kept, xor_clauses, xor_axioms, axioms_of, variables_of, variable_of}
-use Rattle.netlist.proofs.Facts.{at_place, find-place, has-xor, range-has, has-position, is_some-place, values-meet, output_lit, output_of-below}
+use Rattle.netlist.specs.Net.{AigPair, bounds_of, bounds_on, circuit_of, output_of, nodes_of, position_of, differs, value_of, lit_holds}
+use Rattle.netlist.specs.Miter.{positive, negative, unit, kept, xor_clauses, axioms_of, variables_of}
+use Rattle.netlist.proofs.Facts.{has-position, is_some-place, values-meet, output_lit, output_of-below, bounds-there, bounds-admitted}
 use Rattle.unit_prop.specs.declared.refuter.Refuted.{Refuted}
 use Rattle.unit_prop.specs.declared.refuter.Refuted.TheVariants.{Yes, No, Spent as Gone}
 use Rattle.unit_prop.specs.New.{occurs}
 use Rattle.unit_prop.specs.Log.{base_clause, base_clauses, with_own, IsStepAfter, IsLog, IsBudgetLog}
-use Rattle.unit_prop.specs.Refuter.{IsOver, IsModel, Answers, StaysUndecided}
+use Rattle.unit_prop.specs.Refuter.{is_over, IsOver, IsModel, Answers, StaysUndecided}
 use Rattle.unit_prop.specs.Step.{IsStep}
 use Rattle.unit_prop.specs.Variables.{variables}
-use Rattle.unit_prop.proofs.Facts.{contrary, in_turn-append, log-grows, all-base}
+use Rattle.unit_prop.proofs.Facts.{in_turn-append, log-grows, all-base}
 use Rattle.lemma_book.specs.declared.entry.Entry.{Entry}
 use Rattle.lemma_book.specs.declared.entry.Entry.TheVariants.{Out, OutApart, OutSpent}
-use Rattle.lemma_book.specs.declared.entry.Subject.TheVariants.{Output}
-use Rattle.lemma_book.specs.Cone.{AreThere, AreIn, named_from, named_clauses, nodes_in, next_of, IsReach, IsCone}
-use Rattle.lemma_book.specs.Entry.{Entries, is_on, place_on, about, equal_clause}
+use Rattle.lemma_book.specs.Cone.{AreThere, AreIn, named_from, named_clauses, named_bounds, named_units, nodes_in, next_of, IsReach, IsOutputCone}
+use Rattle.lemma_book.specs.Entry.{Entries, OfOutput, seeds_of, equal_clause}
 use Rattle.lemma_book.specs.Good.{AreOver, out_clause}
-use Rattle.lemma_book.specs.Root.{MergeAt, merge_of}
-use Rattle.lemma_book.proofs.Facts.{apart-lits, good-out, good-out_apart, good-out_spent, step_after-more, reach-there}
+use Rattle.lemma_book.proofs.Facts.{apart-lits, good-out, good-out_apart, good-out_spent, step_after-more, reach-there, found-clause}
+use Rattle.lemma_book.proofs.Facts.{output_cone-named, output_cone-over, bounds-reached, seeds-there}
 use Rattle.lemma_book.proofs.Facts.{xor-there, xor-variable, xor-unmerged, output-no_xor, xor-axioms_are, output-unsettled}
 use Rattle.cone_query.specs.Input.{input_from}
 use Rattle.cone_query.specs.Answered.{IsOutput, SettlesOutput}
@@ -47,10 +46,10 @@ use Rattle.cone_query.proofs.ConeModel.{agree-lit, cone-at, named-meets}
 use Rattle.cone_query.proofs.GateClauses.{xor_from_axioms}
 use Rattle.cone_query.proofs.GateOrder.{node_of-no_xor}
 use Rattle.cone_query.proofs.InputLemmas.{length-input_from, input_from-at}
-use Rattle.cone_query.proofs.LogLemmas.{log-over, over-there, out-found, log-chain}
+use Rattle.cone_query.proofs.LogLemmas.{log-over, over-there, log-chain}
 use Rattle.cone_query.proofs.ModelLiterals.{true_in, true-clauses, false-literal}
 use Rattle.cone_query.proofs.OccursLemmas.{speaks_of, occurs-at}
-use Rattle.cone_query.proofs.ReachedLemmas.{false-outside}
+use Rattle.cone_query.proofs.ReachedLemmas.{cone-reached, false-outside}
 
 -- a test passes for the clauses that stay
 module _ (test : List Lit → Bool) where
@@ -94,17 +93,69 @@ spoken : (cs : List (List Lit)) (l : Lit) (name : ℕ → Ref) (k : ℕ) → occ
 spoken [] l name k e all = cc
 spoken (c ∷ cs) l name k e all = spoken cs l name (k + 1) (rw all.0 at e) all.1
 
+-- what occurs in the first ones of named clauses occurs in all
+over-first : (xs ys : List Named) (l : Lit) → is_over xs l ≡ true → is_over (xs ++ ys) l ≡ true
+over-first [] ys l e = cc
+over-first (x ∷ xs) ys l e = go (speaks_of l x.clause) refl (over-first xs ys l)
+  where
+    go : (b : Bool) → speaks_of l x.clause ≡ b → (is_over xs l ≡ true → is_over (xs ++ ys) l ≡ true) → is_over ((x ∷ xs) ++ ys) l ≡ true
+    go true f rest = rw f refl
+    go false f rest = rw f (rest (rw f at e))
+
+-- the unit of a literal holds where the literal does, and is over its node
+module _ (name : ℕ → Ref) where
+  units-hold : (v : Lit → Bool) (k : ℕ) (ls : List Lit) → AllByRecursion (λ n. Holds v n.clause) (named_from name k (map unit ls))
+      → AllByRecursion (λ l. v l ≡ true) ls
+  units-hold v k [] all = tt
+  units-hold v k (l ∷ ls) all = (sym (or-false (v l)) ∙ all.0, units-hold v (k + 1) ls all.1)
+
+  units-over : (p : Node → Bool) (k : ℕ) (ls : List Lit) → AllByRecursion (λ l. p l.node ≡ true) ls
+      → AllByRecursion (λ n. AllByRecursion (λ l. p l.node ≡ true) n.clause) (named_from name k (map unit ls))
+  units-over p k [] all = tt
+  units-over p k (l ∷ ls) all = ((all.0, tt), units-over p (k + 1) ls all.1)
+
+module _ (net : AigPair) where
+  bounds-hold : (v : Lit → Bool) → AllByRecursion (λ n. Holds v n.clause) (named_units net) → AllByRecursion (λ l. v l ≡ true) (bounds_of net)
+  bounds-hold v all =
+      let sides = all-parts (λ n. Holds v n.clause) (named_bounds net A) (named_bounds net B) all in
+      all-append (λ l. v l ≡ true) (bounds_on net A) (bounds_on net B)
+      (units-hold (Bound A) v 0 (bounds_on net A) sides.0) (units-hold (Bound B) v 0 (bounds_on net B) sides.1)
+
+  bounds-over : (p : Node → Bool) → AllByRecursion (λ l. p l.node ≡ true) (bounds_of net)
+      → AllByRecursion (λ n. AllByRecursion (λ l. p l.node ≡ true) n.clause) (named_units net)
+  bounds-over p all =
+      let sides = all-parts (λ l. p l.node ≡ true) (bounds_on net A) (bounds_on net B) all in
+      all-append (λ n. AllByRecursion (λ l. p l.node ≡ true) n.clause) (named_bounds net A) (named_bounds net B)
+      (units-over (Bound A) p 0 (bounds_on net A) sides.0) (units-over (Bound B) p 0 (bounds_on net B) sides.1)
+
 module _ (net : AigPair) (book : Entries) (j : ℕ) (asks : IsOutput net book j) where
   abbrev es : List Entry
   es = take (length book.entries) book.entries
 
-  module _ (cone : List Named) (is_cone : IsCone net es (Xor j ∷ []) cone) where
-    reached : is_cone.reached (Xor j) ≡ true
-    reached = is_cone.reach.closed.starts.0
+  abbrev seeds : List Node
+  seeds = seeds_of net (OfOutput j)
+
+  module _ (cone : List Named) (is_cone : IsOutputCone net es j cone) where
+    abbrev nodes : List Named
+    nodes = is_cone.nodes
+
+    abbrev reached : Node → Bool
+    reached = is_cone.is_cone.reached
+
+    starts : AreIn (has same_node (variables_of net)) seeds
+    starts = seeds-there net asks.net_is j asks.below
+
+    xor-reached : reached (Xor j) ≡ true
+    xor-reached = is_cone.is_cone.reach.closed.starts.0
 
     -- its variable occurs in the cone
     pub target-over : IsOver cone (equal_clause j)
-    target-over = (occurs-at net es (Xor j ∷ []) cone is_cone (negative (Xor j)) (Xor j) reached (xor-there net asks.net_is j asks.below) none, tt)
+    target-over = (
+      subst (λ (b : List Named). is_over b (negative (Xor j)) ≡ true) (sym is_cone.clauses)
+          (over-first nodes (named_units net) (negative (Xor j))
+          (occurs-at net es seeds nodes is_cone.is_cone (negative (Xor j)) (Xor j) xor-reached (xor-there net asks.net_is j asks.below) none)),
+      tt,
+    )
       where
         none : ¬ AllByRecursion (λ m. speaks_of (negative (Xor j)) m.clause ≡ false) (named_clauses net es (Xor j))
         none all =
@@ -113,12 +164,22 @@ module _ (net : AigPair) (book : Entries) (j : ℕ) (asks : IsOutput net book j)
             (subst (λ (cs : List (List Lit)). AllByRecursion (λ m. speaks_of (negative (Xor j)) m.clause ≡ false) (named_from (Axiom (Xor j)) 0 cs)) (xor-axioms_are net asks.net_is j asks.below)
             (rw (xor-unmerged net book asks.legal (length book.entries) j) at all))
 
+    -- the literals of the cone are over nodes that have variables, and over those that are reached
+    cone_there : AllByRecursion (λ m. AllByRecursion (λ l. has same_node (variables_of net) l.node ≡ true) m.clause) cone
+    cone_there = output_cone-over net asks.net_is book asks.legal (length book.entries) j cone is_cone
+
+    cone_reached : AllByRecursion (λ m. AllByRecursion (λ l. reached l.node ≡ true) m.clause) cone
+    cone_reached =
+        subst (AllByRecursion (λ m. AllByRecursion (λ l. reached l.node ≡ true) m.clause)) (sym is_cone.clauses)
+        (all-append (λ m. AllByRecursion (λ l. reached l.node ≡ true) m.clause) nodes (named_units net) (cone-reached net es seeds nodes is_cone.is_cone)
+        (bounds-over net reached (bounds-reached net es j cone is_cone)))
+
     module _ (log : List Step) (left : ℕ) (result : Refuted) (a : Answers cone (equal_clause j) [] book.out_budget log left result) where
       learned : IsLog cone log
       learned = log-grows cone (equal_clause j) [] book.out_budget log left result tt a
 
       over : AreOver net log
-      over = log-over net asks.net_is book asks.legal (length book.entries) (Xor j ∷ []) cone is_cone log learned
+      over = log-over net cone cone_there log learned
 
       count : left + length log ≡ book.out_budget
       count = omega (arith, a.spends, ap length a.grows)
@@ -147,7 +208,7 @@ module _ (net : AigPair) (book : Entries) (j : ℕ) (asks : IsOutput net book j)
           found : (name : Ref) (c : List Lit) → base_clause cone name ≡ Some c → out_clause net book.entries name ≡ Some c
           found =
               subst (λ (l : List Entry). (name : Ref) (c : List Lit) → base_clause cone name ≡ Some c → out_clause net l name ≡ Some c) (take-length book.entries)
-              (out-found net asks.net_is book asks.legal (length book.entries) (Xor j ∷ []) cone is_cone)
+              (found-clause (out_clause net es) cone (output_cone-named net es j cone is_cone))
 
           shown : IsStep same_lit opposite (with_own (base_clause cone) log) (equal_clause j) hints
           shown = (subst (λ (r : Refuted). Answers cone (equal_clause j) [] book.out_budget log left r) is a).answer.1
@@ -155,20 +216,24 @@ module _ (net : AigPair) (book : Entries) (j : ℕ) (asks : IsOutput net book j)
       -- a model is over nodes that the miter has variables for
       pub output_model-there : (model : List Lit) → result ≡ No model → AreThere net model
       output_model-there model is =
-          over-there net asks.net_is book asks.legal (length book.entries) (Xor j ∷ []) cone is_cone model
-          (subst (λ (r : Refuted). Answers cone (equal_clause j) [] book.out_budget log left r) is a).answer.1.within
+          over-there net cone cone_there model (subst (λ (r : Refuted). Answers cone (equal_clause j) [] book.out_budget log left r) is a).answer.1.within
 
-      -- and it gives an input on which the output differs
+      -- and it gives an admitted input on which the output differs
       pub model-settles_output : (model : List Lit) (e : Entry) → result ≡ No model → e ≡ OutApart j (input_from net model) → SettlesOutput net book j e
       model-settles_output model e is made = subst (SettlesOutput net book j) (sym made) (record {
         about = refl;
         good = good-out_apart net book j bits asks.below (output-unsettled book.entries j asks.unsettled)
-            (record { whole = length-input_from net model; within = asks.below; apart = λ same. unequal (output_value net.a bits j) (output_value net.b bits j) same differ });
+            (record {
+              admitted = bounds-admitted net asks.net_is bits (length-input_from net model)
+                  (same-values (bounds_of net) (bounds-reached net es j cone is_cone) (bounds-there net asks.net_is) (bounds-hold net (lit_holds (true_in model)) parts.1));
+              within = asks.below;
+              apart = λ same. unequal (output_value net.a bits j) (output_value net.b bits j) same differ;
+            });
         seen = tt;
         outside = record {
-          reached = is_cone.reached;
-          reach = subst (λ (l : List Entry). IsReach (next_of net l) (Xor j ∷ []) is_cone.reached) (take-length book.entries) is_cone.reach;
-          outside = false-outside net es (Xor j ∷ []) cone is_cone model m.within;
+          reached = reached;
+          reach = subst (λ (l : List Entry). IsReach (next_of net l) seeds reached) (take-length book.entries) is_cone.is_cone.reach;
+          outside = false-outside reached cone cone_reached net model m.within;
         };
         within = tt;
       })
@@ -179,34 +244,45 @@ module _ (net : AigPair) (book : Entries) (j : ℕ) (asks : IsOutput net book j)
           m : IsModel cone (equal_clause j) model
           m = (subst (λ (r : Refuted). Answers cone (equal_clause j) [] book.out_budget log left r) is a).answer.1
 
-          meets : AllByRecursion (λ n. Holds (lit_holds (true_in model)) n.clause) cone
-          meets = all-base (lit_holds (true_in model)) cone (true-clauses model m.once.apart (base_clauses cone) m.meets)
+          -- the model meets the clauses of the nodes and the units
+          parts : AllByRecursion (λ n. Holds (lit_holds (true_in model)) n.clause) nodes × AllByRecursion (λ n. Holds (lit_holds (true_in model)) n.clause) (named_units net)
+          parts =
+              all-parts (λ n. Holds (lit_holds (true_in model)) n.clause) nodes (named_units net)
+              (subst (AllByRecursion (λ n. Holds (lit_holds (true_in model)) n.clause)) is_cone.clauses
+              (all-base (lit_holds (true_in model)) cone (true-clauses model m.once.apart (base_clauses cone) m.meets)))
 
-          nexts : AreIn is_cone.reached (nodes_in (option_to_list (output_of net A j) ++ option_to_list (output_of net B j)))
-          nexts = rw (xor-unmerged net book asks.legal (length book.entries) j) at (is_cone.reach.closed.nexts (Xor j) reached)
+          -- a reached literal has its value in the circuits
+          value : (l : Lit) → IsSome (position_of net l.node) → reached l.node ≡ true → lit_holds (true_in model) l ≡ lit_holds (value_of net bits) l
+          value =
+              agree-lit net asks.net_is book asks.legal (length book.entries) asks.all_true seeds nodes is_cone.is_cone starts (true_in model) parts.0 bits
+              (length-input_from net model) (λ k inside q. sym (input_from-at net model k false inside))
 
-          both : (is_cone.reached (output_lit net A j).node ≡ true) × (is_cone.reached (output_lit net B j).node ≡ true)
+          -- so have the constraints
+          same-values : (ls : List Lit) → AllByRecursion (λ l. reached l.node ≡ true) ls → AllByRecursion (λ l. has same_node (nodes_of net) l.node ≡ true) ls
+              → AllByRecursion (λ l. lit_holds (true_in model) l ≡ true) ls → AllByRecursion (λ l. lit_holds (value_of net bits) l ≡ true) ls
+          same-values [] r p all = tt
+          same-values (l ∷ ls) r p all =
+              (sym (value l (is_some-place (λ n. same_node n l.node) (nodes_of net) ∙ p.0) r.0) ∙ all.0, same-values ls r.1 p.1 all.1)
+
+          nexts : AreIn reached (nodes_in (option_to_list (output_of net A j) ++ option_to_list (output_of net B j)))
+          nexts = rw (xor-unmerged net book asks.legal (length book.entries) j) at (is_cone.is_cone.reach.closed.nexts (Xor j) xor-reached)
+
+          both : (reached (output_lit net A j).node ≡ true) × (reached (output_lit net B j).node ≡ true)
           both =
-              let known : AreIn is_cone.reached ((output_lit net A j).node ∷ (output_lit net B j).node ∷ []) =
+              let known : AreIn reached ((output_lit net A j).node ∷ (output_lit net B j).node ∷ []) =
               rw (output_of-below net asks.net_is A j asks.below, output_of-below net asks.net_is B j asks.below) at nexts in
               (known.0, known.1.0)
 
-          placed : (s : Side) → is_cone.reached (output_lit net s j).node ≡ true → IsSome (position_of net (output_lit net s j).node)
+          placed : (s : Side) → reached (output_lit net s j).node ≡ true → IsSome (position_of net (output_lit net s j).node)
           placed s r =
-              let there = reach-there net asks.net_is book asks.legal (length book.entries) (Xor j ∷ []) ((xor-there net asks.net_is j asks.below), tt) is_cone.reached is_cone.reach (output_lit net s j).node r in
+              let there = reach-there net asks.net_is book asks.legal (length book.entries) seeds starts reached is_cone.is_cone.reach (output_lit net s j).node r in
               is_some-place (λ n. same_node n (output_lit net s j).node) (nodes_of net)
               ∙ has-position net (output_lit net s j).node (node_of-no_xor s (circuit_of net s) (var_of (slice_index (circuit_of net s).outputs j))) there
-
-          value : (s : Side) → is_cone.reached (output_lit net s j).node ≡ true
-              → lit_holds (true_in model) (output_lit net s j) ≡ lit_holds (value_of net bits) (output_lit net s j)
-          value s r =
-              agree-lit net asks.net_is book asks.legal (length book.entries) asks.all_true (Xor j ∷ []) cone is_cone ((xor-there net asks.net_is j asks.below), tt) (true_in model) meets bits
-              (length-input_from net model) (λ k inside q. sym (input_from-at net model k false inside)) (output_lit net s j) (placed s r) r
 
           xor_axioms-hold : Meets (lit_holds (true_in model)) (axioms_of net (Xor j))
           xor_axioms-hold =
               named-meets (lit_holds (true_in model)) (Axiom (Xor j)) 0 (axioms_of net (Xor j))
-              (rw (xor-unmerged net book asks.legal (length book.entries) j) at (cone-at net es (Xor j ∷ []) cone is_cone (λ n. Holds (lit_holds (true_in model)) n.clause) (Xor j) reached (xor-there net asks.net_is j asks.below) meets))
+              (rw (xor-unmerged net book asks.legal (length book.entries) j) at (cone-at net es seeds nodes is_cone.is_cone (λ n. Holds (lit_holds (true_in model)) n.clause) (Xor j) xor-reached (xor-there net asks.net_is j asks.below) parts.0))
 
           is_true : true_in model (Xor j) ≡ true
           is_true = not-false (true_in model (Xor j)) (false-literal model (negative (Xor j)) m.once.apart (and_parts (has same_lit model (positive (Xor j))) true m.refutes).0)
@@ -214,7 +290,8 @@ module _ (net : AigPair) (book : Entries) (j : ℕ) (asks : IsOutput net book j)
           differ : differs (output_value net.a bits j) (output_value net.b bits j) ≡ true
           differ =
               xor_from_axioms net (value_of net bits) asks.net_is j asks.below (values-meet net asks.net_is bits (Xor j))
-              ∙ (sym (xor_from_axioms net (true_in model) asks.net_is j asks.below xor_axioms-hold ∙ ap₂ differs (value A both.0) (value B both.1)) ∙ is_true)
+              ∙ (sym (xor_from_axioms net (true_in model) asks.net_is j asks.below xor_axioms-hold
+              ∙ ap₂ differs (value (output_lit net A j) (placed A both.0) both.0) (value (output_lit net B j) (placed B both.1) both.1)) ∙ is_true)
 
           unequal : (x y : Bool) → x ≡ y → differs x y ≡ true → ⊥
           unequal true true e f = cc
@@ -233,7 +310,7 @@ module _ (net : AigPair) (book : Entries) (j : ℕ) (asks : IsOutput net book j)
         outside = tt;
         within = record {
           cone = cone;
-          is_cone = subst (λ (l : List Entry). IsCone net l (Xor j ∷ []) cone) (take-length book.entries) is_cone;
+          is_cone = subst (λ (l : List Entry). IsOutputCone net l j cone) (take-length book.entries) is_cone;
           holds = law cone book.out_budget log spent;
         };
       })

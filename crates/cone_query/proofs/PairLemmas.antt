@@ -13,7 +13,7 @@ use Rattle.lits.specs.declared.literal.Lit.{Lit}
 use Rattle.lits.specs.declared.step.Named.{Named}
 use Rattle.lits.specs.declared.step.Step.{Step}
 use Rattle.lits.specs.declared.step.Ref.{Ref}
-use Rattle.lits.specs.declared.step.Ref.TheVariants.{Axiom, Entry as Shown, Own}
+use Rattle.lits.specs.declared.step.Ref.TheVariants.{Axiom, Entry as Shown, Own, Bound}
 use Rattle.lits.specs.Same.{same_node, same_lit, opposite}
 use Rattle.lits.specs.contracts.literal.LitLiteral.TheImpl.Laws as lit
 use Rattle.lits.proofs.Facts.{all-append}
@@ -34,16 +34,16 @@ use Rattle.lemma_book.specs.declared.entry.Entry.TheVariants.{Merge, Apart, Spen
 use Rattle.lemma_book.specs.Cone.{AreThere, AreIn, next_of, IsReach, IsCone}
 use Rattle.lemma_book.specs.Entry.{Entries, merge_clauses}
 use Rattle.lemma_book.specs.Good.{ArePlaced, IsBefore, AreOver, EndsIn, node_clause}
-use Rattle.lemma_book.proofs.Facts.{good-merge, good-apart, good-spent, is_some-variable, placed-there, step_after-more, root-unsettled}
+use Rattle.lemma_book.proofs.Facts.{cone-over, good-merge, good-apart, good-spent, is_some-variable, placed-there, step_after-more, root-unsettled}
 use Rattle.cone_query.specs.Input.{input_from}
 use Rattle.cone_query.specs.declared.pair_query.Asked.{Asked}
 use Rattle.cone_query.specs.declared.pair_query.Asked.TheVariants.{Shown as Asks_shown}
-use Rattle.cone_query.specs.Asked.{IsPair, IsQuery, IsImplication, IsShown, IsAsked, Settles, seeds_of, forth, back}
+use Rattle.cone_query.specs.Asked.{IsPair, IsBaseOf, IsQuery, IsImplication, IsShown, IsAsked, Settles, seeds_of, forth, back}
 use Rattle.cone_query.proofs.ConeModel.{agree, agree-lit}
 use Rattle.cone_query.proofs.InputLemmas.{length-input_from, input_from-at}
 use Rattle.cone_query.proofs.LogLemmas.{log-over, over-there, node-found, log-chain}
 use Rattle.cone_query.proofs.ModelLiterals.{true_in, true-clauses, false-literal}
-use Rattle.cone_query.proofs.ReachedLemmas.{false-outside}
+use Rattle.cone_query.proofs.ReachedLemmas.{cone-reached, false-outside}
 
 -- what holds of the value that an answer has holds of the answer
 pub if_ok-same : {T E : Type 0} (P : T → Type 0) (x : T) (r : Result T E) → IfOk r (λ e. e ≡ x) → P x → IfOk r P
@@ -94,6 +94,10 @@ module _ (net : AigPair) (book : Entries) (task : Task) (pair : IsPair net book 
     (sym (is_some-variable net task.lit.node) ∙ placed-there net task.lit.node pair-placed.1, tt),
   )
 
+  -- the literals of the base are over nodes that have variables
+  base-over : {base : List Named} → IsBaseOf net book task base → AllByRecursion (λ m. AllByRecursion (λ l. has same_node (variables_of net) l.node ≡ true) m.clause) base
+  base-over is_base = cone-over net pair.net_is book pair.legal (length book.entries) (seeds_of task) _ is_base
+
   module _ (base : List Named) (log : List Step) (left : ℕ) (query : IsQuery net book task base log left) where
     -- both implications are over the base
     pub implication-over : (clause : List Lit) → IsImplication task clause → IsOver base clause
@@ -115,7 +119,7 @@ module _ (net : AigPair) (book : Entries) (task : Task) (pair : IsPair net book 
       -- a model is over nodes that the miter has variables for
       pub model-there : (model : List Lit) → result ≡ No model → AreThere net model
       model-there model is =
-          over-there net pair.net_is book pair.legal (length book.entries) (seeds_of task) base query.cone model
+          over-there net base (base-over query.cone) model
           (subst (λ (r : Refuted). Answers base clause log left log' left' r) is a).answer.1.within
 
       -- and it gives an input on which node and literal differ
@@ -127,7 +131,7 @@ module _ (net : AigPair) (book : Entries) (task : Task) (pair : IsPair net book 
         outside = record {
           reached = query.cone.reached;
           reach = subst (λ (es : List Entry). IsReach (next_of net es) (seeds_of task) query.cone.reached) (take-length book.entries) query.cone.reach;
-          outside = false-outside net (take (length book.entries) book.entries) (seeds_of task) base query.cone model m.within;
+          outside = false-outside query.cone.reached base (cone-reached net (take (length book.entries) book.entries) (seeds_of task) base query.cone) net model m.within;
         };
         within = tt;
       })
@@ -186,7 +190,7 @@ module _ (net : AigPair) (book : Entries) (task : Task) (pair : IsPair net book 
       log-settles e law is made = subst (Settles net book task) (sym made) (record {
         about = refl;
         good = good-spent net book task.node task.lit (length book.entries) log' base pair-placed
-            (log-over net pair.net_is book pair.legal (length book.entries) (seeds_of task) base query.cone log' query-next.learned)
+            (log-over net base (base-over query.cone) log' query-next.learned)
             pair.earlier (omega arith) query.cone spent;
         seen = refl;
         outside = tt;
@@ -208,6 +212,7 @@ module _ (net : AigPair) (book : Entries) (task : Task) (pair : IsPair net book 
       → with_own find (steps ++ rest) n ≡ Some c
   own-more find steps rest (Axiom node k) c e = e
   own-more find steps rest (Shown entry k) c e = e
+  own-more find steps rest (Bound side k) c e = e
   own-more find steps rest (Own k) c e = go (slice_get steps k) refl
     where
       go : (o : Option Step) → slice_get steps k ≡ o → option_map (λ s. s.clause) (slice_get (steps ++ rest) k) ≡ Some c
@@ -252,7 +257,7 @@ module _ (net : AigPair) (book : Entries) (task : Task) (pair : IsPair net book 
       over =
           all-append (λ s. AreThere net s.clause) (end ++ there ∷ []) (again ∷ [])
           (all-append (λ s. AreThere net s.clause) end (there ∷ [])
-          (log-over net pair.net_is book pair.legal (length book.entries) (seeds_of task) base query.cone end query.learned)
+          (log-over net base (base-over query.cone) end query.learned)
           (rw first.clause_is (pair-there.0, (pair-there.1.0, tt)), tt))
           (rw second.clause_is (pair-there.0, (pair-there.1.0, tt)), tt)
 

@@ -1,4 +1,5 @@
--- A cone's clauses are over the nodes that its seeds reach, so a model of a cone says nothing of other inputs.
+-- A cone's clauses are over the nodes that its seeds reach, and a model of a base says nothing of inputs that its clauses
+-- aren't over.
 use Rattle.std.proofs.Common.{◌≡◌, ℕ, ◌+◌, Bool, true, false, ◌||◌, Option, Some, None, List, [], ◌∷◌, length, get_or, refl, sym, ap, ◌∙◌, subst, inl, inr, arith}
 use Rattle.std.specs.Option.{option_map_or}
 use Rattle.std.specs.List.{AllByRecursion}
@@ -77,34 +78,38 @@ module _ (net : AigPair) (es : List Entry) (seeds : List Node) (cone : List Name
           let target : is_cone.reached m.lit.node ≡ true = (rw e at (is_cone.reach.closed.nexts n h)).0 in
           rw e (named (Shown m.entry) 0 (merge_clauses n m.lit) ((h, (target, tt)), ((h, (target, tt)), tt)))
 
-  bare : (ms : List Named) → AllByRecursion IsOverReached ms → AllByRecursion (λ c. AllByRecursion (λ l. is_cone.reached l.node ≡ true) c) (base_clauses ms)
+-- ---- a base whose clauses are over some nodes
+module _ (p : Node → Bool) where
+  bare : (ms : List Named) → AllByRecursion (λ m. AllByRecursion (λ l. p l.node ≡ true) m.clause) ms
+      → AllByRecursion (λ c. AllByRecursion (λ l. p l.node ≡ true) c) (base_clauses ms)
   bare [] a = tt
   bare (m ∷ ms) a = (a.0, bare ms a.1)
 
-  -- so is a literal that occurs in it
-  pub over-reached : (q : Lit) → is_over cone q ≡ true → is_cone.reached q.node ≡ true
-  over-reached q h = occurs-over (λ n. is_cone.reached n ≡ true) (base_clauses cone) q (bare cone cone-reached) h
+  module _ (base : List Named) (over : AllByRecursion (λ m. AllByRecursion (λ l. p l.node ≡ true) m.clause) base) where
+    -- a literal that occurs in it is over them
+    pub over-nodes : (q : Lit) → is_over base q ≡ true → p q.node ≡ true
+    over-nodes q h = occurs-over (λ n. p n ≡ true) (base_clauses base) q (bare base over) h
 
-  -- so are those of a model
-  model-reached : (model : List Lit) (q : Lit) → IsOver cone model → has same_lit model q ≡ true → is_cone.reached q.node ≡ true
-  model-reached [] q within h = cc
-  model-reached (l ∷ ls) q within h = go (same_lit l q) refl (model-reached ls q within.1)
-    where
-      go : (b : Bool) → same_lit l q ≡ b → (has same_lit ls q ≡ true → is_cone.reached q.node ≡ true) → is_cone.reached q.node ≡ true
-      go true e rest = over-reached q (subst (λ (m : Lit). is_over cone m ≡ true) (exact-lit l q e) within.0)
-      go false e rest = rest (sym (ap (λ (b : Bool). b || has same_lit ls q) e) ∙ h)
+    -- so are those of a model
+    model-nodes : (model : List Lit) (q : Lit) → IsOver base model → has same_lit model q ≡ true → p q.node ≡ true
+    model-nodes [] q within h = cc
+    model-nodes (l ∷ ls) q within h = go (same_lit l q) refl (model-nodes ls q within.1)
+      where
+        go : (b : Bool) → same_lit l q ≡ b → (has same_lit ls q ≡ true → p q.node ≡ true) → p q.node ≡ true
+        go true e rest = over-nodes q (subst (λ (m : Lit). is_over base m ≡ true) (exact-lit l q e) within.0)
+        go false e rest = rest (sym (ap (λ (b : Bool). b || has same_lit ls q) e) ∙ h)
 
-  -- the input of a model is false outside the cone
-  pub false-outside : (model : List Lit) → IsOver cone model → (k : ℕ) → is_cone.reached (Input k) ≡ false → get_or (input_from net model) k false ≡ false
-  false-outside model within k out =
-      elim (cases_lt k (length net.a.inputs)) [
-        | inl below ↦ input_from-at net model k false below ∙ unknown (has same_lit model (positive (Input k))) refl
-        | inr past ↦ get_or_past (input_from net model) k false (omega (arith, length-input_from net model))
-      ]
-    where
-      unknown : (b : Bool) → has same_lit model (positive (Input k)) ≡ b → has same_lit model (positive (Input k)) ≡ false
-      unknown true e = let h : true ≡ false = sym (model-reached model (positive (Input k)) within e) ∙ out in cc
-      unknown false e = e
+    -- the input of a model is false where no input is one of them
+    pub false-outside : (net : AigPair) (model : List Lit) → IsOver base model → (k : ℕ) → p (Input k) ≡ false → get_or (input_from net model) k false ≡ false
+    false-outside net model within k out =
+        elim (cases_lt k (length net.a.inputs)) [
+          | inl below ↦ input_from-at net model k false below ∙ unknown (has same_lit model (positive (Input k))) refl
+          | inr past ↦ get_or_past (input_from net model) k false (omega (arith, length-input_from net model))
+        ]
+      where
+        unknown : (b : Bool) → has same_lit model (positive (Input k)) ≡ b → has same_lit model (positive (Input k)) ≡ false
+        unknown true e = let h : true ≡ false = sym (model-nodes model (positive (Input k)) within e) ∙ out in cc
+        unknown false e = e
 
 -- the cone of a node that names a literal is the cone of both
 pub own-both : (net : AigPair) (es : List Entry) (n : Node) (l : Lit) (own : List Named) → IsCone net es (n ∷ []) own
@@ -113,7 +118,7 @@ own-both net es n l own is_own over = record {
   reached = is_own.reached;
   reach = record {
     closed = record {
-      starts = (is_own.reach.closed.starts.0, (over-reached net es (n ∷ []) own is_own l over, tt));
+      starts = (is_own.reach.closed.starts.0, (over-nodes is_own.reached own (cone-reached net es (n ∷ []) own is_own) l over, tt));
       nexts = is_own.reach.closed.nexts;
     };
     least = λ set closed m h. is_own.reach.least set (record { starts = (closed.starts.0, tt); nexts = closed.nexts }) m h;

@@ -11,8 +11,7 @@ use Rattle.std.proofs.lemmas.List.{get_or-replicate, length-replicate, get_or_pa
 use Rattle.std.proofs.lemmas.Option.{none-some, same_Some}
 use Rattle.lits.specs.declared.node.Node.{Node}
 use Rattle.lits.specs.declared.node.Node.TheVariants.{Const, Input}
-use Rattle.lits.specs.declared.literal.Lit.{Lit}
-use Rattle.netlist.specs.Net.{AigPair, position_of, node_at, value_of, lit_holds}
+use Rattle.netlist.specs.Net.{AigPair, position_of, node_at, value_of}
 use Rattle.netlist.proofs.Facts.{node-at, node-input, position_of-input}
 use Rattle.lemma_book.specs.declared.entry.Entry.{Entry}
 use Rattle.lemma_book.specs.Agreement.{IsTrue}

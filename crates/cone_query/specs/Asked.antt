@@ -17,7 +17,7 @@ use Rattle.lemma_book.specs.declared.entry.Entry.{Entry}
 use Rattle.lemma_book.specs.Agreement.{IsTrue}
 use Rattle.lemma_book.specs.Book.{IsLegal}
 use Rattle.lemma_book.specs.Cone.{IsCone}
-use Rattle.lemma_book.specs.Entry.{Entries, OfPair, seeds_of as nodes_asked}
+use Rattle.lemma_book.specs.Entry.{Entries}
 use Rattle.lemma_book.specs.Good.{OfCone, IsGood, IsEarlier}
 use Rattle.lemma_book.specs.Root.{IsRoot}
 use Rattle.cone_query.specs.Query.{task_of, SeesAll, IsFalseOutside, IsWithin}
@@ -34,7 +34,7 @@ pub record IsPair (net : AigPair) (book : Entries) (task : Task) : Type 0 where
 
 -- the nodes of its query
 abbrev pub seeds_of : Task → List Node
-seeds_of task = nodes_asked (OfPair task.node task.lit)
+seeds_of task = task.node ∷ task.lit.node ∷ []
 
 -- the base is the cone of both nodes over the whole book
 abbrev pub IsBaseOf : AigPair → Entries → Task → List Named → Type 0

@@ -10,11 +10,11 @@ use Rattle.unit_prop.specs.Refuter.{is_over}
 use Rattle.unit_prop.specs.Variables.{variables}
 use Rattle.lemma_book.specs.declared.entry.Task.{Task}
 use Rattle.lemma_book.specs.declared.entry.Entry.{Entry}
-use Rattle.lemma_book.specs.declared.entry.Entry.TheVariants.{Merge, Apart, Spent}
+use Rattle.lemma_book.specs.declared.entry.Entry.TheVariants.{Apart}
 use Rattle.lemma_book.specs.Entry.{Entries, Question, OfPair, OfOutput, Answer, Equal, Differ, Open, question_of, answer_of}
 use Rattle.lemma_book.specs.Entry.{seeds_of, budget_of, equal_clauses}
 use Rattle.lemma_book.specs.Cone.{next_of, IsReach, IsCone}
-use Rattle.lemma_book.specs.Good.{OfCone}
+use Rattle.lemma_book.specs.Good.{OfQuery}
 
 -- the node is that of a gate
 abbrev pub IsGate : Node → Type 0
@@ -46,7 +46,7 @@ pub record AreFalseOutside (net : AigPair) (entries : List Entry) (seeds : List 
 
 abbrev pub IsFalseOutsideOf : AigPair → List Entry → Question → Answer → Type 0
 IsFalseOutsideOf net entries q (Equal steps) = ⊤
-IsFalseOutsideOf net entries q (Differ input) = AreFalseOutside net entries (seeds_of q) input
+IsFalseOutsideOf net entries q (Differ input) = AreFalseOutside net entries (seeds_of net q) input
 IsFalseOutsideOf net entries q (Open seen log) = ⊤
 
 -- so they are in a counterexample
@@ -57,7 +57,7 @@ abbrev pub IsWithinOf : AigPair → Entries → Question → Answer → Type 0
 IsWithinOf net book q (Equal steps) = ⊤
 IsWithinOf net book q (Differ input) = ⊤
 IsWithinOf net book q (Open seen log) =
-    OfCone net book.entries (seeds_of q) (λ cone. budget_of book q ≤ 3 ^ variables cone)
+    OfQuery net book.entries q (λ cone. budget_of book q ≤ 3 ^ variables cone)
 
 -- a budget that was spent is no greater than 3 to the number of its cone's variables
 abbrev pub IsWithin : AigPair → Entries → Entry → Type 0

@@ -1,10 +1,10 @@
 //! Queries: a solver's answer made into an entry of the lemma book.
 //!
 //! `pair` gathers the cone of a node and of the node of a literal, and asks a `Refuter` whether its clauses
-//! imply that they have one value, `output` whether they imply that an output's XOR is false. A proof
-//! becomes a `Merge` or an `Out`, a model an `Apart` or an `OutApart` with the inputs' truth values, and a
-//! budget that is spent a `Spent` or an `OutSpent` with the log. The crate promises that the entry is good
-//! over the book, whatever the solver.
+//! imply that they have one value, `output` whether those of an output's cone, with the units of the
+//! constraints, imply that its XOR is false. A proof becomes a `Merge` or an `Out`, a model an `Apart` or an
+//! `OutApart` with the inputs' truth values, and a budget that is spent a `Spent` or an `OutSpent` with the
+//! log. The crate promises that the entry is good over the book, whatever the solver.
 //!
 //! The definitions are those of `lemma_book`; `specs/Query.antt` has what an entry says besides,
 //! `specs/Input.antt` the input that a model gives. For the crate's own functions `specs/Asked.antt` and

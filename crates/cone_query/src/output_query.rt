@@ -1,7 +1,6 @@
 ghost use Rattle.std.specs.Prelude.{◌≡◌, ◌<◌, None, Some, true, [], ◌∷◌, ◌++◌, length, take, IfOk};
-ghost use Rattle.lits.specs.declared.node.Node.TheVariants.{Xor};
 ghost use Rattle.lemma_book.specs.Book.{IsLegal};
-ghost use Rattle.lemma_book.specs.Cone.{AreThere, IsCone};
+ghost use Rattle.lemma_book.specs.Cone.{AreThere, IsOutputCone};
 ghost use Rattle.lemma_book.specs.Entry.{about, subject_of};
 ghost use Rattle.lemma_book.specs.Good.{IsGood};
 ghost use Rattle.lemma_book.specs.declared.entry.Subject.TheVariants.{Output};
@@ -19,8 +18,9 @@ use std::alloc::{AllocError, Global};
 use unit_prop::laws::budget;
 use unit_prop::{Refuted, Refuter};
 
-/// Asks whether both circuits give output j, which has no entry yet, one value: whether the cone of its XOR
-/// implies that the XOR is false, for at most the book's budget of learned clauses.
+/// Asks whether both circuits give output j, which has no entry yet, one value on each admitted input: whether
+/// the cone of its XOR and of the constraints, with the constraints' units, implies that the XOR is false, for
+/// at most the book's budget of learned clauses. A counterexample is admitted.
 ///
 /// The entry is built of what the query leaves: an `Out` of the log and then the unit, an `OutSpent` of the
 /// log.
@@ -46,7 +46,7 @@ pub fn output<R: Refuter + Send>(
     query(alloc, net, seen, j, refuter)
 }
 
-/// Asks whether the cone of the output's XOR implies that the XOR is false.
+/// Asks whether the output's cone implies that its XOR is false.
 fn query<R: Refuter>(
     alloc: Global,
     net: &Net,
@@ -58,11 +58,7 @@ fn query<R: Refuter>(
     ensures settles { IfOk result (SettlesOutput net.now seen.now j) }
     ensures built { IfOk result (IsBuilt (R.Refuter.log_of refuter.new)) }
 {
-    let differs = Lit {
-        node: Node::Xor(j),
-        neg: false,
-    };
-    let base = seen.cone(alloc, net, seen.len(), &[differs])?;
+    let base = seen.output_cone(alloc, net, seen.len(), j)?;
     refuter.start(alloc, base.as_slice())?;
     ask(alloc, net, seen, j, refuter)
 }
@@ -76,8 +72,8 @@ fn ask<R: Refuter>(
     refuter: &mut R,
 ) -> Result<Entry, AllocError>
     requires output { IsOutput net.now seen.now j }
-    requires cone { IsCone net.now (take (length seen.now.entries) seen.now.entries)
-        (Xor j ∷ []) (R.Refuter.base_of refuter.old) }
+    requires cone { IsOutputCone net.now (take (length seen.now.entries) seen.now.entries)
+        j (R.Refuter.base_of refuter.old) }
     requires empty { R.Refuter.log_of refuter.old ≡ [] }
     requires ready { R.Refuter.is_ready refuter.old ≡ true }
     ensures settles { IfOk result (SettlesOutput net.now seen.now j) }

@@ -1,7 +1,6 @@
 -- An output whose literals have one root: unit propagation over the clauses of the XOR and of the merges on the two paths
 -- shows that the XOR is false, in two steps at most.
-use Rattle.std.proofs.Common.{◌≡◌, ◌≢◌, ℕ, ◌≤◌, Bool, true, false, not, Option, Some, None, List, [], ◌∷◌, ◌++◌, length, take, refl, sym, ap, ◌∙◌, subst, inr, arith}
-use Rattle.std.specs.Prelude.{slice_index}
+use Rattle.std.proofs.Common.{◌≡◌, ◌≢◌, ℕ, ◌≤◌, Bool, true, false, not, Some, None, List, [], ◌∷◌, ◌++◌, length, take, refl, sym, ap, ◌∙◌, subst, inr, arith}
 use Rattle.std.specs.Option.{IsSome}
 use Rattle.std.specs.List.{AllByRecursion}
 use Rattle.std.proofs.lemmas.List.{map-append}
@@ -16,13 +15,13 @@ use Rattle.lits.specs.declared.node.Node.{Node}
 use Rattle.lits.specs.declared.node.Node.TheVariants.{Xor}
 use Rattle.lits.specs.declared.literal.Lit.{Lit}
 use Rattle.lits.specs.declared.step.Ref.{Ref}
-use Rattle.lits.specs.declared.step.Ref.TheVariants.{Axiom, Entry as Shown, Own}
+use Rattle.lits.specs.declared.step.Ref.TheVariants.{Axiom, Entry as Shown, Own, Bound}
 use Rattle.lits.specs.declared.step.Named.{Named}
 use Rattle.lits.specs.declared.step.Step.{Step}
 use Rattle.lits.specs.contracts.literal.LitLiteral.TheImpl.Laws as lit
-use Rattle.lits.proofs.Facts.{exact-lit, exact-node, same-node_self, all-append, all-parts, lit_laws}
+use Rattle.lits.proofs.Facts.{exact-lit, all-append, all-parts, lit_laws}
 use Rattle.netlist.specs.declared.gate.Definition.{Definition}
-use Rattle.netlist.specs.Net.{AigPair, output_of, defined_by}
+use Rattle.netlist.specs.Net.{AigPair, defined_by}
 use Rattle.netlist.specs.Miter.{positive, negative, kept, xor_clauses, variable_of}
 use Rattle.netlist.proofs.Facts.{output_lit, output_of-below, variables-outputs}
 use Rattle.unit_prop.specs.Closure.{IsOpen}
@@ -155,6 +154,7 @@ module _ (net : AigPair) (book : Entries) (j : ℕ) (asks : IsUnsettled net book
         go : (r : Ref) → out_clause net book.entries r ≡ Some m.clause → with_own (out_clause net book.entries) before r ≡ Some m.clause
         go (Axiom node k) e = e
         go (Shown i k) e = e
+        go (Bound side k) e = e
         go (Own k) e = absurd (none-some m.clause e)
 
     base-owned : (before : List Step) → AreNamed (with_own (out_clause net book.entries) before) base

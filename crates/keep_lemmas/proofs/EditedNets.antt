@@ -19,7 +19,7 @@ use Rattle.netlist.specs.declared.gate.And.{And}
 use Rattle.netlist.specs.Place.{before}
 use Rattle.netlist.specs.Circuit.{Aig, var_of}
 use Rattle.netlist.specs.Edit.{since, with_gate, with_new, without_gate, with_output, with_side}
-use Rattle.netlist.specs.Net.{AigPair, IsNet, circuit_of, definition_of, definitions, defined_by, gate_at, output_of, nodes_of, position_of, lit_named}
+use Rattle.netlist.specs.Net.{AigPair, IsNet, bound_of, bounds_on, circuit_of, definition_of, definitions, defined_by, gate_at, output_of, nodes_of, position_of, lit_named}
 use Rattle.netlist.specs.Miter.{axioms_of, axiom_of, kept, gate_clauses, xor_axioms, variables_of, variable_of}
 use Rattle.netlist.proofs.Facts.{equal-number, at-place, gate-definition, position-node, is_some-place, has-xor, has-position}
 use Rattle.lemma_book.proofs.Facts.{is_some-variable, placed-there}
@@ -34,6 +34,7 @@ pub record CircuitStays (t : Node → Bool) (s : Side) (c d : Aig) : Type 0 wher
   pub inputs : d.inputs ≡ c.inputs
   pub count : length d.outputs ≡ length c.outputs
   pub outputs : (j : ℕ) → t (Xor j) ≡ false → slice_get d.outputs j ≡ slice_get c.outputs j
+  pub constraints : d.constraints ≡ c.constraints
   pub gates : Stays (λ g. not (t (Gate s g.var))) c.gates d.gates
 
 pub record NetStays (t : Node → Bool) (m n : AigPair) : Type 0 where
@@ -43,13 +44,14 @@ pub record NetStays (t : Node → Bool) (m n : AigPair) : Type 0 where
 -- ---- no edit, one after the other, and fewer touched nodes
 
 circuit-same : (t : Node → Bool) (s : Side) (c : Aig) → CircuitStays t s c c
-circuit-same t s c = record { inputs = refl; count = refl; outputs = λ j e. refl; gates = all-stay (λ g. not (t (Gate s g.var))) c.gates }
+circuit-same t s c = record { inputs = refl; count = refl; outputs = λ j e. refl; constraints = refl; gates = all-stay (λ g. not (t (Gate s g.var))) c.gates }
 
 circuit-then : (t : Node → Bool) (s : Side) (c d e : Aig) → CircuitStays t s c d → CircuitStays t s d e → CircuitStays t s c e
 circuit-then t s c d e p q = record {
   inputs = q.inputs ∙ p.inputs;
   count = q.count ∙ p.count;
   outputs = λ j f. q.outputs j f ∙ p.outputs j f;
+  constraints = q.constraints ∙ p.constraints;
   gates = stays-then p.gates q.gates;
 }
 
@@ -70,6 +72,7 @@ circuit-more t u s c d more p = record {
   inputs = p.inputs;
   count = p.count;
   outputs = λ j e. p.outputs j (less-touched (t (Xor j)) (u (Xor j)) (more (Xor j)) e);
+  constraints = p.constraints;
   gates = stays-fewer (λ g. not-touched (t (Gate s g.var)) (u (Gate s g.var)) (more (Gate s g.var))) p.gates;
 }
 
@@ -104,6 +107,7 @@ module _ (s : Side) (c : Aig) where
     inputs = refl;
     count = refl;
     outputs = λ j e. refl;
+    constraints = refl;
     gates = stays-swap (λ x. not (same_node (Gate s x.var) (Gate s g.var))) (λ x. x.var == g.var) g
         (λ x e. ap not (same-gate s x.var g.var ∙ e)) c.gates;
   }
@@ -113,12 +117,14 @@ module _ (s : Side) (c : Aig) where
     inputs = refl;
     count = refl;
     outputs = λ j e. refl;
+    constraints = refl;
     gates = subst (λ (gs : List And). Stays (λ x. true) gs (c.gates ++ g ∷ [])) (append-nil c.gates) (stays-one_more (λ x. true) c.gates [] g);
   }
   new-stays g (Some v) = record {
     inputs = refl;
     count = refl;
     outputs = λ j e. refl;
+    constraints = refl;
     gates = subst (λ (gs : List And). Stays (λ x. true) gs (before (λ x. x.var == v) c.gates ++ g ∷ since (λ x. x.var == v) c.gates))
         (before-since (λ x. x.var == v) c.gates)
         (stays-one_more (λ x. true) (before (λ x. x.var == v) c.gates) (since (λ x. x.var == v) c.gates) g);
@@ -129,6 +135,7 @@ module _ (s : Side) (c : Aig) where
     inputs = refl;
     count = refl;
     outputs = λ j e. refl;
+    constraints = refl;
     gates = stays-filter (λ x. not (same_node (Gate s x.var) (Gate s v))) (λ x. not (x.var == v))
         (λ x e. ap not (same-gate s x.var v) ∙ e) c.gates;
   }
@@ -138,6 +145,7 @@ module _ (s : Side) (c : Aig) where
     inputs = refl;
     count = length-set c.outputs j lit;
     outputs = λ k e. get-set c.outputs j k lit e;
+    constraints = refl;
     gates = all-stay (λ g. not (same_node (Gate s g.var) (Xor j))) c.gates;
   }
 
@@ -199,6 +207,19 @@ module _ (t : Node → Bool) (old new : AigPair) (stays : NetStays t old new) wh
       go : (o : Option ℕ) → option_map (lit_named s (circuit_of new s)) o ≡ option_map (lit_named s (circuit_of old s)) o
       go None = refl
       go (Some lit) = ap Some (same-lit_named s lit)
+
+  -- the same constraints, of which each has the literal that it had
+  bounds-same : (s : Side) → bounds_on new s ≡ bounds_on old s
+  bounds-same s = ap (map (lit_named s (circuit_of new s))) (at-side s).constraints ∙ go (circuit_of old s).constraints
+    where
+      go : (lits : List ℕ) → map (lit_named s (circuit_of new s)) lits ≡ map (lit_named s (circuit_of old s)) lits
+      go [] = refl
+      go (lit ∷ lits) =
+          ap (λ (l : Lit). l ∷ map (lit_named s (circuit_of new s)) lits) (same-lit_named s lit)
+          ∙ ap (λ (ls : List Lit). lit_named s (circuit_of old s) lit ∷ ls) (go lits)
+
+  pub bound-same : (s : Side) (k : ℕ) → bound_of new s k ≡ bound_of old s k
+  bound-same s k = ap (λ (ls : List Lit). slice_get ls k) (bounds-same s)
 
   nodes-stay : Stays (λ n. not (t n)) (nodes_of old) (nodes_of new)
   nodes-stay =

@@ -1,5 +1,5 @@
 -- What the entries that are kept say, and what the inputs that are handed out are.
-use Rattle.std.proofs.Common.{◌≡◌, ℕ, suc, Bool, true, false, ◌&&◌, Some, List, [], ◌∷◌, ◌++◌, length, map, refl, sym, ap, ◌∙◌}
+use Rattle.std.proofs.Common.{◌≡◌, ℕ, suc, Bool, true, false, ◌&&◌, Some, List, [], ◌∷◌, ◌++◌, length, map, refl, sym, ◌∙◌}
 use Rattle.std.specs.Prelude.{slice_get}
 use Rattle.std.specs.List.{list_all, AllByRecursion}
 use Rattle.lits.specs.declared.node.Node.{Node}
@@ -12,7 +12,7 @@ use Rattle.lemma_book.specs.Good.{IsGood, NotApart}
 use Rattle.lemma_book.specs.Book.{IsLegal}
 use Rattle.netlist_edits.specs.declared.edit.Edit.{Edit}
 use Rattle.netlist_edits.specs.Edited.{touched_by}
-use Rattle.keep_lemmas.specs.Kept.{entry_stays, stays, stays_among, count_before, at_places, renewed, chosen, kept, handed_out}
+use Rattle.keep_lemmas.specs.Kept.{entry_stays, stays, stays_among, count_before, at_places, renewed, kept, handed_out}
 use Rattle.keep_lemmas.proofs.KeptPlaces.{stays-at_place}
 
 -- ---- what is kept says that values are equal
@@ -76,7 +76,7 @@ handed-turn net sweep out before (Apart node lit input ∷ es) turn =
 handed-turn net sweep out before (Spent node lit seen log ∷ es) turn = handed-turn net sweep out (before ++ Spent node lit seen log ∷ []) es turn.1
 handed-turn net sweep out before (Out j steps ∷ es) turn = handed-turn net sweep out (before ++ Out j steps ∷ []) es turn.1
 handed-turn net sweep out before (OutApart j input ∷ es) turn =
-    ((turn.0 NotApart).whole, handed-turn net sweep out (before ++ OutApart j input ∷ []) es turn.1)
+    ((turn.0 NotApart).admitted.whole, handed-turn net sweep out (before ++ OutApart j input ∷ []) es turn.1)
 handed-turn net sweep out before (OutSpent j seen log ∷ es) turn = handed-turn net sweep out (before ++ OutSpent j seen log ∷ []) es turn.1
 
 -- each input that a legal book hands out has a truth value for each input of the circuits

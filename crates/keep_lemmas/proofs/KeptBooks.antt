@@ -12,7 +12,7 @@ use Rattle.std.proofs.lemmas.Bool.{and_parts, cases_lt}
 use Rattle.std.proofs.lemmas.Option.{none-some, same_Some, slice_get-map, slice_get_within, slice_get_past}
 use Rattle.lits.specs.declared.node.Node.{Node}
 use Rattle.lits.specs.declared.step.Ref.{Ref}
-use Rattle.lits.specs.declared.step.Ref.TheVariants.{Axiom, Entry as Shown, Own}
+use Rattle.lits.specs.declared.step.Ref.TheVariants.{Axiom, Entry as Shown, Own, Bound}
 use Rattle.lits.specs.declared.step.Step.{Step}
 use Rattle.netlist.specs.Net.{AigPair, IsNet}
 use Rattle.netlist.proofs.Facts.{slice_get-left, slice_get-right}
@@ -94,6 +94,7 @@ module _ (net : AigPair) (t : Node → Bool) (set : ℕ → Bool) (f g : ℕ →
   hint-alike (Axiom node k) stay = refl
   hint-alike (Shown i k) stay = ap (λ (n : ℕ). Shown n k) (same i stay)
   hint-alike (Own k) stay = refl
+  hint-alike (Bound side k) stay = refl
 
   hints-alike : (hs : List Ref) → list_all (hint_stays net t set) hs ≡ true → map (renewed_hint f) hs ≡ map (renewed_hint g) hs
   hints-alike [] stay = refl

@@ -14,12 +14,12 @@ use Rattle.lits.specs.declared.node.Node.{Node}
 use Rattle.lits.specs.declared.node.Node.TheVariants.{Const, Input, Gate, Xor}
 use Rattle.lits.specs.declared.literal.Lit.{Lit}
 use Rattle.lits.specs.declared.step.Ref.{Ref}
-use Rattle.lits.specs.declared.step.Ref.TheVariants.{Axiom, Entry as Shown, Own}
+use Rattle.lits.specs.declared.step.Ref.TheVariants.{Axiom, Entry as Shown, Own, Bound}
 use Rattle.lits.specs.declared.step.Step.{Step}
 use Rattle.lits.proofs.Facts.{all-slice_get}
 use Rattle.netlist.specs.declared.gate.And.{And}
 use Rattle.netlist.specs.Net.{AigPair, IsNet, circuit_of, definition_of, gate_at, output_of}
-use Rattle.netlist.specs.Miter.{kept, axioms_of, axiom_of, gate_clauses, xor_clauses, xor_axioms}
+use Rattle.netlist.specs.Miter.{kept, unit, axioms_of, axiom_of, gate_clauses, xor_clauses, xor_axioms}
 use Rattle.netlist.proofs.Facts.{found-one, no-facts, equal-number}
 use Rattle.lemma_book.specs.declared.entry.Entry.{Entry}
 use Rattle.lemma_book.specs.declared.entry.Entry.TheVariants.{Merge, Apart, Spent, Out, OutApart, OutSpent}
@@ -31,7 +31,7 @@ use Rattle.lemma_book.proofs.Facts.{IsGoodAfter, good-merge, good-out, in_turn-e
 use Rattle.netlist.proofs.Facts.{is_some-place, none_from_is_some}
 use Rattle.unit_prop.specs.Log.{with_own, IsStepAfter, IsChain}
 use Rattle.keep_lemmas.proofs.Renaming.{IsNamed, step-renamed}
-use Rattle.keep_lemmas.proofs.EditedNets.{NetStays, axiom-stays, position-stays, earlier-stays, variable-stays, count-stays}
+use Rattle.keep_lemmas.proofs.EditedNets.{NetStays, axiom-stays, bound-same, position-stays, earlier-stays, variable-stays, count-stays}
 use Rattle.keep_lemmas.specs.Kept.{is_clear, hint_stays, step_stays, entry_stays, renewed_hint, renewed_step, renewed}
 
 -- ---- a clause that defines a node has a literal of it
@@ -181,6 +181,7 @@ module _ (t : Node → Bool) (old new : AigPair) (is : IsNet new) (nets : NetSta
       (clear-node t old n k c at (sym (ap (λ (o : Option (List Lit)). option_map_or (is_clear t) o true) at) ∙ stay)) at
   out-named (Shown i k) c stay at = merge-named i k c stay at
   out-named (Own k) c stay at = absurd (none-some c at)
+  out-named (Bound side k) c stay at = ap (option_map unit) (bound-same t old new nets side k) ∙ at
 
   node-named : (h : Ref) (c : List Lit) → hint_stays old t set h ≡ true → node_clause old before h ≡ Some c
       → node_clause new after (renewed_hint number h) ≡ Some c
@@ -190,6 +191,7 @@ module _ (t : Node → Bool) (old new : AigPair) (is : IsNet new) (nets : NetSta
   node-named (Axiom (Xor j) k) c stay at = absurd (none-some c at)
   node-named (Shown i k) c stay at = merge-named i k c stay at
   node-named (Own k) c stay at = absurd (none-some c at)
+  node-named (Bound side k) c stay at = absurd (none-some c at)
 
   module _ (find more : Ref → Option (List Lit))
       (named : (h : Ref) (c : List Lit) → hint_stays old t set h ≡ true → find h ≡ Some c → more (renewed_hint number h) ≡ Some c) where
@@ -197,6 +199,7 @@ module _ (t : Node → Bool) (old new : AigPair) (is : IsNet new) (nets : NetSta
         → with_own more (map (renewed_step number) steps) (renewed_hint number h) ≡ Some c
     own-named steps (Axiom n k) c stay at = named (Axiom n k) c stay at
     own-named steps (Shown i k) c stay at = named (Shown i k) c stay at
+    own-named steps (Bound side k) c stay at = named (Bound side k) c stay at
     own-named steps (Own k) c stay at =
         ap (option_map (λ s. s.clause)) (slice_get-map (renewed_step number) steps k) ∙ go (slice_get steps k) ∙ at
       where

@@ -1,14 +1,14 @@
 -- What stays of a book when its net is edited, and what is handed on of the rest.
 use Rattle.std.specs.Prelude.{ℕ, zero, suc, ◌+◌, ◌==◌, Bool, true, false, not, ◌&&◌, List, [], ◌∷◌, length, map, slice_get, if◌then◌else◌}
-use Rattle.std.specs.Option.{option_map_or}
+use Rattle.std.specs.Option.{option_map, option_map_or}
 use Rattle.std.specs.List.{list_any, list_all, flat_map}
 use Rattle.lits.specs.declared.node.Node.{Node}
 use Rattle.lits.specs.declared.literal.Lit.{Lit}
 use Rattle.lits.specs.declared.step.Ref.{Ref}
-use Rattle.lits.specs.declared.step.Ref.TheVariants.{Axiom, Entry as Shown, Own}
+use Rattle.lits.specs.declared.step.Ref.TheVariants.{Axiom, Entry as Shown, Own, Bound}
 use Rattle.lits.specs.declared.step.Step.{Step}
-use Rattle.netlist.specs.Net.{AigPair}
-use Rattle.netlist.specs.Miter.{axiom_of}
+use Rattle.netlist.specs.Net.{AigPair, bound_of}
+use Rattle.netlist.specs.Miter.{axiom_of, unit}
 use Rattle.lemma_book.specs.declared.entry.Entry.{Entry}
 use Rattle.lemma_book.specs.declared.entry.Entry.TheVariants.{Merge, Apart, Spent, Out, OutApart, OutSpent}
 use Rattle.lemma_book.specs.Entry.{Entries, Answer, Equal, Differ, Open, answer_of}
@@ -21,12 +21,13 @@ use Rattle.netlist_edits.specs.Edited.{touched_by}
 abbrev pub is_clear : (Node → Bool) → List Lit → Bool
 is_clear touched clause = not (list_any (λ l. touched l.node) clause)
 
--- The hint names an axiom that is clear of touched nodes, or a clause of an entry of the set, or an own step's clause. An axiom
--- that the net hasn't counts as clear; no step of a legal book cites one.
+-- The hint names an axiom or a constraint's unit that is clear of touched nodes, or a clause of an entry of the set, or an own
+-- step's clause. One that the net hasn't counts as clear; no step of a legal book cites one.
 abbrev pub hint_stays : AigPair → (Node → Bool) → (ℕ → Bool) → Ref → Bool
 hint_stays net touched set (Axiom node k) = option_map_or (is_clear touched) (axiom_of net node k) true
 hint_stays net touched set (Shown i k) = set i
 hint_stays net touched set (Own k) = true
+hint_stays net touched set (Bound side k) = option_map_or (is_clear touched) (option_map unit (bound_of net side k)) true
 
 -- its clause is clear of touched nodes, and so is what it cites
 abbrev pub step_stays : AigPair → (Node → Bool) → (ℕ → Bool) → Step → Bool
@@ -38,8 +39,8 @@ answer_stays net touched set (Equal steps) = list_all (step_stays net touched se
 answer_stays net touched set (Differ input) = false
 answer_stays net touched set (Open seen log) = false
 
--- a Merge or an Out, where none of its steps' clauses and none of the axioms that they cite has a literal of a touched
--- node, and each entry that they cite is in the set
+-- a Merge or an Out, where none of its steps' clauses and none of the axioms and constraints' units that they cite has a
+-- literal of a touched node, and each entry that they cite is in the set
 abbrev pub entry_stays : AigPair → (Node → Bool) → (ℕ → Bool) → Entry → Bool
 entry_stays net touched set e = answer_stays net touched set (answer_of e)
 
@@ -72,6 +73,7 @@ abbrev pub renewed_hint : (ℕ → ℕ) → Ref → Ref
 renewed_hint number (Axiom node k) = Axiom node k
 renewed_hint number (Shown i k) = Shown (number i) k
 renewed_hint number (Own k) = Own k
+renewed_hint number (Bound side k) = Bound side k
 
 abbrev pub renewed_step : (ℕ → ℕ) → Step → Step
 renewed_step number s = record { clause = s.clause; hints = map (renewed_hint number) s.hints }

@@ -52,6 +52,7 @@ fn renewed_hint(numbers: &[Option<u64>], hint: Ref) -> Ref
         Ref::Axiom(node, k) => Ref::Axiom(node, k),
         Ref::Entry(place, k) => Ref::Entry(number_in(numbers, place), k),
         Ref::Own(step) => Ref::Own(step),
+        Ref::Bound(side, k) => Ref::Bound(side, k),
     }
 }
 

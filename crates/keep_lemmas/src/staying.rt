@@ -8,8 +8,8 @@ use crate::touched::Touched;
 use lits::{Lit, Ref, Step};
 use netlist::Net;
 
-/// Whether the steps stay: their clauses and the axioms that they cite have no literal of a touched node,
-/// and the entries that they cite have new numbers.
+/// Whether the steps stay: their clauses and the axioms and constraints' units that they cite have no literal
+/// of a touched node, and the entries that they cite have new numbers.
 pub(crate) fn steps_stay(
     net: &Net,
     touched: &Touched,
@@ -40,7 +40,8 @@ fn hints_stay(net: &Net, touched: &Touched, numbers: &[Option<u64>], hints: &[Re
         .all(|hint| hint_stays(net, touched, numbers, *hint))
 }
 
-/// Whether what the hint names stays: an axiom as the old net has it, an entry by its new number.
+/// Whether what the hint names stays: an axiom or a constraint's unit as the old net has it, an entry by its
+/// new number.
 fn hint_stays(net: &Net, touched: &Touched, numbers: &[Option<u64>], hint: Ref) -> bool
     ensures { result ≡ hint_stays net.now (touched_by touched.now) (is_numbered numbers.now) hint }
 {
@@ -51,6 +52,10 @@ fn hint_stays(net: &Net, touched: &Touched, numbers: &[Option<u64>], hint: Ref) 
         },
         Ref::Entry(place, _) => is_numbered(numbers, place),
         Ref::Own(_) => true,
+        Ref::Bound(side, k) => match net.constraint(side, k) {
+            Some(lit) => is_clear(touched, &[lit]),
+            None => true,
+        },
     }
 }
 

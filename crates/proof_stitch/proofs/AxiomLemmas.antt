@@ -1,20 +1,23 @@
--- An axiom is the clause of the miter that has its number.
+-- An axiom is the clause of the miter that has its number, and so is the unit of a constraint.
 use Rattle.std.proofs.Common.{◌≡◌, ℕ, ◌+◌, ◌-◌, ◌<◌, ◌≤◌, Bool, true, false, eqb, Option, None, Some, List, [], ◌∷◌, ◌++◌, length, map, refl, sym, ap, ◌∙◌, subst, arith, zero-add, length-append}
 use Rattle.std.specs.Prelude.{slice_get, nat_lt}
 use Rattle.std.specs.List.{flat_map, AllByRecursion}
-use Rattle.std.specs.Option.{option_map_or}
-use Rattle.std.proofs.lemmas.Option.{none-some, slice_get_within}
+use Rattle.std.specs.Option.{option_map, option_map_or}
+use Rattle.std.proofs.lemmas.List.{length-map}
+use Rattle.std.proofs.lemmas.Option.{none-some, slice_get_within, slice_get-map}
 use Rattle.lits.specs.Clause.{has}
+use Rattle.lits.specs.declared.node.Side.{Side}
 use Rattle.lits.specs.declared.node.Side.TheVariants.{A, B}
 use Rattle.lits.specs.declared.node.Node.{Node}
 use Rattle.lits.specs.declared.node.Node.TheVariants.{Const, Input, Gate, Xor}
 use Rattle.lits.specs.declared.literal.Lit.{Lit}
 use Rattle.netlist.specs.declared.gate.And.{And}
 use Rattle.netlist.specs.Place.{before}
-use Rattle.netlist.specs.Net.{AigPair, IsNet, circuit_of, definition_of, gate_at, output_of}
+use Rattle.netlist.specs.Net.{AigPair, IsNet, bound_of, bounds_of, bounds_on, circuit_of, definition_of, gate_at, lit_named, output_of}
 use Rattle.lits.specs.Same.{same_node}
 use Rattle.lits.proofs.Facts.{exact-node, lt-true, all-slice_get}
 use Rattle.netlist.specs.Miter.{gate_clauses, kept, xor_axioms, axioms_of, axiom_of, variables_of, clauses_of, clause_number_of, positive, xors_of}
+use Rattle.netlist.specs.Miter.{bound_number_of, defining_clauses, first_unit, unit, units_of}
 use Rattle.netlist.proofs.Facts.{slice_get-left, slice_get-right, any_from_find, range-has, has-gate, has-xor, has-variable, over-variables}
 
 -- the node has a CNF variable
@@ -96,8 +99,8 @@ axiom-numbered net node k c e = record {
   least = omega arith;
   at =
       ap (slice_get (clauses_of net)) back
-      ∙ slice_get-left (flat_map (axioms_of net) (variables_of net)) (map positive (xors_of net) ∷ []) place inside
-      ∙ here;
+      ∙ slice_get-left (defining_clauses net ++ units_of net) (map positive (xors_of net) ∷ []) place inside
+      ∙ front;
 }
   where
     below : k < length (axioms_of net node)
@@ -112,8 +115,69 @@ axiom-numbered net node k c e = record {
     back : place + 1 - 1 ≡ place
     back = omega arith
 
-    here : slice_get (flat_map (axioms_of net) (variables_of net)) place ≡ Some c
+    here : slice_get (defining_clauses net) place ≡ Some c
     here = flat_map-at (axioms_of net) (variables_of net) node k (axiom-there net node k c e) below ∙ e
 
-    inside : place < length (flat_map (axioms_of net) (variables_of net))
-    inside = slice_get_within (flat_map (axioms_of net) (variables_of net)) place c here
+    front : slice_get (defining_clauses net ++ units_of net) place ≡ Some c
+    front =
+        slice_get-left (defining_clauses net) (units_of net) place (slice_get_within (defining_clauses net) place c here) ∙ here
+
+    inside : place < length (defining_clauses net ++ units_of net)
+    inside = slice_get_within (defining_clauses net ++ units_of net) place c front
+
+-- ---- constraints
+
+-- the place of a constraint's literal among those of all constraints
+bound-place : (net : AigPair) (side : Side) (k : ℕ) (l : Lit) → bound_of net side k ≡ Some l
+    → slice_get (bounds_of net) (first_unit net side + k) ≡ Some l
+bound-place net A k l e =
+    ap (slice_get (bounds_of net)) (zero-add k)
+    ∙ slice_get-left (bounds_on net A) (bounds_on net B) k (slice_get_within (bounds_on net A) k l e)
+    ∙ e
+bound-place net B k l e =
+    ap (λ (n : ℕ). slice_get (bounds_of net) (n + k)) (sym (length-map net.a.constraints (lit_named A net.a)))
+    ∙ slice_get-right (bounds_on net A) (bounds_on net B) k
+    ∙ e
+
+-- a constraint's literal stands for a constraint that the side has
+bound-within : (net : AigPair) (side : Side) (k : ℕ) (l : Lit) → bound_of net side k ≡ Some l
+    → k < length (circuit_of net side).constraints
+bound-within net side k l e =
+    let within = slice_get_within (bounds_on net side) k l e in
+    omega (arith, within, length-map (circuit_of net side).constraints (lit_named side (circuit_of net side)))
+
+-- what a constraint's unit has by its number
+pub record IsUnitNumbered (net : AigPair) (side : Side) (k : ℕ) (l : Lit) : Type 0 where
+  pub number : ℕ
+  pub is : bound_number_of net side k ≡ Some number
+  pub least : 1 ≤ number
+  pub at : slice_get (clauses_of net) (number - 1) ≡ Some (unit l)
+
+pub unit-numbered : (net : AigPair) (side : Side) (k : ℕ) (l : Lit) → bound_of net side k ≡ Some l → IsUnitNumbered net side k l
+unit-numbered net side k l e = record {
+  number = length (defining_clauses net) + place + 1;
+  is = rw within refl;
+  least = omega arith;
+  at =
+      ap (slice_get (clauses_of net)) back
+      ∙ slice_get-left (defining_clauses net ++ units_of net) (map positive (xors_of net) ∷ []) (length (defining_clauses net) + place) inside
+      ∙ front;
+}
+  where
+    place : ℕ
+    place = first_unit net side + k
+
+    within : nat_lt k (length (circuit_of net side).constraints) ≡ true
+    within = lt-true k (length (circuit_of net side).constraints) (bound-within net side k l e)
+
+    back : length (defining_clauses net) + place + 1 - 1 ≡ length (defining_clauses net) + place
+    back = omega arith
+
+    front : slice_get (defining_clauses net ++ units_of net) (length (defining_clauses net) + place) ≡ Some (unit l)
+    front =
+        slice_get-right (defining_clauses net) (units_of net) place
+        ∙ slice_get-map unit (bounds_of net) place
+        ∙ ap (option_map unit) (bound-place net side k l e)
+
+    inside : length (defining_clauses net) + place < length (defining_clauses net ++ units_of net)
+    inside = slice_get_within (defining_clauses net ++ units_of net) (length (defining_clauses net) + place) (unit l) front

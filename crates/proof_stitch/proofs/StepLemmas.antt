@@ -1,20 +1,21 @@
 -- Lists of steps over the axioms of a net and the merges of some entries, written as additions, grow the miter.
-use Rattle.std.proofs.Common.{◌≡◌, ℕ, ◌+◌, ◌-◌, true, Option, None, Some, List, [], ◌∷◌, ◌++◌, length, map, refl, sym, ap, ◌∙◌, subst, arith, length-append, append_assoc}
+use Rattle.std.proofs.Common.{◌≡◌, ℕ, ◌+◌, ◌-◌, ◌≤◌, true, Option, None, Some, List, [], ◌∷◌, ◌++◌, length, map, refl, sym, ap, ◌∙◌, subst, arith, length-append, append_assoc}
 use Rattle.std.specs.Prelude.{slice_get, IsSome, option_map}
 use Rattle.std.specs.List.{slice_index_or, AllByRecursion}
 use Rattle.std.proofs.lemmas.List.{append-nil, map-append, length-map}
 use Rattle.std.proofs.lemmas.Option.{none-some, same_Some, slice_get_within, slice_get-map}
+use Rattle.lits.specs.declared.node.Side.{Side}
 use Rattle.lits.specs.declared.node.Node.{Node}
 use Rattle.lits.specs.declared.literal.Lit.{Lit}
 use Rattle.lits.specs.declared.step.Ref.{Ref}
-use Rattle.lits.specs.declared.step.Ref.TheVariants.{Axiom, Entry as Shown, Own}
+use Rattle.lits.specs.declared.step.Ref.TheVariants.{Axiom, Entry as Shown, Own, Bound}
 use Rattle.lits.specs.declared.step.Step.{Step}
 use Rattle.lits.specs.Dimacs.{DimacsLiteral}
-use Rattle.netlist.specs.Net.{AigPair, IsNet}
-use Rattle.netlist.specs.Miter.{axiom_of, variable_of, clauses_of, numbered, miter_of}
+use Rattle.netlist.specs.Net.{AigPair, IsNet, bound_of}
+use Rattle.netlist.specs.Miter.{axiom_of, unit, variable_of, clauses_of, numbered, miter_of}
 use Rattle.lits.specs.Same.{same_lit, opposite, same_dim, opposite_dim}
 use Rattle.lits.proofs.Facts.{all-slice_get, all-append}
-use Rattle.netlist.proofs.Facts.{slice_get-left, slice_get-right, variable-has, numbered-same}
+use Rattle.netlist.proofs.Facts.{slice_get-left, slice_get-right, bound-there, has-variable, variable-has, numbered-same}
 use Rattle.unit_prop.specs.Step.{IsStep}
 use Rattle.unit_prop.specs.Log.{with_own, InTurn, IsStepAfter, IsChain}
 use Rattle.proof_stitch.proofs.RenameLemmas.{IsRenaming, step-renamed}
@@ -24,7 +25,7 @@ use Rattle.lrat_text.specs.declared.step.LratStep.{LratStep}
 use Rattle.lrat_text.specs.Writing.{IsInRange}
 use Rattle.lrat_text.specs.Derivation.{formula_live}
 use Rattle.proof_stitch.specs.Steps.{id_of, additions_from, additions}
-use Rattle.proof_stitch.proofs.AxiomLemmas.{there, axiom-over, axiom-numbered}
+use Rattle.proof_stitch.proofs.AxiomLemmas.{there, axiom-over, axiom-numbered, unit-numbered}
 use Rattle.proof_stitch.proofs.GrowLemmas.{Formula, live-is, Grows}
 
 -- the literal is over a node that has a CNF variable
@@ -96,32 +97,55 @@ module _ (net : AigPair) (is : IsNet net) (fits : FitsDimacs net) (shown : List 
   range [] all = tt
   range (l ∷ ls) all = (fits l all.0, range ls all.1)
 
+  -- a clause of the miter is live under its number
+  number-live : (formula : Formula) → HasMiter net formula → (number : ℕ) → 1 ≤ number → (c : List Lit)
+      → slice_get (clauses_of net) (number - 1) ≡ Some c → formula_live formula number ≡ Some (map (numbered net) c)
+  number-live formula begins number least c at_clauses =
+      let at : slice_get (miter_of net) (number - 1) ≡ Some (map (numbered net) c) =
+      slice_get-map (λ (d : List Lit). map (numbered net) d) (clauses_of net) (number - 1) ∙ ap (option_map (λ (d : List Lit). map (numbered net) d)) at_clauses in
+      live-is formula number least
+      ∙ ap (λ (f : Formula). slice_get f (number - 1)) begins.is
+      ∙ slice_get-left (miter_of net) begins.more (number - 1) (slice_get_within (miter_of net) (number - 1) (map (numbered net) c) at)
+      ∙ at
+
   -- an axiom is live under its number
   axiom-live : (formula : Formula) → HasMiter net formula → (node : Node) (k : ℕ) (c : List Lit) → axiom_of net node k ≡ Some c
       → formula_live formula (id_of net shown 0 (Axiom node k)) ≡ Some (map (numbered net) c)
   axiom-live formula begins node k c e =
       let n = axiom-numbered net node k c e in
-      let at : slice_get (miter_of net) (n.number - 1) ≡ Some (map (numbered net) c) =
-      slice_get-map (λ (d : List Lit). map (numbered net) d) (clauses_of net) (n.number - 1) ∙ ap (option_map (λ (d : List Lit). map (numbered net) d)) n.at in
-      rw n.is
-      (live-is formula n.number n.least
-      ∙ ap (λ (f : Formula). slice_get f (n.number - 1)) begins.is
-      ∙ slice_get-left (miter_of net) begins.more (n.number - 1) (slice_get_within (miter_of net) (n.number - 1) (map (numbered net) c) at)
-      ∙ at)
+      rw n.is (number-live formula begins n.number n.least c n.at)
+
+  -- a constraint's unit is live under its number
+  bound-live : (formula : Formula) → HasMiter net formula → (side : Side) (k : ℕ) (l : Lit) → bound_of net side k ≡ Some l
+      → formula_live formula (id_of net shown 0 (Bound side k)) ≡ Some (map (numbered net) (unit l))
+  bound-live formula begins side k l e =
+      let n = unit-numbered net side k l e in
+      rw n.is (number-live formula begins n.number n.least (unit l) n.at)
 
   module _ (base : Formula) (begins : HasMiter net base) (lives : AreLive net shown known base) (steps : List Step)
       (derived : IsDerived net known steps) where
+    -- with some steps behind it the formula begins with the miter still
+    begun : (before : List Step) → HasMiter net (base ++ map (clause_of net) before)
+    begun before = record {
+      more = begins.more ++ map (clause_of net) before;
+      is = ap (λ (f : Formula). f ++ map (clause_of net) before) begins.is ∙ append_assoc (miter_of net) begins.more (map (clause_of net) before);
+    }
+
     -- what the names of a step find is live, by number
     finds : (before : List Step) → AreOver net before → (name : Ref) (c : List Lit) → with_own (out_clause net known) before name ≡ Some c
         → AllByRecursion (IsThere net) c
         × (formula_live (base ++ map (clause_of net) before) (id_of net shown (length base + 1) name) ≡ Some (map (numbered net) c))
-    finds before over (Axiom node k) c e = (
-      axiom-over net is node k c e,
-      axiom-live (base ++ map (clause_of net) before) (record {
-        more = begins.more ++ map (clause_of net) before;
-        is = ap (λ (f : Formula). f ++ map (clause_of net) before) begins.is ∙ append_assoc (miter_of net) begins.more (map (clause_of net) before);
-      }) node k c e,
-    )
+    finds before over (Axiom node k) c e = (axiom-over net is node k c e, axiom-live (base ++ map (clause_of net) before) (begun before) node k c e)
+    finds before over (Bound side k) c e = go (bound_of net side k) refl
+      where
+        go : (o : Option Lit) → bound_of net side k ≡ o → AllByRecursion (IsThere net) c
+            × (formula_live (base ++ map (clause_of net) before) (id_of net shown 0 (Bound side k)) ≡ Some (map (numbered net) c))
+        go None f = let g : None ≡ Some c = rw f at e in absurd (none-some c g)
+        go (Some l) f =
+            let g : unit l ≡ c = same_Some (unit l) c (rw f at e) in (
+              subst (λ (d : List Lit). AllByRecursion (IsThere net) d) g (has-variable net l.node (bound-there net is side k l f), tt),
+              bound-live (base ++ map (clause_of net) before) (begun before) side k l f ∙ ap (λ (d : List Lit). Some (map (numbered net) d)) g,
+            )
     finds before over (Shown entry k) c e = lives.live entry k c e (map (clause_of net) before)
     finds before over (Own k) c e = go (slice_get before k) refl
       where

@@ -1,10 +1,10 @@
--- The definitions computed on two small nets, by hand from the text of the definitions.
-use Rattle.std.proofs.Common.{◌≡◌, ℕ, true, false, List, [], ◌∷◌, refl, lit<, lit≤}
+-- The definitions computed on small nets, by hand from the text of the definitions.
+use Rattle.std.proofs.Common.{◌≡◌, ℕ, true, false, List, [], ◌∷◌, map, refl, lit<, lit≤}
 use Rattle.lits.specs.Dimacs.{DimacsLiteral}
 use Rattle.lits.specs.declared.node.Side.TheVariants.{A, B}
 use Rattle.lits.specs.declared.node.Node.{Node}
 use Rattle.lits.specs.declared.node.Node.TheVariants.{Input, Gate, Xor}
-use Rattle.lits.specs.declared.step.Ref.TheVariants.{Axiom, Entry as Shown, Own}
+use Rattle.lits.specs.declared.step.Ref.TheVariants.{Axiom, Entry as Shown, Own, Bound}
 use Rattle.lits.specs.declared.step.Step.{Step}
 use Rattle.netlist.specs.Circuit.{Aig, plain}
 use Rattle.netlist.specs.Net.{AigPair}
@@ -15,6 +15,7 @@ use Rattle.lemma_book.specs.declared.entry.Entry.TheVariants.{Merge, Spent, Out,
 use Rattle.lemma_book.specs.Entry.{Entries, has_out}
 use Rattle.lemma_book.specs.Book.{IsLegal}
 use Rattle.lemma_book.proofs.Facts.{good-merge, good-out}
+use Rattle.proof_stitch.specs.Steps.{id_of}
 use Rattle.proof_stitch.specs.Stitch.{refutation_of}
 use Rattle.proof_stitch.specs.Derivation.{derivation_of, spans_of}
 
@@ -129,3 +130,50 @@ spans_of-wires : spans_of wires open_entries
     ≡ record { output = 0; first = 8; last = 9 } ∷ record { output = 1; first = 10; last = 10 } ∷ []
 unfolding open_entries
 spans_of-wires = refl
+
+-- A's output is the AND of its inputs, B's is the second input, and A has the constraint that the first input is true. The
+-- AND has the CNF variable 4, the XOR 5. The miter is 1: (1), 2: (-4 2), 3: (-4 3), 4: (4 -2 -3), 5: (-5 4 3),
+-- 6: (-5 -4 -3), 7: (5 -4 3), 8: (5 4 -3), 9: (2), 10: (5).
+abbrev bounded : AigPair
+bounded = record {
+  a = record (plain (1 ∷ 2 ∷ []) (record { var = 3; left = 2; right = 4 } ∷ []) (6 ∷ [])) { constraints = 2 ∷ [] };
+  b = plain (1 ∷ 2 ∷ []) [] (4 ∷ []);
+}
+
+-- where the first input is true the AND is the second one
+abbrev bounded_steps : List Step
+bounded_steps =
+    record { clause = negative (Xor 0) ∷ positive (Input 1) ∷ []; hints = Axiom a 1 ∷ Axiom (Xor 0) 0 ∷ [] }
+    ∷ record { clause = negative (Xor 0) ∷ []; hints = Own 0 ∷ Axiom (Xor 0) 1 ∷ Bound A 0 ∷ Axiom a 2 ∷ [] } ∷ []
+
+bounded_legal : IsLegal bounded (record { sweep_budget = 1; out_budget = 1; entries = Out 0 bounded_steps ∷ [] })
+bounded_legal = (
+  good-out bounded (record { sweep_budget = 1; out_budget = 1; entries = [] }) 0 bounded_steps (lit< tt)
+      ((refl, (refl, tt)), ((refl, tt), tt)) refl
+      (record {
+        before = record { clause = negative (Xor 0) ∷ positive (Input 1) ∷ []; hints = Axiom a 1 ∷ Axiom (Xor 0) 0 ∷ [] } ∷ [];
+        last = record { clause = negative (Xor 0) ∷ []; hints = Own 0 ∷ Axiom (Xor 0) 1 ∷ Bound A 0 ∷ Axiom a 2 ∷ [] } ∷ [];
+        parts = refl;
+        clauses_are = refl;
+      })
+      (lit≤ tt) (refl, (refl, tt)),
+  tt,
+)
+
+refutation_of-bounded : refutation_of bounded (Out 0 bounded_steps ∷ [])
+    ≡ Add 11 (n 5 ∷ p 3 ∷ []) (3 ∷ 5 ∷ []) ∷ Add 12 (n 5 ∷ []) (11 ∷ 6 ∷ 9 ∷ 4 ∷ []) ∷ Add 13 [] (12 ∷ 10 ∷ []) ∷ []
+refutation_of-bounded = refl
+
+-- An input and no output on each side, and the constraint that the input is true. The miter is 1: (1), 2: (2), 3: (2), 4: ().
+abbrev no_outputs : AigPair
+no_outputs = record {
+  a = record (plain (1 ∷ []) [] []) { constraints = 2 ∷ [] };
+  b = record (plain (1 ∷ []) [] []) { constraints = 2 ∷ [] };
+}
+
+refutation_of-no_outputs : refutation_of no_outputs [] ≡ Add 5 [] (4 ∷ []) ∷ []
+refutation_of-no_outputs = refl
+
+-- the units of A in order, and then those of B
+ids-no_outputs : map (id_of no_outputs [] 5) (Bound A 0 ∷ Bound B 0 ∷ []) ≡ 2 ∷ 3 ∷ []
+ids-no_outputs = refl

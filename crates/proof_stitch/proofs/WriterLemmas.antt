@@ -10,11 +10,11 @@ use Rattle.std.proofs.Math.Seq.{drop-cons}
 use Rattle.std.proofs.lemmas.List.Elements.{All-from_recursion}
 use Rattle.lits.specs.declared.literal.Lit.{Lit}
 use Rattle.lits.specs.declared.step.Ref.{Ref}
-use Rattle.lits.specs.declared.step.Ref.TheVariants.{Axiom, Entry as Shown, Own}
+use Rattle.lits.specs.declared.step.Ref.TheVariants.{Axiom, Entry as Shown, Own, Bound}
 use Rattle.lits.specs.declared.step.Step.{Step}
 use Rattle.lits.specs.Same.{same_lit, opposite}
-use Rattle.netlist.specs.Net.{AigPair}
-use Rattle.netlist.specs.Miter.{variable_of, cnf_number_of, miter_of}
+use Rattle.netlist.specs.Net.{AigPair, bound_of}
+use Rattle.netlist.specs.Miter.{bound_number_of, variable_of, cnf_number_of, miter_of}
 use Rattle.unit_prop.specs.Log.{with_own, InTurn, IsStepAfter}
 use Rattle.lemma_book.specs.declared.entry.Entry.{Entry}
 use Rattle.lemma_book.specs.Good.{AreOver, merge_clause, out_clause}
@@ -25,7 +25,7 @@ use Rattle.proof_stitch.specs.Steps.{addition, additions_from, additions}
 use Rattle.proof_stitch.specs.Ids.{HasId, HasIds}
 use Rattle.proof_stitch.specs.Written.{written_steps, shown_clauses, shown_from, shown_ids, book_additions}
 use Rattle.proof_stitch.specs.Stitch.{unit_id, empty_addition, refutation_of}
-use Rattle.proof_stitch.proofs.AxiomLemmas.{axiom-numbered}
+use Rattle.proof_stitch.proofs.AxiomLemmas.{axiom-numbered, unit-numbered}
 use Rattle.proof_stitch.proofs.GrowLemmas.{IsFound, step-found, live-range}
 use Rattle.proof_stitch.proofs.StepLemmas.{clauses_in, IsDerived}
 use Rattle.proof_stitch.proofs.ShownLemmas.{IsShown, merges-live}
@@ -77,6 +77,11 @@ module _ (net : AigPair) (shown : List ℕ) (known : List Entry) (fit : ShownFit
           go : (o : Option Step) → slice_get before k ≡ o → first + k < 2 ^ 64
           go None e = let g : None ≡ Some f.clause = rw e at f.is in absurd (none-some f.clause g)
           go (Some s) e = let l = slice_get_within before k s e in omega arith
+      here (Bound side k) f = go (bound_of net side k) refl
+        where
+          go : (o : Option Lit) → bound_of net side k ≡ o → IsSome (bound_number_of net side k)
+          go None e = let g : None ≡ Some f.clause = rw e at f.is in absurd (none-some f.clause g)
+          go (Some l) e = let n = unit-numbered net side k l e in rw n.is refl
 
   ids-from : (before left : List Step) (first : ℕ) → first + (length before + length left) < 2 ^ 64 → AreOver net left
       → InTurn (IsStepAfter (out_clause net known)) before left → AllByRecursion (HasIds net shown first) left

@@ -1,7 +1,7 @@
 -- The literals of the XORs by number: they differ, and the miter's last clause has them all.
 use Rattle.std.proofs.Common.{◌≡◌, ℕ, zero, suc, ◌+◌, ◌-◌, ◌<◌, ◌≤◌, Bool, true, false, eqb, Some, List, [], ◌∷◌, ◌++◌, length, map, refl, sym, ap, ◌∙◌, subst, arith, length-append}
 use Rattle.std.specs.Prelude.{slice_get, option_map}
-use Rattle.std.specs.List.{list_any, flat_map, range_with_len, AllByRecursion}
+use Rattle.std.specs.List.{list_any, range_with_len, AllByRecursion}
 use Rattle.std.proofs.lemmas.List.{length-map}
 use Rattle.std.proofs.lemmas.List.FromFn.{map-range_with_len_more}
 use Rattle.std.proofs.lemmas.Option.{slice_get-map}
@@ -12,7 +12,7 @@ use Rattle.lits.specs.declared.node.Node.TheVariants.{Xor}
 use Rattle.lits.specs.declared.literal.Lit.{Lit}
 use Rattle.lits.proofs.Facts.{dim_laws, exact-lit, list_any-map, all-map, list_any-more}
 use Rattle.netlist.specs.Net.{AigPair}
-use Rattle.netlist.specs.Miter.{positive, negative, axioms_of, variables_of, xors_of, clauses_of, numbered, miter_of}
+use Rattle.netlist.specs.Miter.{positive, negative, defining_clauses, units_of, xors_of, clauses_of, numbered, miter_of}
 use Rattle.lits.specs.Same.{same_lit, same_dim, opposite_dim}
 use Rattle.netlist.proofs.Facts.{slice_get-left, slice_get-right, equal-number, range-has, has-xor, numbered-same}
 use Rattle.lrat_text.specs.Derivation.{formula_live}
@@ -116,7 +116,7 @@ module _ (net : AigPair) where
       ∙ ap (λ (c : List DimacsLiteral). Some c) (negations (range_with_len 0 count))
     where
       front : List (List Lit)
-      front = flat_map (axioms_of net) (variables_of net)
+      front = defining_clauses net ++ units_of net
 
       whole : length (miter_of net) ≡ length front + 1
       whole = length-map (clauses_of net) (λ (c : List Lit). map (numbered net) c) ∙ length-append front (map positive (xors_of net) ∷ [])

@@ -1,6 +1,6 @@
 -- What a book derives from the miter where queries of some outputs spent their budget: the steps of its Merge and Out
 -- entries, and then the logs of those queries.
-use Rattle.std.specs.Prelude.{◌≡◌, ℕ, ◌+◌, ◌-◌, ◌&&◌, nat_le, Bool, List, [], ◌∷◌, ◌++◌, length, map, filter, All, if◌then◌else◌}
+use Rattle.std.specs.Prelude.{◌≡◌, ℕ, ◌+◌, ◌-◌, ◌&&◌, nat_le, List, [], ◌∷◌, ◌++◌, length, map, filter, All, if◌then◌else◌}
 use Rattle.std.specs.Option.{option_map_or}
 use Rattle.lits.specs.declared.step.Step.{Step}
 use Rattle.netlist.specs.Net.{AigPair}

@@ -4,10 +4,10 @@ use Rattle.std.specs.Prelude.{ℕ, ◌+◌, List, [], ◌∷◌, ◌++◌, lengt
 use Rattle.std.specs.List.{slice_index_or}
 use Rattle.std.specs.Option.{unwrap_or}
 use Rattle.lits.specs.declared.step.Ref.{Ref}
-use Rattle.lits.specs.declared.step.Ref.TheVariants.{Axiom, Entry as Shown, Own}
+use Rattle.lits.specs.declared.step.Ref.TheVariants.{Axiom, Entry as Shown, Own, Bound}
 use Rattle.lits.specs.declared.step.Step.{Step}
 use Rattle.netlist.specs.Net.{AigPair}
-use Rattle.netlist.specs.Miter.{numbered, clause_number_of}
+use Rattle.netlist.specs.Miter.{bound_number_of, numbered, clause_number_of}
 use Rattle.lrat_text.specs.declared.step.LratStep.{LratStep}
 use Rattle.lrat_text.specs.declared.step.LratStep.TheVariants.{Add}
 
@@ -17,6 +17,7 @@ abbrev pub id_of : AigPair → List ℕ → ℕ → Ref → ℕ
 id_of net shown first (Axiom node k) = unwrap_or (clause_number_of net node k) 0
 id_of net shown first (Shown entry k) = slice_index_or shown entry 0 + k
 id_of net shown first (Own k) = first + k
+id_of net shown first (Bound side k) = unwrap_or (bound_number_of net side k) 0
 
 -- the addition of a step: its clause by the numbers of the miter, its hints by ids, each in the step's order
 abbrev pub addition : AigPair → List ℕ → ℕ → ℕ → Step → LratStep

@@ -76,6 +76,7 @@ fn id(net: &Net, shown: &[u64], first: u64, name: Ref) -> u64
         Ref::Axiom(node, k) => u64::from(net.clause_number(node, k).unwrap()),
         Ref::Entry(entry, k) => first_shown(shown, entry) + u64::from(k),
         Ref::Own(k) => first + k,
+        Ref::Bound(side, k) => u64::from(net.constraint_number(side, k).unwrap()),
     }
 }
 

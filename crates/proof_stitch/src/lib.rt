@@ -1,12 +1,12 @@
 //! One proof in LRAT (Cruz-Filipe et al. 2017) from the entries of a lemma book.
 //!
-//! An entry's steps cite the miter's axioms by node, the clauses of earlier merges by entry, and their own
-//! earlier steps by place. Here they become one text, the additions under ids without gaps that go on behind
-//! the numbers of the miter's clauses. `refutation` writes the steps of the Merge and Out entries, in the
-//! order of the book, and last the empty clause from the outputs' units; `derivation` writes the same steps
-//! and then the logs of the outputs' queries that spent their budgets. The crate promises which lines the
-//! text spells, and that they refute the miter, or derive from it. It goes once over the steps and entries
-//! of the book; no clause speaks of time.
+//! An entry's steps cite the miter's axioms by node, the constraints' units by side, the clauses of earlier
+//! merges by entry, and their own earlier steps by place. Here they become one text, the additions under ids
+//! without gaps that go on behind the numbers of the miter's clauses. `refutation` writes the steps of the
+//! Merge and Out entries, in the order of the book, and last the empty clause from the outputs' units;
+//! `derivation` writes the same steps and then the logs of the outputs' queries that spent their budgets. The
+//! crate promises which lines the text spells, and that they refute the miter, or derive from it. It goes once
+//! over the steps and entries of the book; no clause speaks of time.
 //!
 //! Definitions: `specs/Steps.antt` (the additions that lists of steps make), `specs/Written.antt` (which
 //! steps of a book are written, and the ids of the clauses that entries show), `specs/Text.antt` (the text

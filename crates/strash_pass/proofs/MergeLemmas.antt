@@ -8,7 +8,7 @@ use Rattle.lits.specs.declared.node.Node.{Node}
 use Rattle.lits.specs.declared.node.Node.TheVariants.{Const, Input, Gate, Xor}
 use Rattle.lits.specs.declared.literal.Lit.{Lit}
 use Rattle.lits.specs.declared.step.Ref.{Ref}
-use Rattle.lits.specs.declared.step.Ref.TheVariants.{Axiom, Entry as Shown, Own}
+use Rattle.lits.specs.declared.step.Ref.TheVariants.{Axiom, Entry as Shown, Own, Bound}
 use Rattle.lits.specs.declared.step.Named.{Named}
 use Rattle.lits.specs.declared.step.Step.{Step}
 use Rattle.lits.specs.Clause.{IsClause}
@@ -58,6 +58,7 @@ module _ (net : AigPair) (es : List Entry) (way : List Lit) (none : AreNotXors w
       found : (name : Ref) (c : List Lit) → base_clause base name ≡ Some c → with_own (node_clause net es) before name ≡ Some c
       found (Axiom node k) c e = base_clause-is (node_clause net es) base each-named (Axiom node k) c e
       found (Shown i k) c e = base_clause-is (node_clause net es) base each-named (Shown i k) c e
+      found (Bound side k) c e = base_clause-is (node_clause net es) base each-named (Bound side k) c e
       found (Own k) c e =
           let f : None ≡ Some c = base_clause-is (node_clause net es) base each-named (Own k) c e in
           absurd (none-some c f)
