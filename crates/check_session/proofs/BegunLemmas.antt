@@ -14,11 +14,10 @@ use Rattle.lemma_book.specs.Agreement.{IsTrue}
 use Rattle.lemma_book.specs.Book.{StartsWith}
 use Rattle.lemma_book.proofs.Facts.{output-unsettled}
 use Rattle.check_session.specs.declared.options.Options.{Options}
-use Rattle.check_session.specs.Growth.{Grows}
 use Rattle.check_session.specs.Pool.{Extends, IsPoolOf, first_pool}
 use Rattle.check_session.specs.Begun.{is_equal, with_inputs}
-use Rattle.check_session.proofs.RoundLemmas.{extends-twice, off-subject}
-use Rattle.check_session.proofs.OutputLemmas.{is_on-subject, on-subject}
+use Rattle.check_session.proofs.PoolLemmas.{extends-twice}
+use Rattle.check_session.proofs.OutputLemmas.{is_on-subject, off-subject, on-subject}
 
 -- ---- patterns
 
@@ -44,10 +43,6 @@ pool-inputs net o p inputs of whole = record {
 }
 
 -- ---- books that go on
-
-pub starts-grows : (net : AigPair) (test : Entry → Bool) (old new : Entries) → Grows net test old new → StartsWith new old
-starts-grows net test old new grows =
-    record { rest = grows.added; entries = grows.begins; sweep = grows.sweep_budget; out = grows.out_budget }
 
 pub starts-twice : (old mid new : Entries) → StartsWith mid old → StartsWith new mid → StartsWith new old
 starts-twice old mid new first second = record {
@@ -108,7 +103,7 @@ differs-unsettled net j input (Out k steps ∷ es) differs all true_all =
         let subject : Some (Output k) ≡ Some (Output j) = on-subject (Output j) (Out k steps) is in
         let number : k ≡ j = cc in
         let agrees : AgreesOn net j = subst (λ (i : ℕ). AgreesOn net i) number true_all.0 in
-        absurd (differs.apart (agrees input differs.whole))
+        absurd (differs.apart (agrees input differs.admitted))
     go false is rest = rw is rest
 differs-unsettled net j input (OutApart k bits ∷ es) differs all true_all = cc
 differs-unsettled net j input (OutSpent k seen log ∷ es) differs all true_all = cc

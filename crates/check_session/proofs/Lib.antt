@@ -1,8 +1,9 @@
 pub mod Facts
 mod OutputLemmas
-mod RoundLemmas
+mod PoolLemmas
 mod BegunLemmas
 mod PatternLemmas
+mod AdmittedLemmas
 mod MeansLemmas
 mod SweptLemmas
 mod WithinLemmas

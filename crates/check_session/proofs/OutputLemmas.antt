@@ -1,10 +1,8 @@
--- What one more entry changes of what a book says of its outputs.
-use Rattle.std.proofs.Common.{◌≡◌, ◌≢◌, ℕ, zero, suc, ◌+◌, ◌<◌, ◌≤◌, Bool, true, false, ◌||◌, ◌&&◌, List, [], ◌∷◌, ◌++◌, length, drop, filter, append_assoc, add-one, inl, inr, Option, Some, None, refl, sym, ap, ◌∙◌, subst, arith, Result, Ok, Err, OnOk}
-use Rattle.std.specs.List.{find, list_any, list_all, range_with_len, AllByRecursion}
-use Rattle.std.specs.Option.{option_or}
+-- What a book says of its outputs.
+use Rattle.std.proofs.Common.{◌≡◌, ◌≢◌, ℕ, zero, suc, ◌+◌, ◌<◌, ◌≤◌, Bool, true, false, List, [], ◌∷◌, ◌++◌, length, filter, add-one, inl, inr, Option, Some, None, refl, sym, ap, ◌∙◌, subst, arith}
+use Rattle.std.specs.List.{range_with_len}
 use Rattle.std.specs.Prelude.{⊤}
 use Rattle.std.proofs.Math.Nat.{eq-or-lt_of_le}
-use Rattle.std.proofs.lemmas.List.Folds.{find-append}
 use Rattle.std.proofs.lemmas.List.Elements.{filter-append}
 use Rattle.std.proofs.Math.Seq.{take-length}
 use Rattle.netlist.specs.Net.{AigPair}
@@ -14,16 +12,15 @@ use Rattle.lemma_book.specs.declared.entry.Entry.TheVariants.{Merge, Apart, Spen
 use Rattle.lemma_book.specs.declared.entry.Subject.{Subject}
 use Rattle.lemma_book.specs.declared.entry.Subject.TheVariants.{Merged, Output}
 use Rattle.lemma_book.specs.Entry.{Entries, subject_of, is_on, about, settled_at, first_entries, with_last}
-use Rattle.lemma_book.specs.Entry.{has_out, has_spent, has_apart, is_merge}
+use Rattle.lemma_book.specs.Entry.{has_out, has_spent, has_apart}
 use Rattle.lemma_book.specs.Good.{IsGood, Already}
 use Rattle.lemma_book.proofs.Facts.{exact-subject, same-subject_self}
 use Rattle.lemma_book.specs.Book.{book_after}
-use Rattle.cone_query.specs.Query.{SeesAll}
-use Rattle.check_session.specs.Finding.{Finds, SeesMerges}
-use Rattle.check_session.specs.Growth.{Grows}
+use Rattle.sweep_workers.specs.Swept.{AreSettled}
+use Rattle.check_session.specs.Finding.{Finds}
 use Rattle.check_session.specs.declared.verdict.Verdict.{Verdict}
 use Rattle.check_session.specs.declared.verdict.Verdict.TheVariants as verdict
-use Rattle.check_session.specs.Outputs.{AreSettled, AreSettledBelow, Looks, SeeMerges, finding_of, verdict_of}
+use Rattle.check_session.specs.Outputs.{Looks, SeeMerges, finding_of, verdict_of}
 use Rattle.lits.proofs.Facts.{range-more}
 
 -- ---- the whole book as its own first part
@@ -49,125 +46,23 @@ on-subject s (OutSpent j seen log) on = ap (λ (t : Subject). Some t) (exact-sub
 pub is_on-subject : (s : Subject) (e : Entry) → subject_of e ≡ Some s → is_on s e ≡ true
 is_on-subject s e subject = rw subject (same-subject_self s)
 
+pub off-subject : (s : Subject) (e : Entry) → subject_of e ≢ Some s → is_on s e ≡ false
+off-subject s e other = go (is_on s e) refl
+  where
+    go : (b : Bool) → is_on s e ≡ b → is_on s e ≡ false
+    go true is = absurd (other (on-subject s e is))
+    go false is = is
+
 -- ---- the entry on an output
 
 -- it is about that output
 pub about-subject : (es : List Entry) (j : ℕ) (e : Entry) → about es j ≡ Some e → subject_of e ≡ Some (Output j)
 about-subject es j e found = on-subject (Output j) e (found-one (is_on (Output j)) (λ x. ⊤) es e (no-facts es) found).1
 
-or-some : {X : Type 0} (o : Option X) (x : X) → option_or o (Some x) ≢ None
-or-some None x = λ e. cc
-or-some (Some y) x = λ e. cc
-
-or-first : {X : Type 0} (o p : Option X) → o ≢ None → option_or o p ≢ None
-or-first None p some = λ e. some refl
-or-first (Some y) p some = λ e. cc
-
--- the last one may be it
-pub about-last : (es : List Entry) (e : Entry) (j : ℕ) → subject_of e ≡ Some (Output j) → about (es ++ e ∷ []) j ≢ None
-about-last es e j subject =
-    let on = is_on-subject (Output j) e subject in
-    let last : find (is_on (Output j)) (e ∷ []) ≡ Some e = rw on refl in
-    rw (find-append (is_on (Output j)) es (e ∷ []), last) (or-some (about es j) e)
-
--- ---- what open outputs saw
-
-any-drop : (n : ℕ) (es : List Entry) (e : Entry) → list_any is_merge (drop n es) ≡ false → is_merge e ≡ false
-    → list_any is_merge (drop n (es ++ e ∷ [])) ≡ false
-any-drop zero [] e none other = rw other refl
-any-drop zero (x ∷ xs) e none other = go (is_merge x) refl none (λ n. any-drop zero xs e n other)
-  where
-    go : (b : Bool) → is_merge x ≡ b → (is_merge x || list_any is_merge xs) ≡ false
-        → (list_any is_merge xs ≡ false → list_any is_merge (xs ++ e ∷ []) ≡ false)
-        → (is_merge x || list_any is_merge (xs ++ e ∷ [])) ≡ false
-    go true is n rest = let t : true ≡ false = rw is at n in cc
-    go false is n rest = rw is (rest (rw is at n))
-any-drop (suc zero) [] e none other = refl
-any-drop (suc (suc n)) [] e none other = refl
-any-drop (suc n) (x ∷ xs) e none other = any-drop n xs e none other
-
-sees-more : (es : List Entry) (e x : Entry) → is_merge e ≡ false → SeesMerges es x → SeesMerges (es ++ e ∷ []) x
-sees-more es e (Merge node lit steps) other sees = tt
-sees-more es e (Apart node lit input) other sees = tt
-sees-more es e (Spent node lit seen log) other sees = tt
-sees-more es e (Out j steps) other sees = tt
-sees-more es e (OutApart j input) other sees = tt
-sees-more es e (OutSpent j seen log) other sees = any-drop seen es e sees other
-
-drop-length : (es : List Entry) (e : Entry) → drop (length es) (es ++ e ∷ []) ≡ e ∷ []
-drop-length [] e = refl
-drop-length (x ∷ xs) e = drop-length xs e
-
-sees-last : (book : Entries) (e : Entry) → is_merge e ≡ false → SeesAll book e → SeesMerges (book.entries ++ e ∷ []) e
-sees-last book (Merge node lit steps) other sees = tt
-sees-last book (Apart node lit input) other sees = tt
-sees-last book (Spent node lit seen log) other sees = tt
-sees-last book (Out j steps) other sees = tt
-sees-last book (OutApart j input) other sees = tt
-sees-last book (OutSpent j seen log) other sees =
-    let e : Entry = OutSpent j seen log in
-    subst (λ (es : List Entry). list_any is_merge es ≡ false)
-    (sym (ap (λ (n : ℕ). drop n (book.entries ++ e ∷ [])) sees ∙ drop-length book.entries e)) refl
-
-all-more : (book : Entries) (e : Entry) (es : List Entry) → is_merge e ≡ false → SeesAll book e → AllByRecursion (SeesMerges book.entries) es
-    → AllByRecursion (SeesMerges (book.entries ++ e ∷ [])) (es ++ e ∷ [])
-all-more book e [] other sees all = (sees-last book e other sees, tt)
-all-more book e (x ∷ xs) other sees all = (sees-more book.entries e x other all.0, all-more book e xs other sees all.1)
-
-no-merge : (e : Entry) (j : ℕ) → subject_of e ≡ Some (Output j) → is_merge e ≡ false
-no-merge (Merge node lit steps) j subject = cc
-no-merge (Apart node lit input) j subject = refl
-no-merge (Spent node lit seen log) j subject = refl
-no-merge (Out k steps) j subject = refl
-no-merge (OutApart k input) j subject = refl
-no-merge (OutSpent k seen log) j subject = refl
-
--- an entry about an output that saw the whole book leaves all of them seen
-pub see-more : (book : Entries) (e : Entry) (j : ℕ) → subject_of e ≡ Some (Output j) → SeesAll book e → SeeMerges book.entries
-    → SeeMerges (book.entries ++ e ∷ [])
-see-more book e j subject sees all = all-more book e book.entries (no-merge e j subject) sees all
-
--- a fact of what was done where it was done
-pub on-ok : {T E : Type 0} (r : Result T E) (P Q : Type 0) → OnOk r P → (P → Q) → OnOk r Q
-on-ok (Ok x) P Q p f = f p
-on-ok (Err e) P Q p f = tt
-
--- ---- books that grow
+-- ---- what the entries of all outputs tell
 
 le_of_below : (k n : ℕ) → k < n + 1 → k ≤ n
 le_of_below k n below = omega arith
-
-about-more : (es fs : List Entry) (j : ℕ) → about es j ≢ None → about (es ++ fs) j ≢ None
-about-more es fs j some = rw (find-append (is_on (Output j)) es fs) (or-first (about es j) (find (is_on (Output j)) fs) some)
-
--- what an entry settles stays settled
-pub settled-more : (net : AigPair) (test : Entry → Bool) (old new : Entries) (j : ℕ) → Grows net test old new → about old.entries j ≢ None
-    → about new.entries j ≢ None
-settled-more net test old new j grows some =
-    subst (λ (es : List Entry). about es j ≢ None) (sym grows.begins) (about-more old.entries grows.added j some)
-
-all-both : (test : Entry → Bool) (es fs : List Entry) → list_all test es ≡ true → list_all test fs ≡ true → list_all test (es ++ fs) ≡ true
-all-both test [] fs es_all fs_all = fs_all
-all-both test (e ∷ es) fs es_all fs_all = go (test e) refl es_all (λ rest. all-both test es fs rest fs_all)
-  where
-    go : (b : Bool) → test e ≡ b → (test e && list_all test es) ≡ true → (list_all test es ≡ true → list_all test (es ++ fs) ≡ true)
-        → (test e && list_all test (es ++ fs)) ≡ true
-    go true is all rest = rw is (rest (rw is at all))
-    go false is all rest = let t : false ≡ true = rw is at all in cc
-
--- what grows twice grows
-pub grows-twice : (net : AigPair) (test : Entry → Bool) (old mid new : Entries) → Grows net test old mid → Grows net test mid new
-    → Grows net test old new
-grows-twice net test old mid new first second = record {
-  sweep_budget = second.sweep_budget ∙ first.sweep_budget;
-  out_budget = second.out_budget ∙ first.out_budget;
-  added = first.added ++ second.added;
-  begins = second.begins ∙ (ap (λ (es : List Entry). es ++ second.added) first.begins ∙ append_assoc old.entries first.added second.added);
-  kinds = all-both test first.added second.added first.kinds second.kinds;
-  legal = second.legal;
-}
-
--- ---- what the entries of all outputs tell
 
 -- an output that has an entry, no input on which it differs and no spent budget is shown equal
 pub out-else : (es : List Entry) (j : ℕ) → about es j ≢ None → has_apart es j ≡ false → has_spent es j ≡ false → has_out es j ≡ true
@@ -229,15 +124,6 @@ module _ (net : AigPair) (es : List Entry) (settled : AreSettled net es) (seen :
         others = λ k below spent. out-else es k (settled k below) (none k below) spent;
         seen = seen;
       }
-
--- and one output more
-pub settled-next : (net : AigPair) (test : Entry → Bool) (old new : Entries) (n : ℕ) → Grows net test old new → AreSettledBelow n old.entries
-    → about new.entries n ≢ None → AreSettledBelow (n + 1) new.entries
-settled-next net test old new n grows before here k below =
-    elim (eq-or-lt_of_le (le_of_below k n below)) [
-      | inl same ↦ subst (λ (j : ℕ). about new.entries j ≢ None) (sym same) here
-      | inr less ↦ settled-more net test old new k grows (before k less)
-    ]
 
 -- the input of the entry on an output
 pub different-here : (es : List Entry) (j k : ℕ) (given input : List Bool) (e : Entry) → Some e ≡ about es j → e ≡ OutApart k given → input ≡ given

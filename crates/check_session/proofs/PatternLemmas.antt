@@ -1,11 +1,11 @@
 -- What rows of simulation show of the outputs: the first pattern that tells one apart.
-use Rattle.std.proofs.Common.{◌≡◌, ◌≢◌, ℕ, zero, suc, ◌+◌, ◌*◌, ◌/◌, ◌%◌, ◌^◌, ◌<◌, ◌≤◌, ◌==◌, ◌⊎◌, nat_lt, Bool, true, false, not, List, [], ◌∷◌, length, map, Option, Some, None, inl, inr, refl, sym, ap, ◌∙◌, subst, arith}
-use Rattle.std.specs.Prelude.{◌++◌, ◌-◌, IsSome, slice_index, if◌then◌else◌}
+use Rattle.std.proofs.Common.{◌≡◌, ◌≢◌, ℕ, zero, suc, ◌+◌, ◌*◌, ◌/◌, ◌%◌, ◌^◌, ◌<◌, ◌≤◌, ◌==◌, ◌⊎◌, nat_lt, Bool, true, false, not, List, [], ◌∷◌, length, map, Option, Some, None, inl, inr, refl, sym, ap, ap₂, ◌∙◌, subst, arith}
+use Rattle.std.specs.Prelude.{◌++◌, ◌-◌, IsSome, slice_index, ◌&&◌, if◌then◌else◌}
 use Rattle.std.specs.Option.{is_some, option_map_or}
 use Rattle.std.specs.List.{find, range_with_len, slice_index_or, AllByRecursion}
 use Rattle.std.specs.Int.{bit_at, trailing_zeros, w64}
-use Rattle.std.specs.Int.RustNames.{bit_xor}
-use Rattle.std.proofs.lemmas.Bool.{cases_lt, lt-ltb}
+use Rattle.std.specs.Int.RustNames.{bit_and, bit_xor}
+use Rattle.std.proofs.lemmas.Bool.{cases_lt, lt-ltb, and_parts}
 use Rattle.std.proofs.lemmas.Option.{same_Some}
 use Rattle.std.proofs.lemmas.Nat.Bits.{bit_at_xor, bit_at-lt, bit_at-trailing_zeros}
 use Rattle.std.proofs.lemmas.List.FromFn.{fill_by_all, map-range_with_len_more}
@@ -17,16 +17,16 @@ use Rattle.lits.specs.declared.node.Node.TheVariants.{Const, Input, Gate, Xor}
 use Rattle.lits.specs.declared.literal.Lit.{Lit}
 use Rattle.netlist.specs.Place.{place_of}
 use Rattle.netlist.specs.Circuit.{var_of, output_value}
-use Rattle.netlist.specs.Net.{AigPair, IsNet, circuit_of, differs, lit_holds, node_at, nodes_of, output_of, position_of, value_of}
+use Rattle.netlist.specs.Net.{AigPair, IsNet, circuit_of, differs, lit_holds, meets_constraints, node_at, nodes_of, output_of, position_of, value_of}
 use Rattle.lits.specs.Clause.{has}
 use Rattle.lits.specs.Assignment.{Meets}
 use Rattle.netlist.specs.Miter.{kept, variables_of, xor_axioms, xor_clauses}
 use Rattle.netlist.proofs.Facts.{found-one, at-place, node-at, output_lit, output_of-below, values-meet, meets_from_kept, xor_from_meets, node-input, length-nodes, is_some-place, has-position, has-xor, range-has, variables-outputs}
 use Rattle.word_sim.specs.Patterns.{is_set}
 use Rattle.word_sim.specs.Rows.{AreSignatures, HasBits, IsRow, Signatures, mask_of, turned, value_on}
-use Rattle.word_sim.proofs.Facts.{turned-bit}
+use Rattle.word_sim.proofs.Facts.{and-bit, turned-bit}
 use Rattle.check_session.specs.Finding.{DiffersAt}
-use Rattle.check_session.specs.Pool.{HasBitsOf, IsFirstApart, IsFirstOf, IsLeast, bit_of, tells_apart}
+use Rattle.check_session.specs.Pool.{HasBitsFor, HasBitsOf, IsFirstApart, IsFirstOf, IsLeast, admits, bit_of, tells_apart}
 
 -- ---- bits of two rows
 
@@ -39,24 +39,31 @@ xor-bit x y b = rw (bit_at_xor x y b) (elim (bit-cases x b) [
   | inr p ↦ elim (bit-cases y b) [ inl q ↦ rw (p, q) refl | inr q ↦ rw (p, q) refl ]
 ])
 
--- the test of two rows' bits, one of which is turned first where they are opposite
-abbrev pub apart_at : List ℕ → List ℕ → Bool → ℕ → Bool
-apart_at first second opposite p = differs opposite (differs (bit_of first p) (bit_of second p))
+-- the test of two rows' bits that count, one of which is turned first where they are opposite
+abbrev pub apart_at : List ℕ → List ℕ → Bool → List ℕ → ℕ → Bool
+apart_at first second opposite counting p = bit_of counting p && differs opposite (differs (bit_of first p) (bit_of second p))
+
+-- a word of both rows as the program compares it
+abbrev pub word_apart : List ℕ → List ℕ → Bool → List ℕ → ℕ → ℕ
+word_apart first second opposite counting w =
+    bit_and (slice_index_or counting w 0)
+    (bit_xor (bit_xor (slice_index_or first w 0) (slice_index_or second w 0)) (mask_of opposite))
 
 turned-test : (opposite t : Bool) → turned opposite t ≡ differs opposite t
 turned-test true t = refl
 turned-test false t = refl
 
--- a word of both rows as the program compares it
-word-bit : (first second : List ℕ) (opposite : Bool) (w b : ℕ) → b < 64
-    → is_set (bit_xor (bit_xor (slice_index_or first w 0) (slice_index_or second w 0)) (mask_of opposite)) b
-    ≡ apart_at first second opposite (64 * w + b)
-word-bit first second opposite w b within =
+-- its bits
+word-bit : (first second : List ℕ) (opposite : Bool) (counting : List ℕ) (w b : ℕ) → b < 64
+    → is_set (word_apart first second opposite counting w) b ≡ apart_at first second opposite counting (64 * w + b)
+word-bit first second opposite counting w b within =
     let at : (64 * w + b) / 64 ≡ w = omega arith in
     let bit : (64 * w + b) % 64 ≡ b = omega arith in
-    turned-bit (bit_xor (slice_index_or first w 0) (slice_index_or second w 0)) opposite b within
+    and-bit (slice_index_or counting w 0) (bit_xor (bit_xor (slice_index_or first w 0) (slice_index_or second w 0)) (mask_of opposite)) b
+    ∙ ap (λ (t : Bool). is_set (slice_index_or counting w 0) b && t)
+    (turned-bit (bit_xor (slice_index_or first w 0) (slice_index_or second w 0)) opposite b within
     ∙ turned-test opposite (is_set (bit_xor (slice_index_or first w 0) (slice_index_or second w 0)) b)
-    ∙ ap (differs opposite) (xor-bit (slice_index_or first w 0) (slice_index_or second w 0) b)
+    ∙ ap (differs opposite) (xor-bit (slice_index_or first w 0) (slice_index_or second w 0) b))
     ∙ rw (at, bit) refl
 
 -- the lowest bit that is set
@@ -69,26 +76,26 @@ lowest-set word some fits =
       least = λ p less. ap (λ (b : ℕ). b == 1) (found.2 p less);
     }
 
-module _ (first second : List ℕ) (opposite : Bool) (word w : ℕ)
-    (is : word ≡ bit_xor (bit_xor (slice_index_or first w 0) (slice_index_or second w 0)) (mask_of opposite))
-    (before : (p : ℕ) → p < 64 * w → apart_at first second opposite p ≡ false) where
-  in-word : (b : ℕ) → b < 64 → is_set word b ≡ apart_at first second opposite (64 * w + b)
-  in-word b within = ap (λ (n : ℕ). is_set n b) is ∙ word-bit first second opposite w b within
+module _ (first second : List ℕ) (opposite : Bool) (counting : List ℕ) (word w : ℕ)
+    (is : word ≡ word_apart first second opposite counting w)
+    (before : (p : ℕ) → p < 64 * w → apart_at first second opposite counting p ≡ false) where
+  in-word : (b : ℕ) → b < 64 → is_set word b ≡ apart_at first second opposite counting (64 * w + b)
+  in-word b within = ap (λ (n : ℕ). is_set n b) is ∙ word-bit first second opposite counting w b within
 
   -- the words up to this one are equal
-  pub none-more : ((b : ℕ) → b < 64 → is_set word b ≡ false) → (p : ℕ) → p < 64 * (w + 1) → apart_at first second opposite p ≡ false
+  pub none-more : ((b : ℕ) → b < 64 → is_set word b ≡ false) → (p : ℕ) → p < 64 * (w + 1) → apart_at first second opposite counting p ≡ false
   none-more none p below = elim (cases_lt p (64 * w)) [
     | inl less ↦ before p less
     | inr more ↦
         let within : p - 64 * w < 64 = omega arith in
         let here : 64 * w + (p - 64 * w) ≡ p = omega arith in
-        subst (λ (n : ℕ). apart_at first second opposite n ≡ false) here
+        subst (λ (n : ℕ). apart_at first second opposite counting n ≡ false) here
         (sym (in-word (p - 64 * w) within) ∙ none (p - 64 * w) within)
   ]
 
   -- this bit of the word is the first that differs
   pub least-here : (count bit : ℕ) → IsLeast 64 (λ b. is_set word b) bit → 64 * w + bit < count
-      → IsLeast count (apart_at first second opposite) (64 * w + bit)
+      → IsLeast count (apart_at first second opposite counting) (64 * w + bit)
   least-here count bit least below = record {
     below = below;
     passes = sym (in-word bit least.below) ∙ least.passes;
@@ -98,14 +105,14 @@ module _ (first second : List ℕ) (opposite : Bool) (word w : ℕ)
           let within : p - 64 * w < bit = omega arith in
           let below : p - 64 * w < 64 = omega (arith, within, least.below) in
           let here : 64 * w + (p - 64 * w) ≡ p = omega arith in
-          subst (λ (n : ℕ). apart_at first second opposite n ≡ false) here
+          subst (λ (n : ℕ). apart_at first second opposite counting n ≡ false) here
           (sym (in-word (p - 64 * w) below) ∙ least.least (p - 64 * w) within)
     ];
   }
 
   -- it stands behind the last one that counts
   pub none-here : (count bit : ℕ) → IsLeast 64 (λ b. is_set word b) bit → count ≤ 64 * w + bit
-      → (p : ℕ) → p < count → apart_at first second opposite p ≡ false
+      → (p : ℕ) → p < count → apart_at first second opposite counting p ≡ false
   none-here count bit least past p below = (least-here (64 * w + bit + 1) bit least (omega arith)).least p (omega arith)
 
 -- ---- tests that agree, and the first element of a list
@@ -146,11 +153,11 @@ no-xor_named i true o s v = refl
 no-xor_named i false None s v = refl
 no-xor_named i false (Some k) s v = refl
 
-some-is : (o : Option ℕ) → is_some o ≡ true → IsSome o
+pub some-is : (o : Option ℕ) → is_some o ≡ true → IsSome o
 some-is None e = cc
 some-is (Some k) e = refl
 
-some-of : {X : Type 0} (o : Option X) (x : X) → o ≡ Some x → IsSome o
+pub some-of : {X : Type 0} (o : Option X) (x : X) → o ≡ Some x → IsSome o
 some-of None x e = cc
 some-of (Some y) x e = refl
 
@@ -182,7 +189,7 @@ module _ (net : AigPair) (is : IsNet net) (j : ℕ) (below : j < length net.a.ou
   -- the outputs' literals differ exactly where the outputs do
   pub lits-differ : (bits : List Bool)
       → differs (lit_holds (value_of net bits) (output_lit net A j)) (lit_holds (value_of net bits) (output_lit net B j))
-      ≡ tells_apart net j bits
+      ≡ differs (output_value net.a bits j) (output_value net.b bits j)
   lits-differ bits =
       sym (xor_from_meets (value_of net bits) (Xor j) (output_lit net A j) (output_lit net B j)
       (meets_from_kept (value_of net bits) (xor_clauses (Xor j) (output_lit net A j) (output_lit net B j)) meets))
@@ -198,20 +205,26 @@ module _ (net : AigPair) (is : IsNet net) (j : ℕ) (below : j < length net.a.ou
 pub position-below : (net : AigPair) (n : Node) (p : ℕ) → position_of net n ≡ Some p → p < length (nodes_of net)
 position-below net n p found = (at-place (λ m. same_node m n) (nodes_of net) p found).3
 
--- the row of an output's literal is that at its node's position
+-- the row at a node's position is the node's
+pub placed-row : (net : AigPair) (n : Node) (p : ℕ) (sigs : Signatures) (row : List ℕ) → position_of net n ≡ Some p
+    → length sigs.rows ≡ length (nodes_of net) → row ≡ slice_index_or sigs.rows p []
+    → (patterns : List (List Bool)) → AreSignatures net patterns sigs → IsRow net patterns n row
+placed-row net n p sigs row place rows is patterns are =
+    let inside : p < length sigs.rows = omega (arith, rows, position-below net n p place) in
+    subst (λ (r : List ℕ). IsRow net patterns n r) (sym is)
+    (subst (λ (m : Node). IsRow net patterns m (slice_index_or sigs.rows p [])) (node-at net n p place) (are.each p inside))
+
+-- so that of an output's literal
 pub output-row : (net : AigPair) (s : Side) (j : ℕ) (l lit : Lit) (p : ℕ) (sigs : Signatures) (row : List ℕ)
     → output_of net s j ≡ Some l → position_of net l.node ≡ Some p → length sigs.rows ≡ length (nodes_of net)
     → row ≡ slice_index_or sigs.rows p [] → (patterns : List (List Bool)) → AreSignatures net patterns sigs
     → output_of net s j ≡ Some lit → IsRow net patterns lit.node row
 output-row net s j l lit p sigs row found place rows is patterns are again =
-    let inside : p < length sigs.rows = omega (arith, rows, position-below net l.node p place) in
-    let same : l ≡ lit = same_Some l lit (sym found ∙ again) in
-    subst (λ (m : Lit). IsRow net patterns m.node row) same
-    (subst (λ (r : List ℕ). IsRow net patterns l.node r) (sym is)
-    (subst (λ (n : Node). IsRow net patterns n (slice_index_or sigs.rows p [])) (node-at net l.node p place) (are.each p inside)))
+    subst (λ (m : Lit). IsRow net patterns m.node row) (same_Some l lit (sym found ∙ again))
+    (placed-row net l.node p sigs row place rows is patterns are)
 
 -- a bit of a row
-row-bit : (count : ℕ) (truth : ℕ → Bool) (row : List ℕ) → HasBits count truth row → (p : ℕ) → p < count → bit_of row p ≡ truth p
+pub row-bit : (count : ℕ) (truth : ℕ → Bool) (row : List ℕ) → HasBits count truth row → (p : ℕ) → p < count → bit_of row p ≡ truth p
 row-bit count truth row has p below =
     let inside : p / 64 < length row = omega (arith, has.size, below) in
     let whole : 64 * (p / 64) + p % 64 ≡ p = omega arith in
@@ -233,30 +246,33 @@ signs true true false true = refl
 signs true true true false = refl
 signs true true true true = refl
 
--- where the rows of an output's literals differ, the output does
+-- where the rows of an output's literals differ and an admitted pattern's bit counts, the output is told apart
 pub rows-differ : (net : AigPair) → IsNet net → (j : ℕ) → j < length net.a.outputs → (patterns : List (List Bool))
-    → (first second : List ℕ) → IsRow net patterns (output_lit net A j).node first
-    → IsRow net patterns (output_lit net B j).node second → (p : ℕ) → p < length patterns
-    → apart_at first second (differs (output_lit net A j).neg (output_lit net B j).neg) p
+    → (first second counting : List ℕ) → IsRow net patterns (output_lit net A j).node first
+    → IsRow net patterns (output_lit net B j).node second → HasBitsFor patterns (admits net) counting → (p : ℕ) → p < length patterns
+    → apart_at first second (differs (output_lit net A j).neg (output_lit net B j).neg) counting p
     ≡ tells_apart net j (slice_index_or patterns p [])
-rows-differ net is j below patterns first second one two p within =
+rows-differ net is j below patterns first second counting one two admitted p within =
     let bits : List Bool = slice_index_or patterns p [] in
     let a : Lit = output_lit net A j in
     let b : Lit = output_lit net B j in
     let x : bit_of first p ≡ value_of net bits a.node = row-bit (length patterns) (value_on net patterns a.node) first one p within in
     let y : bit_of second p ≡ value_of net bits b.node = row-bit (length patterns) (value_on net patterns b.node) second two p within in
-    rw (x, y) (signs a.neg b.neg (value_of net bits a.node) (value_of net bits b.node)) ∙ lits-differ net is j below bits
+    let counts : bit_of counting p ≡ admits net bits = admitted p within in
+    ap₂ ◌&&◌ counts
+    (rw (x, y) (signs a.neg b.neg (value_of net bits a.node) (value_of net bits b.node)) ∙ lits-differ net is j below bits)
 
 pub first-told : (net : AigPair) → IsNet net → (j : ℕ) → j < length net.a.outputs → (patterns : List (List Bool))
-    → (first second : List ℕ) (opposite : Bool) (count : ℕ) (o : Option ℕ) → IsRow net patterns (output_lit net A j).node first
-    → IsRow net patterns (output_lit net B j).node second → opposite ≡ differs (output_lit net A j).neg (output_lit net B j).neg
-    → count ≡ length patterns → IsFirstOf count (apart_at first second opposite) o
+    → (first second : List ℕ) (opposite : Bool) (counting : List ℕ) (count : ℕ) (o : Option ℕ)
+    → IsRow net patterns (output_lit net A j).node first → IsRow net patterns (output_lit net B j).node second
+    → HasBitsFor patterns (admits net) counting → opposite ≡ differs (output_lit net A j).neg (output_lit net B j).neg
+    → count ≡ length patterns → IsFirstOf count (apart_at first second opposite counting) o
     → IsFirstOf (length patterns) (λ p. tells_apart net j (slice_index_or patterns p [])) o
-first-told net is j below patterns first second opposite count o one two sign size found =
-    first-same (length patterns) (apart_at first second opposite) (λ p. tells_apart net j (slice_index_or patterns p []))
-    (λ p within. ap (λ (t : Bool). apart_at first second t p) sign
-    ∙ rows-differ net is j below patterns first second one two p within)
-    o (subst (λ (n : ℕ). IsFirstOf n (apart_at first second opposite) o) size found)
+first-told net is j below patterns first second opposite counting count o one two admitted sign size found =
+    first-same (length patterns) (apart_at first second opposite counting) (λ p. tells_apart net j (slice_index_or patterns p []))
+    (λ p within. ap (λ (t : Bool). apart_at first second t counting p) sign
+    ∙ rows-differ net is j below patterns first second counting one two admitted p within)
+    o (subst (λ (n : ℕ). IsFirstOf n (apart_at first second opposite counting) o) size found)
 
 -- one output more that none tells apart
 pub none-next-output : (net : AigPair) (patterns : List (List Bool)) (n : ℕ)
@@ -318,8 +334,10 @@ pub first-differs : (net : AigPair) (patterns : List (List Bool)) (j : ℕ) (inp
     → AllByRecursion (λ bits. length bits ≡ length net.a.inputs) patterns → IsFirstApart net patterns j input → DiffersAt net j input
 first-differs net patterns j input whole first =
     let found = found-one (tells_apart net j) (λ bits. length bits ≡ length net.a.inputs) patterns input whole first.first in
+    let told = and_parts (admits net input) (differs (output_value net.a input j) (output_value net.b input j)) found.1 in
+    let met = and_parts (meets_constraints net.a input) (meets_constraints net.b input) told.0 in
     record {
-      whole = found.0;
+      admitted = record { whole = found.0; of_a = met.0; of_b = met.1 };
       within = first.within;
-      apart = distinct (output_value net.a input j) (output_value net.b input j) found.1;
+      apart = distinct (output_value net.a input j) (output_value net.b input j) told.1;
     }

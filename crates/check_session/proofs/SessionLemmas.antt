@@ -17,7 +17,7 @@ use Rattle.check_session.specs.Pool.{IsPoolOf, first_pool}
 use Rattle.check_session.specs.Begun.{IsPastOf, MayBegin, begun_after, begun_from}
 use Rattle.check_session.specs.Check.{IsSession, State, begun_by, with_edit}
 use Rattle.check_session.proofs.BegunLemmas.{pool-alike, pool-inputs}
-use Rattle.check_session.proofs.SweptLemmas.{pool-or_first}
+use Rattle.check_session.proofs.PoolLemmas.{pool-or_first}
 
 pool-edited : (net : AigPair) (o : Options) (e : Edit) (pool : Option Patterns) → IfSome pool (IsPoolOf net o) → IfSome pool (IsPoolOf (edited net e) o)
 pool-edited net o e None of = tt

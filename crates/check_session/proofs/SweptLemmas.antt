@@ -1,110 +1,44 @@
--- What a round without tasks, and a sweep, leave.
-use Rattle.std.proofs.Common.{◌≡◌, ◌≢◌, ◌⊎◌, ℕ, ◌+◌, ◌*◌, ◌<◌, suc, append_assoc, get_or, drop-cons, add-one, Bool, true, false, ◌||◌, List, [], ◌∷◌, ◌++◌, length, map, drop, Option, Some, None, inl, inr, refl, sym, ap, ◌∙◌, subst, arith, Result, Ok, Err, IfOk, OnOk}
-use Rattle.std.specs.Prelude.{◌==◌}
-use Rattle.std.specs.List.{AllByRecursion, find, list_all, list_any, range_with_len}
+-- What a sweep, and what is settled of the outputs behind it, leave.
+use Rattle.std.proofs.Common.{◌≡◌, ◌≢◌, ℕ, zero, suc, ◌+◌, ◌≤◌, append_assoc, Bool, true, false, ◌||◌, List, [], ◌∷◌, ◌++◌, length, drop, Option, Some, None, inl, inr, refl, sym, ap, ◌∙◌, subst, arith, Result, Ok, Err, IfOk}
+use Rattle.std.specs.List.{AllByRecursion, list_all, list_any}
 use Rattle.std.proofs.lemmas.List.{append-nil}
-use Rattle.std.proofs.lemmas.List.Folds.{find-append}
-use Rattle.std.proofs.lemmas.List.FromFn.{length-map-range_with_len}
+use Rattle.std.proofs.lemmas.Bool.{and_parts}
 use Rattle.std.proofs.lemmas.Bool.Decides.{nat_tests}
 use Rattle.std.specs.Option.{option_and_then}
 use Rattle.std.specs.declared.alloc.AllocError.{AllocError}
-use Rattle.std.specs.Prelude.{IfSome, MatchOption, slice_get, unwrap_or}
+use Rattle.std.specs.Prelude.{slice_get}
 use Rattle.lits.specs.declared.node.Node.{Node}
 use Rattle.lits.proofs.Facts.{all-append}
 use Rattle.netlist.specs.Place.{place_of}
 use Rattle.netlist.specs.Net.{AigPair, DiffersOn}
-use Rattle.word_sim.specs.Patterns.{Patterns, seeded, seeded_pattern}
+use Rattle.word_sim.specs.Patterns.{Patterns}
 use Rattle.lemma_book.specs.declared.entry.Entry.{Entry}
 use Rattle.lemma_book.specs.declared.entry.Entry.TheVariants.{Merge, Apart, Spent, Out, OutApart, OutSpent}
 use Rattle.lemma_book.specs.declared.entry.Subject.TheVariants.{Merged}
-use Rattle.lemma_book.specs.declared.entry.Task.{Task}
-use Rattle.lemma_book.specs.Entry.{Entries, is_on, is_spent_on, subject_of, with_last}
+use Rattle.lemma_book.specs.Entry.{Entries, is_merge, is_on, is_spent_on, subject_of, with_last}
 use Rattle.lemma_book.specs.Root.{IsRoot, merge_in}
-use Rattle.lemma_book.specs.Book.{IsLegal, StartsWith}
+use Rattle.lemma_book.specs.Book.{IsLegal}
 use Rattle.lemma_book.specs.Agreement.{IsTrue}
 use Rattle.lemma_book.proofs.Facts.{root-unsettled}
-use Rattle.sig_classes.specs.Leader.{IsDue, AreTasks, IsReduced, IsSwept}
-use Rattle.strash_pass.specs.Strash.{IsMerge, AddsMerges}
+use Rattle.sig_classes.specs.Leader.{IsReduced, IsSwept}
+use Rattle.strash_pass.specs.Strash.{IsMerge}
+use Rattle.sweep_workers.specs.Answered.{sees_first}
+use Rattle.sweep_workers.specs.Swept.{IsPoolFor, apart_inputs, is_of_output, is_of_pair}
 use Rattle.check_session.specs.declared.options.Options.{Options}
-use Rattle.check_session.specs.declared.patterns.Difference.{Difference}
+use Rattle.check_session.specs.declared.sweep.Checked.{Checked}
 use Rattle.check_session.specs.declared.verdict.Verdict.{Verdict}
 use Rattle.check_session.specs.declared.verdict.Verdict.TheVariants as verdict
 use Rattle.check_session.specs.Finding.{Finding, Equivalent, Different, Undecided, Finds, Means, SeesMerges}
-use Rattle.check_session.specs.Growth.{Grows, is_of_pair}
-use Rattle.check_session.specs.Outputs.{AreSettled, SeeMerges, ListsOpen, is_of_output, finding_of}
-use Rattle.check_session.specs.Pool.{Extends, Fits, IsAmongOrJoins, IsFirstApart, IsPoolOf, NoneApart, first_pool, tells_apart}
-use Rattle.check_session.specs.Rounds.{MayAsk, AreAsked, Settles}
-use Rattle.check_session.specs.declared.sweep.Sweep.{Sweep}
+use Rattle.check_session.specs.Outputs.{SeeMerges, ListsOpen, finding_of}
+use Rattle.check_session.specs.Pool.{Extends, IsAmongOrJoins, IsFirstApart, IsPoolOf, NoneApart, first_pool}
 use Rattle.check_session.specs.Begun.{GoesOn, MayBegin, is_equal}
-use Rattle.check_session.specs.Sweep.{Stays, held}
 use Rattle.check_session.specs.Check.{IsSweptFor, IsWithinFor, IsFound}
-use Rattle.check_session.proofs.RoundLemmas.{asked-next, extends-same, extends-twice, root-stays}
-use Rattle.check_session.proofs.BegunLemmas.{about-apart, differs-unsettled, lesser-apart, starts-grows, starts-twice}
+use Rattle.check_session.specs.Sweep.{IsSettledFrom}
+use Rattle.check_session.proofs.OutputLemmas.{off-subject}
+use Rattle.check_session.proofs.PoolLemmas.{extends-twice, none-first}
+use Rattle.check_session.proofs.BegunLemmas.{about-apart, differs-unsettled, lesser-apart, starts-twice}
 
--- ---- patterns that are drawn
-
-all-patterns : (n : ℕ) (f : ℕ → List Bool) (xs : List ℕ) → ((k : ℕ) → length (f k) ≡ n) → AllByRecursion (λ bits. length bits ≡ n) (map f xs)
-all-patterns n f [] each = tt
-all-patterns n f (x ∷ xs) each = (each x, all-patterns n f xs each)
-
--- the first pool fits
-fits-seeded : (net : AigPair) (seed words inputs : ℕ) → inputs ≡ length net.a.inputs → Fits net (seeded seed words inputs)
-fits-seeded net seed words inputs same = record {
-  inputs = same;
-  whole = all-patterns (length net.a.inputs) (seeded_pattern seed words inputs) (range_with_len 0 (64 * words))
-      (λ p. length-map-range_with_len _ 0 inputs ∙ same);
-}
-
--- it is the one that its seed draws
-pool-first : (net : AigPair) (o : Options) → IsPoolOf net o (first_pool net o)
-pool-first net o = record {
-  fits = fits-seeded net o.seed o.words (length net.a.inputs) refl;
-  begins = extends-same (first_pool net o) (first_pool net o) refl;
-}
-
--- so are patterns, or it where there are none
-pub pool-or_first : (net : AigPair) (o : Options) (pool : Option Patterns) → IfSome pool (IsPoolOf net o)
-    → IsPoolOf net o (unwrap_or pool (first_pool net o))
-pool-or_first net o None of = pool-first net o
-pool-or_first net o (Some p) of = of
-
-find-front : (test : List Bool → Bool) (xs ys : List (List Bool)) → find test (xs ++ ys) ≡ None → find test xs ≡ None
-find-front test [] ys none = refl
-find-front test (x ∷ xs) ys none = go (test x) refl none (find-front test xs ys)
-  where
-    go : (b : Bool) → test x ≡ b → find test (x ∷ xs ++ ys) ≡ None → (find test (xs ++ ys) ≡ None → find test xs ≡ None)
-        → find test (x ∷ xs) ≡ None
-    go true is n rest = let t : Some x ≡ None = rw is at n in cc
-    go false is n rest = rw is (rest (rw is at n))
-
--- where no pattern of a longer pool tells an output apart, none of the first ones does
-none-first : (net : AigPair) (old new : Patterns) → Extends old new → NoneApart net new.patterns → NoneApart net old.patterns
-none-first net old new extends none j below =
-    find-front (tells_apart net j) old.patterns extends.added
-    (subst (λ (ps : List (List Bool)). find (tells_apart net j) ps ≡ None) extends.is (none j below))
-
--- where none of the first patterns passes the test, the one that is found behind them is the last
-last-found : (test : List Bool → Bool) (xs : List (List Bool)) (y found : List Bool) → find test xs ≡ None
-    → find test (xs ++ y ∷ []) ≡ Some found → found ≡ y
-last-found test xs y found none some = go (test y) refl (rw (find-append test xs (y ∷ []), none) at some)
-  where
-    go : (b : Bool) → test y ≡ b → find test (y ∷ []) ≡ Some found → found ≡ y
-    go true is s = let t : Some y ≡ Some found = rw is at s in cc
-    go false is s = let t : None ≡ Some found = rw is at s in cc
-
--- ---- a round
-
-may-due : (net : AigPair) (es : List Entry) (patterns : List (List Bool)) (ts : List Task) → AllByRecursion (IsDue net es patterns) ts
-    → AllByRecursion (MayAsk net es) ts
-may-due net es patterns [] due = tt
-may-due net es patterns (t ∷ ts) due = (record { gate = due.0.gate; earlier = due.0.earlier }, may-due net es patterns ts due.1)
-
--- the pairs that are due may be asked for
-pub asked-due : (net : AigPair) (es : List Entry) (patterns : List (List Bool)) (ts : List Task) → AreTasks net es patterns ts
-    → AreAsked net es ts
-asked-due net es patterns ts tasks = record { each = may-due net es patterns ts tasks.due; rising = tasks.rising }
-
--- ---- entries about pairs, and then about outputs
+-- ---- what open outputs saw
 
 merges-pairs : (es : List Entry) → AllByRecursion IsMerge es → list_all is_of_pair es ≡ true
 merges-pairs [] all = refl
@@ -114,17 +48,6 @@ merges-pairs (Spent node lit seen log ∷ es) all = absurd all.0
 merges-pairs (Out j steps ∷ es) all = absurd all.0
 merges-pairs (OutApart j input ∷ es) all = absurd all.0
 merges-pairs (OutSpent j seen log ∷ es) all = absurd all.0
-
--- merges are entries about pairs
-pub grows-merges : (net : AigPair) (old new : Entries) → IsLegal net new → AddsMerges old new → Grows net is_of_pair old new
-grows-merges net old new legal adds = record {
-  sweep_budget = adds.sweep;
-  out_budget = adds.out;
-  added = adds.added;
-  begins = adds.entries;
-  kinds = merges-pairs adds.added adds.merges;
-  legal = legal;
-}
 
 pairs-seen : (whole es : List Entry) → list_all is_of_pair es ≡ true → AllByRecursion (SeesMerges whole) es
 pairs-seen whole [] all = tt
@@ -144,12 +67,82 @@ equals-seen whole (Out j steps ∷ es) all = (tt, equals-seen whole es all)
 equals-seen whole (OutApart j input ∷ es) all = cc
 equals-seen whole (OutSpent j seen log ∷ es) all = cc
 
--- a sweep leaves no output open
-pub sweep-seen : (net : AigPair) (old new : Entries) → list_all is_equal old.entries ≡ true → Grows net is_of_pair old new → SeeMerges new.entries
-sweep-seen net old new equal grows =
-    subst (λ (es : List Entry). SeeMerges es) (sym grows.begins)
-    (all-append (SeesMerges (old.entries ++ grows.added)) old.entries grows.added (equals-seen (old.entries ++ grows.added) old.entries equal)
-    (pairs-seen (old.entries ++ grows.added) grows.added grows.kinds))
+any-drop : (n : ℕ) (es : List Entry) → list_any is_merge es ≡ false → list_any is_merge (drop n es) ≡ false
+any-drop zero es none = none
+any-drop (suc n) [] none = refl
+any-drop (suc n) (e ∷ es) none = go (is_merge e) refl none (any-drop n es)
+  where
+    go : (b : Bool) → is_merge e ≡ b → (is_merge e || list_any is_merge es) ≡ false
+        → (list_any is_merge es ≡ false → list_any is_merge (drop n es) ≡ false) → list_any is_merge (drop n es) ≡ false
+    go true is none rest = let t : true ≡ false = rw is at none in cc
+    go false is none rest = rest (rw is at none)
+
+-- what is dropped of a list with others behind it, where it is dropped whole
+drop-behind : (n : ℕ) (xs ys : List Entry) → length xs ≤ n → list_any is_merge ys ≡ false → list_any is_merge (drop n (xs ++ ys)) ≡ false
+drop-behind n [] ys most none = any-drop n ys none
+drop-behind zero (x ∷ xs) ys most none = absurd (omega (arith, most))
+drop-behind (suc n) (x ∷ xs) ys most none = drop-behind n xs ys (omega (arith, most)) none
+
+no-merges : (es : List Entry) → list_all is_of_output es ≡ true → list_any is_merge es ≡ false
+no-merges [] all = refl
+no-merges (Merge node lit steps ∷ es) all = cc
+no-merges (Apart node lit input ∷ es) all = cc
+no-merges (Spent node lit seen log ∷ es) all = cc
+no-merges (Out j steps ∷ es) all = no-merges es all
+no-merges (OutApart j input ∷ es) all = no-merges es all
+no-merges (OutSpent j seen log ∷ es) all = no-merges es all
+
+-- an open output saw all before the first output's entry, and no merge stands behind that
+output-seen : (front outs : List Entry) (e : Entry) → list_any is_merge outs ≡ false → sees_first (length front) e ≡ true
+    → SeesMerges (front ++ outs) e
+output-seen front outs (Merge node lit steps) none sees = tt
+output-seen front outs (Apart node lit input) none sees = tt
+output-seen front outs (Spent node lit seen log) none sees = tt
+output-seen front outs (Out j steps) none sees = tt
+output-seen front outs (OutApart j input) none sees = tt
+output-seen front outs (OutSpent j seen log) none sees = drop-behind seen front outs (grind (arith, nat_tests)) none
+
+outputs-seen : (front outs es : List Entry) → list_any is_merge outs ≡ false → list_all (sees_first (length front)) es ≡ true
+    → AllByRecursion (SeesMerges (front ++ outs)) es
+outputs-seen front outs [] none sees = tt
+outputs-seen front outs (e ∷ es) none sees =
+    let parts = and_parts (sees_first (length front) e) (list_all (sees_first (length front)) es) sees in
+    (output-seen front outs e none parts.0, outputs-seen front outs es none parts.1)
+
+-- where a check began with entries that say that values are equal, each open output saw all merges
+pub settled-seen : (net : AigPair) (old : Entries) (pool : Patterns) (new : Entries) (patterns : Patterns) → list_all is_equal old.entries ≡ true
+    → IsSettledFrom net old pool new patterns → SeeMerges new.entries
+settled-seen net old pool new patterns equal s =
+    let outs = s.outputs.added in
+    let whole = s.swept.entries ++ outs in
+    let merged : AllByRecursion (SeesMerges whole) s.merged.entries =
+    subst (λ (es : List Entry). AllByRecursion (SeesMerges whole) es) (sym s.structure.entries)
+    (all-append (SeesMerges whole) old.entries s.structure.added (equals-seen whole old.entries equal)
+    (pairs-seen whole s.structure.added (merges-pairs s.structure.added s.structure.merges))) in
+    let swept : AllByRecursion (SeesMerges whole) s.swept.entries =
+    subst (λ (es : List Entry). AllByRecursion (SeesMerges whole) es) (sym s.pairs.begins)
+    (all-append (SeesMerges whole) s.merged.entries s.pairs.added merged (pairs-seen whole s.pairs.added s.pairs.kinds)) in
+    subst (λ (es : List Entry). SeeMerges es) (sym s.outputs.begins)
+    (all-append (SeesMerges whole) s.swept.entries outs swept
+    (outputs-seen s.swept.entries outs outs (no-merges outs s.outputs.kinds) s.outputs.seen))
+
+-- ---- roots
+
+place-last : (test : Entry → Bool) (es : List Entry) (e : Entry) → place_of test es ≡ None → test e ≡ false → place_of test (es ++ e ∷ []) ≡ None
+place-last test [] e none other = rw other refl
+place-last test (x ∷ xs) e none other = go (test x) refl none (place_of test xs) refl (λ n. place-last test xs e n other)
+  where
+    go : (b : Bool) → test x ≡ b → place_of test (x ∷ xs) ≡ None → (o : Option ℕ) → place_of test xs ≡ o
+        → (place_of test xs ≡ None → place_of test (xs ++ e ∷ []) ≡ None) → place_of test (x ∷ xs ++ e ∷ []) ≡ None
+    go true is n o rest_is rest = let t : Some 0 ≡ None = rw is at n in cc
+    go false is n None rest_is rest = rw (is, rest rest_is) refl
+    go false is n (Some k) rest_is rest = let t : Some (k + 1) ≡ None = rw (is, rest_is) at n in cc
+
+-- an entry that doesn't merge a root leaves it one
+pub root-stays : (es : List Entry) (e : Entry) (n : Node) → subject_of e ≢ Some (Merged n) → IsRoot es n → IsRoot (es ++ e ∷ []) n
+root-stays es e n other root =
+    let none = place-last (is_on (Merged n)) es e (root-unsettled es n root) (off-subject (Merged n) e other) in
+    ap (option_and_then (λ k. option_and_then (merge_in k) (slice_get (es ++ e ∷ []) k))) none
 
 place-front : (test : Entry → Bool) (es fs : List Entry) → place_of test (es ++ fs) ≡ None → place_of test es ≡ None
 place-front test [] fs none = refl
@@ -222,49 +215,67 @@ swept-for net es Equivalent swept = swept
 swept-for net es (Different j input) swept = inl swept
 swept-for net es Undecided swept = swept
 
+-- ---- by the sweep
+
 -- what a sweep and the queries about the outputs find, where patterns may have joined before
-pub found-by_sweep : (net : AigPair) (o : Options) (begun pool seen : Patterns) (first mid swept last : Entries) (v : Verdict)
+pub found-by_sweep : (net : AigPair) (o : Options) (begun pool seen : Patterns) (first last : Entries) (v : Verdict)
     → IsPoolOf net o begun → Extends begun pool → MayBegin net o (record { book = first; pool = pool }) → NoneApart net pool.patterns
-    → Grows net is_of_pair first mid → Grows net is_of_pair mid swept → Fits net seen → Extends pool seen
-    → IsReduced net swept.entries seen.patterns → Grows net is_of_output swept last
-    → AreSettled net last.entries → Finds net last.entries (finding_of v) → ListsOpen net last.entries v
+    → IsSettledFrom net first pool last seen → Finds net last.entries (finding_of v) → ListsOpen net last.entries v
     → ((f : Finding) → Finds net last.entries f → Means net last.entries f)
     → ((f : Finding) → Finds net last.entries f → IsWithinFor net last.out_budget f)
     → ((es : List Entry) (ps : List (List Bool)) → AllByRecursion (λ bits. length bits ≡ length net.a.inputs) ps
     → IsReduced net es ps → IsSwept net es)
     → IsFound net o (record { book = first; pool = begun }) (Some seen) last v
-found-by_sweep net o begun pool seen first mid swept last v of before ready none structure rounds fits extends reduced outputs settled finds opens means within sweeps = record {
+found-by_sweep net o begun pool seen first last v of before ready none s finds opens means within sweeps = record {
   settled = record {
-    sweep_is = outputs.sweep_budget ∙ rounds.sweep_budget ∙ structure.sweep_budget ∙ ready.book.sweep_is;
-    budget_is = outputs.out_budget ∙ rounds.out_budget ∙ structure.out_budget ∙ ready.book.budget_is;
-    legal = outputs.legal;
+    sweep_is = s.outputs.sweep_budget ∙ s.pairs.sweep_budget ∙ s.structure.sweep ∙ ready.book.sweep_is;
+    budget_is = s.outputs.out_budget ∙ s.pairs.out_budget ∙ s.structure.out ∙ ready.book.budget_is;
+    legal = s.outputs.legal;
     finds = finds;
     means = means (finding_of v) finds;
-    swept = swept-for net last.entries (finding_of v) (sweeps last.entries seen.patterns fits.whole reduced-last);
+    swept = swept-for net last.entries (finding_of v) (sweeps last.entries seen.patterns s.fits.whole reduced-last);
     within = within (finding_of v) finds;
   };
   open_are = opens;
   patterns = seen;
   pool_is = refl;
-  pool_of = record { fits = fits; begins = extends-twice (first_pool net o) pool seen ready.pool.begins extends };
+  pool_of = record {
+    fits = s.fits;
+    begins = extends-twice (first_pool net o) pool seen ready.pool.begins (record { added = apart_inputs s.pairs.added; is = s.pairs.patterns });
+  };
   begun_of = of;
-  way = inr (record { none = none-first net begun pool before none; reduced = reduced-last; settled = settled });
+  way = inr (record { none = none-first net begun pool before none; reduced = reduced-last; settled = s.outputs.settled });
 }
   where
     reduced-last : IsReduced net last.entries seen.patterns
     reduced-last =
-        subst (λ (es : List Entry). IsReduced net es seen.patterns) (sym outputs.begins)
-        (reduced-more net swept.entries outputs.added seen.patterns outputs.kinds reduced)
+        subst (λ (es : List Entry). IsReduced net es seen.patterns) (sym s.outputs.begins)
+        (reduced-more net s.swept.entries s.outputs.added seen.patterns s.outputs.kinds s.reduced)
 
 -- and the book and the patterns go on
-pub goes_on-sweep : (net : AigPair) (pool seen : Patterns) (first mid swept last : Entries) → Grows net is_of_pair first mid
-    → Grows net is_of_pair mid swept → Grows net is_of_output swept last → Extends pool seen
+pub goes_on-sweep : (net : AigPair) (pool seen : Patterns) (first last : Entries) → IsSettledFrom net first pool last seen
     → GoesOn (record { book = first; pool = pool }) last seen
-goes_on-sweep net pool seen first mid swept last structure rounds outputs extends = record {
+goes_on-sweep net pool seen first last s = record {
   entries =
-      starts-twice first mid last (starts-grows net is_of_pair first mid structure)
-      (starts-twice mid swept last (starts-grows net is_of_pair mid swept rounds) (starts-grows net is_of_output swept last outputs));
-  patterns = extends;
+      starts-twice first s.merged last (record {
+        rest = s.structure.added;
+        entries = s.structure.entries;
+        sweep = s.structure.sweep;
+        out = s.structure.out;
+      })
+      (starts-twice s.merged s.swept last (record {
+        rest = s.pairs.added;
+        entries = s.pairs.begins;
+        sweep = s.pairs.sweep_budget;
+        out = s.pairs.out_budget;
+      })
+      (record {
+        rest = s.outputs.added;
+        entries = s.outputs.begins;
+        sweep = s.outputs.sweep_budget;
+        out = s.outputs.out_budget;
+      }));
+  patterns = record { added = apart_inputs s.pairs.added; is = s.pairs.patterns };
 }
 
 -- ---- at once
@@ -308,59 +319,25 @@ found-at_once net o begun pool first last j input told of from ready true_all di
 
 -- ---- where patterns joined before anything was found
 
--- what was found over whatever the check began with was found from the beginning
-pub run-sooner : (r : Result Verdict AllocError) (old mid new : Sweep) (Before : AigPair → Patterns → Type 0) → Stays old mid
-    → OnOk r (Stays mid new) → mid.book ≡ old.book → Before mid.net.now old.pool → IsPoolOf old.net.now old.options old.pool
-    → IfOk r (λ v. (begun : Patterns) → IsPoolOf new.net.now new.options begun → Before new.net.now begun
-    → IsFound new.net.now new.options (record { book = mid.book; pool = begun }) (Some new.pool) new.book v)
-    → IfOk r (IsFound new.net.now new.options (held old) (Some new.pool) new.book)
-run-sooner (Ok v) old mid new Before first second same before of found =
-    subst (λ (b : Entries). IsFound new.net.now new.options (record { book = b; pool = old.pool }) (Some new.pool) new.book v) same
-    (found old.pool
-    (subst (λ (o : Options). IsPoolOf new.net.now o old.pool) (sym (second.options ∙ first.options))
-    (subst (λ (n : AigPair). IsPoolOf n old.options old.pool) (sym (second.net ∙ first.net)) of))
-    (subst (λ (n : AigPair). Before n old.pool) (sym second.net) before))
-run-sooner (Err e) old mid new Before first second same before of found = tt
+-- what was found over whatever a check began with was found over what it began with
+pub found-sooner : {T E : Type 0} (r : Result T E) (A B : Patterns → Type 0) (F : Patterns → T → Type 0) (p : Patterns) → A p → B p
+    → IfOk r (λ c. (begun : Patterns) → A begun → B begun → F begun c) → IfOk r (F p)
+found-sooner (Ok c) A B F p a b found = found p a b
+found-sooner (Err e) A B F p a b found = tt
 
 -- and it goes on from there
-pub goes_on-sooner : (r : Result Verdict AllocError) (old mid new : Sweep) → mid.book ≡ old.book → Extends old.pool mid.pool
-    → OnOk r (GoesOn (held mid) new.book new.pool) → OnOk r (GoesOn (held old) new.book new.pool)
-goes_on-sooner (Ok v) old mid new same extends on = record {
-  entries = subst (λ (b : Entries). StartsWith new.book b) same on.entries;
-  patterns = extends-twice old.pool mid.pool new.pool extends on.patterns;
+pub goes_on-sooner : (r : Result Checked AllocError) (book : Entries) (old mid : Patterns) → Extends old mid
+    → IfOk r (λ c. GoesOn (record { book = book; pool = mid }) c.book c.pool)
+    → IfOk r (λ c. GoesOn (record { book = book; pool = old }) c.book c.pool)
+goes_on-sooner (Ok c) book old mid extends on =
+    record { entries = on.entries; patterns = extends-twice old mid c.pool extends on.patterns }
+goes_on-sooner (Err e) book old mid extends on = tt
+
+-- with patterns that joined a check may begin still
+pub begin-joined : (net : AigPair) (o : Options) (book : Entries) (old mid : Patterns) → MayBegin net o (record { book = book; pool = old })
+    → Extends old mid → IsPoolFor net mid → MayBegin net o (record { book = book; pool = mid })
+begin-joined net o book old mid may extends fits = record {
+  book = may.book;
+  equal = may.equal;
+  pool = record { fits = fits; begins = extends-twice (first_pool net o) old mid may.pool.begins extends };
 }
-goes_on-sooner (Err e) old mid new same extends on = tt
-
--- the input that tells an output apart where none of the first patterns does is the one that joined
-joined-told : (net : AigPair) (j : ℕ) (before patterns : List (List Bool)) (joined input : List Bool) → NoneApart net before
-    → IsFirstApart net patterns j input → patterns ≡ before ++ joined ∷ [] → input ≡ joined
-joined-told net j before patterns joined input none first is =
-    last-found (tells_apart net j) before joined input (none j first.within)
-    (subst (λ (ps : List (List Bool)). find (tells_apart net j) ps ≡ Some input) is first.first)
-
--- so where it comes from
-pub among-found : (r : Result (Option Difference) AllocError) (net : AigPair) (before patterns : List (List Bool)) (joined : List Bool)
-    → NoneApart net before → (patterns ≡ before) ⊎ (patterns ≡ before ++ joined ∷ [])
-    → IfOk r (λ d. MatchOption d (NoneApart net patterns) (λ x. IsFirstApart net patterns x.output x.input))
-    → IfOk r (λ d. IfSome d (λ x. IsAmongOrJoins net before patterns x.input))
-among-found (Err e) net before patterns joined none joins first = tt
-among-found (Ok None) net before patterns joined none joins first = tt
-among-found (Ok (Some x)) net before patterns joined none joins first = elim joins [
-  | inl same ↦ inl same
-  | inr more ↦ inr (
-    none,
-    subst (λ (bits : List Bool). patterns ≡ before ++ bits ∷ [])
-        (sym (joined-told net x.output before patterns joined x.input none first more)) more,
-  )
-]
-
--- when the pair at a place is settled those behind it may be asked for
-pub asked-drop : (net : AigPair) (ts : List Task) (i : ℕ) (d : Task) (old new : Entries) → i < length ts → Settles net (get_or ts i d) old new
-    → AreAsked net old.entries (drop i ts) → AreAsked net new.entries (drop (i + 1) ts)
-asked-drop net ts i d old new below settles asked =
-    rw add-one (asked-next net (get_or ts i d) (drop (suc i) ts) old new settles
-    (subst (λ (us : List Task). AreAsked net old.entries us) (drop-cons ts i d below) asked))
-
-pub none-items : (ts : List Task) → (length ts == 0) ≡ true → ts ≡ []
-none-items [] none = refl
-none-items (t ∷ ts) none = let z : length (t ∷ ts) ≡ 0 = grind (arith, nat_tests) in absurd (omega arith)

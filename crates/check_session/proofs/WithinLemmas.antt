@@ -19,7 +19,7 @@ use Rattle.lemma_book.specs.declared.entry.Entry.TheVariants.{Merge, Apart, Spen
 use Rattle.lemma_book.specs.Entry.{Entries, about, is_spent, has_spent, outputs_of}
 use Rattle.lemma_book.specs.Good.{Count, NoStep, NotNew, IsGood}
 use Rattle.lemma_book.specs.Book.{IsLegal}
-use Rattle.lemma_book.proofs.Facts.{IsGoodAfter, about-all, cone-one, cone-over, in_turn-each}
+use Rattle.lemma_book.proofs.Facts.{IsGoodAfter, about-all, in_turn-each, output_cone-one, output_cone-over}
 use Rattle.check_session.specs.Finding.{Finding, Equivalent, Different, Undecided, Finds}
 use Rattle.check_session.specs.Check.{IsWithinFor}
 
@@ -65,7 +65,7 @@ spent-within net is small among sweep out (OutSpent j seen log) later spent =
       whole = good Count;
       learned = in_turn-each (IsLearned cone) [] log (λ k x at. record { step = step k x at; new = new k x at });
     }) in
-    let few : variables cone ≤ length (variables_of net) = among cone (variables_of net) (cone-over net is book later.legal seen (Xor j ∷ []) cone (good (NoStep 0)).is_cone) in
+    let few : variables cone ≤ length (variables_of net) = among cone (variables_of net) (output_cone-over net is book later.legal seen j cone (good (NoStep 0)).is_cone) in
     omega (arith, in_cone, power-grows (variables cone) (length (variables_of net)) few)
   where
     book : Entries
@@ -81,13 +81,13 @@ spent-within net is small among sweep out (OutSpent j seen log) later spent =
     step k x at =
         let over = good (NoStep k) in
         subst (λ (c : List Named). IsStepAfter (base_clause c) (take k log) x)
-        (cone-one net (take seen later.before) (Xor j ∷ []) over.cone cone over.is_cone (good (NoStep 0)).is_cone) (over.holds x at)
+        (output_cone-one net (take seen later.before) j over.cone cone over.is_cone (good (NoStep 0)).is_cone) (over.holds x at)
 
     new : (k : ℕ) (x : Step) → slice_get log k ≡ Some x → IsNew same_lit opposite (clauses_of cone (take k log)) x.clause
     new k x at =
         let over = good (NotNew k) in
         subst (λ (c : List Named). IsNew same_lit opposite (clauses_of c (take k log)) x.clause)
-        (cone-one net (take seen later.before) (Xor j ∷ []) over.cone cone over.is_cone (good (NoStep 0)).is_cone) (over.holds.0 x at)
+        (output_cone-one net (take seen later.before) j over.cone cone over.is_cone (good (NoStep 0)).is_cone) (over.holds.0 x at)
 spent-within net is small among sweep out (Merge node lit steps) later spent = cc
 spent-within net is small among sweep out (Apart node lit input) later spent = cc
 spent-within net is small among sweep out (Spent node lit seen log) later spent = cc

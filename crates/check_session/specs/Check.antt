@@ -15,12 +15,15 @@ use Rattle.sig_classes.specs.Leader.{IsReduced, IsSwept}
 use Rattle.check_session.specs.declared.options.Options.{Options}
 use Rattle.check_session.specs.declared.verdict.Verdict.{Verdict}
 use Rattle.check_session.specs.Finding.{Finding, Equivalent, Different, Undecided, Finds, Means}
-use Rattle.check_session.specs.Outputs.{AreSettled, ListsOpen, finding_of}
+use Rattle.sweep_workers.specs.Swept.{AreSettled}
+use Rattle.check_session.specs.Outputs.{ListsOpen, finding_of}
 use Rattle.check_session.specs.Pool.{IsPoolOf, IsFirstApart, IsAmongOrJoins, NoneApart}
 use Rattle.check_session.specs.Begun.{Begun, GoesOn, IsBookOf, begun_from}
 
 -- the numbers are in their ranges
 pub record AreInRange (o : Options) : Type 0 where
+  pub workers_least : 1 ≤ o.workers
+  pub workers_most : o.workers ≤ 64
   pub words_least : 1 ≤ o.words
   pub words_most : o.words ≤ 64
   pub sweep_least : 1 ≤ o.sweep_budget

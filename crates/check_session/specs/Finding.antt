@@ -10,9 +10,9 @@ use Rattle.lemma_book.specs.declared.entry.Entry.TheVariants.{OutApart}
 use Rattle.lemma_book.specs.Entry.{Question, OfOutput, Answer, Open, question_of, answer_of, about, has_out, has_spent, has_apart, is_merge, outputs_of}
 
 pub data Finding : Type 0 where
-  -- the circuits agree on every input
+  -- the circuits agree on every admitted input
   Equivalent : Finding
-  -- this output differs on this input
+  -- this output differs on this admitted input
   Different : ℕ → List Bool → Finding
   -- no output differs as far as is known, and the queries of some spent their budgets
   Undecided : Finding
@@ -43,12 +43,12 @@ Finds net entries (Different j input) =
     (about entries j ≡ Some (OutApart j input)) × ((k : ℕ) → k < j → has_apart entries k ≡ false)
 Finds net entries Undecided = FindsOpen net entries
 
--- the circuits agree on every input, and the CNF of their miter has a model exactly if they differ on some
+-- the circuits agree on every admitted input, and the CNF of their miter has a model exactly if they differ on some
 pub record IsAgreed (net : AigPair) : Type 0 where
   pub agree : Agree net
   pub exact : IsSatisfiable opposite_dim (miter_of net) ↔ Differ net
 
--- output j is there, and differs on the input, one truth value for each of the circuits' inputs
+-- output j is there, and differs on the input, which is admitted and has one truth value for each of the circuits' inputs
 abbrev pub DiffersAt : AigPair → ℕ → List Bool → Type 0
 DiffersAt net j input = DiffersOn net j input
 

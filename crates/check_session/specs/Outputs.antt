@@ -1,5 +1,5 @@
--- The last part of a check: each output gets its entry.
-use Rattle.std.specs.Prelude.{◌≡◌, ◌≢◌, ℕ, ◌<◌, Bool, not, false, ⊤, Option, None, Some, List, [], ◌∷◌, ◌++◌, filter, length}
+-- What the entries of all outputs tell.
+use Rattle.std.specs.Prelude.{◌≡◌, ℕ, false, ⊤, Option, None, Some, List, [], ◌∷◌, ◌++◌, filter}
 use Rattle.std.specs.List.{AllByRecursion}
 use Rattle.netlist.specs.Net.{AigPair}
 use Rattle.lemma_book.specs.declared.entry.Entry.TheVariants.{OutApart}
@@ -8,19 +8,6 @@ use Rattle.lemma_book.specs.Entry.{about, has_apart, has_spent}
 use Rattle.check_session.specs.declared.verdict.Verdict.{Verdict}
 use Rattle.check_session.specs.declared.verdict.Verdict.TheVariants as verdict
 use Rattle.check_session.specs.Finding.{Finding, Equivalent, Different, Undecided, SeesMerges, open_outputs}
-use Rattle.check_session.specs.Growth.{is_of_pair}
-
--- the entry is about an output
-abbrev pub is_of_output : Entry → Bool
-is_of_output e = not (is_of_pair e)
-
--- each output below this one has an entry
-abbrev pub AreSettledBelow : ℕ → List Entry → Type 0
-AreSettledBelow count entries = (j : ℕ) → j < count → about entries j ≢ None
-
--- each output has one
-abbrev pub AreSettled : AigPair → List Entry → Type 0
-AreSettled net entries = AreSettledBelow (length net.a.outputs) entries
 
 -- each open output's query saw all merges
 abbrev pub SeeMerges : List Entry → Type 0

@@ -1,21 +1,22 @@
 -- The patterns of a check, and what they show of the outputs before any query.
-use Rattle.std.specs.Prelude.{◌≡◌, ◌⊎◌, ℕ, ◌+◌, ◌/◌, ◌%◌, ◌<◌, Bool, true, false, Option, None, Some, List, [], ◌∷◌, ◌++◌, length, map}
-use Rattle.std.specs.List.{find, range_with_len, slice_index_or, AllByRecursion}
+use Rattle.std.specs.Prelude.{◌≡◌, ◌⊎◌, ℕ, ◌+◌, ◌/◌, ◌%◌, ◌<◌, ◌&&◌, Bool, true, false, Option, None, Some, List, [], ◌∷◌, ◌++◌, length, map}
+use Rattle.std.specs.List.{find, range_with_len, slice_index_or}
 use Rattle.netlist.specs.Circuit.{output_value}
-use Rattle.netlist.specs.Net.{AigPair, differs}
+use Rattle.netlist.specs.Net.{AigPair, differs, meets_constraints}
 use Rattle.word_sim.specs.Patterns.{Patterns, seeded, is_set}
 use Rattle.word_sim.specs.Rows.{Signatures}
+use Rattle.sweep_workers.specs.Swept.{IsPoolFor}
 use Rattle.check_session.specs.declared.options.Options.{Options}
-
--- each pattern has one truth value for each input of the pair
-pub record Fits (net : AigPair) (pool : Patterns) : Type 0 where
-  pub inputs : pool.inputs ≡ length net.a.inputs
-  pub whole : AllByRecursion (λ bits. length bits ≡ length net.a.inputs) pool.patterns
 
 -- patterns joined the pool, if any
 pub record Extends (old new : Patterns) : Type 0 where
   pub added : List (List Bool)
   pub is : new.patterns ≡ old.patterns ++ added
+
+-- the input joined behind the others; or it hasn't a truth value for each input, and none did
+abbrev pub MayJoin : List Bool → Patterns → Patterns → Type 0
+MayJoin input old new = (new ≡ old)
+    ⊎ ((length input ≡ old.inputs) × (new ≡ record { inputs = old.inputs; patterns = old.patterns ++ input ∷ [] }))
 
 -- the pool that the seed draws for the pair
 abbrev pub first_pool : AigPair → Options → Patterns
@@ -23,12 +24,16 @@ first_pool net o = seeded o.seed o.words (length net.a.inputs)
 
 -- patterns for the pair's checks: each has a truth value for each input, and they begin with those that the seed draws
 pub record IsPoolOf (net : AigPair) (o : Options) (pool : Patterns) : Type 0 where
-  pub fits : Fits net pool
+  pub fits : IsPoolFor net pool
   pub begins : Extends (first_pool net o) pool
 
--- both circuits' outputs j have two values on the input
+-- the input is admitted: each constraint of both circuits is true on it
+abbrev pub admits : AigPair → List Bool → Bool
+admits net bits = meets_constraints net.a bits && meets_constraints net.b bits
+
+-- the input is admitted, and both circuits' outputs j have two values on it
 abbrev pub tells_apart : AigPair → ℕ → List Bool → Bool
-tells_apart net j bits = differs (output_value net.a bits j) (output_value net.b bits j)
+tells_apart net j bits = admits net bits && differs (output_value net.a bits j) (output_value net.b bits j)
 
 -- no pattern tells an output apart
 abbrev pub NoneApart : AigPair → List (List Bool) → Type 0
@@ -49,6 +54,10 @@ IsAmongOrJoins net before patterns input = (patterns ≡ before) ⊎ (NoneApart 
 -- bit p of a row
 abbrev pub bit_of : List ℕ → ℕ → Bool
 bit_of row p = is_set (slice_index_or row (p / 64) 0) (p % 64)
+
+-- the bits of a row are the truth values of the patterns' numbers
+abbrev pub HasBitsFor : List (List Bool) → (List Bool → Bool) → List ℕ → Type 0
+HasBitsFor patterns truth row = (p : ℕ) → p < length patterns → bit_of row p ≡ truth (slice_index_or patterns p [])
 
 -- the values of the nodes behind the constant on pattern p, one for each of so many inputs
 abbrev pub HasBitsOf : Signatures → ℕ → ℕ → List Bool → Type 0

@@ -1,25 +1,20 @@
--- A check under way.
-use Rattle.std.specs.Prelude.{◌≡◌}
+-- What the sweep of a check leaves.
 use Rattle.netlist.specs.Net.{AigPair}
-use Rattle.check_session.specs.declared.options.Options.{Options}
-use Rattle.check_session.specs.declared.sweep.Sweep.{Sweep}
-use Rattle.check_session.specs.Begun.{Begun, MayBegin}
+use Rattle.word_sim.specs.Patterns.{Patterns}
+use Rattle.lemma_book.specs.Entry.{Entries}
+use Rattle.lemma_book.specs.Book.{IsLegal}
+use Rattle.sig_classes.specs.Leader.{IsReduced}
+use Rattle.strash_pass.specs.Strash.{AddsMerges}
+use Rattle.sweep_workers.specs.Swept.{IsPoolFor, SettlesOutputs, Sweeps}
 
--- the book and the patterns that it has
-abbrev pub held : Sweep → Begun
-held s = record { book = s.book; pool = s.pool }
-
--- a check of this pair, by these numbers, that has what it begins with
-pub record IsBegun (net : AigPair) (o : Options) (begun : Begun) (s : Sweep) : Type 0 where
-  pub net_is : s.net.now ≡ net
-  pub options_are : s.options ≡ o
-  pub held_is : held s ≡ begun
-
--- a check of its own pair and numbers that may begin with what it has
-abbrev pub IsReady : Sweep → Type 0
-IsReady s = MayBegin s.net.now s.options (held s)
-
--- the pair and the numbers are the same
-pub record Stays (old new : Sweep) : Type 0 where
-  pub net : new.net.now ≡ old.net.now
-  pub options : new.options ≡ old.options
+-- Behind the old entries stand merges that the structure shows, then what was settled of the pairs that simulation left, over
+-- whose patterns the book is reduced, and then what was settled of the outputs.
+pub record IsSettledFrom (net : AigPair) (old : Entries) (pool : Patterns) (new : Entries) (patterns : Patterns) : Type 0 where
+  pub merged : Entries
+  pub swept : Entries
+  pub structure : AddsMerges old merged
+  pub legal : IsLegal net merged
+  pub pairs : Sweeps net merged swept pool patterns
+  pub fits : IsPoolFor net patterns
+  pub reduced : IsReduced net swept.entries patterns.patterns
+  pub outputs : SettlesOutputs net swept new

@@ -2,12 +2,11 @@
 //!
 //! A `Session` holds the pair, and takes edits of it between checks. Its `check` begins with what is kept of
 //! the book of the last one, and with its patterns (`begin`), and sweeps in the way of FRAIGs (Kuehlmann et
-//! al. 2002; Mishchenko, Chatterjee, Jiang and Brayton 2005): a check under way is a `Sweep`, which each of
-//! its parts is lent. A pattern may tell an output apart at once (`patterns`). Else `strash_pass` merges what
-//! the structure alone shows to be equal (`structure`), rounds ask for the candidates that simulation
-//! leaves, from the inputs up (`rounds`), and last each output is asked for (`outputs`). An `Engine` answers
-//! each question: a pattern of its sieve or else the lazy search, both of `circuit_search`, and where that
-//! gives up a query of the whole cone, `cone_query`.
+//! al. 2002; Mishchenko, Chatterjee, Jiang and Brayton 2005). A pattern may tell an output apart at once
+//! (`patterns`). Else `strash_pass` merges what the structure alone shows to be equal, and workers settle
+//! first the candidates that simulation leaves, from the inputs up, and then the outputs (`sweep`, by
+//! `sweep_workers`). The workers last for the whole check: each has a search, a solver and their memory. They
+//! share one sieve of patterns, that from which the look for a difference came.
 //!
 //! `check` answers with a `Verdict`, and promises that the session's book is legal and shows it, and what it
 //! means for the circuits. The book and the patterns go on from what the check began with. Over the patterns
@@ -17,22 +16,20 @@
 //!
 //! Definitions: `specs/Finding.antt` (what a book's entries show, and what that means), `specs/Pool.antt`
 //! (the patterns of a check), `specs/Begun.antt` (what a check begins with), `specs/Check.antt` (a session,
-//! its edits, and a check that has its verdict), `specs/Files.antt` (its files); `specs/Sweep.antt`,
-//! `Growth.antt`, `Rounds.antt` and `Outputs.antt` say what parts of a check do. Begin to read at
-//! `session.rt`, then `begin.rt`, `sweep.rt`, `patterns.rt`, `rounds.rt`, `outputs.rt`, and `write.rt`.
+//! its edits, and a check that has its verdict), `specs/Files.antt` (its files); `specs/Sweep.antt` and
+//! `Outputs.antt` say what parts of a check do. Begin to read at `session.rt`, then `begin.rt`, `sweep.rt`,
+//! `patterns.rt` and `write.rt`.
 #![tactic(auto)]
 
 pub use options::Options;
 pub use session::Session;
 pub use verdict::Verdict;
 
+mod admitted;
 mod begin;
-mod engine;
 mod laws;
 mod options;
-mod outputs;
 mod patterns;
-mod rounds;
 mod session;
 mod sweep;
 mod verdict;

@@ -1,6 +1,8 @@
 /// The numbers that a check goes by.
 #[derive(Clone, Copy)]
 pub struct Options {
+    /// How many workers settle pairs of nodes and outputs, 1 to 64.
+    pub workers: u32,
     /// The seed of the first patterns.
     pub seed: u64,
     /// How many words of 64 patterns are drawn for each input, 1 to 64.

@@ -1,95 +1,96 @@
-ghost use Rattle.std.specs.Prelude.{◌≡◌, ◌⊎◌, ◌<◌, ◌∷◌, ◌++◌, Some, [], length, Bool, List, IfOk, IfSome, OnOk, MatchOption, bit_xor};
+ghost use Rattle.std.specs.Prelude.{◌≡◌, ◌<◌, ◌&&◌, Some, [], length, Bool, List, IfOk, IfSome, OnOk, MatchOption, bit_and, bit_xor};
 ghost use Rattle.std.specs.List.{slice_index_or};
 ghost use Rattle.lits.specs.declared.literal.Lit.{Lit};
 ghost use Rattle.netlist.specs.Net.{differs, nodes_of, output_of};
 ghost use Rattle.word_sim.specs.Patterns.{is_set, words_of};
 ghost use Rattle.word_sim.specs.Rows.{AreSignatures, IsRow, mask_of};
-ghost use Rattle.check_session.specs.Pool.{Extends, Fits, HasBitsOf, IsAmongOrJoins, IsFirstApart, IsFirstOf, IsPoolOf, NoneApart, bit_of, tells_apart};
-ghost use Rattle.check_session.specs.Sweep.{Stays};
+ghost use Rattle.sweep_workers.specs.Swept.{IsPoolFor};
+ghost use Rattle.check_session.specs.Pool.{Extends, HasBitsFor, HasBitsOf, IsAmongOrJoins, IsFirstApart, IsFirstOf, MayJoin, NoneApart, admits, bit_of, tells_apart};
 
-use crate::sweep::Sweep;
+use crate::admitted::admitted_row;
+use circuit_search::Sieve;
 use lits::{Listed, Side};
 use netlist::Net;
 use std::alloc::{AllocError, Global};
 use word_sim::{Pool, Sigs, signatures};
 
-/// An output that differs, and an input on which it does.
+/// An output that differs, and an admitted input on which it does.
 #[derive(Drop)]
 pub(crate) struct Difference {
     pub(crate) output: u32,
     pub(crate) input: Listed<bool>,
 }
 
-impl Sweep<'_> {
-    /// The least output that a pattern tells apart, with the first such pattern: one of the pool's, or else
-    /// one of the sieve's own, which then joins the pool.
-    pub(crate) fn patterns(&mut self) -> Result<Option<Difference>, AllocError>
-        requires { IsPoolOf self.old.net.now self.old.options self.old.pool }
-        ensures stays { OnOk result (Stays self.old self.new) }
-        ensures book { OnOk result (self.new.book ≡ self.old.book) }
-        ensures pool { OnOk result (IsPoolOf self.new.net.now self.new.options self.new.pool) }
-        ensures extends { OnOk result (Extends self.old.pool self.new.pool) }
-        ensures first { IfOk result (λ d. MatchOption d (NoneApart self.new.net.now self.new.pool.patterns)
-            (λ x. IsFirstApart self.new.net.now self.new.pool.patterns x.output x.input)) }
-        ensures from { IfOk result (λ d. IfSome d (λ x.
-            IsAmongOrJoins self.new.net.now self.old.pool.patterns self.new.pool.patterns x.input)) }
-    {
-        match difference_in(self.alloc, self.net, &self.pool)? {
-            Some(difference) => Ok(Some(difference)),
-            None => self.own_patterns(),
-        }
-    }
-
-    /// The same where no pattern of the pool tells an output apart.
-    fn own_patterns(&mut self) -> Result<Option<Difference>, AllocError>
-        requires pool { IsPoolOf self.old.net.now self.old.options self.old.pool }
-        requires none { NoneApart self.old.net.now self.old.pool.patterns }
-        ensures stays { OnOk result (Stays self.old self.new) }
-        ensures book { OnOk result (self.new.book ≡ self.old.book) }
-        ensures pool { OnOk result (IsPoolOf self.new.net.now self.new.options self.new.pool) }
-        ensures extends { OnOk result (Extends self.old.pool self.new.pool) }
-        ensures first { IfOk result (λ d. MatchOption d (NoneApart self.new.net.now self.new.pool.patterns)
-            (λ x. IsFirstApart self.new.net.now self.new.pool.patterns x.output x.input)) }
-        ensures from { IfOk result (λ d. IfSome d (λ x.
-            IsAmongOrJoins self.new.net.now self.old.pool.patterns self.new.pool.patterns x.input)) }
-    {
-        let Some(input) = self.engine.difference(self.alloc, self.net)? else {
-            return Ok(None);
-        };
-        self.join(input.as_slice())?;
-        difference_in(self.alloc, self.net, &self.pool)
-    }
-
-    /// Lets a pattern with a truth value for each input join the pool.
-    fn join(&mut self, input: &[bool]) -> Result<(), AllocError>
-        requires { IsPoolOf self.old.net.now self.old.options self.old.pool }
-        ensures stays { OnOk result (Stays self.old self.new) }
-        ensures book { OnOk result (self.new.book ≡ self.old.book) }
-        ensures pool { OnOk result (IsPoolOf self.new.net.now self.new.options self.new.pool) }
-        ensures extends { OnOk result (Extends self.old.pool self.new.pool) }
-        ensures joins { OnOk result ((self.new.pool.patterns ≡ self.old.pool.patterns)
-            ⊎ (self.new.pool.patterns ≡ self.old.pool.patterns ++ input.now ∷ [])) }
-    {
-        if input.len() == self.pool.inputs() as usize {
-            self.pool.add(input)
-        } else {
-            Ok(())
-        }
+/// The least output that a pattern tells apart, with the first such pattern: one of the pool's, or else one
+/// of the sieve's own, which then joins the pool.
+pub(crate) fn first_difference(
+    alloc: Global,
+    net: &Net,
+    sieve: &mut Sieve,
+    pool: &mut Pool,
+) -> Result<Option<Difference>, AllocError>
+    requires { IsPoolFor net.now pool.old }
+    ensures fits { OnOk result (IsPoolFor net.now pool.new) }
+    ensures extends { OnOk result (Extends pool.old pool.new) }
+    ensures first { IfOk result (λ d. MatchOption d (NoneApart net.now pool.new.patterns)
+        (λ x. IsFirstApart net.now pool.new.patterns x.output x.input)) }
+    ensures from { IfOk result
+        (λ d. IfSome d (λ x. IsAmongOrJoins net.now pool.old.patterns pool.new.patterns x.input)) }
+{
+    match difference_in(alloc, net, pool)? {
+        Some(difference) => Ok(Some(difference)),
+        None => own_difference(alloc, net, sieve, pool),
     }
 }
 
-/// The least output that a pattern of the pool tells apart, with the first such pattern.
+/// The same where no pattern of the pool tells an output apart.
+fn own_difference(
+    alloc: Global,
+    net: &Net,
+    sieve: &mut Sieve,
+    pool: &mut Pool,
+) -> Result<Option<Difference>, AllocError>
+    requires fits { IsPoolFor net.now pool.old }
+    requires none { NoneApart net.now pool.old.patterns }
+    ensures fits { OnOk result (IsPoolFor net.now pool.new) }
+    ensures extends { OnOk result (Extends pool.old pool.new) }
+    ensures first { IfOk result (λ d. MatchOption d (NoneApart net.now pool.new.patterns)
+        (λ x. IsFirstApart net.now pool.new.patterns x.output x.input)) }
+    ensures from { IfOk result
+        (λ d. IfSome d (λ x. IsAmongOrJoins net.now pool.old.patterns pool.new.patterns x.input)) }
+{
+    let Some(input) = sieve.difference(alloc, net)? else {
+        return Ok(None);
+    };
+    join(pool, input.as_slice())?;
+    difference_in(alloc, net, pool)
+}
+
+/// Lets a pattern join the pool, if it has a truth value for each input.
+fn join(pool: &mut Pool, input: &[bool]) -> Result<(), AllocError>
+    ensures { OnOk result (MayJoin input.now pool.old pool.new) }
+{
+    if input.len() == pool.inputs() as usize {
+        pool.add(input)
+    } else {
+        Ok(())
+    }
+}
+
+/// The least output that a pattern of the pool tells apart, with the first such pattern. A pattern tells only
+/// where it is admitted.
 ///
 /// The rows of signatures are searched word by word.
 fn difference_in(alloc: Global, net: &Net, pool: &Pool) -> Result<Option<Difference>, AllocError>
-    requires { Fits net.now pool.now }
+    requires { IsPoolFor net.now pool.now }
     ensures { IfOk result (λ d. MatchOption d (NoneApart net.now pool.now.patterns)
         (λ x. IsFirstApart net.now pool.now.patterns x.output x.input)) }
 {
     netlist::laws::is_net(net);
     let sigs = signatures(alloc, net, pool)?;
+    let admitted = admitted_row(alloc, net, &sigs)?;
     for output in 0..net.outputs() {
-        if let Some(place) = first_apart(net, &sigs, output) {
+        if let Some(place) = first_apart(net, &sigs, admitted.as_slice(), output) {
             let input = Listed::of(pattern_at(alloc, &sigs, place, pool.inputs())?);
             return Ok(Some(Difference { output, input }));
         }
@@ -97,12 +98,14 @@ fn difference_in(alloc: Global, net: &Net, pool: &Pool) -> Result<Option<Differe
     Ok(None)
 }
 
-/// The number of the first pattern that tells an output apart.
-fn first_apart(net: &Net, sigs: &Sigs, output: u32) -> Option<u64>
+/// The number of the first pattern that tells an output apart, where the bits of a row are those of the admitted
+/// patterns.
+fn first_apart(net: &Net, sigs: &Sigs, admitted: &[u64], output: u32) -> Option<u64>
     requires rows { length sigs.now.rows ≡ length (nodes_of net.now) }
+    requires admitted { length admitted.now ≡ words_of sigs.now.patterns }
     requires output { output < length net.now.a.outputs }
     ensures { (patterns : List (List Bool)) → AreSignatures net.now patterns sigs.now
-        → IsFirstOf (length patterns)
+        → HasBitsFor patterns (admits net.now) admitted.now → IsFirstOf (length patterns)
         (λ p. tells_apart net.now output (slice_index_or patterns p [])) result }
 {
     netlist::laws::is_net(net);
@@ -112,6 +115,7 @@ fn first_apart(net: &Net, sigs: &Sigs, output: u32) -> Option<u64>
         first,
         second,
         are_opposite(first_neg, second_neg),
+        admitted,
         sigs.patterns(),
     )
 }
@@ -131,16 +135,23 @@ fn output_row<'a>(net: &Net, sigs: &'a Sigs, side: Side, output: u32) -> (&'a [u
     (sigs.row(position), lit.neg)
 }
 
-/// The number of the first of so many bits in which two rows differ, one of which is turned first where they
-/// are those of opposite signs.
-fn first_bit_apart(first: &[u64], second: &[u64], are_opposite: bool, count: u64) -> Option<u64>
+/// The number of the first of so many bits that count in which two rows differ, one of which is turned first
+/// where they are those of opposite signs.
+fn first_bit_apart(
+    first: &[u64],
+    second: &[u64],
+    are_opposite: bool,
+    counting: &[u64],
+    count: u64,
+) -> Option<u64>
     requires first { length first.now ≡ words_of count }
     requires second { length second.now ≡ words_of count }
-    ensures { IsFirstOf count
-        (λ p. differs are_opposite (differs (bit_of first.now p) (bit_of second.now p))) result }
+    requires counting { length counting.now ≡ words_of count }
+    ensures { IsFirstOf count (λ p. bit_of counting.now p
+        && differs are_opposite (differs (bit_of first.now p) (bit_of second.now p))) result }
 {
     for word in 0..first.len() {
-        if let Some(bit) = first_set(word_apart(first, second, are_opposite, word)) {
+        if let Some(bit) = first_set(word_apart(first, second, are_opposite, counting, word)) {
             let before = 64 * word as u64;
             return if u64::from(bit) < count - before {
                 Some(before + u64::from(bit))
@@ -159,16 +170,30 @@ fn are_opposite(first: bool, second: bool) -> bool
     first != second
 }
 
-/// The bits of a word in which two rows differ, one of which is turned first where they are those of opposite
-/// signs.
-fn word_apart(first: &[u64], second: &[u64], are_opposite: bool, word: usize) -> u64
+/// The bits of a word that count and in which two rows differ, one of which is turned first where they are
+/// those of opposite signs.
+fn word_apart(
+    first: &[u64],
+    second: &[u64],
+    are_opposite: bool,
+    counting: &[u64],
+    word: usize,
+) -> u64
     requires first { word < length first.now }
     requires second { word < length second.now }
-    ensures { result ≡ bit_xor (bit_xor (slice_index_or first.now word 0) (slice_index_or second.now word 0))
-        (mask_of are_opposite) }
+    requires counting { word < length counting.now }
+    ensures { result ≡ bit_and (slice_index_or counting.now word 0)
+        (bit_xor (bit_xor (slice_index_or first.now word 0) (slice_index_or second.now word 0))
+        (mask_of are_opposite)) }
 {
-    let turned = if are_opposite { u64::MAX } else { 0 };
-    first[word] ^ second[word] ^ turned
+    counting[word] & (first[word] ^ second[word] ^ mask_of(are_opposite))
+}
+
+/// The mask that turns all bits of a word, or none.
+pub(crate) fn mask_of(neg: bool) -> u64
+    ensures { result ≡ mask_of neg }
+{
+    if neg { u64::MAX } else { 0 }
 }
 
 /// The lowest bit of a word that is set.

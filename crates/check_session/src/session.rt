@@ -10,7 +10,7 @@ ghost use Rattle.check_session.specs.Outputs.{finding_of};
 
 use crate::begin::{Past, begin};
 use crate::options::Options;
-use crate::sweep::Sweep;
+use crate::sweep::{Checked, run};
 use crate::verdict::Verdict;
 use crate::write::{Miter, Proof, named};
 use desk_port::{Desk, Gate};
@@ -26,19 +26,8 @@ use std::sync::Wait;
 use std::thread::Threads;
 use word_sim::Pool;
 
-/// What a check found, the book that shows it, and the patterns that the next check begins with.
-#[derive(Drop)]
-struct Checked {
-    pool: Pool,
-    book: Book,
-    found: Verdict,
-    verdict: Verdict,
-}
-
 /// The net of two circuits, whose inputs and outputs are matched by name or by position.
 fn net_of(alloc: Global, a: Circuit, b: Circuit, by_name: bool) -> Result<Net, Unlike>
-    requires a { a.constraints ≡ [] }
-    requires b { b.constraints ≡ [] }
     ensures counts { IfSome (unlike_of a b) (λ u. result ≡ Err u) }
     ensures unlike { IfSome (unlike_in by_name a b) (λ u. (result ≡ Err u) ⊎ (result ≡ Err Unlike.NoMemory)) }
     ensures like { IfNone (unlike_in by_name a b)
@@ -51,26 +40,27 @@ fn net_of(alloc: Global, a: Circuit, b: Circuit, by_name: bool) -> Result<Net, U
     }
 }
 
-/// Checks a pair, beginning with what is kept of the check before.
-fn make_check(alloc: Global, net: &Net, options: Options, past: Past) -> Result<Checked, AllocError>
+/// Checks a pair, beginning with what is kept of the check before. Gives what the check leaves, and the
+/// verdict once more.
+fn make_check<T: Threads + Wait + Sync, G: Gate + Sync>(
+    rt: &T,
+    alloc: Global,
+    net: &Net,
+    options: Options,
+    gate: &G,
+    past: Past,
+) -> Result<(Checked, Verdict), AllocError>
     requires range { AreInRange options }
     requires past { IsPastOf net.now options past }
-    ensures goes_on { IfOk result (λ c. GoesOn (begun_after net.now options past) c.book c.pool) }
-    ensures found { IfOk result (λ c.
-        IsFound net.now options (begun_after net.now options past) (Some c.pool) c.book c.verdict) }
-    ensures is_kept { IfOk result (λ c. c.found ≡ c.verdict) }
+    ensures goes_on { IfOk result (λ r. GoesOn (begun_after net.now options past) r.0.book r.0.pool) }
+    ensures found { IfOk result (λ r.
+        IsFound net.now options (begun_after net.now options past) (Some r.0.pool) r.0.book r.0.verdict) }
+    ensures copy { IfOk result (λ r. r.1 ≡ r.0.verdict) }
 {
     let (book, pool) = begin(alloc, net, options, past)?;
-    let mut sweep = Sweep::of(alloc, net, options, book, pool)?;
-    let verdict = sweep.run()?;
-    let found = verdict.copied(alloc)?;
-    let (book, pool) = sweep.into_parts();
-    Ok(Checked {
-        pool,
-        book,
-        found,
-        verdict,
-    })
+    let checked = run(rt, alloc, net, options, gate, book, pool)?;
+    let found = checked.verdict.copied(alloc)?;
+    Ok((checked, found))
 }
 
 /// Copies the pair as it stands, unless the one of the last check is remembered already.
@@ -150,13 +140,10 @@ impl Model for Session {
 }
 
 impl Session {
-    /// A session for two circuits without constraints, which are matched as the options say, and given up
-    /// where they can't be compared. Numbers that differ are told without memory, names that don't fit may
-    /// want some.
+    /// A session for two circuits, which are matched as the options say, and given up where they can't be
+    /// compared. Numbers that differ are told without memory, names that don't fit may want some.
     pub fn open(alloc: Global, a: Circuit, b: Circuit, options: Options) -> Result<Session, Unlike>
         requires options { AreInRange options }
-        requires a { a.constraints ≡ [] }
-        requires b { b.constraints ≡ [] }
         ensures counts { IfSome (unlike_of a b) (λ u. result ≡ Err u) }
         ensures unlike { IfSome (unlike_in options.by_name a b)
             (λ u. (result ≡ Err u) ⊎ (result ≡ Err Unlike.NoMemory)) }
@@ -209,12 +196,13 @@ impl Session {
     /// refused the session is as if it had just been opened with the pair as it stands, and may be checked
     /// anew.
     ///
-    /// Workers will take `rt` and `gate`; today one thread does all.
-    pub fn check<G: Gate + Sync>(
+    /// As many workers settle the pairs and then the outputs as the options say, in as many threads, of which
+    /// the caller is one; each passes the gate behind each task that it draws.
+    pub fn check<T: Threads + Wait + Sync, G: Gate + Sync>(
         &mut self,
-        _rt: &(impl Threads + Wait),
+        rt: &T,
         alloc: Global,
-        _gate: &G,
+        gate: &G,
     ) -> Result<Verdict, AllocError>
         ensures net { self.new.net ≡ self.old.net }
         ensures options { self.new.options ≡ self.old.options }
@@ -226,10 +214,10 @@ impl Session {
         ensures refused { OnErr result (self.new ≡ opened self.old.net self.old.options) }
     {
         let past = self.part(alloc);
-        let checked = make_check(alloc, &self.net, self.options, past)?;
+        let (checked, found) = make_check(rt, alloc, &self.net, self.options, gate, past)?;
         self.pool = Some(checked.pool);
         self.book = checked.book;
-        self.found = Some(checked.found);
+        self.found = Some(found);
         Ok(checked.verdict)
     }
 

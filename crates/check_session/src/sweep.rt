@@ -1,51 +1,169 @@
-ghost use Rattle.std.specs.Prelude.{◌≡◌, Some, IfOk, OnOk};
+ghost use Rattle.std.specs.Prelude.{◌≡◌, ◌≤◌, Some, length, IfOk, OnOk};
 ghost use Rattle.word_sim.specs.Patterns.{Patterns};
 ghost use Rattle.lemma_book.specs.Book.{IsLegal};
 ghost use Rattle.lemma_book.specs.Entry.{with_last};
 ghost use Rattle.lemma_book.specs.Good.{IsGood};
-ghost use Rattle.check_session.specs.Begun.{GoesOn};
-ghost use Rattle.check_session.specs.Check.{IsFound};
+ghost use Rattle.sweep_workers.specs.Swept.{IsPoolFor};
+ghost use Rattle.check_session.specs.Begun.{GoesOn, MayBegin};
+ghost use Rattle.check_session.specs.Check.{AreInRange, IsFound};
 ghost use Rattle.check_session.specs.Pool.{Extends, IsAmongOrJoins, IsFirstApart, IsPoolOf, NoneApart};
-ghost use Rattle.check_session.specs.Sweep.{IsBegun, IsReady, Stays, held};
+ghost use Rattle.check_session.specs.Sweep.{IsSettledFrom};
 
-use crate::engine::Engine;
 use crate::laws::{is_swept, is_within, means};
 use crate::options::Options;
-use crate::patterns::Difference;
+use crate::patterns::{Difference, first_difference};
 use crate::verdict::Verdict;
+use circuit_search::Sieve;
+use desk_port::Gate;
 use lemma_book::laws::entries_are_true;
 use lemma_book::{Book, Entry};
 use lits::Listed;
 use netlist::Net;
+use solver_watch::WatchSolver;
 use std::alloc::{AllocError, Global};
+use std::sync::{Mutex, Wait};
+use std::thread::Threads;
+use sweep_workers::{Swept, Worker, outputs_by, sweep_by};
 use word_sim::Pool;
 
-/// A check under way: what its parts share, to each of which it is lent whole.
-pub(crate) struct Sweep<'a> {
-    pub(crate) alloc: Global,
-    pub(crate) net: &'a Net,
-    pub(crate) options: Options,
-    pub(crate) book: Book,
+/// What a check found, the book that shows it, and the patterns that it leaves.
+#[derive(Drop)]
+pub(crate) struct Checked {
     pub(crate) pool: Pool,
-    pub(crate) engine: Engine,
+    pub(crate) book: Book,
+    pub(crate) verdict: Verdict,
 }
 
-// Written out, so that a drop is one call and not one for each field at each exit of a function.
-impl Drop for Sweep<'_> {
-    fn drop(self) {
-        let Sweep {
-            alloc: _,
-            net: _,
-            options: _,
-            book: _,
-            pool: _,
-            engine: _,
-        } = self;
+/// Checks a pair, beginning with this book and these patterns: what a pattern shows at once, or else what the
+/// sweep finds.
+pub(crate) fn run<T: Threads + Wait + Sync, G: Gate + Sync>(
+    rt: &T,
+    alloc: Global,
+    net: &Net,
+    options: Options,
+    gate: &G,
+    book: Book,
+    pool: Pool,
+) -> Result<Checked, AllocError>
+    requires range { AreInRange options }
+    requires begun { MayBegin net.now options (record { book = book; pool = pool }) }
+    ensures goes_on { IfOk result (λ c. GoesOn (record { book = book; pool = pool }) c.book c.pool) }
+    ensures found { IfOk result (λ c.
+        IsFound net.now options (record { book = book; pool = pool }) (Some c.pool) c.book c.verdict) }
+{
+    let mut pool = pool;
+    let mut sieve = Sieve::new(alloc, net, options.seed, options.words)?;
+    match first_difference(alloc, net, &mut sieve, &mut pool)? {
+        Some(difference) => verdict_at_once(alloc, net, options, book, pool, difference),
+        None => {
+            let sieve = Mutex::new(sieve);
+            let begun = Swept { book, pool, sieve };
+            verdict_of_sweep(rt, alloc, net, options, gate, begun)
+        }
     }
 }
 
+/// The verdict that a pattern shows, which the check began with or which joined before anything was found.
+fn verdict_at_once(
+    alloc: Global,
+    net: &Net,
+    options: Options,
+    book: Book,
+    pool: Pool,
+    difference: Difference,
+) -> Result<Checked, AllocError>
+    requires begun { MayBegin net.now options (record { book = book; pool = pool }) }
+    requires first { IsFirstApart net.now pool.patterns difference.output difference.input }
+    ensures goes_on { IfOk result (λ c. GoesOn (record { book = book; pool = pool }) c.book c.pool) }
+    ensures found { IfOk result (λ c. (begun : Patterns) → IsPoolOf net.now options begun
+        → IsAmongOrJoins net.now begun.patterns pool.patterns difference.input
+        → IsFound net.now options (record { book = book; pool = begun }) (Some c.pool) c.book c.verdict) }
+{
+    // So the book has no entry of an output that differs.
+    entries_are_true(net, &book);
+    let mut book = book;
+    let Difference { output, input } = difference;
+    let told = Listed::of(Vec::from_slice(alloc, input.as_slice())?);
+    put(alloc, net, &mut book, Entry::OutApart { output, input })?;
+    means(net, &book);
+    let verdict = Verdict::Different {
+        output,
+        input: told,
+    };
+    Ok(Checked {
+        pool,
+        book,
+        verdict,
+    })
+}
+
+/// The verdict of the sweep and of what is asked about the outputs.
+fn verdict_of_sweep<T: Threads + Wait + Sync, G: Gate + Sync>(
+    rt: &T,
+    alloc: Global,
+    net: &Net,
+    options: Options,
+    gate: &G,
+    begun: Swept,
+) -> Result<Checked, AllocError>
+    requires range { AreInRange options }
+    requires begun { MayBegin net.now options (record { book = begun.book; pool = begun.pool }) }
+    requires none { NoneApart net.now begun.pool.patterns }
+    ensures goes_on { IfOk result
+        (λ c. GoesOn (record { book = begun.book; pool = begun.pool }) c.book c.pool) }
+    ensures found { IfOk result (λ c. (first : Patterns) → IsPoolOf net.now options first
+        → Extends first begun.pool
+        → IsFound net.now options (record { book = begun.book; pool = first })
+        (Some c.pool) c.book c.verdict) }
+{
+    let mut workers = workers(alloc, options.workers)?;
+    let (book, pool) = settled(rt, alloc, net, gate, begun, workers.as_mut_slice())?;
+    let verdict = Verdict::of(alloc, net, &book)?;
+    means(net, &book);
+    is_within(net, &book);
+    is_swept(net);
+    Ok(Checked {
+        pool,
+        book,
+        verdict,
+    })
+}
+
+/// So many workers, numbered from 0, each with a solver of its own.
+fn workers(alloc: Global, many: u32) -> Result<Vec<Worker<WatchSolver>>, AllocError>
+    ensures { IfOk result (λ v. length v.items ≡ many) }
+{
+    let mut workers = Vec::new(alloc);
+    for number in 0..many {
+        workers.push(Worker::new(number, WatchSolver::new(alloc)?))?;
+    }
+    Ok(workers)
+}
+
+/// Merges the nodes that the structure alone shows to be equal, and lets workers settle the pairs that
+/// simulation leaves, and then the outputs. Gives the book and the patterns.
+fn settled<T: Threads + Wait + Sync, G: Gate + Sync>(
+    rt: &T,
+    alloc: Global,
+    net: &Net,
+    gate: &G,
+    begun: Swept,
+    workers: &mut [Worker<WatchSolver>],
+) -> Result<(Book, Pool), AllocError>
+    requires legal { IsLegal net.now begun.book }
+    requires pool { IsPoolFor net.now begun.pool }
+    requires some { 1 ≤ length workers.old }
+    ensures { IfOk result (λ r. IsSettledFrom net.now begun.book begun.pool r.0 r.1) }
+{
+    let mut begun = begun;
+    strash_pass::run(alloc, net, &mut begun.book)?;
+    let Swept { book, pool, sieve } = sweep_by(rt, alloc, net, begun, gate, workers)?;
+    let (book, _sieve) = outputs_by(rt, alloc, net, book, sieve, gate, workers)?;
+    Ok((book, pool))
+}
+
 /// Puts a good entry last.
-pub(crate) fn put(alloc: Global, net: &Net, book: &mut Book, entry: Entry) -> Result<(), AllocError>
+fn put(alloc: Global, net: &Net, book: &mut Book, entry: Entry) -> Result<(), AllocError>
     requires legal { IsLegal net.now book.old }
     requires good { IsGood net.now book.old entry }
     ensures ok { OnOk result (book.new ≡ with_last book.old entry) }
@@ -55,108 +173,5 @@ pub(crate) fn put(alloc: Global, net: &Net, book: &mut Book, entry: Entry) -> Re
     match book.append(alloc, net, known, entry) {
         Ok(_) => Ok(()),
         Err((_entry, error)) => Err(error),
-    }
-}
-
-impl<'a> Sweep<'a> {
-    /// A check that begins with this book and these patterns.
-    pub(crate) fn of(
-        alloc: Global,
-        net: &'a Net,
-        options: Options,
-        book: Book,
-        pool: Pool,
-    ) -> Result<Sweep<'a>, AllocError>
-        ensures { IfOk result (IsBegun net.now options (record { book = book; pool = pool })) }
-    {
-        let engine = Engine::new(alloc, net, options.seed, options.words)?;
-        Ok(Sweep {
-            alloc,
-            net,
-            options,
-            book,
-            pool,
-            engine,
-        })
-    }
-
-    /// The verdict of the whole check: what a pattern shows at once, or else what the sweep finds.
-    pub(crate) fn run(&mut self) -> Result<Verdict, AllocError>
-        requires { IsReady self.old }
-        ensures stays { OnOk result (Stays self.old self.new) }
-        ensures goes_on { OnOk result (GoesOn (held self.old) self.new.book self.new.pool) }
-        ensures found { IfOk result
-            (IsFound self.new.net.now self.new.options (held self.old) (Some self.new.pool) self.new.book) }
-    {
-        match self.patterns()? {
-            Some(difference) => self.verdict_at_once(difference),
-            None => self.sweep(),
-        }
-    }
-
-    /// The verdict that a pattern shows, which the check began with or which joined before anything was found.
-    fn verdict_at_once(&mut self, difference: Difference) -> Result<Verdict, AllocError>
-        requires ready { IsReady self.old }
-        requires first { IsFirstApart self.old.net.now self.old.pool.patterns
-            difference.output difference.input }
-        ensures stays { OnOk result (Stays self.old self.new) }
-        ensures goes_on { OnOk result (GoesOn (held self.old) self.new.book self.new.pool) }
-        ensures found { IfOk result (λ v. (begun : Patterns) → IsPoolOf self.new.net.now self.new.options begun
-            → IsAmongOrJoins self.new.net.now begun.patterns self.old.pool.patterns difference.input
-            → IsFound self.new.net.now self.new.options (record { book = self.old.book; pool = begun })
-            (Some self.new.pool) self.new.book v) }
-    {
-        // So the book has no entry of an output that differs.
-        entries_are_true(self.net, &self.book);
-        let Difference { output, input } = difference;
-        let told = Listed::of(Vec::from_slice(self.alloc, input.as_slice())?);
-        put(
-            self.alloc,
-            self.net,
-            &mut self.book,
-            Entry::OutApart { output, input },
-        )?;
-        means(self.net, &self.book);
-        Ok(Verdict::Different {
-            output,
-            input: told,
-        })
-    }
-
-    /// The verdict of the sweep and of what is asked about the outputs.
-    fn sweep(&mut self) -> Result<Verdict, AllocError>
-        requires ready { IsReady self.old }
-        requires none { NoneApart self.old.net.now self.old.pool.patterns }
-        ensures stays { OnOk result (Stays self.old self.new) }
-        ensures goes_on { OnOk result (GoesOn (held self.old) self.new.book self.new.pool) }
-        ensures found { IfOk result (λ v. (begun : Patterns) → IsPoolOf self.new.net.now self.new.options begun
-            → Extends begun self.old.pool
-            → IsFound self.new.net.now self.new.options (record { book = self.old.book; pool = begun })
-            (Some self.new.pool) self.new.book v) }
-    {
-        self.structure()?;
-        self.rounds()?;
-        self.outputs()?;
-        let verdict = Verdict::of(self.alloc, self.net, &self.book)?;
-        means(self.net, &self.book);
-        is_within(self.net, &self.book);
-        is_swept(self.net);
-        Ok(verdict)
-    }
-
-    /// The book and the patterns that a check leaves.
-    pub(crate) fn into_parts(self) -> (Book, Pool)
-        ensures book { result.0 ≡ self.entry.book }
-        ensures pool { result.1 ≡ self.entry.pool }
-    {
-        let Sweep {
-            alloc: _,
-            net: _,
-            options: _,
-            book,
-            pool,
-            engine: _,
-        } = self;
-        (book, pool)
     }
 }

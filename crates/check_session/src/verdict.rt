@@ -1,7 +1,8 @@
 ghost use Rattle.std.specs.Prelude.{◌≡◌, ◌<◌, None, IfOk};
 ghost use Rattle.lemma_book.specs.Book.{IsLegal};
 ghost use Rattle.check_session.specs.Finding.{Finds};
-ghost use Rattle.check_session.specs.Outputs.{AreSettled, ListsOpen, Looks, SeeMerges, finding_of, verdict_of};
+ghost use Rattle.sweep_workers.specs.Swept.{AreSettled};
+ghost use Rattle.check_session.specs.Outputs.{ListsOpen, Looks, SeeMerges, finding_of, verdict_of};
 
 use lemma_book::{Book, Entry};
 use lits::Listed;
@@ -11,11 +12,13 @@ use std::alloc::{AllocError, Global};
 /// What a check found.
 #[derive(Drop)]
 pub enum Verdict {
-    /// The circuits agree on every input.
+    /// The circuits agree on every admitted input.
     Equivalent,
-    /// The output differs on these truth values of the inputs, and no smaller one is known to differ.
+    /// The output differs on these truth values of the inputs, on which each constraint is true, and no
+    /// smaller one is known to differ.
     Different { output: u32, input: Listed<bool> },
-    /// No output is known to differ. The queries of these spent their budgets; the others are equal.
+    /// No output is known to differ. The queries of these spent their budgets; the others are equal on every
+    /// admitted input.
     Undecided { outputs: Listed<u32> },
 }
 

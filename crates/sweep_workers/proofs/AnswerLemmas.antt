@@ -19,13 +19,14 @@ use Rattle.lemma_book.specs.Good.{IsGood, IsEarlier, NotApart}
 use Rattle.lemma_book.proofs.Facts.{same-subject_self}
 use Rattle.cone_query.specs.Query.{IsGate}
 use Rattle.sig_classes.specs.Kept.{AreClasses, AreKept, Kept}
-use Rattle.sig_classes.specs.Leader.{AreTasks, IsDue}
+use Rattle.sig_classes.specs.Leader.{AreRising, AreTasks, IsDue}
 use Rattle.sweep_workers.specs.declared.asked.Asked.{Asked}
 use Rattle.sweep_workers.specs.declared.asked.Asked.TheVariants.{Pair}
 use Rattle.sweep_workers.specs.Asked.{IsAmong, IsAskable, open_tasks, question_in, questions, task_about}
-use Rattle.sweep_workers.specs.Answered.{AreAnswered, HasAnswer, many, sees_first}
-use Rattle.sweep_workers.specs.Swept.{AreSettled, HasInputs, IsPoolFor, SettlesOutputs, Sweeps, apart_inputs, is_of_output, is_of_pair, with_input}
+use Rattle.sweep_workers.specs.Answered.{AreAnswered, HasAnswer, many}
+use Rattle.sweep_workers.specs.Swept.{HasInputs, IsPoolFor, SettlesOutputs, Sweeps, SweepsRound, apart_inputs, input_of, is_of_output, is_of_pair}
 use Rattle.sweep_workers.proofs.OfferLemmas.{all-pass_append}
+use Rattle.sweep_workers.proofs.OnceLemmas.{each-among, once-append, once-round}
 
 -- ---- kinds
 
@@ -181,7 +182,7 @@ settles-outputs net old new tasks are done =
 
 whole-input : (net : AigPair) (book : Entries) (e : Entry) → IsGood net book e → HasInputs (length net.a.inputs) e
 whole-input net book (Merge node lit steps) good = tt
-whole-input net book (Apart node lit input) good = (good NotApart).whole
+whole-input net book (Apart node lit input) good = ((good NotApart).whole, tt)
 whole-input net book (Spent node lit seen log) good = tt
 whole-input net book (Out j steps) good = tt
 whole-input net book (OutApart j input) good = tt
@@ -210,28 +211,13 @@ behind n (x ∷ xs) ys all = behind n xs ys all.1
 
 inputs-whole : (n : ℕ) (es : List Entry) → AllByRecursion (HasInputs n) es → AllByRecursion (λ bits. length bits ≡ n) (apart_inputs es)
 inputs-whole n [] all = tt
-inputs-whole n (e ∷ es) all = go e all.0 (inputs-whole n es all.1)
-  where
-    go : (e : Entry) → HasInputs n e → AllByRecursion (λ bits. length bits ≡ n) (apart_inputs es)
-        → AllByRecursion (λ bits. length bits ≡ n) (with_input e (apart_inputs es))
-    go (Merge node lit steps) one rest = rest
-    go (Apart node lit input) one rest = (one, rest)
-    go (Spent node lit seen log) one rest = rest
-    go (Out j steps) one rest = rest
-    go (OutApart j input) one rest = rest
-    go (OutSpent j seen log) one rest = rest
-
-with-input : (e : Entry) (xs ys : List (List Bool)) → with_input e (xs ++ ys) ≡ with_input e xs ++ ys
-with-input (Merge node lit steps) xs ys = refl
-with-input (Apart node lit input) xs ys = refl
-with-input (Spent node lit seen log) xs ys = refl
-with-input (Out j steps) xs ys = refl
-with-input (OutApart j input) xs ys = refl
-with-input (OutSpent j seen log) xs ys = refl
+inputs-whole n (e ∷ es) all = all-append (λ bits. length bits ≡ n) (input_of e) (apart_inputs es) all.0 (inputs-whole n es all.1)
 
 pub inputs-append : (xs ys : List Entry) → apart_inputs (xs ++ ys) ≡ apart_inputs xs ++ apart_inputs ys
 inputs-append [] ys = refl
-inputs-append (x ∷ xs) ys = ap (with_input x) (inputs-append xs ys) ∙ with-input x (apart_inputs xs) (apart_inputs ys)
+inputs-append (x ∷ xs) ys =
+    ap (λ (ps : List (List Bool)). input_of x ++ ps) (inputs-append xs ys)
+    ∙ sym (append_assoc (input_of x) (apart_inputs xs) (apart_inputs ys))
 
 drop-front : (xs ys : List Entry) → drop (length xs) (xs ++ ys) ≡ ys
 drop-front [] ys = refl
@@ -249,13 +235,12 @@ drop-none [] (suc m) at = let e : suc m + 1 ≡ suc (m + 1) = omega arith in (re
 drop-none (y ∷ ys) zero at = let t : Some y ≡ None = at in cc
 drop-none (y ∷ ys) (suc m) at = let e : suc m + 1 ≡ suc (m + 1) = omega arith in let r = drop-none ys m at in (r.0, rw e r.1)
 
-pub inputs-at : (es : List Entry) (m : ℕ) (e : Entry) (old new : List (List Bool)) → slice_get es m ≡ Some e → new ≡ old ++ with_input e []
+pub inputs-at : (es : List Entry) (m : ℕ) (e : Entry) (old new : List (List Bool)) → slice_get es m ≡ Some e → new ≡ old ++ input_of e
     → new ++ apart_inputs (drop (m + 1) es) ≡ old ++ apart_inputs (drop m es)
 inputs-at es m e old new at are =
     ap (λ (ps : List (List Bool)). ps ++ apart_inputs (drop (m + 1) es)) are
-    ∙ (append_assoc old (with_input e []) (apart_inputs (drop (m + 1) es))
-    ∙ ap (λ (ps : List (List Bool)). old ++ ps)
-    (sym (with-input e [] (apart_inputs (drop (m + 1) es))) ∙ sym (ap apart_inputs (drop-at es m e at))))
+    ∙ (append_assoc old (input_of e) (apart_inputs (drop (m + 1) es))
+    ∙ ap (λ (ps : List (List Bool)). old ++ ps) (sym (ap apart_inputs (drop-at es m e at))))
 
 pub inputs-none : (es : List Entry) (m : ℕ) (ps : List (List Bool)) → slice_get es m ≡ None
     → ps ++ apart_inputs (drop (m + 1) es) ≡ ps ++ apart_inputs (drop m es)
@@ -265,21 +250,28 @@ inputs-none es m ps at =
 
 -- a round of pairs
 pub sweeps-round : (net : AigPair) (due : List Task) (tasks : List Asked) (old new : Entries) (p q : Patterns) (known : ℕ) → tasks ≡ map Pair due
-    → AreAnswered net (questions tasks) old new → known ≡ length old.entries → q.inputs ≡ p.inputs
-    → q.patterns ≡ p.patterns ++ apart_inputs (drop known new.entries) → Sweeps net old new p q
-sweeps-round net due tasks old new p q known are done count inputs patterns = record {
-  sweep_budget = done.sweep_budget;
-  out_budget = done.out_budget;
-  added = done.added;
-  begins = done.begins;
-  kinds = all-pairs done.added (let f = done.few asks_output in let n = ap (λ (ts : List Asked). many asks_output (questions ts)) are in let z = no-outputs due in omega arith);
-  legal = done.legal;
-  inputs = inputs;
-  patterns =
-      let rest : drop known new.entries ≡ done.added =
-      ap (λ (k : ℕ). drop k new.entries) count ∙ (ap (drop (length old.entries)) done.begins ∙ drop-front old.entries done.added) in
-      patterns ∙ ap (λ (es : List Entry). p.patterns ++ apart_inputs es) rest;
+    → AreRising net due → AreAnswered net (questions tasks) old new → known ≡ length old.entries → q.inputs ≡ p.inputs
+    → q.patterns ≡ p.patterns ++ apart_inputs (drop known new.entries) → SweepsRound net due old new p q
+sweeps-round net due tasks old new p q known are rising done count inputs patterns = record {
+  sweeps = record {
+    sweep_budget = done.sweep_budget;
+    out_budget = done.out_budget;
+    added = done.added;
+    begins = done.begins;
+    kinds = all-pairs done.added (let f = few asks_output in let z = no-outputs due in omega (arith, f, z));
+    once = once-round net due done.added few rising;
+    legal = done.legal;
+    inputs = inputs;
+    patterns =
+        let rest : drop known new.entries ≡ done.added =
+        ap (λ (k : ℕ). drop k new.entries) count ∙ (ap (drop (length old.entries)) done.begins ∙ drop-front old.entries done.added) in
+        patterns ∙ ap (λ (es : List Entry). p.patterns ++ apart_inputs es) rest;
+  };
+  among = each-among (questions (map Pair due)) done.added few;
 }
+  where
+    few : (test : Question → Bool) → many test (map question_of done.added) ≤ many test (questions (map Pair due))
+    few test = subst (λ (ts : List Asked). many test (map question_of done.added) ≤ many test (questions ts)) are (done.few test)
 
 -- a sweep that hasn't begun, and one more round
 pub sweeps-none : (net : AigPair) (book : Entries) (pool : Patterns) → IsLegal net book → Sweeps net book book pool pool
@@ -289,18 +281,21 @@ sweeps-none net book pool legal = record {
   added = [];
   begins = sym (append-nil book.entries);
   kinds = refl;
+  once = tt;
   legal = legal;
   inputs = refl;
   patterns = sym (append-nil pool.patterns);
 }
 
-pub sweeps-twice : (net : AigPair) (a b c : Entries) (p q r : Patterns) → Sweeps net a b p q → Sweeps net b c q r → Sweeps net a c p r
-sweeps-twice net a b c p q r one two = record {
+pub sweeps-twice : (net : AigPair) (a b c : Entries) (p q r : Patterns) (one : Sweeps net a b p q) (two : Sweeps net b c q r)
+    → AllByRecursion (λ f. AllByRecursion (λ e. question_of e ≢ question_of f) one.added) two.added → Sweeps net a c p r
+sweeps-twice net a b c p q r one two apart = record {
   sweep_budget = two.sweep_budget ∙ one.sweep_budget;
   out_budget = two.out_budget ∙ one.out_budget;
   added = one.added ++ two.added;
   begins = two.begins ∙ (ap (λ (es : List Entry). es ++ two.added) one.begins ∙ append_assoc a.entries one.added two.added);
   kinds = all-pass_append is_of_pair one.added two.added one.kinds two.kinds;
+  once = once-append one.added two.added one.once two.once apart;
   legal = two.legal;
   inputs = two.inputs ∙ one.inputs;
   patterns = two.patterns

@@ -1,10 +1,9 @@
 -- What the record of a closed board shows of a round whose pass has come to the end of the tasks.
-use Rattle.std.proofs.Common.{◌≡◌, ◌⊎◌, ℕ, zero, suc, ◌+◌, ◌<◌, ◌≤◌, Bool, true, false, cond, ◌==◌, List, [], ◌∷◌, ◌++◌, length, map, inl, inr, Option, None, Some, slice_get, refl, sym, ap, ◌∙◌, subst, arith}
+use Rattle.std.proofs.Common.{◌≡◌, ℕ, suc, ◌+◌, ◌≤◌, Bool, true, false, cond, ◌==◌, List, [], ◌∷◌, length, map, inl, inr, Option, None, Some, slice_get, refl, sym, ap, ◌∙◌, subst, arith}
 use Rattle.std.specs.List.{list_all, AllByRecursion}
 use Rattle.std.specs.Option.{option_map_or}
-use Rattle.std.proofs.lemmas.Option.{none-some, same_Some, slice_get_within}
+use Rattle.std.proofs.lemmas.Option.{none-some, slice_get_within}
 use Rattle.std.proofs.lemmas.Bool.Decides.{nat_tests}
-use Rattle.netlist.specs.Place.{place_of}
 use Rattle.netlist.proofs.Facts.{at_place as at-found}
 use Rattle.lemma_book.specs.declared.entry.Entry.{Entry}
 use Rattle.lemma_book.specs.declared.entry.Entry.TheVariants.{Merge, Apart, Spent, Out, OutApart, OutSpent}
@@ -16,8 +15,8 @@ use Rattle.lemma_book.proofs.Facts.{exact-subject}
 use Rattle.board_lock.specs.declared.view.Said.{Said}
 use Rattle.board_lock.specs.declared.view.Said.TheVariants.{At, Already, Known}
 use Rattle.board_lock.specs.declared.view.Note.{Note}
-use Rattle.board_lock.specs.Story.{AreSo, IsSo, Root}
-use Rattle.board_lock.specs.Totals.{times, once_below}
+use Rattle.board_lock.specs.Story.{AreSo, IsSo}
+use Rattle.board_lock.specs.Totals.{times}
 use Rattle.board_lock.specs.Pass.{Held, Post}
 use Rattle.board_lock.specs.Closed.{IsClosed}
 use Rattle.sweep_workers.specs.Asked.{IsAmong}

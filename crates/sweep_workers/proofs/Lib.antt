@@ -3,4 +3,5 @@ mod OfferLemmas
 mod TurnLemmas
 mod WorkLemmas
 mod ClosedLemmas
+mod OnceLemmas
 mod AnswerLemmas

@@ -1,8 +1,8 @@
 -- What a worker's pass shows, after each of its calls.
-use Rattle.std.proofs.Common.{◌≡◌, ℕ, zero, suc, ◌+◌, ◌<◌, ◌≤◌, Bool, true, false, cond, ◌==◌, nat_le, List, [], ◌∷◌, ◌++◌, length, map, Option, None, Some, slice_get, refl, sym, ap, ◌∙◌, subst, arith, append_assoc, length-append, get_or}
+use Rattle.std.proofs.Common.{◌≡◌, ℕ, zero, suc, ◌+◌, ◌<◌, ◌≤◌, Bool, true, false, cond, nat_le, List, [], ◌∷◌, ◌++◌, length, map, Option, None, Some, slice_get, refl, sym, ap, ◌∙◌, subst, arith, append_assoc, length-append, get_or}
 use Rattle.std.specs.Prelude.{nat_lt, if◌then◌else◌}
 use Rattle.std.specs.List.{list_all, AllByRecursion}
-use Rattle.std.proofs.lemmas.Option.{none-some, same_Some, slice_get_within}
+use Rattle.std.proofs.lemmas.Option.{none-some, same_Some}
 use Rattle.std.proofs.lemmas.List.{append-nil, map-append}
 use Rattle.std.proofs.lemmas.Bool.Decides.{nat_tests}
 use Rattle.netlist.specs.Net.{AigPair}
@@ -13,12 +13,11 @@ use Rattle.lemma_book.specs.Entry.{Entries, Question, Answer, Equal, Differ, Ope
 use Rattle.lemma_book.specs.Book.{IsLegal, StartsWith}
 use Rattle.sweep_core.proofs.Facts.{starts-self}
 use Rattle.cone_query.specs.Query.{SeesAll, SeesAllOf}
-use Rattle.board_lock.specs.declared.view.Note.{Note}
 use Rattle.board_lock.specs.declared.view.Said.TheVariants.{Known}
 use Rattle.board_lock.specs.Story.{Root, note_of, said_of}
 use Rattle.board_lock.specs.Totals.{times}
-use Rattle.board_lock.specs.Views.{longer, opener}
-use Rattle.board_lock.specs.Pass.{Held, IsWholePass, Post, DrewOne, OfferedOne, Refreshed, SplitOff, held_of, joined, opened}
+use Rattle.board_lock.specs.Views.{longer}
+use Rattle.board_lock.specs.Pass.{Held, IsWholePass, Post, DrewOne, OfferedOne, Refreshed, SplitOff, joined, opened}
 use Rattle.sweep_workers.specs.declared.asked.Asked.{Asked}
 use Rattle.sweep_workers.specs.Asked.{IsAskable, question_in, questions}
 use Rattle.sweep_workers.specs.Answered.{sees, sees_first}

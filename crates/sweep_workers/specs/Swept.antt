@@ -1,13 +1,14 @@
 -- What the two calls of many workers leave: a book that has grown, and a pool with the inputs of the counterexamples.
-use Rattle.std.specs.Prelude.{◌≡◌, ◌≢◌, ℕ, ◌<◌, Bool, true, ⊤, None, List, [], ◌∷◌, ◌++◌, length}
-use Rattle.std.specs.List.{AllByRecursion, list_all}
+use Rattle.std.specs.Prelude.{◌≡◌, ◌≢◌, ℕ, ◌<◌, Bool, true, ⊤, None, List, [], ◌∷◌, ◌++◌, length, map}
+use Rattle.std.specs.List.{AllByRecursion, flat_map, list_all}
 use Rattle.netlist.specs.Net.{AigPair}
 use Rattle.word_sim.specs.Patterns.{Patterns}
 use Rattle.lemma_book.specs.declared.entry.Entry.{Entry}
-use Rattle.lemma_book.specs.declared.entry.Entry.TheVariants.{Merge, Apart, Spent, Out, OutApart, OutSpent}
-use Rattle.lemma_book.specs.Entry.{Entries, about, asks_pair, asks_output, question_of}
+use Rattle.lemma_book.specs.declared.entry.Task.{Task}
+use Rattle.lemma_book.specs.Entry.{Entries, Question, OfPair, Answer, Differ, about, answer_of, asks_pair, asks_output, question_of}
 use Rattle.lemma_book.specs.Book.{IsLegal}
-use Rattle.sig_classes.specs.Leader.{IsReduced}
+use Rattle.sweep_workers.specs.declared.asked.Asked.TheVariants.{Pair}
+use Rattle.sweep_workers.specs.Asked.{IsAmong, questions}
 use Rattle.sweep_workers.specs.Answered.{sees_first}
 
 -- the entry is about two nodes; about an output
@@ -17,44 +18,49 @@ is_of_pair e = asks_pair (question_of e)
 abbrev pub is_of_output : Entry → Bool
 is_of_output e = asks_output (question_of e)
 
+-- the input of an answer that the values of a pair of nodes differ
+abbrev pub apart_input : Question → Answer → List (List Bool)
+apart_input (OfPair node lit) (Differ input) = input ∷ []
+apart_input q a = []
+
+abbrev pub input_of : Entry → List (List Bool)
+input_of e = apart_input (question_of e) (answer_of e)
+
 -- the inputs on which pairs of nodes differ, in the order of the entries
-abbrev pub with_input : Entry → List (List Bool) → List (List Bool)
-with_input (Apart node lit input) rest = input ∷ rest
-with_input (Merge node lit steps) rest = rest
-with_input (Spent node lit seen log) rest = rest
-with_input (Out j steps) rest = rest
-with_input (OutApart j input) rest = rest
-with_input (OutSpent j seen log) rest = rest
-
 abbrev pub apart_inputs : List Entry → List (List Bool)
-apart_inputs [] = []
-apart_inputs (e ∷ es) = with_input e (apart_inputs es)
+apart_inputs entries = flat_map input_of entries
 
--- a counterexample of a pair has so many truth values
+-- such an input has so many truth values
 abbrev pub HasInputs : ℕ → Entry → Type 0
-HasInputs n (Apart node lit input) = length input ≡ n
-HasInputs n (Merge node lit steps) = ⊤
-HasInputs n (Spent node lit seen log) = ⊤
-HasInputs n (Out j steps) = ⊤
-HasInputs n (OutApart j input) = ⊤
-HasInputs n (OutSpent j seen log) = ⊤
+HasInputs n e = AllByRecursion (λ bits. length bits ≡ n) (input_of e)
 
 -- each pattern has one truth value for each input of the pair
 pub record IsPoolFor (net : AigPair) (pool : Patterns) : Type 0 where
   pub inputs : pool.inputs ≡ length net.a.inputs
   pub whole : AllByRecursion (λ bits. length bits ≡ length net.a.inputs) pool.patterns
 
--- The book is legal, has its budgets and begins as before; what was added is about pairs of nodes, and the inputs of the
--- counterexamples stand behind the old patterns, in the same order.
+-- no two of the entries have one question
+abbrev pub AskOnce : List Entry → Type 0
+AskOnce [] = ⊤
+AskOnce (e ∷ es) = AllByRecursion (λ f. question_of f ≢ question_of e) es × AskOnce es
+
+-- The book is legal, has its budgets and begins as before; what was added is about pairs of nodes, of which none was settled
+-- twice, and the inputs of the counterexamples stand behind the old patterns, in the same order.
 pub record Sweeps (net : AigPair) (old_book new_book : Entries) (old_pool new_pool : Patterns) : Type 0 where
   pub sweep_budget : new_book.sweep_budget ≡ old_book.sweep_budget
   pub out_budget : new_book.out_budget ≡ old_book.out_budget
   pub added : List Entry
   pub begins : new_book.entries ≡ old_book.entries ++ added
   pub kinds : list_all is_of_pair added ≡ true
+  pub once : AskOnce added
   pub legal : IsLegal net new_book
   pub inputs : new_pool.inputs ≡ old_pool.inputs
   pub patterns : new_pool.patterns ≡ old_pool.patterns ++ apart_inputs added
+
+-- a round of a sweep: what was added is about pairs that were due
+pub record SweepsRound (net : AigPair) (due : List Task) (old_book new_book : Entries) (old_pool new_pool : Patterns) : Type 0 where
+  pub sweeps : Sweeps net old_book new_book old_pool new_pool
+  pub among : AllByRecursion (λ e. IsAmong (question_of e) (questions (map Pair due))) sweeps.added
 
 -- each output has an entry
 abbrev pub AreSettled : AigPair → List Entry → Type 0

@@ -1,9 +1,9 @@
 -- What a worker's pass shows of the round between two of its tasks, and when it has come to the end.
-use Rattle.std.specs.Prelude.{◌≡◌, ℕ, ◌≤◌, ◌<◌, true, Option, None, Some, List, [], ◌∷◌, ◌++◌, length, map, slice_get}
+use Rattle.std.specs.Prelude.{◌≡◌, ℕ, ◌≤◌, true, Option, None, Some, List, [], ◌∷◌, ◌++◌, length, map, slice_get}
 use Rattle.std.specs.List.{AllByRecursion, list_all}
 use Rattle.netlist.specs.Net.{AigPair}
 use Rattle.lemma_book.specs.declared.entry.Entry.{Entry}
-use Rattle.lemma_book.specs.Entry.{Entries, Question, question_of}
+use Rattle.lemma_book.specs.Entry.{Question, question_of}
 use Rattle.lemma_book.specs.Book.{IsLegal, StartsWith}
 use Rattle.board_lock.specs.declared.view.Said.{Said}
 use Rattle.board_lock.specs.declared.view.Said.TheVariants.{At, Already, Known}
@@ -11,7 +11,7 @@ use Rattle.board_lock.specs.declared.view.Note.{Note}
 use Rattle.board_lock.specs.Totals.{times}
 use Rattle.board_lock.specs.Pass.{Held, Post, share_of}
 use Rattle.sweep_workers.specs.declared.asked.Asked.{Asked}
-use Rattle.sweep_workers.specs.Asked.{IsAskable, questions}
+use Rattle.sweep_workers.specs.Asked.{IsAskable}
 use Rattle.sweep_workers.specs.Answered.{sees_first}
 
 -- the question of a number, if there is one, and those behind it

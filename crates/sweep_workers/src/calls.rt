@@ -39,7 +39,7 @@ pub fn sweep<T: Threads + Wait + Sync, R: Refuter + Send, G: Gate + Sync>(
     ensures refuters { IfOk result (λ r. length r.2.items ≡ length refuters.items) }
 {
     let sieve = Mutex::new(Sieve::new(alloc, net, SEED, 0)?);
-    let mut workers = workers_of(alloc, net, refuters)?;
+    let mut workers = workers_of(alloc, refuters)?;
     let swept = Swept { book, pool, sieve };
     let Swept {
         book,
@@ -65,7 +65,7 @@ pub fn outputs<T: Threads + Wait + Sync, R: Refuter + Send, G: Gate + Sync>(
     ensures refuters { IfOk result (λ r. length r.1.items ≡ length refuters.items) }
 {
     let sieve = Mutex::new(Sieve::new(alloc, net, SEED, 0)?);
-    let mut workers = workers_of(alloc, net, refuters)?;
+    let mut workers = workers_of(alloc, refuters)?;
     let (book, _sieve) = outputs_by(rt, alloc, net, book, sieve, gate, workers.as_mut_slice())?;
     Ok((book, refuters_of(alloc, workers)?))
 }
@@ -73,7 +73,6 @@ pub fn outputs<T: Threads + Wait + Sync, R: Refuter + Send, G: Gate + Sync>(
 /// A worker for each solver, numbered from 0.
 fn workers_of<R: Refuter + Send>(
     alloc: Global,
-    net: &Net,
     refuters: Vec<R>,
 ) -> Result<Vec<Worker<R>>, AllocError>
     ensures { IfOk result (λ v. length v.items ≡ length refuters.items) }
@@ -81,7 +80,7 @@ fn workers_of<R: Refuter + Send>(
     let mut workers = Vec::with_capacity(alloc, refuters.len())?;
     let mut number = 0_u32;
     for refuter in refuters {
-        workers.push(Worker::new(alloc, net, number, refuter)?)?;
+        workers.push(Worker::new(number, refuter))?;
         number = number.saturating_add(1);
     }
     Ok(workers)

@@ -1,6 +1,6 @@
-ghost use Rattle.std.specs.Prelude.{◌≡◌, ◌++◌, ◌+◌, ◌≤◌, [], drop, length, OnOk};
+ghost use Rattle.std.specs.Prelude.{◌≡◌, ◌++◌, ◌+◌, ◌≤◌, drop, length, OnOk};
 ghost use Rattle.lemma_book.specs.Book.{IsLegal};
-ghost use Rattle.sweep_workers.specs.Swept.{HasInputs, IsPoolFor, apart_inputs, with_input};
+ghost use Rattle.sweep_workers.specs.Swept.{HasInputs, IsPoolFor, apart_inputs, input_of};
 
 use lemma_book::{Book, Entry};
 use netlist::Net;
@@ -46,7 +46,7 @@ fn join_input_at(net: &Net, book: &Book, place: u64, pool: &mut Pool) -> Result<
 fn join_input(entry: &Entry, pool: &mut Pool) -> Result<(), AllocError>
     requires { HasInputs pool.old.inputs entry.now }
     ensures inputs { OnOk result (pool.new.inputs ≡ pool.old.inputs) }
-    ensures patterns { OnOk result (pool.new.patterns ≡ pool.old.patterns ++ with_input entry.now []) }
+    ensures patterns { OnOk result (pool.new.patterns ≡ pool.old.patterns ++ input_of entry.now) }
 {
     match entry {
         Entry::Apart { input, .. } => pool.add(input.as_slice()),

@@ -1,11 +1,8 @@
 ghost use Rattle.std.specs.Prelude.{◌≡◌, ◌≤◌, length, map, IfOk};
-ghost use Rattle.std.specs.List.{AllByRecursion};
 ghost use Rattle.lemma_book.specs.Book.{IsLegal};
-ghost use Rattle.lemma_book.specs.Good.{IsEarlier};
-ghost use Rattle.cone_query.specs.Query.{IsGate};
-ghost use Rattle.sig_classes.specs.Leader.{IsReduced};
+ghost use Rattle.sig_classes.specs.Leader.{AreTasks, IsReduced};
 ghost use Rattle.sweep_workers.specs.Asked.{IsAskable};
-ghost use Rattle.sweep_workers.specs.Swept.{IsPoolFor, Sweeps};
+ghost use Rattle.sweep_workers.specs.Swept.{IsPoolFor, Sweeps, SweepsRound};
 ghost use Rattle.sweep_workers.specs.declared.asked.Asked.TheVariants.{Pair};
 
 use crate::asked::Asked;
@@ -48,6 +45,7 @@ pub fn sweep_by<T: Threads + Wait + Sync, R: Refuter + Send, G: Gate + Sync>(
     requires pool { IsPoolFor net.now swept.pool }
     requires some { 1 ≤ length workers.old }
     ensures sweeps { IfOk result (λ s. Sweeps net.now swept.book s.book swept.pool s.pool) }
+    ensures pool { IfOk result (λ s. IsPoolFor net.now s.pool) }
     ensures reduced { IfOk result (λ s. IsReduced net.now s.book.entries s.pool.patterns) }
 {
     let mut classes = KeptClasses::new(alloc, net)?;
@@ -78,8 +76,8 @@ fn settle_due<T: Threads + Wait + Sync, R: Refuter + Send, G: Gate + Sync>(
     requires legal { IsLegal net.now swept.book }
     requires pool { IsPoolFor net.now swept.pool }
     requires some { 1 ≤ length workers.old }
-    requires due { AllByRecursion (λ t. IsGate t.node × IsEarlier net.now t.node t.lit) due.now }
-    ensures sweeps { IfOk result (λ s. Sweeps net.now swept.book s.book swept.pool s.pool) }
+    requires due { AreTasks net.now swept.book.entries swept.pool.patterns due.now }
+    ensures { IfOk result (λ s. SweepsRound net.now due.now swept.book s.book swept.pool s.pool) }
 {
     let Swept { book, pool, sieve } = swept;
     sieve.lock(rt).sift(net, due)?;

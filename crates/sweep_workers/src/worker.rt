@@ -18,21 +18,34 @@ use std::sync::{Mutex, Wait};
 use unit_prop::Refuter;
 
 /// One worker's memory, kept from round to round: its search, and its solver for queries of whole cones.
-#[derive(Drop)]
+///
+/// The search has tables of the net's size. It is made at the worker's first question, so that who gets
+/// none pays for none.
 pub struct Worker<R: Refuter> {
     number: u32,
-    search: Search,
+    search: Option<Search>,
     refuter: R,
 }
 
+// Written out, so that a drop is one call and not one for each field at each exit of a function.
+impl<R: Refuter> Drop for Worker<R> {
+    fn drop(self) {
+        let Worker {
+            number: _,
+            search: _,
+            refuter: _,
+        } = self;
+    }
+}
+
 impl<R: Refuter + Send> Worker<R> {
-    /// A worker on a net, with this number, by which gates know it, and this solver.
-    pub fn new(alloc: Global, net: &Net, number: u32, refuter: R) -> Result<Worker<R>, AllocError> {
-        Ok(Worker {
+    /// A worker on one net, with this number, by which gates know it, and this solver.
+    pub fn new(number: u32, refuter: R) -> Worker<R> {
+        Worker {
             number,
-            search: Search::new(alloc, net)?,
+            search: None,
             refuter,
-        })
+        }
     }
 
     /// The solver back.
@@ -141,10 +154,9 @@ impl<R: Refuter + Send> Worker<R> {
         ensures good { IfOk result (λ e. IsGood net.now seen.now e) }
         ensures seen { IfOk result (SeesAll seen.now) }
     {
-        match self
-            .search
-            .pair(alloc, net, seen, task, pair_caps(seen.sweep_budget()))?
-        {
+        let caps = pair_caps(seen.sweep_budget());
+        let search = made(&mut self.search, alloc, net)?;
+        match search.pair(alloc, net, seen, task, caps)? {
             Some(entry) => Ok(entry),
             None => cone_query::pair(alloc, net, seen, task, &mut self.refuter),
         }
@@ -171,13 +183,27 @@ impl<R: Refuter + Send> Worker<R> {
         if let Some(entry) = equal_output(alloc, net, seen, output)? {
             return Ok(entry);
         }
-        match self
-            .search
-            .output(alloc, net, seen, output, output_caps(seen.out_budget()))?
-        {
+        let caps = output_caps(seen.out_budget());
+        let search = made(&mut self.search, alloc, net)?;
+        match search.output(alloc, net, seen, output, caps)? {
             Some(entry) => Ok(entry),
             None => cone_query::output(alloc, net, seen, output, &mut self.refuter),
         }
+    }
+}
+
+/// The search of a net, which is made if it isn't there yet.
+fn made<'a>(
+    search: &'a mut Option<Search>,
+    alloc: Global,
+    net: &Net,
+) -> Result<&'a mut Search, AllocError> {
+    if search.is_none() {
+        *search = Some(Search::new(alloc, net)?);
+    }
+    match search {
+        Some(search) => Ok(search),
+        None => Err(AllocError),
     }
 }
 

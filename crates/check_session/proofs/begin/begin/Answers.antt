@@ -10,7 +10,7 @@ use Rattle.keep_lemmas.specs.Kept.{handed_out, kept}
 use Rattle.check_session.specs.Begun.{Begun, MayBegin, begun_after, with_inputs}
 use Rattle.check_session.specs.Pool.{first_pool}
 use Rattle.check_session.proofs.SessionLemmas.{begun-fit, begun-inputs}
-use Rattle.check_session.proofs.SweptLemmas.{pool-or_first}
+use Rattle.check_session.proofs.PoolLemmas.{pool-or_first}
 use Rattle.check_session.proofs.begin.begin.Goals as goal
 
 pub join_all-requires : goal.join_all-requires

@@ -1,4 +1,4 @@
-use Rattle.std.proofs.Common.{◌≡◌, ℕ, sym, subst, length}
+use Rattle.std.proofs.Common.{ℕ, sym, subst, length}
 use Rattle.sweep_workers.specs.Swept.{HasInputs}
 use Rattle.sweep_workers.proofs.AnswerLemmas.{inputs-at, inputs-none, legal-whole, on-ok, whole-at}
 use Rattle.sweep_workers.proofs.inputs.join_input_at.Goals as goal

@@ -1,4 +1,4 @@
-use Rattle.std.proofs.Common.{subst, refl, IfOk, arith}
+use Rattle.std.proofs.Common.{subst, IfOk, arith}
 use Rattle.board_lock.specs.Story.{Root}
 use Rattle.sweep_workers.specs.Asked.{questions}
 use Rattle.sweep_workers.specs.Answered.{AreAnswered}

@@ -1,4 +1,3 @@
-use Rattle.std.proofs.Common.{◌∙◌}
 use Rattle.sweep_workers.specs.Asked.{questions}
 use Rattle.sweep_workers.proofs.ClosedLemmas.{answered-closed}
 use Rattle.sweep_workers.proofs.round.settle_round.Goals as goal
