@@ -12,7 +12,7 @@ use Rattle.netlist.specs.Net.{AigPair}
 use Rattle.netlist.specs.Miter.{variables_of}
 use Rattle.netlist.specs.Unlike.{unlike_of}
 use Rattle.netlist.specs.Pairing.{matched_to, unlike_in}
-use Rattle.netlist.proofs.Facts.{matched-constraints, matched-is, none-against}
+use Rattle.netlist.proofs.Facts.{matched-is, none-against}
 use Rattle.aiger_file.specs.File.{SpellsAiger}
 use Rattle.endings.specs.declared.status.Status.{Status}
 use Rattle.endings.specs.Status.{code_of}
@@ -31,7 +31,6 @@ use Rattle.check_session.specs.Check.{IsWithinFor}
 use Rattle.cec_top.specs.Check.{How, status_of_finding, BreaksOff, due_of, StopsChecks, outputs_of as files_of, text_of_check}
 use Rattle.cec_top.specs.Answers.{fault_in, Answers, AnswersCheck, AreUnlike, AsksFor, Stops, IsAtOnce, circuit_file, pair_of, script_file, how_of, after_pair, at_start}
 use Rattle.cec_top.specs.Complete.{NoFault, IsWithinLimit, CanCheck, IsAmple, HasVerdict}
-use Rattle.cec_top.proofs.OwnLemmas.{taken}
 use Rattle.cec_top.proofs.VerdictLemmas.{all-last, is-last, made-last}
 use Rattle.cec_top.proofs.HeadlineLemmas.{FileSpells, ends-code, spells-pair, spells-script, start-keeps}
 use Rattle.cec_top.proofs.ToldLemmas.{all-left}
@@ -86,7 +85,7 @@ too-long None p q = p
 too-long (Some b) p q = absurd (omega (arith, p, q))
 
 -- the file of a circuit
-module _ (s : DeskState) (files : Files) (told : s.files ≡ Some files) (name : List ℕ) (c : Aig) (spells : FileSpells files name c) (plain : c.constraints ≡ []) (within : IsWithinLimit files name) where
+module _ (s : DeskState) (files : Files) (told : s.files ≡ Some files) (name : List ℕ) (c : Aig) (spells : FileSpells files name c) (within : IsWithinLimit files name) where
   spelt-at : (o : Option (List ℕ)) → IsSomeAnd o (λ b. SpellsAiger b c) → (bytes : List ℕ) → o ≡ Some bytes → SpellsAiger bytes c
   spelt-at None p bytes e = absurd p
   spelt-at (Some b) p bytes e = subst (λ (x : List ℕ). SpellsAiger x c) (same_Some b bytes e) p
@@ -101,7 +100,7 @@ module _ (s : DeskState) (files : Files) (told : s.files ≡ Some files) (name :
   stops-file k earlier t (TooLong j) p =
       absurd (too-long (files name) (subst (λ (o : Option Files). IfSome o (λ f. HasMore f name limit)) told p.1) within)
   stops-file k earlier t (BadFile j text) p =
-      absurd (none-some _ (sym (ap fault_in (taken p.1.0 c (spelt p.1.0 p.1.1) plain)) ∙ p.1.2))
+      absurd (none-some _ (sym (ap fault_in (spelt p.1.0 p.1.1)) ∙ p.1.2))
   stops-file k earlier t OutOfMemory p = inl refl
   stops-file k earlier t (NotAlike text) p = absurd p
   stops-file k earlier t CannotWrite p = absurd p
@@ -148,22 +147,19 @@ script-one (Some name) files m n p q = go (files name) p q
     go (Some b) p q = p ∙ sym q
 
 module _ (c : CheckCommand) (old : DeskState) (can : CanCheck c old) (kept : List Kept) where
-  plain-second : can.pair.second.constraints ≡ []
-  plain-second = sym (matched-constraints can.net.a can.pair.second c.by_name can.net.b can.pair.matched) ∙ can.plain_b
-
   reads-stop : (new : DeskState) (stop : Stop) → ReadsUpTo 0 [] (pair_of c) old new stop → IsExcused old new stop
-  reads-stop new stop (inl p) = excused-read old new stop (stops-file old can.files can.told c.a can.net.a can.pair.spells_a can.plain_a can.a 0 [] new stop p)
+  reads-stop new stop (inl p) = excused-read old new stop (stops-file old can.files can.told c.a can.net.a can.pair.spells_a can.a 0 [] new stop p)
   reads-stop new stop (inr p) = second p.3
     where
       second : ReadsUpTo 1 (p.0 ∷ []) (circuit_file c.b ∷ []) (after_read old c.a) new stop → IsExcused old new stop
-      second (inl q) = excused-read old new stop (stops-file (after_read old c.a) can.files can.told c.b can.pair.second can.pair.spells_b plain-second can.b 1 (p.0 ∷ []) new stop q)
+      second (inl q) = excused-read old new stop (stops-file (after_read old c.a) can.files can.told c.b can.pair.second can.pair.spells_b can.b 1 (p.0 ∷ []) new stop q)
       second (inr q) = absurd q.3
 
   -- circuits that fit aren't refused
   not-unlike : (new : DeskState) (stop : Stop) → AreUnlike c old new stop → IsExcused old new stop
   not-unlike new stop p =
-      let a = (spelt old can.files can.told c.a can.net.a can.pair.spells_a can.plain_a can.a p.reads.a p.reads.read.0) in
-      let b = (spelt old can.files can.told c.b can.pair.second can.pair.spells_b plain-second can.b p.reads.b p.reads.read.2.0) in
+      let a = (spelt old can.files can.told c.a can.net.a can.pair.spells_a can.a p.reads.a p.reads.read.0) in
+      let b = (spelt old can.files can.told c.b can.pair.second can.pair.spells_b can.b p.reads.b p.reads.read.2.0) in
       let same_a : p.first ≡ can.net.a = ok-equal p.first can.net.a (sym p.reads.spells_a ∙ a) in
       let same_b : p.second ≡ can.pair.second = ok-equal p.second can.pair.second (sym p.reads.spells_b ∙ b) in
       let alike : unlike_in c.by_name p.first p.second ≡ None =

@@ -88,6 +88,14 @@ script-spells s files told earlier (Some name) (bytes ∷ []) lines read is =
     )
 script-spells s files told earlier (Some name) (bytes ∷ more ∷ rest) lines read is = absurd read.2
 
+-- the script is as long as a file that is read may be
+script-within : (s : DeskState) (files : Files) → s.files ≡ Some files → (earlier : List (List ℕ)) (name : List ℕ) (scripts : List (List ℕ))
+    → AreRead s earlier (script_file name ∷ []) scripts → IsSomeAnd (files name) (λ bytes. length bytes ≤ limit)
+script-within s files told earlier name [] read = absurd read
+script-within s files told earlier name (bytes ∷ rest) read =
+    let there : files name ≡ Some bytes = subst (λ (o : Option Files). IfSome o (λ f. f name ≡ Some bytes)) told read.0.0 in
+    subst (λ (o : Option (List ℕ)). IsSomeAnd o (λ b. length b ≤ limit)) (sym there) read.0.1
+
 -- what reading leaves as it was
 pub record IsRead (old new : DeskState) : Type 0 where
   pub files : new.files ≡ old.files
@@ -96,22 +104,31 @@ pub record IsRead (old new : DeskState) : Type 0 where
   pub started : new.started ≡ old.started
   pub reads : new.read_faults ≡ old.read_faults
   pub writes : new.write_faults ≡ old.write_faults
+  pub warns : new.warn_faults ≡ old.warn_faults
 
 pub reads-keep : (is : List Input) (s : DeskState) → IsRead s (after_reads s is)
-reads-keep [] s = record { files = refl; said = refl; warned = refl; started = refl; reads = refl; writes = refl }
+reads-keep [] s = record { files = refl; said = refl; warned = refl; started = refl; reads = refl; writes = refl; warns = refl }
 reads-keep (i ∷ is) s =
     let k = reads-keep is (after_read s i.name) in
-    record { files = k.files; said = k.said; warned = k.warned; started = k.started; reads = k.reads; writes = k.writes }
+    record { files = k.files; said = k.said; warned = k.warned; started = k.started; reads = k.reads; writes = k.writes; warns = k.warns }
 
 pub start-keeps : (c : CheckCommand) (old : DeskState) → IsRead old (at_start c old)
 start-keeps c old =
     let k = reads-keep (script_of c) (after_pair c old) in
-    record { files = k.files; said = k.said; warned = k.warned; started = k.started; reads = k.reads; writes = k.writes }
+    record { files = k.files; said = k.said; warned = k.warned; started = k.started; reads = k.reads; writes = k.writes; warns = k.warns }
 
 pub spells-script : (c : CheckCommand) (s : DeskState) (files : Files) → s.files ≡ Some files → (net : AigPair) (lines : List (List ℕ))
     → AsksFor c s net lines → IsScript c.edits files lines × (length lines ≤ limit)
 spells-script c s files told net lines asks =
     script-spells (after_pair c s) files told _ c.edits asks.script.scripts lines asks.script.read asks.script.lines_are
+
+pub within-script : (c : CheckCommand) (s : DeskState) (files : Files) → s.files ≡ Some files → (net : AigPair) (lines : List (List ℕ))
+    → AsksFor c s net lines → (name : List ℕ) → c.edits ≡ Some name → IsSomeAnd (files name) (λ bytes. length bytes ≤ limit)
+within-script c s files told net lines asks name is =
+    let earlier : List (List ℕ) = asks.pair.reads.a ∷ asks.pair.reads.b ∷ [] in
+    script-within (after_pair c s) files told earlier name asks.script.scripts
+    (subst (λ (e : Option (List ℕ)). AreRead (after_pair c s) earlier (option_to_list (option_map script_file e)) asks.script.scripts) is
+    asks.script.read)
 
 -- ---- the book that is handed back
 

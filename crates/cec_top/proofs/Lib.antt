@@ -17,3 +17,4 @@ mod ProvenLemmas
 mod OwnLemmas
 mod OwnVerdictLemmas
 mod RefusedLemmas
+mod StoppedLemmas

@@ -9,12 +9,9 @@ use Rattle.check_session.specs.Check.{State}
 use Rattle.netlist.specs.Circuit.{Aig}
 use Rattle.netlist.specs.Net.{AigPair}
 use Rattle.aiger_file.specs.File.{SpellsAiger}
-use Rattle.workload_gen.specs.Workload.{first_bytes, second_bytes, first_circuit, second_circuit}
-use Rattle.workload_gen.specs.declared.kind.Kind.{Kind}
-use Rattle.workload_gen.specs.declared.kind.Kind.TheVariants.{Adder, Parity, Comparator}
+use Rattle.workload_gen.specs.Workload.{first_bytes, second_bytes}
 use Rattle.command_line.specs.Words.{SelfCommand}
 use Rattle.cec_top.specs.declared.kept.Kept.{Kept}
-use Rattle.cec_top.specs.Answers.{circuit_in}
 use Rattle.cec_top.specs.SelfCheck.{AreWorkload, EndsSelf, StopsSelf, after_workload, only, own_how}
 use Rattle.cec_top.specs.Steps.{RunsPlan, how_in}
 
@@ -25,23 +22,6 @@ made-own c x y a b net x_is y_is a_is b_is is = subst (AreWorkload c) (sym is) (
   a = subst (λ (bytes : List ℕ). SpellsAiger bytes a) x_is a_is;
   b = subst (λ (bytes : List ℕ). SpellsAiger bytes b) y_is b_is;
 })
-
--- the circuits that are made have no constraint
-pub plain-first : (kind : Kind) (n : ℕ) → (first_circuit kind n).constraints ≡ []
-unfolding first_circuit
-plain-first Adder n = refl
-plain-first Parity n = refl
-plain-first Comparator n = refl
-
-pub plain-second : (kind : Kind) (n : ℕ) → (second_circuit kind n).constraints ≡ []
-unfolding second_circuit
-plain-second Adder n = refl
-plain-second Parity n = refl
-plain-second Comparator n = refl
-
--- bytes that spell a circuit without constraints are taken
-pub taken : (bytes : List ℕ) (c : Aig) → SpellsAiger bytes c → c.constraints ≡ [] → circuit_in bytes ≡ Ok c
-taken bytes c spells plain = rw (spells, plain) refl
 
 -- what was said of one pair was said of the same
 pub at-workload : (c : SelfCommand) (one net : AigPair) (old mid : DeskState) → one ≡ net → mid ≡ after_workload c one old

@@ -5,11 +5,13 @@ use Rattle.std.specs.List.{flat_map}
 use Rattle.std.specs.Option.{option_to_list}
 use Rattle.std.proofs.lemmas.Option.{none-some}
 use Rattle.desk_port.specs.Desk.{DeskState, Files, HasMore, after_read}
+use Rattle.netlist.specs.Circuit.{Aig}
 use Rattle.netlist.specs.declared.unlike.Unlike.{Unlike}
 use Rattle.endings.specs.declared.status.Status.{Status}
 use Rattle.endings.specs.Status.{code_of}
 use Rattle.endings.specs.declared.stop.Stop.{Stop}
 use Rattle.endings.specs.declared.stop.Stop.TheVariants.{CannotRead, TooLong, BadFile, NotAlike, CannotWrite, OutOfMemory}
+use Rattle.aiger_file.specs.File.{aiger_in}
 use Rattle.endings.specs.Reading.{FileIs, StopsAt, ReadsUpTo, limit}
 use Rattle.endings.specs.Stops.{IsWarned, Warns, fault_line, file_line, name_at, status_of, stop_line}
 use Rattle.command_line.specs.Words.{CheckCommand}
@@ -17,13 +19,13 @@ use Rattle.cec_top.specs.declared.kept.Kept.{Kept}
 use Rattle.netlist.specs.Net.{AigPair}
 use Rattle.cec_top.specs.Script.{due_behind, asked_from, plan_of}
 use Rattle.cec_top.specs.Check.{Made, GoesOn, SaysFault, StopsChecks, RefusesLine as RefusesChecks, kept_from}
-use Rattle.cec_top.specs.Answers.{AnswersCheck, AreUnlike, AsksFor, NamesUnlike, Stops, circuit_file, circuit_in, fault_in, how_of, names_of, pair_of, script_file, script_of, after_pair, at_start}
+use Rattle.cec_top.specs.Answers.{AnswersCheck, AreUnlike, AsksFor, NamesUnlike, ReadsCircuits, Stops, circuit_file, fault_in, how_of, names_of, pair_of, script_file, script_of, after_pair, at_start}
 use Rattle.cec_top.specs.Headline.{Told, SpellPair, IsScript, KeepsPromise}
 use Rattle.cec_top.specs.Lines.{unlike_text, refused_text}
-use Rattle.cec_top.specs.Refused.{HasFault, HasNone, IsDue, Refuses, RefusesLine}
+use Rattle.cec_top.specs.Refused.{HasFault, HasNone, HaveNone, IsDue, Refuses, RefusesLine}
 use Rattle.cec_top.proofs.ClosedLemmas.{leaves-code, memory-code}
 use Rattle.cec_top.proofs.CompleteLemmas.{finding-code}
-use Rattle.cec_top.proofs.HeadlineLemmas.{IsRead, file-spells, spells-pair, spells-script, start-keeps}
+use Rattle.cec_top.proofs.HeadlineLemmas.{IsRead, file-spells, spells-pair, spells-script, start-keeps, within-script}
 use Rattle.cec_top.proofs.ToldLemmas.{IsLeft, left_all, tolds}
 use Rattle.cec_top.proofs.VerdictLemmas.{HasParts, some-parts, is-last, is-left, promise-last, tells-checks}
 
@@ -31,9 +33,9 @@ module _ (before : Files) (s : DeskState) (told : s.files ≡ Some before) (name
   file-at : (bytes : List ℕ) → FileIs s name bytes → before name ≡ Some bytes
   file-at bytes is = subst (λ (o : Option Files). IfSome o (λ f. f name ≡ Some bytes)) told is.0
 
-  has-none : (bytes : List ℕ) → FileIs s name bytes → fault_in (circuit_in bytes) ≡ None → HasNone before name
+  has-none : (bytes : List ℕ) → FileIs s name bytes → fault_in (aiger_in bytes) ≡ None → HasNone before name
   has-none bytes is none =
-      subst (λ (o : Option (List ℕ)). IsSomeAnd o (λ b. (length b ≤ limit) × (fault_in (circuit_in b) ≡ None)))
+      subst (λ (o : Option (List ℕ)). IsSomeAnd o (λ b. (length b ≤ limit) × (fault_in (aiger_in b) ≡ None)))
       (sym (file-at bytes is)) (is.1, none)
 
   -- this file of those of the names is at fault
@@ -54,8 +56,9 @@ module _ (before : Files) (s : DeskState) (told : s.files ≡ Some before) (name
   }
   fault-at names k earlier mid (BadFile j text) p code = record {
     text = string_bytes text;
-    fault = inr (subst (λ (o : Option (List ℕ)). IsSomeAnd o (λ b. fault_in (circuit_in b) ≡ Some (string_bytes text)))
-        (sym (file-at p.1.0 p.1.1)) p.1.2);
+    fault = inr (subst
+        (λ (o : Option (List ℕ)). IsSomeAnd o (λ b. (length b ≤ limit) × (fault_in (aiger_in b) ≡ Some (string_bytes text))))
+        (sym (file-at p.1.0 p.1.1)) (p.1.1.1, p.1.2));
     line = ap (λ (i : ℕ). file_line (name_at names i) (string_bytes text)) p.0;
     at = p.2;
   }
@@ -82,11 +85,20 @@ module _ (c : CheckCommand) (old : DeskState) (before : Files) (told : old.files
     files : mid.files ≡ Some before
     said : mid.said ≡ old.said
     warned : mid.warned ≡ old.warned
+    faults : mid.warn_faults ≡ old.warn_faults
 
   -- and where a line of the script is
   record IsLineTold (mid : DeskState) (stop : Stop) : Type 0 where
     line : RefusesLine c old mid kept before (stop_line (names_of c) stop)
     silent : mid.warned ≡ old.warned
+    faults : mid.warn_faults ≡ old.warn_faults
+
+  -- files that were read have no fault
+  have-none : (first second : Aig) → ReadsCircuits c old first second → HaveNone c before
+  have-none first second p = (
+    has-none before old told c.a p.a p.read.0 p.read.1,
+    has-none before (after_read old c.a) told c.b p.b p.read.2.0 p.read.2.1,
+  )
 
   reads-told : (mid : DeskState) (stop : Stop) → kept ≡ [] → ReadsUpTo 0 [] (pair_of c) old mid stop → code_of (status_of stop) ≡ 4
       → IsTold mid stop
@@ -98,6 +110,7 @@ module _ (c : CheckCommand) (old : DeskState) (before : Files) (told : old.files
         files = ap (λ (s : DeskState). s.files) f.at ∙ told;
         said = ap (λ (s : DeskState). s.said) f.at;
         warned = ap (λ (s : DeskState). s.warned) f.at;
+        faults = ap (λ (s : DeskState). s.warn_faults) f.at;
       }
   reads-told mid stop none (inr p) code = second p.3
     where
@@ -111,12 +124,14 @@ module _ (c : CheckCommand) (old : DeskState) (before : Files) (told : old.files
             files = ap (λ (s : DeskState). s.files) f.at ∙ told;
             said = ap (λ (s : DeskState). s.said) f.at;
             warned = ap (λ (s : DeskState). s.warned) f.at;
+            faults = ap (λ (s : DeskState). s.warn_faults) f.at;
           }
 
   unlike-told : (mid : DeskState) (stop : Stop) → kept ≡ [] → AreUnlike c old mid stop → IsTold mid stop
   unlike-told mid stop none p = record {
     none = none;
     due = inr (inr (inl (record {
+      no_fault = have-none p.first p.second p.reads;
       first = p.first;
       second = p.second;
       spells_a = file-spells old before told c.a p.reads.a p.first p.reads.read.0 p.reads.spells_a;
@@ -128,6 +143,7 @@ module _ (c : CheckCommand) (old : DeskState) (before : Files) (told : old.files
     files = ap (λ (s : DeskState). s.files) p.new_is ∙ told;
     said = ap (λ (s : DeskState). s.said) p.new_is;
     warned = ap (λ (s : DeskState). s.warned) p.new_is;
+    faults = ap (λ (s : DeskState). s.warn_faults) p.new_is;
   }
 
   -- the script is named third
@@ -135,16 +151,17 @@ module _ (c : CheckCommand) (old : DeskState) (before : Files) (told : old.files
   third name is = ap (λ (e : Option (List ℕ)). name_at (c.a ∷ c.b ∷ option_to_list e) 2) is
 
   -- it is too long
-  script-told : (net : AigPair) → SpellPair c before net → (mid : DeskState) (stop : Stop) → kept ≡ [] → (earlier : List (List ℕ))
+  script-told : (net : AigPair) → SpellPair c before net → HaveNone c before → (mid : DeskState) (stop : Stop) → kept ≡ [] → (earlier : List (List ℕ))
       → ReadsUpTo 2 earlier (script_of c) (after_pair c old) mid stop → code_of (status_of stop) ≡ 4 → IsTold mid stop
   unfolding stop_line
-  script-told net pair mid stop none earlier p code = go c.edits refl p
+  script-told net pair fit mid stop none earlier p code = go c.edits refl p
     where
       at : (name : List ℕ) → c.edits ≡ Some name → (stop : Stop) → code_of (status_of stop) ≡ 4
           → StopsAt 2 (script_file name) earlier (after_pair c old) mid stop → IsTold mid stop
       at name is (TooLong j) code q = record {
         none = none;
         due = inr (inr (inr (record {
+          no_fault = fit;
           net = net;
           pair = pair;
           name = name;
@@ -155,6 +172,7 @@ module _ (c : CheckCommand) (old : DeskState) (before : Files) (told : old.files
         files = ap (λ (s : DeskState). s.files) q.2 ∙ told;
         said = ap (λ (s : DeskState). s.said) q.2;
         warned = ap (λ (s : DeskState). s.warned) q.2;
+        faults = ap (λ (s : DeskState). s.warn_faults) q.2;
       }
       at name is (BadFile j text) code q = absurd (none-some (string_bytes text) q.1.2)
       at name is (CannotRead j) code q = cc
@@ -204,11 +222,14 @@ module _ (c : CheckCommand) (old : DeskState) (before : Files) (told : old.files
       at : (name : List ℕ) → c.edits ≡ Some name → IsLineTold mid stop
       at name is = record {
         silent = left.quiet ∙ k.warned;
+        faults = left.warns ∙ k.warns;
         line = record {
+          no_fault = have-none net.a asks.pair.second asks.pair.reads;
           net = net;
           pair = spells-pair c old before told net asks.pair;
           name = name;
           named = is;
+          within = within-script c old before told net lines asks name is;
           lines = lines;
           script = script.0;
           refused = p.line;
@@ -234,7 +255,8 @@ module _ (c : CheckCommand) (old : DeskState) (before : Files) (told : old.files
   stops-told mid stop (inl p) code = inl (reads-told mid stop p.0 p.1 code)
   stops-told mid stop (inr (inl p)) code = inl (unlike-told mid stop p.0 p.1)
   stops-told mid stop (inr (inr (inl p))) code =
-      inl (script-told p.1.net (spells-pair c old before told p.1.net p.1.pair) mid stop p.0 _ p.1.stops code)
+      inl (script-told p.1.net (spells-pair c old before told p.1.net p.1.pair)
+      (have-none p.1.net.a p.1.pair.second p.1.pair.reads) mid stop p.0 _ p.1.stops code)
   stops-told mid stop (inr (inr (inr p))) code = go p.stops
     where
       go : StopsChecks (how_of c) (plan_of p.net p.lines) (at_start c old) kept mid stop → IsTold mid stop ⊎ IsLineTold mid stop
@@ -259,6 +281,7 @@ module _ (c : CheckCommand) (old : DeskState) (before : Files) (told : old.files
             line = stop_line (names_of c) p.stop;
             mid = p.mid;
             silent = t.warned;
+            faults = t.faults;
             warned = w;
             what = inl (record { due = t.due; files = same.0 ∙ t.files; said = same.1 ∙ t.said; none = t.none });
           }
@@ -268,12 +291,15 @@ module _ (c : CheckCommand) (old : DeskState) (before : Files) (told : old.files
             line = stop_line (names_of c) p.stop;
             mid = p.mid;
             silent = t.silent;
+            faults = t.faults;
             warned = w;
             what = inr (record {
+              no_fault = t.line.no_fault;
               net = t.line.net;
               pair = t.line.pair;
               name = t.line.name;
               named = t.line.named;
+              within = t.line.within;
               lines = t.line.lines;
               script = t.line.script;
               refused = t.line.refused;

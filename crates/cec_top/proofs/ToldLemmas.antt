@@ -57,7 +57,7 @@ proof-number prefix i j small little same =
 eq-same : (q : List ℕ) → bytes_eq q q ≡ true
 eq-same q = (bytes_eq-Decides q q).1 refl
 
-eq-other : (n q : List ℕ) → q ≢ n → bytes_eq n q ≡ false
+pub eq-other : (n q : List ℕ) → q ≢ n → bytes_eq n q ≡ false
 eq-other n q other = go (bytes_eq n q) refl
   where
     go : (b : Bool) → bytes_eq n q ≡ b → b ≡ false
@@ -207,6 +207,7 @@ pub record IsLeft (out : Option (List ℕ)) (ts : List Told) (old new : DeskStat
   pub closed : old.started ≡ None → new.started ≡ None
   pub reads : new.read_faults ≡ old.read_faults
   pub writes : new.write_faults ≡ old.write_faults
+  pub warns : new.warn_faults ≡ old.warn_faults
 
 -- after one
 one-left : (out : Option (List ℕ)) (number : ℕ) (m : Made) (old new : DeskState) (text : List ℕ) → text ≡ text_of_check out m
@@ -220,6 +221,7 @@ one-left None number m old new text text_is e = record {
   closed = λ none. ap (λ (s : DeskState). s.started) e ∙ none;
   reads = ap (λ (s : DeskState). s.read_faults) e;
   writes = ap (λ (s : DeskState). s.write_faults) e;
+  warns = ap (λ (s : DeskState). s.warn_faults) e;
 }
 one-left (Some prefix) number m old new text text_is e = record {
   files = λ before told.
@@ -233,6 +235,7 @@ one-left (Some prefix) number m old new text text_is e = record {
   closed = λ none. ap (λ (s : DeskState). s.started) e;
   reads = ap (λ (s : DeskState). s.read_faults) e;
   writes = ap (λ (s : DeskState). s.write_faults) e;
+  warns = ap (λ (s : DeskState). s.warn_faults) e;
 }
 
 both-left : (out : Option (List ℕ)) (t : Told) (ts : List Told) (old mid new : DeskState) → IsLeft out (t ∷ []) old mid
@@ -247,6 +250,7 @@ both-left out t ts old mid new first later = record {
   closed = λ none. later.closed (first.closed none);
   reads = later.reads ∙ first.reads;
   writes = later.writes ∙ first.writes;
+  warns = later.warns ∙ first.warns;
 }
 
 -- after all
@@ -260,6 +264,7 @@ all-left how number [] old new told =
       closed = λ none. none;
       reads = refl;
       writes = refl;
+      warns = refl;
     })
 all-left how number (m ∷ ms) old new told =
     both-left how.out (told_of how.out number m) (tolds how.out (number + 1) ms) old told.0 new

@@ -217,7 +217,7 @@ module _ (how : How) (number : ℕ) (net : AigPair) (edits : List Edit) (book : 
 -- ---- earlier checks
 
 -- whatever was found, what is said of the check is so
-promise-one : (how : How) (number : ℕ) (m : Made) (kept : List Kept) → IsMade how m
+pub promise-one : (how : How) (number : ℕ) (m : Made) (kept : List Kept) → IsMade how m
     → (is_undecided m.finding ≡ true → Contains kept (kept_of number m)) → KeepsPromise how kept (told_of how.out number m)
 promise-one how number m kept made handed = go m.finding made handed
   where
@@ -231,7 +231,7 @@ pub told-made : (how : How) (number : ℕ) (ms : List Made) (old new : DeskState
 told-made how number [] old new told = tt
 told-made how number (m ∷ ms) old new told = (told.1, told-made how (number + 1) ms told.0 new told.3)
 
-all-front : {A : Type 0} (P : A → Type 0) (xs ys : List A) → AllByRecursion P (xs ++ ys) → AllByRecursion P xs
+pub all-front : {A : Type 0} (P : A → Type 0) (xs ys : List A) → AllByRecursion P (xs ++ ys) → AllByRecursion P xs
 all-front P [] ys all = tt
 all-front P (x ∷ xs) ys all = (all.0, all-front P xs ys all.1)
 
@@ -239,7 +239,7 @@ pub all-last : {A : Type 0} (P : A → Type 0) (xs : List A) (y : A) → AllByRe
 all-last P [] y all = all.0
 all-last P (x ∷ xs) y all = all-last P xs y all.1
 
-promise-all : (how : How) (number : ℕ) (ms : List Made) (kept : List Kept) → AllByRecursion (IsMade how) ms → HasOpen kept number ms
+pub promise-all : (how : How) (number : ℕ) (ms : List Made) (kept : List Kept) → AllByRecursion (IsMade how) ms → HasOpen kept number ms
     → AllByRecursion (KeepsPromise how kept) (tolds how.out number ms)
 promise-all how number [] kept made opens = tt
 promise-all how number (m ∷ ms) kept made opens =

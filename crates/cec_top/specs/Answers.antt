@@ -1,5 +1,5 @@
 -- What a run of the program answers.
-use Rattle.std.specs.Prelude.{◌≡◌, ◌⊎◌, ℕ, List, [], ◌∷◌, length, None, Some, Err, string_bytes, Option, Result, Ok, ◌==◌, if◌then◌else◌, option_map}
+use Rattle.std.specs.Prelude.{◌≡◌, ◌⊎◌, ℕ, List, [], ◌∷◌, None, Some, Err, string_bytes, Option, Result, Ok, option_map}
 use Rattle.std.specs.List.{flat_map}
 use Rattle.std.specs.Option.{option_to_list}
 use Rattle.desk_port.specs.Desk.{DeskState, after_say}
@@ -7,8 +7,6 @@ use Rattle.netlist.specs.declared.unlike.Unlike.{Unlike}
 use Rattle.netlist.specs.Net.{AigPair}
 use Rattle.netlist.specs.Pairing.{IsMatched, paired, unlike_in}
 use Rattle.byte_scan.specs.declared.errors.AigerErr.{AigerErr}
-use Rattle.byte_scan.specs.declared.errors.AigerErr.TheVariants.{HasProperty}
-use Rattle.byte_scan.specs.Reading.{◌>>=◌}
 use Rattle.netlist.specs.Circuit.{Aig}
 use Rattle.aiger_file.specs.File.{aiger_in, SpellsAiger}
 use Rattle.command_line.specs.Words.{CheckCommand, LratCommand, SelfCommand, CheckIt, LratIt, SelfIt, Asks, WantInfo, WantVersion, AreRefused}
@@ -35,17 +33,9 @@ abbrev pub fault_in : Result Aig AigerErr → Option (List ℕ)
 fault_in (Ok c) = None
 fault_in (Err e) = Some (aiger_text e)
 
--- constraints are refused, as the section `C` (67)
-abbrev pub unconstrained : Aig → Result Aig AigerErr
-unconstrained c = if length c.constraints == 0 then Ok c else Err (HasProperty 67)
-
--- the circuit without constraints that the bytes spell, or their first fault
-abbrev pub circuit_in : List ℕ → Result Aig AigerErr
-circuit_in bytes = aiger_in bytes >>= unconstrained
-
 -- a circuit's file, and the text of its first fault, whatever files were read before it
 abbrev pub circuit_file : List ℕ → Input
-circuit_file name = record { name = name; fault = λ earlier bytes. fault_in (circuit_in bytes) }
+circuit_file name = record { name = name; fault = λ earlier bytes. fault_in (aiger_in bytes) }
 
 -- a script's file: any bytes are a script, since a line that is refused stands in the way of no line before it
 abbrev pub script_file : List ℕ → Input
@@ -65,7 +55,14 @@ names_of c = c.a ∷ c.b ∷ option_to_list c.edits
 -- under which numbers the command makes its checks, how it matches inputs and outputs, and with which prefix for their files
 abbrev pub how_of : CheckCommand → How
 how_of c = record {
-  options = record { seed = c.seed; words = c.words; sweep_budget = c.sweep_budget; out_budget = c.budget; by_name = c.by_name };
+  options = record {
+    workers = c.workers;
+    seed = c.seed;
+    words = c.words;
+    sweep_budget = c.sweep_budget;
+    out_budget = c.budget;
+    by_name = c.by_name;
+  };
   out = c.out;
 }
 

@@ -1,5 +1,5 @@
 -- When the program has to come to a verdict: nothing that it was given stands in its way.
-use Rattle.std.specs.Prelude.{◌≡◌, ◌⊎◌, ℕ, ◌<◌, ◌≤◌, ◌^◌, List, [], length, None, Some, IfSome, IsSomeAnd}
+use Rattle.std.specs.Prelude.{◌≡◌, ◌⊎◌, ℕ, ◌<◌, ◌≤◌, ◌^◌, List, length, None, Some, IfSome, IsSomeAnd}
 use Rattle.std.specs.List.{AllByRecursion}
 use Rattle.desk_port.specs.Desk.{DeskState, Files, Rose}
 use Rattle.endings.specs.Reading.{limit}
@@ -24,15 +24,13 @@ pub record NoFault (old new : DeskState) : Type 0 where
 abbrev pub IsWithinLimit : Files → List ℕ → Type 0
 IsWithinLimit files name = IfSome (files name) (λ bytes. length bytes ≤ limit)
 
--- the named files spell two circuits without constraints that can be compared, no line of the script is refused, if there is
--- one, and no file is too long
+-- the named files spell two circuits that can be compared, no line of the script is refused, if there is one, and no file is
+-- too long
 pub record CanCheck (c : CheckCommand) (old : DeskState) : Type 0 where
   pub files : Files
   pub told : old.files ≡ Some files
   pub net : AigPair
   pub pair : SpellPair c files net
-  pub plain_a : net.a.constraints ≡ []
-  pub plain_b : net.b.constraints ≡ []
   pub a : IsWithinLimit files c.a
   pub b : IsWithinLimit files c.b
   pub lines : List (List ℕ)

@@ -82,14 +82,14 @@ pub record HasBook (how : How) (kept : List Kept) (t : Told) : Type 0 where
 
 -- ---- EQUIVALENT
 
--- the bytes spell lines that refute the CNF, which has a model exactly if the circuits differ on some input
+-- the bytes spell lines that refute the CNF, which has a model exactly if the circuits differ on some admitted input
 pub record RefutesMiter (net : AigPair) (bytes : List ℕ) : Type 0 where
   pub lines : List Line
   pub spells : SpellsLrat (length (miter_of net)) bytes lines
   pub refutes : Refutes (miter_of net) lines
   pub exact : IsSatisfiable opposite_dim (miter_of net) ↔ Differ net
 
--- the circuits agree on every input, and a proof that is left refutes that they differ
+-- the circuits agree on every admitted input, and a proof that is left refutes that they differ
 pub record AreEquivalent (out : Option (List ℕ)) (t : Told) : Type 0 where
   pub finding_is : t.finding ≡ Equivalent
   pub agree : Agree t.net
@@ -98,7 +98,7 @@ pub record AreEquivalent (out : Option (List ℕ)) (t : Told) : Type 0 where
 
 -- ---- DIFFERENT
 
--- the output that is said differs on the input that is said, and a proof that is left is empty
+-- the output that is said differs on the input that is said, which is admitted, and a proof that is left is empty
 pub record AreDifferent (out : Option (List ℕ)) (t : Told) : Type 0 where
   pub output : ℕ
   pub input : List Bool
@@ -145,7 +145,7 @@ SaysOpen (Some prefix) book opens t = LeavesDerivation book opens t
 
 -- The outputs that are said are those of which the book that is handed back for the check has an OutSpent, in order, and
 -- there are some: a query of each spent its whole budget. Of each other output the book has an Out, and it has one value in
--- both circuits.
+-- both circuits on every admitted input.
 pub record AreUndecided (how : How) (kept : List Kept) (t : Told) : Type 0 where
   pub finding_is : t.finding ≡ Undecided
   pub has : HasBook how kept t

@@ -8,3 +8,4 @@ pub mod Answers
 pub mod Steps
 pub mod Complete
 pub mod Refused
+pub mod Stopped

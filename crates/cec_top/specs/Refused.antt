@@ -6,25 +6,29 @@ use Rattle.netlist.specs.Circuit.{Aig}
 use Rattle.netlist.specs.Net.{AigPair}
 use Rattle.netlist.specs.Pairing.{unlike_in}
 use Rattle.netlist.specs.declared.unlike.Unlike.{Unlike}
-use Rattle.aiger_file.specs.File.{SpellsAiger}
+use Rattle.aiger_file.specs.File.{SpellsAiger, aiger_in}
 use Rattle.endings.specs.Reading.{limit}
 use Rattle.endings.specs.Stops.{IsWarned, fault_line, file_line}
 use Rattle.command_line.specs.Words.{CheckCommand}
 use Rattle.cec_top.specs.declared.kept.Kept.{Kept}
-use Rattle.cec_top.specs.Answers.{circuit_in, fault_in, how_of}
+use Rattle.cec_top.specs.Answers.{fault_in, how_of}
 use Rattle.cec_top.specs.Headline.{SpellPair, IsScript, KeepsPromise, TellsChecks}
 use Rattle.cec_top.specs.Lines.{unlike_text, refused_text}
 use Rattle.cec_top.specs.Script.{Refused, plan_of}
 
--- the named file is too long, or its bytes spell no circuit that a check takes, and this is the text of that
+-- the named file is too long, or its bytes spell no circuit, and this is the text of that
 abbrev pub HasFault : Files → List ℕ → List ℕ → Type 0
 HasFault before name text =
     (HasMore before name limit × (text ≡ codes "longer than 1073741824 bytes"))
-    ⊎ IsSomeAnd (before name) (λ bytes. fault_in (circuit_in bytes) ≡ Some text)
+    ⊎ IsSomeAnd (before name) (λ bytes. (length bytes ≤ limit) × (fault_in (aiger_in bytes) ≡ Some text))
 
 -- it is neither
 abbrev pub HasNone : Files → List ℕ → Type 0
-HasNone before name = IsSomeAnd (before name) (λ bytes. (length bytes ≤ limit) × (fault_in (circuit_in bytes) ≡ None))
+HasNone before name = IsSomeAnd (before name) (λ bytes. (length bytes ≤ limit) × (fault_in (aiger_in bytes) ≡ None))
+
+-- neither A nor B is
+abbrev pub HaveNone : CheckCommand → Files → Type 0
+HaveNone c before = HasNone before c.a × HasNone before c.b
 
 -- A is at fault, and is named
 pub record OfFirst (c : CheckCommand) (before : Files) (line : List ℕ) : Type 0 where
@@ -42,6 +46,7 @@ pub record OfSecond (c : CheckCommand) (before : Files) (line : List ℕ) : Type
 -- neither is, and the circuits that they spell can't be compared: their numbers of inputs or outputs differ, or with `--match
 -- names` their names don't fit; no file is named
 pub record OfPair (c : CheckCommand) (before : Files) (line : List ℕ) : Type 0 where
+  pub no_fault : HaveNone c before
   pub first : Aig
   pub second : Aig
   pub spells_a : IsSomeAnd (before c.a) (λ bytes. SpellsAiger bytes first)
@@ -50,8 +55,9 @@ pub record OfPair (c : CheckCommand) (before : Files) (line : List ℕ) : Type 0
   pub differ : unlike_in c.by_name first second ≡ Some unlike
   pub line_is : line ≡ fault_line (unlike_text unlike)
 
--- the circuits can be compared, and the script is too long and is named
+-- neither is, the circuits can be compared, and the script is too long and is named
 pub record OfScript (c : CheckCommand) (before : Files) (line : List ℕ) : Type 0 where
+  pub no_fault : HaveNone c before
   pub net : AigPair
   pub pair : SpellPair c before net
   pub name : List ℕ
@@ -69,14 +75,16 @@ pub record RefusesFiles (c : CheckCommand) (old new : DeskState) (kept : List Ke
   pub said : new.said ≡ old.said
   pub none : kept ≡ []
 
--- A line of the script is refused, and the warned line names the script, the number of its line and the line's fault. All
--- checks that are asked for before it were told and keep the promise of what was said of them: their verdicts and their files
--- stand, as after a script that ends there.
+-- No file is at fault, but a line of the script is refused, and the warned line names the script, the number of its line and the
+-- line's fault. All checks that are asked for before it were told and keep the promise of what was said of them: their verdicts
+-- and their files stand, as after a script that ends there.
 pub record RefusesLine (c : CheckCommand) (old new : DeskState) (kept : List Kept) (before : Files) (line : List ℕ) : Type 0 where
+  pub no_fault : HaveNone c before
   pub net : AigPair
   pub pair : SpellPair c before net
   pub name : List ℕ
   pub named : c.edits ≡ Some name
+  pub within : IsSomeAnd (before name) (λ bytes. length bytes ≤ limit)
   pub lines : List (List ℕ)
   pub script : IsScript c.edits before lines
   pub refused : Refused
@@ -93,5 +101,6 @@ pub record Refuses (c : CheckCommand) (old new : DeskState) (kept : List Kept) (
   pub line : List ℕ
   pub mid : DeskState
   pub silent : mid.warned ≡ old.warned
+  pub faults : mid.warn_faults ≡ old.warn_faults
   pub warned : IsWarned mid new line
   pub what : RefusesFiles c old new kept before line ⊎ RefusesLine c old new kept before line

@@ -18,7 +18,7 @@ use Rattle.cec_top.specs.Texts.{workload_text}
 -- how it is made: under the numbers of a check without an option, inputs and outputs matched by position; no file is left
 abbrev pub own_how : How
 own_how = record {
-  options = record { seed = 1; words = 4; sweep_budget = 100; out_budget = 100000; by_name = false };
+  options = record { workers = 4; seed = 1; words = 4; sweep_budget = 100; out_budget = 100000; by_name = false };
   out = None;
 }
 

@@ -21,7 +21,7 @@ use std::thread::Threads;
 /// a prefix for them, and says its verdict. The session then has its book, from which the next check goes on;
 /// where the check is told in part no other follows it, and its book is kept.
 pub(crate) fn check<D: Desk, G: Gate + Sync>(
-    rt: &(impl Threads + Wait),
+    rt: &(impl Threads + Wait + Sync),
     alloc: Global,
     desk: &mut D,
     gate: &G,
@@ -50,7 +50,7 @@ pub(crate) fn check<D: Desk, G: Gate + Sync>(
 
 /// Settles a session's pair.
 fn settle<G: Gate + Sync>(
-    rt: &(impl Threads + Wait),
+    rt: &(impl Threads + Wait + Sync),
     alloc: Global,
     gate: &G,
     session: &mut Session,

@@ -14,6 +14,7 @@ ghost use Rattle.cec_top.specs.Headline.{IsEquivalent, IsDifferent, IsUndecided,
 ghost use Rattle.cec_top.specs.Headline.{AreEquivalent, AreDifferent, AreUndecided, OfWorkload};
 ghost use Rattle.cec_top.specs.Refused.{Refuses};
 ghost use Rattle.cec_top.specs.SelfCheck.{own_how};
+ghost use Rattle.cec_top.specs.Stopped.{Stopped};
 
 use lemma_book::Book;
 use netlist::Net;
@@ -42,6 +43,13 @@ pub fn verdicts()
         (old new : DeskState) (status : Status) (kept : List Kept) (before : Files) →
         Asks words (CheckIt c) → Answers words old new status kept
         → code_of status ≡ 4 → old.files ≡ Some before → Refuses c old new kept before }
+
+    // What was told whole keeps its promise where a file or a verdict can't be written, or memory runs
+    // out: `specs/Stopped.antt`.
+    ensures stopped { (words : List (List ℕ)) (c : CheckCommand)
+        (old new : DeskState) (status : Status) (kept : List Kept) (before : Files) →
+        Asks words (CheckIt c) → Answers words old new status kept
+        → 6 ≤ code_of status → old.files ≡ Some before → Stopped c old new status kept before }
 
     // The same of two circuits that the program makes: no file is left, and the budgets are those of a
     // check without an option.

@@ -1,6 +1,6 @@
 ghost use Rattle.std.specs.Prelude.{◌≡◌, [], IfOk, IfErr, None, Ok};
 ghost use Rattle.netlist.specs.Circuit.{Aig};
-ghost use Rattle.cec_top.specs.Answers.{circuit_in};
+ghost use Rattle.aiger_file.specs.File.{SpellsAiger};
 ghost use Rattle.check_session.specs.Check.{AreInRange};
 ghost use Rattle.command_line.specs.Answers.{self_texts};
 ghost use Rattle.endings.specs.Writing.{Says};
@@ -9,7 +9,6 @@ ghost use Rattle.cec_top.specs.SelfCheck.{EndsSelf, StopsSelf, own_how};
 ghost use Rattle.cec_top.specs.Steps.{MakesSession, ReadsBack};
 
 use crate::kept::Kept;
-use crate::reading::circuit_in;
 use crate::script::run_script;
 use crate::texts::workload_text;
 use byte_scan::AigerErr;
@@ -24,7 +23,7 @@ use std::thread::Threads;
 
 /// Makes two circuits, says which they are, settles them and says the verdict.
 pub(crate) fn check_own<D: Desk, G: Gate + Sync>(
-    rt: &(impl Threads + Wait),
+    rt: &(impl Threads + Wait + Sync),
     alloc: Global,
     desk: &mut D,
     gate: &G,
@@ -44,7 +43,7 @@ pub(crate) fn check_own<D: Desk, G: Gate + Sync>(
 
 /// Says which circuits the session has, settles them and says the verdict.
 fn say_and_settle<D: Desk, G: Gate + Sync>(
-    rt: &(impl Threads + Wait),
+    rt: &(impl Threads + Wait + Sync),
     alloc: Global,
     desk: &mut D,
     gate: &G,
@@ -84,6 +83,7 @@ fn default_options() -> Options
     ensures range { AreInRange result }
 {
     Options {
+        workers: 4,
         seed: 1,
         words: 4,
         sweep_budget: 100,
@@ -109,11 +109,10 @@ fn own_session(alloc: Global, words: SelfWords) -> Result<Session, Stop>
 
 /// The circuit that the bytes spell, which spell one.
 fn read_back(alloc: Global, bytes: &[u8]) -> Result<Circuit, Stop>
-    requires { (c : Aig) × (circuit_in bytes.now ≡ Ok c) }
-    ensures reads { ReadsBack bytes.now result }
-    ensures plain { IfOk result (λ c. c.constraints ≡ []) }
+    requires { (c : Aig) × SpellsAiger bytes.now c }
+    ensures { ReadsBack bytes.now result }
 {
-    match circuit_in(alloc, bytes) {
+    match aiger_file::read(alloc, bytes) {
         Ok(circuit) => Ok(circuit),
         Err(AigerErr::NoMemory) => Err(Stop::OutOfMemory),
         Err(_) => unreachable!(),

@@ -23,7 +23,7 @@ use std::thread::Threads;
 /// The first argument is the program's name. A fault is warned of as one line before the status is
 /// answered, and refused arguments with the text of `clap`; where the warning fails the status stays.
 pub fn run<D: Desk, G: Gate + Sync>(
-    rt: &(impl Threads + Wait),
+    rt: &(impl Threads + Wait + Sync),
     alloc: Global,
     words: &[String],
     desk: &mut D,
@@ -50,7 +50,7 @@ pub fn run<D: Desk, G: Gate + Sync>(
 /// Makes the checks that are asked for of two files' circuits, and warns of what ends them without the last
 /// verdict, or with more than it.
 fn check_files<D: Desk, G: Gate + Sync>(
-    rt: &(impl Threads + Wait),
+    rt: &(impl Threads + Wait + Sync),
     alloc: Global,
     desk: &mut D,
     gate: &G,
@@ -70,7 +70,7 @@ fn check_files<D: Desk, G: Gate + Sync>(
 /// Reads the pair and the script, and makes the checks: check 0, of the circuits as they were read, and those
 /// that the script asks for.
 fn read_and_check<D: Desk, G: Gate + Sync>(
-    rt: &(impl Threads + Wait),
+    rt: &(impl Threads + Wait + Sync),
     alloc: Global,
     desk: &mut D,
     gate: &G,
@@ -111,7 +111,7 @@ fn end_check<D: Desk>(alloc: Global, desk: &mut D, words: CheckWords<'_>, stop: 
 
 /// Makes the check of two circuits that the program makes, and warns of what ends it without a verdict.
 fn check_workload<D: Desk, G: Gate + Sync>(
-    rt: &(impl Threads + Wait),
+    rt: &(impl Threads + Wait + Sync),
     alloc: Global,
     desk: &mut D,
     gate: &G,

@@ -1,9 +1,8 @@
-ghost use Rattle.std.specs.Prelude.{◌≡◌, ℕ, List, [], IfOk, option_map};
-ghost use Rattle.byte_scan.specs.Reading.{Gives};
+ghost use Rattle.std.specs.Prelude.{◌≡◌, ℕ, List, option_map};
 ghost use Rattle.endings.specs.Reading.{ReadsAs};
 ghost use Rattle.aiger_file.specs.File.{SpellsAiger};
 ghost use Rattle.command_line.specs.Answers.{check_texts};
-ghost use Rattle.cec_top.specs.Answers.{circuit_file, circuit_in, how_of};
+ghost use Rattle.cec_top.specs.Answers.{circuit_file, how_of};
 ghost use Rattle.check_session.specs.Check.{AreInRange};
 ghost use Rattle.cec_top.specs.Steps.{ReadsScript, ReadsSession, StopsUnlike};
 
@@ -18,20 +17,6 @@ use netlist::laws::pairs_are_matched;
 use netlist::{Circuit, Unlike};
 use std::alloc::Global;
 
-/// The circuit that the bytes spell. Constraints are refused.
-pub(crate) fn circuit_in(alloc: Global, bytes: &[u8]) -> Result<Circuit, AigerErr>
-    ensures reads { Gives result (circuit_in bytes.now) }
-    ensures spells { IfOk result (λ c. SpellsAiger bytes.now c) }
-    ensures plain { IfOk result (λ c. c.constraints ≡ []) }
-{
-    let circuit = aiger_file::read(alloc, bytes)?;
-    if circuit.constraints().is_empty() {
-        Ok(circuit)
-    } else {
-        Err(AigerErr::HasProperty(b'C'))
-    }
-}
-
 /// The circuit of the named file, which is this one of those that are read.
 fn read_circuit<D: Desk>(
     alloc: Global,
@@ -39,13 +24,12 @@ fn read_circuit<D: Desk>(
     name: &str,
     file: usize,
 ) -> Result<Circuit, Stop>
-    ensures plain { IfOk result (λ c. c.constraints ≡ []) }
-    ensures reads { (earlier : List (List ℕ)) →
+    ensures { (earlier : List (List ℕ)) →
         ReadsAs SpellsAiger file (circuit_file name.now) earlier
         (D.state desk.old) (D.state desk.new) result }
 {
     let bytes = read_file(alloc, desk, name, file)?;
-    match circuit_in(alloc, bytes.as_slice()) {
+    match aiger_file::read(alloc, bytes.as_slice()) {
         Ok(circuit) => Ok(circuit),
         Err(AigerErr::NoMemory) => Err(Stop::OutOfMemory),
         Err(fault) => {
@@ -91,6 +75,7 @@ fn options_of(words: CheckWords<'_>) -> Options
     ensures range { AreInRange result }
 {
     Options {
+        workers: words.workers as u32,
         seed: words.seed,
         words: words.words as u32,
         sweep_budget: words.sweep_budget,

@@ -26,7 +26,7 @@ pub(crate) const SCRIPT_PLACE: usize = 2;
 /// lines which check was the last, so an earlier one's book is copied right before the next check is made,
 /// which goes on from it.
 pub(crate) fn run_script<D: Desk, G: Gate + Sync>(
-    rt: &(impl Threads + Wait),
+    rt: &(impl Threads + Wait + Sync),
     alloc: Global,
     desk: &mut D,
     gate: &G,

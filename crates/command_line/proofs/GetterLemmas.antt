@@ -6,7 +6,7 @@ use Rattle.clap.proofs.ValueTestLemmas.{Accepts-accepts, accepts-Accepts}
 use Rattle.clap.specs.ValueTests.{is_unsigned_in}
 use Rattle.clap.specs.Walk.{Row, Text, first_of}
 use Rattle.clap.specs.declared.builder.value_parser.ValueParser.TheVariants.{Unsigned}
-use Rattle.command_line.specs.Commands.{budget_option, seed_option, sweep_budget_option, words_option}
+use Rattle.command_line.specs.Commands.{budget_option, seed_option, sweep_budget_option, words_option, workers_option}
 use Rattle.command_line.specs.Words.{CheckCommand, Outcome, check_given, check_in, number_in, number_or, matched, plain_check, with_options}
 
 -- an answer that shows as some text is some answer
@@ -74,11 +74,19 @@ check_matched rows word c o word_is given is =
     ap₂ (λ (w : Option Text) (d : Option CheckCommand). option_map (matched w) d) word_is given ∙ ap Some (sym is)
 
 -- options that are given set their fields
-pub options_given : (rows : List Row) (c : CheckCommand) (edits out : Option Text) (seed words sweep_budget budget : ℕ)
+pub options_given : (rows : List Row) (c : CheckCommand) (edits out : Option Text) (workers seed words sweep_budget budget : ℕ)
     → first_of (codes "edits") rows ≡ edits → first_of (codes "out") rows ≡ out
-    → seed ≡ number_or c.seed seed_option rows → words ≡ number_or c.words words_option rows
+    → workers ≡ number_or c.workers workers_option rows → seed ≡ number_or c.seed seed_option rows → words ≡ number_or c.words words_option rows
     → sweep_budget ≡ number_or c.sweep_budget sweep_budget_option rows → budget ≡ number_or c.budget budget_option rows
     → with_options rows c
-    ≡ record c { edits = edits; out = out; seed = seed; words = words; sweep_budget = sweep_budget; budget = budget }
-options_given rows c edits out seed words sweep_budget budget edits_is out_is seed_is words_is sweep_is budget_is =
-    rw (edits_is, out_is, seed_is, words_is, sweep_is, budget_is) refl
+    ≡ record c {
+      edits = edits;
+      out = out;
+      workers = workers;
+      seed = seed;
+      words = words;
+      sweep_budget = sweep_budget;
+      budget = budget;
+    }
+options_given rows c edits out workers seed words sweep_budget budget edits_is out_is workers_is seed_is words_is sweep_is budget_is =
+    rw (edits_is, out_is, workers_is, seed_is, words_is, sweep_is, budget_is) refl

@@ -18,7 +18,7 @@ use Rattle.command_line.specs.Commands.{cec_app, check_command, lrat_command, mo
 use Rattle.workload_gen.specs.declared.kind.Kind.{Kind}
 use Rattle.workload_gen.specs.declared.kind.Kind.TheVariants.{Adder, Parity, Comparator}
 use Rattle.workload_gen.specs.declared.workload.TheConstants.{MOST_BITS}
-use Rattle.command_line.specs.declared.asked.TheConstants.{BUDGET_LIMIT, WORDS_LIMIT}
+use Rattle.command_line.specs.declared.asked.TheConstants.{BUDGET_LIMIT, WORDS_LIMIT, WORKERS_LIMIT}
 use Rattle.command_line.specs.Words.{CheckIt, LratIt, SelfIt, CheckCommand, Misnames, Outcome, Requested, faults, misnamed_pairing, number_in, outcome_in, outcome_of, matched_by, pairing_named, plain_check, self_of}
 use Rattle.command_line.specs.Plain.{IsPlain, SetsName, SetsNumber, SetsText, Writes, kind_name}
 
@@ -217,6 +217,9 @@ sets-number name least most default set fits walk a b word n plain_a plain_b wri
 few_words : WORDS_LIMIT ≤ most_seed
 few_words = omega (arith, lit< {m = 64} {n = 18446744073709551615} tt)
 
+few_workers : WORKERS_LIMIT ≤ most_seed
+few_workers = omega (arith, lit< {m = 64} {n = 18446744073709551615} tt)
+
 small_budget : BUDGET_LIMIT ≤ most_seed
 small_budget = omega (arith, lit< {m = 1000000000} {n = 18446744073709551615} tt)
 
@@ -231,6 +234,13 @@ unfolding outcome_of faults walked walk_fault defaults_fault
 sets-out a b p plain_a plain_b plain_p program =
     outcome-marked (completed check_command) (plain a ∷ plain b ∷ flag (codes "--out") ∷ plain p ∷ [])
     (plain_a, refl, (plain_b, refl, (plain_p, refl, tt)))
+
+pub sets-workers : SetsNumber (codes "--workers") 1 WORKERS_LIMIT (λ c n. record c { workers = n })
+unfolding outcome_of faults walked walk_fault defaults_fault
+sets-workers = sets-number (codes "--workers") 1 WORKERS_LIMIT 4 (λ c n. record c { workers = n }) few_workers
+    (λ program a b word plain_a plain_b plain_word.
+    outcome-marked (completed check_command) (plain a ∷ plain b ∷ flag (codes "--workers") ∷ plain word ∷ [])
+    (plain_a, refl, (plain_b, refl, (plain_word, refl, tt))))
 
 pub sets-seed : SetsNumber (codes "--seed") 0 most_seed (λ c n. record c { seed = n })
 unfolding outcome_of faults walked walk_fault defaults_fault

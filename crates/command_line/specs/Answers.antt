@@ -16,6 +16,7 @@ check_texts c = record {
   b = c.b.now;
   edits = option_map (λ edits. edits.now) c.edits;
   out = option_map (λ out. out.now) c.out;
+  workers = c.workers;
   seed = c.seed;
   words = c.words;
   sweep_budget = c.sweep_budget;

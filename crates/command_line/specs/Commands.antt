@@ -2,7 +2,7 @@
 use Rattle.std.specs.Prelude.{ℕ, true, List, [], ◌∷◌, Some, codes}
 use Rattle.clap.specs.Walk.{Rule, Text, is_empty}
 use Rattle.clap.specs.Simple.{App, Shape, new_rule, new_shape}
-use Rattle.command_line.specs.declared.asked.TheConstants.{BUDGET_LIMIT, WORDS_LIMIT}
+use Rattle.command_line.specs.declared.asked.TheConstants.{BUDGET_LIMIT, WORDS_LIMIT, WORKERS_LIMIT}
 use Rattle.clap.specs.declared.builder.value_parser.ValueParser.TheVariants.{Unsigned}
 use Rattle.workload_gen.specs.declared.workload.TheConstants.{MOST_BITS}
 
@@ -32,6 +32,9 @@ pub record NumberOption : Type 0 where
 abbrev pub number_option : NumberOption → Rule
 number_option o = record (text_option o.id) { parser = Some (Unsigned o.least o.most) }
 
+abbrev pub workers_option : NumberOption
+workers_option = record { id = codes "workers"; least = 1; most = WORKERS_LIMIT }
+
 abbrev pub seed_option : NumberOption
 seed_option = record { id = codes "seed"; least = 0; most = most_seed }
 
@@ -48,12 +51,13 @@ budget_option = record { id = codes "budget"; least = 1; most = BUDGET_LIMIT }
 abbrev pub command : Text → List Rule → Shape
 command name rules = record (new_shape name) { rules = rules }
 
--- `cec check A B [--edits F] [--out PREFIX] [--seed N] [--words N] [--sweep-budget N] [--budget N] [--match BY]`
+-- `cec check A B [--edits F] [--out PREFIX] [--workers N] [--seed N] [--words N] [--sweep-budget N] [--budget N]
+-- [--match BY]`
 abbrev pub check_command : Shape
 check_command = command (codes "check")
     (place (codes "a") ∷ place (codes "b") ∷ text_option (codes "edits") ∷ text_option (codes "out")
-    ∷ number_option seed_option ∷ number_option words_option ∷ number_option sweep_budget_option
-    ∷ number_option budget_option ∷ text_option (codes "match") ∷ [])
+    ∷ number_option workers_option ∷ number_option seed_option ∷ number_option words_option
+    ∷ number_option sweep_budget_option ∷ number_option budget_option ∷ text_option (codes "match") ∷ [])
 
 -- `cec lrat CNF PROOF`
 abbrev pub lrat_command : Shape

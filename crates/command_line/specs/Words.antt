@@ -11,20 +11,21 @@ use Rattle.clap.specs.ValueTests.{is_unsigned_in}
 use Rattle.clap.specs.Walk.{Row, Text, first_of, is_empty}
 use Rattle.clap.specs.declared.error.kind.ErrorKind.{ErrorKind}
 use Rattle.clap.specs.declared.error.kind.ErrorKind.TheVariants.{DisplayHelp, DisplayVersion}
-use Rattle.command_line.specs.Commands.{NumberOption, budget_option, cec_app, seed_option, sweep_budget_option, words_option}
+use Rattle.command_line.specs.Commands.{NumberOption, budget_option, cec_app, seed_option, sweep_budget_option, words_option, workers_option}
 use Rattle.workload_gen.specs.declared.kind.Kind.{Kind}
 use Rattle.workload_gen.specs.declared.kind.Kind.TheVariants.{Adder, Parity, Comparator}
 use Rattle.workload_gen.specs.declared.workload.TheConstants.{MOST_BITS}
 
 -- `check A B`: the names of the two circuits' files and of an edit script's, if there is one, what the names of the written
--- files begin with, if any are to be written, from which seed how many words of 64 patterns are drawn, and how many clauses a
--- solver may learn for a pair of nodes and for an output, and whether inputs and outputs are paired by their names, and not by
--- their positions
+-- files begin with, if any are to be written, how many workers settle pairs and outputs, from which seed how many words of 64
+-- patterns are drawn, and how many clauses a solver may learn for a pair of nodes and for an output, and whether inputs and
+-- outputs are paired by their names, and not by their positions
 pub record CheckCommand : Type 0 where
   pub a : List ℕ
   pub b : List ℕ
   pub edits : Option (List ℕ)
   pub out : Option (List ℕ)
+  pub workers : ℕ
   pub seed : ℕ
   pub words : ℕ
   pub sweep_budget : ℕ
@@ -100,6 +101,7 @@ plain_check a b = record {
   b = b;
   edits = None;
   out = None;
+  workers = 4;
   seed = 1;
   words = 4;
   sweep_budget = 100;
@@ -116,6 +118,7 @@ abbrev pub with_options : List Row → CheckCommand → CheckCommand
 with_options rows c = record c {
   edits = first_of (codes "edits") rows;
   out = first_of (codes "out") rows;
+  workers = number_or c.workers workers_option rows;
   seed = number_or c.seed seed_option rows;
   words = number_or c.words words_option rows;
   sweep_budget = number_or c.sweep_budget sweep_budget_option rows;

@@ -1,11 +1,14 @@
 ghost use Rattle.std.specs.Prelude.{◌≤◌};
-ghost use Rattle.command_line.specs.declared.asked.TheConstants.{BUDGET_LIMIT, WORDS_LIMIT};
+ghost use Rattle.command_line.specs.declared.asked.TheConstants.{BUDGET_LIMIT, WORDS_LIMIT, WORKERS_LIMIT};
 ghost use Rattle.workload_gen.specs.declared.workload.TheConstants.{MOST_BITS};
 
 use workload_gen::{Kind, MOST_BITS};
 
 /// No budget is greater: so many clauses a solver may learn for a pair of nodes or an output.
 pub const BUDGET_LIMIT: u64 = 1_000_000_000;
+
+/// No more workers settle a check's pairs and outputs.
+pub const WORKERS_LIMIT: u64 = 64;
 
 /// No more words of 64 patterns are drawn for each input.
 pub const WORDS_LIMIT: u64 = 64;
@@ -21,6 +24,8 @@ pub struct CheckWords<'a> {
     pub edits: Option<&'a str>,
     /// What the names of the written files begin with, if any are to be written.
     pub out: Option<&'a str>,
+    /// How many workers settle pairs of nodes and outputs.
+    pub workers: u64,
     /// What the patterns are drawn from.
     pub seed: u64,
     /// How many words of 64 patterns are drawn for each input.
@@ -31,6 +36,8 @@ pub struct CheckWords<'a> {
     pub budget: u64,
     /// Whether inputs and outputs are paired by their names, and not by their positions.
     pub by_name: bool,
+    pub ghost least_workers: { 1 ≤ workers },
+    pub ghost most_workers: { workers ≤ WORKERS_LIMIT },
     pub ghost least_words: { 1 ≤ words },
     pub ghost most_words: { words ≤ WORDS_LIMIT },
     pub ghost least_sweep_budget: { 1 ≤ sweep_budget },

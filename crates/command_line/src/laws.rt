@@ -1,7 +1,7 @@
 ghost use Rattle.std.specs.Prelude.{◌≢◌, ◌⊎◌, ℕ, List, [], ◌∷◌, Some, codes, false, true};
-ghost use Rattle.command_line.specs.Commands.{budget_option, most_seed, seed_option, sweep_budget_option, words_option};
+ghost use Rattle.command_line.specs.Commands.{budget_option, most_seed, seed_option, sweep_budget_option, words_option, workers_option};
 ghost use Rattle.command_line.specs.Plain.{AskCheck, IsInRange, IsPlain, SetsName, SetsNumber, SetsText, Writes, kind_name};
-ghost use Rattle.command_line.specs.declared.asked.TheConstants.{BUDGET_LIMIT, WORDS_LIMIT};
+ghost use Rattle.command_line.specs.declared.asked.TheConstants.{BUDGET_LIMIT, WORDS_LIMIT, WORKERS_LIMIT};
 ghost use Rattle.command_line.specs.Words.{AreRefused, AskMisnamed, Asks, LratIt, Request, SelfIt, WantHelp, WantInfo, WantVersion, misnamed_pairing, plain_check};
 ghost use Rattle.workload_gen.specs.declared.kind.Kind.{Kind};
 ghost use Rattle.workload_gen.specs.declared.workload.TheConstants.{MOST_BITS};
@@ -18,6 +18,7 @@ pub fn words_are_one_of()
 
 /// A number that is given for an option of a check is in the option's range, where the words have no fault.
 pub fn given_numbers()
+    ensures workers { IsInRange workers_option }
     ensures seed { IsInRange seed_option }
     ensures words { IsInRange words_option }
     ensures sweep_budget { IsInRange sweep_budget_option }
@@ -31,6 +32,7 @@ pub fn plain_words()
         AskCheck (codes "check" ∷ a ∷ b ∷ []) (plain_check a b) }
     ensures edits { SetsText (codes "--edits") (λ c f. record c { edits = Some f }) }
     ensures out { SetsText (codes "--out") (λ c p. record c { out = Some p }) }
+    ensures workers { SetsNumber (codes "--workers") 1 WORKERS_LIMIT (λ c n. record c { workers = n }) }
     ensures seed { SetsNumber (codes "--seed") 0 most_seed (λ c n. record c { seed = n }) }
     ensures words { SetsNumber (codes "--words") 1 WORDS_LIMIT (λ c n. record c { words = n }) }
     ensures sweep_budget { SetsNumber (codes "--sweep-budget") 1 BUDGET_LIMIT

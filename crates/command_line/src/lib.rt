@@ -12,7 +12,9 @@
 //! read at `table.rt`.
 #![tactic(auto)]
 
-pub use asked::{Asked, BUDGET_LIMIT, CheckWords, LratWords, SelfWords, WORDS_LIMIT};
+pub use asked::{
+    Asked, BUDGET_LIMIT, CheckWords, LratWords, SelfWords, WORDS_LIMIT, WORKERS_LIMIT,
+};
 pub use laws::{given_numbers, plain_words, words_are_one_of};
 pub use reading::{Refusal, read};
 

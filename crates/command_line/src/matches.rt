@@ -5,7 +5,7 @@ ghost use Rattle.command_line.specs.Answers.{check_texts, lrat_texts};
 ghost use Rattle.command_line.specs.Parsing.{found, misnamed_texts, outcome};
 
 use crate::asked::{
-    Asked, BUDGET_LIMIT, CheckWords, LratWords, MisnamedWord, SelfWords, WORDS_LIMIT,
+    Asked, BUDGET_LIMIT, CheckWords, LratWords, MisnamedWord, SelfWords, WORDS_LIMIT, WORKERS_LIMIT,
 };
 use clap::ArgMatches;
 use workload_gen::{Kind, MOST_BITS};
@@ -49,6 +49,7 @@ impl<'a> CheckWords<'a> {
             b,
             edits: None,
             out: None,
+            workers: 4,
             seed: 1,
             words: 4,
             sweep_budget: 100,
@@ -80,6 +81,7 @@ fn matched<'a>(check: CheckWords<'a>, word: &'a str) -> Result<Asked<'a>, Misnam
             b: check.b,
             edits: check.edits,
             out: check.out,
+            workers: check.workers,
             seed: check.seed,
             words: check.words,
             sweep_budget: check.sweep_budget,
@@ -123,6 +125,7 @@ fn check_words<'a>(matches: &ArgMatches<'a>) -> CheckWords<'a>
         b: plain.b,
         edits: matches.get_str("edits"),
         out: matches.get_str("out"),
+        workers: number_or(matches, "workers", 1, WORKERS_LIMIT, plain.workers),
         seed: number_or(matches, "seed", 0, u64::MAX, plain.seed),
         words: number_or(matches, "words", 1, WORDS_LIMIT, plain.words),
         sweep_budget: number_or(matches, "sweep-budget", 1, BUDGET_LIMIT, plain.sweep_budget),

@@ -2,7 +2,7 @@
 //! `specs/Commands.antt`, a field of what `read` hands out with its default (`asked.rt`, `matches.rt` and
 //! `specs/Words.antt`), and a line of the law `plain_words`.
 
-use crate::asked::{BUDGET_LIMIT, WORDS_LIMIT};
+use crate::asked::{BUDGET_LIMIT, WORDS_LIMIT, WORKERS_LIMIT};
 use workload_gen::MOST_BITS;
 
 /// What an argument takes.
@@ -77,6 +77,15 @@ pub(crate) static COMMANDS: [CommandRow; 3] = [
                 value_name: "PREFIX",
                 takes: Takes::Text,
                 help: "Leave the question and its proof in files whose names begin with PREFIX",
+            },
+            ArgumentRow {
+                name: "workers",
+                value_name: "N",
+                takes: Takes::Number {
+                    least: 1,
+                    most: WORKERS_LIMIT,
+                },
+                help: "Settle pairs of nodes and outputs by N workers, from 1 to 64 [default: 4]",
             },
             ArgumentRow {
                 name: "seed",

@@ -1,6 +1,7 @@
 use Rattle.std.proofs.Common.{arith}
 use Rattle.cec_top.proofs.VerdictLemmas.{equivalent, different, undecided}
 use Rattle.cec_top.proofs.RefusedLemmas.{refuses}
+use Rattle.cec_top.proofs.StoppedLemmas.{stopped}
 use Rattle.cec_top.proofs.OwnVerdictLemmas.{own-equivalent, own-different, own-undecided}
 use Rattle.cec_top.proofs.WordsLemmas.{answers-check, answers-lrat, answers-self, verified}
 use Rattle.cec_top.proofs.laws.verdicts.Goals as goal
@@ -41,3 +42,7 @@ pub returns-clause-refused : goal.returns-clause-refused
 returns-clause-refused call = λ words c old new status kept before asks answers code told.
     refuses c old before told kept new status
     (answers-check words old new status kept call.words_are_one_of.ensures.asked answers c asks (omega (arith, code))) code
+
+pub returns-clause-stopped : goal.returns-clause-stopped
+returns-clause-stopped call = λ words c old new status kept before asks answers above told.
+    stopped words old new status kept call.words_are_one_of.ensures.asked answers c asks before told above

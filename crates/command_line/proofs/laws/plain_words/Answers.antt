@@ -1,4 +1,4 @@
-use Rattle.command_line.proofs.PlainLemmas.{asks-check, asks-lrat, asks-self, misnames-match, sets-edits, sets-budget, sets-budget_out, sets-match_names, sets-match_position, sets-out, sets-out_budget, sets-seed, sets-sweep_budget, sets-words}
+use Rattle.command_line.proofs.PlainLemmas.{asks-check, asks-lrat, asks-self, misnames-match, sets-edits, sets-budget, sets-budget_out, sets-match_names, sets-match_position, sets-out, sets-out_budget, sets-seed, sets-sweep_budget, sets-words, sets-workers}
 use Rattle.command_line.proofs.laws.plain_words.Goals as goal
 
 pub returns : goal.returns
@@ -6,6 +6,7 @@ returns c = record {
   check = λ a b plain_a plain_b program. asks-check program a b plain_a plain_b;
   edits = sets-edits;
   out = sets-out;
+  workers = sets-workers;
   seed = sets-seed;
   words = sets-words;
   sweep_budget = sets-sweep_budget;

@@ -1,0 +1,430 @@
+-- What stands where a check of files ends with status 6 or 7: the checks that were told whole.
+use Rattle.std.proofs.Common.{◌≡◌, ◌≢◌, ℕ, ◌+◌, ◌<◌, ◌≤◌, ◌^◌, lit<, inl, inr, List, [], ◌∷◌, ◌++◌, length, map, option_map, Option, Some, None, Err, refl, sym, ap, ◌∙◌, subst, arith, append-nil, length-append}
+use Rattle.std.specs.Prelude.{◌⊎◌}
+use Rattle.std.specs.List.{AllByRecursion, flat_map}
+use Rattle.std.proofs.lemmas.List.{length-map}
+use Rattle.desk_port.specs.Desk.{DeskState, Files, after_read, put}
+use Rattle.netlist.specs.Net.{AigPair}
+use Rattle.check_session.specs.Files.{cnf_name, proof_name}
+use Rattle.endings.specs.declared.status.Status.{Status}
+use Rattle.endings.specs.Status.{code_of}
+use Rattle.endings.specs.declared.stop.Stop.{Stop}
+use Rattle.endings.specs.declared.stop.Stop.TheVariants.{CannotRead, TooLong, BadFile, NotAlike, CannotWrite, OutOfMemory}
+use Rattle.endings.specs.Reading.{Input, StopsAt, ReadsUpTo, limit}
+use Rattle.endings.specs.Writing.{Output, Leaves, StopsIn, after_file}
+use Rattle.endings.specs.Stops.{EndsBy, IsWarned, Warns, status_of, stop_line}
+use Rattle.command_line.specs.Words.{CheckCommand, LratCommand, SelfCommand, Request, CheckIt, LratIt, SelfIt, Asks, WantInfo, AreRefused}
+use Rattle.cec_top.specs.declared.kept.Kept.{Kept}
+use Rattle.cec_top.specs.Answers.{Answers, AnswersCheck, AsksFor, IsAtOnce, Stops, how_of, names_of, pair_of, script_of, after_pair, at_start}
+use Rattle.cec_top.specs.Check.{How, Made, IsMade, GoesOn, Tells, AreSome, KeepsOn, BreaksOff, RunsOut, StopsChecks, due_of, kept_from, kept_of, outputs_of, text_of_check}
+use Rattle.cec_top.specs.Headline.{Told, IsScript, KeepsPromise, HasFiles, LeavesUnder, due_of_told}
+use Rattle.cec_top.specs.Script.{Due, Plan, plan_of}
+use Rattle.cec_top.specs.Stopped.{IsNoFile, SaysPart, StandUnder, Stopped, TellsNothing, TellsSome}
+use Rattle.cec_top.proofs.CompleteLemmas.{finding-code}
+use Rattle.cec_top.proofs.HeadlineLemmas.{ends-code, spells-pair, spells-script, start-keeps}
+use Rattle.cec_top.proofs.KeptLemmas.{has-last, has-open}
+use Rattle.cec_top.proofs.PlanLemmas.{plan-count}
+use Rattle.cec_top.proofs.RunLemmas.{some-all}
+use Rattle.cec_top.proofs.ToldLemmas.{IsLeft, all-left, cnf-no-proof, cnf-number, eq-other, leaves-under, left_all, proof-number, told_of, tolds, tolds-due, tolds-last, tolds-numbered}
+use Rattle.cec_top.proofs.VerdictLemmas.{HasParts, all-front, all-last, is-last, promise-all, promise-one, some-parts, told-made}
+use Rattle.cec_top.proofs.WordsLemmas.{check_or, same_request}
+
+-- ---- what is left and said in part
+
+put-other : (name bytes q : List ℕ) (files : Files) → q ≢ name → put name bytes files q ≡ files q
+put-other name bytes q files other = rw (eq-other name q other) refl
+
+-- the files where some of these were written, or a first part of one
+record HalfFiles (os : List Output) (before : Files) (now : Option Files) : Type 0 where
+  after : Files
+  are : now ≡ Some after
+  others : (q : List ℕ) → AllByRecursion (λ o. q ≢ o.name) os → after q ≡ before q
+
+same-files : (os : List Output) (before : Files) (now : Option Files) → now ≡ Some before → HalfFiles os before now
+same-files os before now are = record { after = before; are = are; others = λ q none. refl }
+
+put-files : (o : Output) (os : List Output) (part : List ℕ) (before : Files) (now : Option Files) → now ≡ Some (put o.name part before)
+    → HalfFiles (o ∷ os) before now
+put-files o os part before now are = record {
+  after = put o.name part before;
+  are = are;
+  others = λ q none. put-other o.name part q before none.0;
+}
+
+-- of the text a first part is said, and of the files some stand, or a first part of one
+record HalfLeft (os : List Output) (text : List ℕ) (old new : DeskState) : Type 0 where
+  part : List ℕ
+  rest : List ℕ
+  is_part : text ≡ part ++ rest
+  said : (earlier : List ℕ) → old.said ≡ Some earlier → new.said ≡ Some (earlier ++ part)
+  files : (before : Files) → old.files ≡ Some before → HalfFiles os before new.files
+
+-- nothing of it is said
+unsaid : (os : List Output) (text : List ℕ) (old new : DeskState) → new.said ≡ old.said
+    → ((before : Files) → old.files ≡ Some before → HalfFiles os before new.files) → HalfLeft os text old new
+unsaid os text old new same files = record {
+  part = [];
+  rest = text;
+  is_part = refl;
+  said = λ earlier heard. same ∙ heard ∙ ap (λ (x : List ℕ). Some x) (sym (append-nil earlier));
+  files = files;
+}
+
+-- a file that isn't written whole
+stops-in : (o : Output) (os : List Output) (text : List ℕ) (old new : DeskState) (stop : Stop) → StopsIn o old new stop
+    → HalfLeft (o ∷ os) text old new
+stops-in o os text old new CannotWrite (inl w) =
+    unsaid (o ∷ os) text old new (ap (λ (s : DeskState). s.said) w.stays)
+    (λ before told. same-files (o ∷ os) before new.files (ap (λ (s : DeskState). s.files) w.stays ∙ told))
+stops-in o os text old new CannotWrite (inr (inl w)) =
+    unsaid (o ∷ os) text old new (ap (λ (s : DeskState). s.said) w.stays)
+    (λ before told. put-files o os [] before new.files (ap (λ (s : DeskState). s.files) w.stays ∙ ap (option_map (put o.name [])) told))
+stops-in o os text old new CannotWrite (inr (inr (inl p))) =
+    unsaid (o ∷ os) text old new (ap (λ (s : DeskState). s.said) p.2.stays)
+    (λ before told. put-files o os p.0 before new.files (ap (λ (s : DeskState). s.files) p.2.stays ∙ ap (option_map (put o.name p.0)) told))
+stops-in o os text old new CannotWrite (inr (inr (inr w))) =
+    unsaid (o ∷ os) text old new (ap (λ (s : DeskState). s.said) w.stays)
+    (λ before told. put-files o os o.bytes before new.files (ap (λ (s : DeskState). s.files) w.stays ∙ ap (option_map (put o.name o.bytes)) told))
+stops-in o os text old new OutOfMemory (inl e) =
+    unsaid (o ∷ os) text old new (ap (λ (s : DeskState). s.said) e)
+    (λ before told. same-files (o ∷ os) before new.files (ap (λ (s : DeskState). s.files) e ∙ told))
+stops-in o os text old new OutOfMemory (inr p) =
+    unsaid (o ∷ os) text old new (ap (λ (s : DeskState). s.said) p.2)
+    (λ before told. put-files o os p.0 before new.files (ap (λ (s : DeskState). s.files) p.2 ∙ ap (option_map (put o.name p.0)) told))
+stops-in o os text old new (CannotRead file) p = absurd p
+stops-in o os text old new (TooLong file) p = absurd p
+stops-in o os text old new (BadFile file why) p = absurd p
+stops-in o os text old new (NotAlike why) p = absurd p
+
+half-left : (os : List Output) (text : List ℕ) (old new : DeskState) (stop : Stop) → Leaves os text old new (Err stop) → HalfLeft os text old new
+half-left [] text old new CannotWrite p = record {
+  part = p.0;
+  rest = p.1.0;
+  is_part = p.1.1;
+  said = λ earlier heard. ap (λ (s : DeskState). s.said) p.2.stays ∙ ap (option_map (λ x. x ++ p.0)) heard;
+  files = λ before told. same-files [] before new.files (ap (λ (s : DeskState). s.files) p.2.stays ∙ told);
+}
+half-left [] text old new OutOfMemory p =
+    unsaid [] text old new (ap (λ (s : DeskState). s.said) p)
+    (λ before told. same-files [] before new.files (ap (λ (s : DeskState). s.files) p ∙ told))
+half-left [] text old new (CannotRead file) p = absurd p
+half-left [] text old new (TooLong file) p = absurd p
+half-left [] text old new (BadFile file why) p = absurd p
+half-left [] text old new (NotAlike why) p = absurd p
+half-left (o ∷ os) text old new stop (inl p) = stops-in o os text old new stop p
+half-left (o ∷ os) text old new stop (inr p) =
+    let h = half-left os text (after_file old o) new stop p in
+    record {
+      part = h.part;
+      rest = h.rest;
+      is_part = h.is_part;
+      said = h.said;
+      files = λ before told.
+          let f = h.files (put o.name o.bytes before) (ap (option_map (put o.name o.bytes)) told) in
+          record {
+            after = f.after;
+            are = f.are;
+            others = λ q none. f.others q none.1 ∙ put-other o.name o.bytes q before none.0;
+          };
+    }
+
+-- where it leaves no file none is another
+none-left : (text : List ℕ) (old new : DeskState) (stop : Stop) → Leaves [] text old new (Err stop) → new.files ≡ old.files
+none-left text old new CannotWrite p = ap (λ (s : DeskState). s.files) p.2.stays
+none-left text old new OutOfMemory p = ap (λ (s : DeskState). s.files) p
+none-left text old new (CannotRead file) p = absurd p
+none-left text old new (TooLong file) p = absurd p
+none-left text old new (BadFile file why) p = absurd p
+none-left text old new (NotAlike why) p = absurd p
+
+-- ---- files that are read
+
+pub record IsSilent (old new : DeskState) : Type 0 where
+  pub files : new.files ≡ old.files
+  pub said : new.said ≡ old.said
+
+same-silent : (old new mid : DeskState) → new ≡ mid → mid.files ≡ old.files → mid.said ≡ old.said → IsSilent old new
+same-silent old new mid is files said = record {
+  files = ap (λ (s : DeskState). s.files) is ∙ files;
+  said = ap (λ (s : DeskState). s.said) is ∙ said;
+}
+
+stops-silent : (k : ℕ) (i : Input) (earlier : List (List ℕ)) (old new : DeskState) (stop : Stop) → StopsAt k i earlier old new stop
+    → IsSilent old new
+stops-silent k i earlier old new (CannotRead j) p = same-silent old new _ p.1.stays refl refl
+stops-silent k i earlier old new (TooLong j) p = same-silent old new _ p.2 refl refl
+stops-silent k i earlier old new (BadFile j text) p = same-silent old new _ p.2 refl refl
+stops-silent k i earlier old new OutOfMemory (inl e) = same-silent old new old e refl refl
+stops-silent k i earlier old new OutOfMemory (inr e) = same-silent old new (after_read old i.name) e refl refl
+stops-silent k i earlier old new (NotAlike text) p = absurd p
+stops-silent k i earlier old new CannotWrite p = absurd p
+
+reads-silent : (k : ℕ) (earlier : List (List ℕ)) (is : List Input) (old new : DeskState) (stop : Stop) → ReadsUpTo k earlier is old new stop
+    → IsSilent old new
+reads-silent k earlier [] old new stop p = absurd p
+reads-silent k earlier (i ∷ is) old new stop (inl p) = stops-silent k i earlier old new stop p
+reads-silent k earlier (i ∷ is) old new stop (inr p) =
+    let s = reads-silent (k + 1) _ is (after_read old i.name) new stop p.3 in
+    record { files = s.files; said = s.said }
+
+-- ---- the promises of checks that were told
+
+all-behind : {A : Type 0} (P : A → Type 0) (xs : List A) (y : A) → AllByRecursion P xs → P y → AllByRecursion P (xs ++ y ∷ [])
+all-behind P [] y all last = (last, tt)
+all-behind P (x ∷ xs) y all last = (all.0, all-behind P xs y all.1 last)
+
+-- of all but the last of these, and of it
+promise-parts : (how : How) (ms : List Made) (last : Made) → AllByRecursion (IsMade how) ms → IsMade how last
+    → AllByRecursion (KeepsPromise how (kept_from 0 (ms ++ last ∷ []))) (tolds how.out 0 ms)
+    × KeepsPromise how (kept_from 0 (ms ++ last ∷ [])) (told_of how.out (length ms) last)
+promise-parts how ms last made is = (
+  promise-all how 0 ms (kept_from 0 (ms ++ last ∷ [])) made (has-open ms last),
+  promise-one how (length ms) last (kept_from 0 (ms ++ last ∷ [])) is (λ opens. has-last ms last),
+)
+
+promises : (how : How) (ms : List Made) → AllByRecursion (IsMade how) ms → AllByRecursion (KeepsPromise how (kept_from 0 ms)) (tolds how.out 0 ms)
+promises how [] made = tt
+promises how (m ∷ ms) made = go (some-parts (m ∷ ms) (due_of m) (map due_of ms ++ []) refl)
+  where
+    go : HasParts (m ∷ ms) → AllByRecursion (KeepsPromise how (kept_from 0 (m ∷ ms))) (tolds how.out 0 (m ∷ ms))
+    go p =
+        let all : AllByRecursion (IsMade how) (p.earlier ++ p.last ∷ []) = subst (AllByRecursion (IsMade how)) p.made_is made in
+        let both = promise-parts how p.earlier p.last (all-front (IsMade how) p.earlier (p.last ∷ []) all) (all-last (IsMade how) p.earlier p.last all) in
+        subst (λ (ns : List Made). AllByRecursion (KeepsPromise how (kept_from 0 ns)) (tolds how.out 0 ns)) (sym p.made_is)
+        (subst (AllByRecursion (KeepsPromise how (kept_from 0 (p.earlier ++ p.last ∷ [])))) (sym (tolds-last how.out p.earlier p.last))
+        (all-behind (KeepsPromise how (kept_from 0 (p.earlier ++ p.last ∷ []))) (tolds how.out 0 p.earlier) (told_of how.out (length p.earlier) p.last)
+        both.0 both.1))
+
+keeps-some : (stop : Stop) (kept all : List Kept) → KeepsOn stop kept all → AreSome kept all × (code_of (status_of stop) ≡ 6 → kept ≡ all)
+keeps-some OutOfMemory kept all keeps = (keeps, λ code. absurd (omega (arith, code)))
+keeps-some CannotWrite kept all keeps = (subst (AreSome kept) keeps (some-all kept), λ code. keeps)
+keeps-some (CannotRead file) kept all keeps = (subst (AreSome kept) keeps (some-all kept), λ code. keeps)
+keeps-some (TooLong file) kept all keeps = (subst (AreSome kept) keeps (some-all kept), λ code. keeps)
+keeps-some (BadFile file text) kept all keeps = (subst (AreSome kept) keeps (some-all kept), λ code. keeps)
+keeps-some (NotAlike text) kept all keeps = (subst (AreSome kept) keeps (some-all kept), λ code. keeps)
+
+-- ---- their files
+
+tolds-length : (out : Option (List ℕ)) (number : ℕ) (ms : List Made) → length (tolds out number ms) ≡ length ms
+tolds-length out number [] = refl
+tolds-length out number (m ∷ ms) = omega (arith, tolds-length out (number + 1) ms)
+
+-- files that stood stand where those of a later check were written in part
+still-each : (prefix : List ℕ) (number next : ℕ) (ms : List Made) (mid after : Files) → number + length ms ≤ next → next < 2 ^ 64
+    → ((q : List ℕ) → IsNoFile prefix next q → after q ≡ mid q) → AllByRecursion (HasFiles prefix mid) (tolds (Some prefix) number ms)
+    → AllByRecursion (HasFiles prefix after) (tolds (Some prefix) number ms)
+still-each prefix number next [] mid after below small same each = tt
+still-each prefix number next (m ∷ ms) mid after below small same each = (
+  (
+    same (cnf_name prefix number) (
+      λ e. absurd (omega (arith, below, cnf-number prefix number next (omega (arith, below, small)) small e)),
+      cnf-no-proof prefix number next,
+    ) ∙ each.0.0,
+    same (proof_name prefix number) (
+      λ e. cnf-no-proof prefix next number (sym e),
+      λ e. absurd (omega (arith, below, proof-number prefix number next (omega (arith, below, small)) small e)),
+    ) ∙ each.0.1,
+  ),
+  still-each prefix (number + 1) next ms mid after (omega (arith, below)) small same each.1,
+)
+
+few-made : (net : AigPair) (lines : List (List ℕ)) (ms : List Made) (others : List Due) → length lines ≤ limit
+    → map due_of ms ++ others ≡ (plan_of net lines).checks → length ms < 2 ^ 64
+few-made net lines ms others few checks =
+    omega (
+      arith,
+      ap (λ (ds : List Due). length ds) checks,
+      length-append (map due_of ms) others,
+      length-map ms due_of,
+      plan-count net lines,
+      few,
+      lit< {m = 1073741826} {n = 2 ^ 64} tt,
+    )
+
+-- where nothing more was written
+stand-all : (out : Option (List ℕ)) (ms : List Made) (before : Files) → length ms < 2 ^ 64
+    → StandUnder out (tolds out 0 ms) before (left_all out (tolds out 0 ms) before)
+stand-all out ms before small = go out (leaves-under out ms before small)
+  where
+    go : (o : Option (List ℕ)) → LeavesUnder o (tolds o 0 ms) before (left_all o (tolds o 0 ms) before)
+        → StandUnder o (tolds o 0 ms) before (left_all o (tolds o 0 ms) before)
+    go None same = same
+    go (Some prefix) l = record { each = l.each; others = λ q none next. l.others q none }
+
+-- where the next check was told in part
+record HalfStands (out : Option (List ℕ)) (ts : List Told) (before : Files) (now : Option Files) : Type 0 where
+  after : Files
+  are : now ≡ Some after
+  stand : StandUnder out ts before after
+
+stand-half : (out : Option (List ℕ)) (ms : List Made) (half : Made) (before : Files) (mid new : DeskState) (stop : Stop) → length ms < 2 ^ 64
+    → mid.files ≡ Some (left_all out (tolds out 0 ms) before)
+    → Leaves (outputs_of out (length ms) half) (text_of_check out half) mid new (Err stop)
+    → HalfStands out (tolds out 0 ms) before new.files
+stand-half None ms half before mid new stop small told p =
+    record {
+      after = left_all None (tolds None 0 ms) before;
+      are = none-left (text_of_check None half) mid new stop p ∙ told;
+      stand = leaves-under None ms before small;
+    }
+stand-half (Some prefix) ms half before mid new stop small told p =
+    let ts : List Told = tolds (Some prefix) 0 ms in
+    let there : Files = left_all (Some prefix) ts before in
+    let f = (half-left (outputs_of (Some prefix) (length ms) half) (text_of_check (Some prefix) half) mid new stop p).files there told in
+    let l = leaves-under (Some prefix) ms before small in
+    let count : length ts ≡ length ms = tolds-length (Some prefix) 0 ms in
+    record {
+      after = f.after;
+      are = f.are;
+      stand = record {
+        each = still-each prefix 0 (length ms) ms there f.after (omega arith) small (λ q none. f.others q (none.0, (none.1, tt))) l.each;
+        others = λ q none next.
+            let behind : IsNoFile prefix (length ms) q = subst (λ (n : ℕ). IsNoFile prefix n q) count next in
+            f.others q (behind.0, (behind.1, tt)) ∙ l.others q none;
+      };
+    }
+
+-- ---- a run that stops
+
+module _ (c : CheckCommand) (old new : DeskState) (before : Files) (told : old.files ≡ Some before) (status : Status) (kept : List Kept) where
+  -- the desk when the cause came, and the line that was warned of it
+  same-warned : (mid : DeskState) (line : List ℕ) (named : Status) → Warns line named mid new status → IsSilent mid new
+  same-warned mid line named (inl (is, inl p)) = same-silent mid new _ p refl refl
+  same-warned mid line named (inl (is, inr p)) = same-silent mid new _ p.2.stays refl refl
+  same-warned mid line named (inr p) = same-silent mid new mid p.1 refl refl
+
+  -- a status of 6 is that of the cause
+  cause-code : (mid : DeskState) (line : List ℕ) (named : Status) → Warns line named mid new status → code_of status ≡ 6 → code_of named ≡ 6
+  cause-code mid line named (inl p) code = sym (ap code_of p.0) ∙ code
+  cause-code mid line named (inr p) code = absurd (omega (arith, code, ap code_of p.0))
+
+  nothing : (mid : DeskState) → kept ≡ [] → IsSilent old mid → IsSilent mid new → Stopped c old new status kept before
+  nothing mid none at line = inl (record { files = line.files ∙ at.files ∙ told; said = line.said ∙ at.said; none = none })
+
+  module _ (net : AigPair) (lines : List (List ℕ)) (asks : AsksFor c old net lines) (mid : DeskState) (line : IsSilent mid new) where
+    script : IsScript c.edits before lines × (length lines ≤ limit)
+    script = spells-script c old before told net lines asks
+
+    abbrev start : DeskState
+    start = at_start c old
+
+    -- some checks were told whole, and no other in part
+    whole-told : (ms : List Made) (others : List Due) → GoesOn (how_of c) (plan_of net lines) start ms others mid
+        → AreSome kept (kept_from 0 ms) → (code_of status ≡ 6 → kept ≡ kept_from 0 ms) → Stopped c old new status kept before
+    whole-told ms others p some all =
+        let k = start-keeps c old in
+        let left = all-left (how_of c) 0 ms start mid p.told in
+        let small = few-made net lines ms others script.1 p.checks in
+        inr (record {
+          net = net;
+          pair = spells-pair c old before told net asks.pair;
+          lines = lines;
+          script = script.0;
+          told = tolds c.out 0 ms;
+          others = others;
+          checks = ap (λ (ds : List Due). ds ++ others) (tolds-due c.out 0 ms) ∙ p.checks;
+          numbers = tolds-numbered c.out 0 ms;
+          books = kept_from 0 ms;
+          some = some;
+          all = all;
+          promises = promises (how_of c) ms (told-made (how_of c) 0 ms start mid p.told);
+          part = [];
+          next = inl refl;
+          heard = λ earlier heard.
+              line.said ∙ left.said earlier (k.said ∙ heard)
+              ∙ ap (λ (x : List ℕ). Some x) (sym (append-nil (earlier ++ flat_map (λ (t : Told). t.said) (tolds c.out 0 ms))));
+          after = left_all c.out (tolds c.out 0 ms) before;
+          files = line.files ∙ left.files before (k.files ∙ told);
+          stand = stand-all c.out ms before small;
+        })
+
+    -- and the next one in part
+    half-told : (stop : Stop) → BreaksOff (how_of c) (plan_of net lines) start mid kept stop → (code_of status ≡ 6 → code_of (status_of stop) ≡ 6)
+        → Stopped c old new status kept before
+    half-told stop p code =
+        let k = start-keeps c old in
+        let ms : List Made = p.made in
+        let left = all-left (how_of c) 0 ms start p.mid p.before.told in
+        let small = few-made net lines ms (due_of p.half ∷ p.others) script.1 p.before.checks in
+        let there : p.mid.files ≡ Some (left_all c.out (tolds c.out 0 ms) before) = left.files before (k.files ∙ told) in
+        let half = half-left (outputs_of c.out (length ms) p.half) (text_of_check c.out p.half) p.mid mid stop p.breaks in
+        let stands = stand-half c.out ms p.half before p.mid mid stop small there p.breaks in
+        let both = promise-parts (how_of c) ms p.half (told-made (how_of c) 0 ms start p.mid p.before.told) p.is_made in
+        let keeps = keeps-some stop kept (kept_from 0 (ms ++ p.half ∷ [])) p.keeps in
+        inr (record {
+          net = net;
+          pair = spells-pair c old before told net asks.pair;
+          lines = lines;
+          script = script.0;
+          told = tolds c.out 0 ms;
+          others = due_of p.half ∷ p.others;
+          checks = ap (λ (ds : List Due). ds ++ due_of p.half ∷ p.others) (tolds-due c.out 0 ms) ∙ p.before.checks;
+          numbers = tolds-numbered c.out 0 ms;
+          books = kept_from 0 (ms ++ p.half ∷ []);
+          some = keeps.0;
+          all = λ is. keeps.1 (code is);
+          promises = both.0;
+          part = half.part;
+          next = inr (record {
+            next = told_of c.out (length ms) p.half;
+            number_is = sym (tolds-length c.out 0 ms);
+            later = p.others;
+            due = refl;
+            promise = both.1;
+            rest = half.rest;
+            is_part = half.is_part;
+          });
+          heard = λ earlier heard.
+              line.said ∙ half.said (earlier ++ flat_map (λ (t : Told). t.said) (tolds c.out 0 ms)) (left.said earlier (k.said ∙ heard));
+          after = stands.after;
+          files = line.files ∙ stands.are;
+          stand = stands.stand;
+        })
+
+    checks-told : (stop : Stop) → StopsChecks (how_of c) (plan_of net lines) start kept mid stop → (code_of status ≡ 6 → code_of (status_of stop) ≡ 6)
+        → Stopped c old new status kept before
+    checks-told stop (inl p) code = half-told stop p code
+    checks-told stop (inr (inl p)) code =
+        whole-told p.made p.others p.before p.keeps
+        (λ is. absurd (omega (arith, code is, ap (λ (s : Stop). code_of (status_of s)) p.out)))
+    checks-told stop (inr (inr p)) code =
+        whole-told p.made [] p.whole (subst (AreSome kept) p.keeps (some-all kept)) (λ is. p.keeps)
+
+  stops-told : (mid : DeskState) (stop : Stop) → Stops c old kept mid stop → IsSilent mid new → (code_of status ≡ 6 → code_of (status_of stop) ≡ 6)
+      → Stopped c old new status kept before
+  stops-told mid stop (inl p) line code = nothing mid p.0 (reads-silent 0 [] (pair_of c) old mid stop p.1) line
+  stops-told mid stop (inr (inl p)) line code = nothing mid p.0 (same-silent old mid (after_pair c old) p.1.new_is refl refl) line
+  stops-told mid stop (inr (inr (inl p))) line code =
+      let s = reads-silent 2 _ (script_of c) (after_pair c old) mid stop p.1.stops in
+      nothing mid p.0 (record { files = s.files; said = s.said }) line
+  stops-told mid stop (inr (inr (inr p))) line code = checks-told p.net p.lines p.asks mid line stop p.stops code
+
+  pub check-stopped : AnswersCheck c old new status kept → 6 ≤ code_of status → Stopped c old new status kept before
+  check-stopped (inl p) above =
+      let l = is-last (how_of c) p.net p.lines (at_start c old) new status kept p.ends in
+      absurd (omega (arith, above, subst (λ (s : Status). code_of s ≤ 2) l.status_is (finding-code l.last.finding)))
+  check-stopped (inr p) above =
+      stops-told p.mid p.stop p.cause (same-warned p.mid (stop_line (names_of c) p.stop) (status_of p.stop) p.warns)
+      (cause-code p.mid (stop_line (names_of c) p.stop) (status_of p.stop) p.warns)
+
+-- memory ran out before it was known what the words ask for
+at-once : (c : CheckCommand) (old new : DeskState) (status : Status) (kept : List Kept) (before : Files) → old.files ≡ Some before → kept ≡ []
+    → EndsBy [] (IsAtOnce old) new status → Stopped c old new status kept before
+at-once c old new status kept before told none p =
+    nothing c old new before told status kept p.mid none (same-silent old p.mid old p.cause.1 refl refl)
+    (same-warned c old new before told status kept p.mid (stop_line [] p.stop) (status_of p.stop) p.warns)
+
+pub stopped : (words : List (List ℕ)) (old new : DeskState) (status : Status) (kept : List Kept)
+    → ((words : List (List ℕ)) (r : Request) → Asks words r → ¬ (WantInfo words ⊎ AreRefused words))
+    → Answers words old new status kept → (c : CheckCommand) → Asks words (CheckIt c) → (before : Files) → old.files ≡ Some before
+    → 6 ≤ code_of status → Stopped c old new status kept before
+stopped words old new status kept asked answers c asks before told above = elim answers [
+  | inl p ↦
+      let same : p.command ≡ c = ap (check_or c) (same_request words (CheckIt p.command) (CheckIt c) p.asked asks) in
+      check-stopped c old new before told status kept (subst (λ (d : CheckCommand). AnswersCheck d old new status kept) same p.answers) above
+  | inr (inl p) ↦ let t : LratIt p.command ≡ CheckIt c = same_request words (LratIt p.command) (CheckIt c) p.asked asks in cc
+  | inr (inr (inl p)) ↦ let t : SelfIt p.command ≡ CheckIt c = same_request words (SelfIt p.command) (CheckIt c) p.asked asks in cc
+  | inr (inr (inr (inl p))) ↦ absurd (asked words (CheckIt c) asks (inl p.wanted))
+  | inr (inr (inr (inr (inl p)))) ↦ absurd (asked words (CheckIt c) asks (inr p.refused))
+  | inr (inr (inr (inr (inr p)))) ↦ at-once c old new status kept before told p.none p.ends
+]
