@@ -18,6 +18,7 @@ use worked_circuits::swapped_ands;
 
 /// The numbers that the program goes by where it isn't told others.
 const DEFAULTS: Options = Options {
+    workers: 4,
     seed: 1,
     words: 4,
     sweep_budget: 100,
@@ -54,7 +55,7 @@ fn words_of_edit(made: Result<(), EditErr>) -> &'static str {
 
 /// What comes of a line.
 fn told(
-    rt: &(impl Abort + Threads + Wait),
+    rt: &(impl Abort + Threads + Wait + Sync),
     alloc: Global,
     session: &mut Session,
     line: &str,
@@ -70,7 +71,7 @@ fn told(
 
 /// Goes through a script, and compares what comes of each line.
 fn check_script(
-    rt: &(impl Abort + Threads + Wait),
+    rt: &(impl Abort + Threads + Wait + Sync),
     alloc: Global,
     session: &mut Session,
     rows: &str,

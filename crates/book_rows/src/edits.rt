@@ -74,9 +74,7 @@ fn compare(rt: &impl Abort, alloc: Global, net: &Net, expected: &Net) {
 
 /// The net of two circuits that are alike.
 fn net_of(rt: &impl Abort, alloc: Global, a: Circuit, b: Circuit) -> Net
-    requires a { a.constraints ≡ [] }
-    requires b { b.constraints ≡ [] }
-    requires like { unlike_of a b ≡ None }
+    requires { unlike_of a b ≡ None }
     ensures { result ≡ record { a = a; b = b } }
 {
     Net::of(alloc, a, b).expect(rt, "a net")

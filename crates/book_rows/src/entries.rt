@@ -2,7 +2,8 @@
 //!
 //! Nodes are `t`, the constant true, `i0`, an input, `a3` or `b3`, a gate, and `d0`, whether the outputs
 //! differ; a literal has a `-` where it is negated. A step is its clause, the word `by`, and the names of its
-//! hints: `a3.2` is an axiom, `e0.1` a clause of an entry, `s0` an own step. Numbers have one digit.
+//! hints: `a3.2` is an axiom, `e0.1` a clause of an entry, `s0` an own step, `!a0` the unit of a constraint
+//! of A. Numbers have one digit.
 
 use lemma_book::Entry;
 use lits::{Clause, Listed, Lit, Node, Ref, Side, Step};
@@ -188,6 +189,8 @@ fn node(rt: &impl Abort, word: &[u8]) -> Node {
 fn name(rt: &impl Abort, word: &[u8]) -> Ref {
     match word {
         [b's', k] => Ref::Own(u64::from(digit(*k))),
+        [b'!', b'a', k] => Ref::Bound(Side::A, u32::from(digit(*k))),
+        [b'!', b'b', k] => Ref::Bound(Side::B, u32::from(digit(*k))),
         [b'e', i, b'.', k] => Ref::Entry(u64::from(digit(*i)), digit(*k)),
         [of_node @ .., b'.', k] => Ref::Axiom(node(rt, of_node), digit(*k)),
         _ => refuse(rt, "no hint"),

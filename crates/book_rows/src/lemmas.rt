@@ -1,11 +1,12 @@
-ghost use Rattle.std.specs.Prelude.{◌≤◌, [], ◌∷◌};
+ghost use Rattle.std.specs.Prelude.{◌<◌, ◌≤◌, [], ◌∷◌, length, slice_get, IfSome};
 ghost use Rattle.lemma_book.specs.Book.{IsLegal};
 ghost use Rattle.lemma_book.specs.Cone.{AreThere};
+ghost use Rattle.lemma_book.specs.Good.{IsGood};
 ghost use Rattle.std.specs.Bool.{OnTrue};
 
 use crate::entries;
 use crate::pairs::{Case, check, expect, expect_text, swapped_ands, two_xors};
-use lemma_book::{Book, Offered, Refused, Subject};
+use lemma_book::{Book, Judgement, Offered, Refused, Subject};
 use lits::{Lit, Named, Node, Side, Step};
 use netlist::Net;
 use std::alloc::Global;
@@ -315,7 +316,7 @@ fn are_named(found: &[Named], steps: &[Step]) -> bool {
 }
 
 /// Whether they are the clauses of the text.
-fn are_of(rt: &impl Abort, alloc: Global, found: &[Named], text: &str) -> bool {
+pub(crate) fn are_of(rt: &impl Abort, alloc: Global, found: &[Named], text: &str) -> bool {
     are_named(found, entries::steps(rt, alloc, text).as_slice())
 }
 
@@ -390,10 +391,31 @@ fn is_caught_up(rt: &impl Abort, alloc: Global, book: &Book) -> bool {
     has_merge(rt, alloc, &other)
 }
 
+/// Whether the first entry of a book is there, and good over another one.
+fn is_first_good(alloc: Global, net: &Net, book: &Book, from: &Book) -> bool
+    requires { IsLegal net.now book.now }
+    ensures { OnTrue result
+        (IfSome (slice_get from.now.entries 0) (λ e. IsGood net.now book.now e)
+        × (0 < length from.now.entries)) }
+{
+    match from.entry(0) {
+        Some(entry) => matches!(book.judge(alloc, net, entry), Ok(Judgement::Good)),
+        None => false,
+    }
+}
+
+/// Whether an empty book that takes over its entry, which both share then, is the same.
+fn is_shared(rt: &impl Abort, alloc: Global, net: &Net, book: &Book) -> bool {
+    let mut other = Book::new(alloc, 1, 2);
+    assert!(rt; is_first_good(alloc, net, &other, book));
+    let offered = other.append_shared(net, 0, book, 0).expect(rt, "memory");
+    offered == Offered::At(0) && has_merge(rt, alloc, &other)
+}
+
 /// What is read of a book with the one entry that merges the swapped ANDs, and two clauses for outputs: the
 /// cone of the merged gate, which has its merge's clauses and those of the gate that it stands for, and none
 /// of its own; the gate's root, and the entries and the literals that lead to it; where its entry stands; a
-/// copy, and a book that catches up.
+/// copy, a book that catches up, and one that takes over the entry.
 struct Readers;
 
 impl Case for Readers {
@@ -416,6 +438,7 @@ fn check_more(rt: &impl Abort, alloc: Global, net: &Net, book: &Book)
     expect(rt, "root by a list", has_root_by(rt, alloc, book));
     expect(rt, "the place", has_place(book));
     expect(rt, "caught up", is_caught_up(rt, alloc, book));
+    expect(rt, "shared", is_shared(rt, alloc, net, book));
 }
 
 #[test]

@@ -6,12 +6,14 @@
 //! most cases are about, `Case`, which is what a test checks of a net, and `expect`, by which it says what
 //! isn't so; `entries` reads an entry of a book from a line of text. A net that a test makes in the call is
 //! handed on, so that `pairs::check` alone drops it and not each test. Tests: `nets` and `edits` are of
-//! `netlist`, `patterns` of `word_sim`, `classes` of `sig_classes`, `lemmas` of `lemma_book`, `machine` of
+//! `netlist`, `patterns` of `word_sim`, `classes` of `sig_classes`, `lemmas` and `bounds` of `lemma_book`, `machine` of
 //! `sweep_core`, `structure` of `strash_pass`, `searches` of `circuit_search`,
 //! `queries` of `cone_query` and `equal_outputs`, `sessions` and `edited` of `check_session`, `stitching` of
 //! `proof_stitch`. Begin to read at `nets.rt`.
 #![tactic(auto)]
 
+#[cfg(test)]
+mod bounds;
 #[cfg(test)]
 mod classes;
 #[cfg(test)]

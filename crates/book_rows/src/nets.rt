@@ -1,12 +1,12 @@
 ghost use Rattle.std.specs.Prelude.{◌≡◌};
 ghost use Rattle.worked_circuits.specs.Worked.{one_gate};
 
-use crate::pairs::{self, Case, check, expect, expect_text, plain, swapped_ands};
+use crate::pairs::{self, Case, check, expect, expect_text, swapped_ands};
 use lits::{Clause, Dim, Lit, Node, Side};
 use netlist::{Circuit, Definition, Fanins, Net, Placed, Unlike, VariableTable, laws};
 use std::alloc::{AllocError, Global};
 use std::process::Abort;
-use worked_circuits::{and, circuit, one_gate};
+use worked_circuits::{and, circuit, constrained_circuit, one_gate};
 
 /// Puts the clause last as a line of a DIMACS file.
 fn push_line(rt: &impl Abort, text: &mut String, clause: &Clause<Dim>) {
@@ -108,6 +108,63 @@ fn merged_to_input_and_false(rt: HostRuntime) {
     check(&rt, alloc, net, &MERGED_TO_INPUT_AND_FALSE);
 }
 
+/// The net of two circuits of an input that both constrain to be true.
+fn input_true_on_both(rt: &impl Abort, alloc: Global) -> Net {
+    let a = constrained_circuit(alloc, &[1], &[], &[], &[2]);
+    pairs::net_of(
+        rt,
+        alloc,
+        a,
+        constrained_circuit(alloc, &[1], &[], &[], &[2]),
+    )
+}
+
+static INPUT_TRUE_ON_BOTH: Miter = Miter("1 0\n2 0\n2 0\n0\n");
+
+#[test]
+fn a_constraint_on_each_side(rt: HostRuntime) {
+    let alloc = rt.alloc();
+    check(
+        &rt,
+        alloc,
+        input_true_on_both(&rt, alloc),
+        &INPUT_TRUE_ON_BOTH,
+    );
+}
+
+/// The net of an AND whose first input is constrained to be true, and of its second input.
+fn and_with_first_true(rt: &impl Abort, alloc: Global) -> Net {
+    let a = constrained_circuit(alloc, &[1, 2], &[and(3, 2, 4)], &[6], &[2]);
+    pairs::net_of(rt, alloc, a, circuit(alloc, &[1, 2], &[], &[4]))
+}
+
+/// The ninth clause is the constraint's.
+static AND_WITH_FIRST_TRUE: Miter = Miter(
+    "1 0\n-4 2 0\n-4 3 0\n4 -2 -3 0\n-5 4 3 0\n-5 -4 -3 0\n5 -4 3 0\n5 4 -3 0\n2 0\n5 0\n",
+);
+
+#[test]
+fn a_constraint_on_one_side(rt: HostRuntime) {
+    let alloc = rt.alloc();
+    check(
+        &rt,
+        alloc,
+        and_with_first_true(&rt, alloc),
+        &AND_WITH_FIRST_TRUE,
+    );
+}
+
+/// A constraint that no input meets.
+static NONE_ADMITTED: Miter = Miter("1 0\n2 -1 0\n2 1 0\n-1 0\n2 0\n");
+
+#[test]
+fn no_input_admitted(rt: HostRuntime) {
+    let alloc = rt.alloc();
+    let a = constrained_circuit(alloc, &[], &[], &[1], &[0]);
+    let net = pairs::net_of(&rt, alloc, a, circuit(alloc, &[], &[], &[0]));
+    check(&rt, alloc, net, &NONE_ADMITTED);
+}
+
 /// What a call on a net gives.
 enum Fact {
     /// Of a node.
@@ -140,6 +197,10 @@ enum OfSide {
     Output(u32, bool),
     /// The inputs, the outputs, and how many gates there are.
     Circuit(&'static [u32], &'static [u32], usize),
+    /// The literal of a constraint.
+    Constraint(u32, Option<Lit>),
+    /// The number of a constraint's clause among the miter's clauses.
+    ConstraintNumber(u32, Option<u32>),
 }
 
 fn axiom_begins(net: &Net, node: Node, lit: Lit) -> bool {
@@ -180,6 +241,8 @@ fn is_so_of_side(net: &Net, side: Side, fact: &OfSide) -> bool {
         OfSide::Circuit(inputs, outputs, gates) => {
             is_circuit(net.circuit(side), inputs, outputs, *gates)
         }
+        OfSide::Constraint(k, lit) => net.constraint(side, *k) == *lit,
+        OfSide::ConstraintNumber(k, number) => net.constraint_number(side, *k) == *number,
     }
 }
 
@@ -222,6 +285,7 @@ fn has_same(copy: &Net, net: &Net, side: Side) -> bool {
     found.inputs() == circuit.inputs()
         && found.gates() == circuit.gates()
         && found.outputs() == circuit.outputs()
+        && found.constraints() == circuit.constraints()
 }
 
 const GATE: Node = Node::Gate(Side::B, 3);
@@ -306,6 +370,65 @@ fn net_of(rt: HostRuntime) {
     check(&rt, alloc, swapped_ands(&rt, alloc), &OF_ANDS);
 }
 
+const FIRST_INPUT: Lit = Lit {
+    node: Node::Input(0),
+    neg: false,
+};
+
+/// `p cnf 2 4`.
+static OF_BOTH: Facts = Facts(&[
+    ("sizes", Fact::Sizes(2, 2, 4, 0)),
+    (
+        "a's constraint",
+        Fact::Side(Side::A, OfSide::Constraint(0, Some(FIRST_INPUT))),
+    ),
+    (
+        "no second constraint",
+        Fact::Side(Side::A, OfSide::Constraint(1, None)),
+    ),
+    (
+        "the number of a's",
+        Fact::Side(Side::A, OfSide::ConstraintNumber(0, Some(2))),
+    ),
+    (
+        "the number of b's",
+        Fact::Side(Side::B, OfSide::ConstraintNumber(0, Some(3))),
+    ),
+    (
+        "no number",
+        Fact::Side(Side::B, OfSide::ConstraintNumber(1, None)),
+    ),
+]);
+
+#[test]
+fn constraints_of_both(rt: HostRuntime) {
+    let alloc = rt.alloc();
+    check(&rt, alloc, input_true_on_both(&rt, alloc), &OF_BOTH);
+}
+
+/// `p cnf 5 10`.
+static OF_ONE: Facts = Facts(&[
+    ("sizes", Fact::Sizes(4, 5, 10, 1)),
+    (
+        "the number of a's",
+        Fact::Side(Side::A, OfSide::ConstraintNumber(0, Some(9))),
+    ),
+    (
+        "b has none",
+        Fact::Side(Side::B, OfSide::Constraint(0, None)),
+    ),
+    (
+        "no number",
+        Fact::Side(Side::B, OfSide::ConstraintNumber(0, None)),
+    ),
+]);
+
+#[test]
+fn constraints_of_one(rt: HostRuntime) {
+    let alloc = rt.alloc();
+    check(&rt, alloc, and_with_first_true(&rt, alloc), &OF_ONE);
+}
+
 /// The AND of the inputs, and one over a constant and a complement.
 #[test]
 fn fanins_by_position(rt: HostRuntime) {
@@ -387,8 +510,7 @@ fn is_refused(
     b: Result<Circuit, AllocError>,
     unlike: Unlike,
 ) -> bool {
-    let a = plain(rt, a.expect(rt, "memory"));
-    let b = plain(rt, b.expect(rt, "memory"));
+    let (a, b) = (a.expect(rt, "memory"), b.expect(rt, "memory"));
     match Net::of(alloc, a, b) {
         Ok(_) => false,
         Err(found) => found == unlike,

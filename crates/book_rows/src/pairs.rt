@@ -19,7 +19,7 @@ pub(crate) fn expect_text(rt: &impl Abort, what: &str, found: &str, expected: &s
     assert!(rt; found == expected, "{what}: {found}");
 }
 
-/// The circuit, if it has no constraint: only of such ones there are nets.
+/// The circuit, if it has no constraint: only of such ones there are sessions.
 pub(crate) fn plain(rt: &impl Abort, circuit: Circuit) -> Circuit
     ensures same { result ≡ circuit }
     ensures plain { result.constraints ≡ [] }
@@ -35,8 +35,7 @@ pub(crate) fn net_of(
     a: Result<Circuit, AllocError>,
     b: Result<Circuit, AllocError>,
 ) -> Net {
-    let a = plain(rt, a.expect(rt, "memory"));
-    let b = plain(rt, b.expect(rt, "memory"));
+    let (a, b) = (a.expect(rt, "memory"), b.expect(rt, "memory"));
     Net::of(alloc, a, b).expect(rt, "a net")
 }
 

@@ -4,6 +4,7 @@ ghost use Rattle.lemma_book.specs.Book.{IsLegal};
 ghost use Rattle.lemma_book.specs.Good.{IsEarlier};
 ghost use Rattle.cone_query.specs.Query.{IsGate};
 
+use crate::bounds::{and_that_is_asked, and_that_is_false, and_that_one_admits};
 use crate::lemmas::{MERGED, book_of};
 use crate::pairs::{Case, check, expect, swapped_ands, two_xors};
 use cone_query::{output, pair};
@@ -141,6 +142,8 @@ fn words_of(entry: &Entry) -> &'static str {
             words_of_apart(*node, *lit)
         }
         Entry::Out { output: 0, steps } => words_of_steps(steps.as_slice()),
+        Entry::OutApart { output: 0, input } if matches!(input.as_slice(), [false, true]) =>
+            "differs on 01",
         Entry::OutSpent { seen: 0, log, .. } if log.len() == 1 => "a log of one clause",
         _ => "another answer",
     }
@@ -216,4 +219,17 @@ static OF_ANDS: Questions = Questions(&[
 fn pair_apart(rt: HostRuntime) {
     let alloc = rt.alloc();
     check(&rt, alloc, swapped_ands(&rt, alloc), &OF_ANDS);
+}
+
+static AGREEING: Questions = Questions(&[(Asked::Output, "equal")]);
+
+static DIFFERING: Questions = Questions(&[(Asked::Output, "differs on 01")]);
+
+/// The outputs differ on `01` alone, so the constraints of both circuits decide.
+#[test]
+fn output_under_constraints(rt: HostRuntime) {
+    let alloc = rt.alloc();
+    check(&rt, alloc, and_that_is_asked(&rt, alloc), &AGREEING);
+    check(&rt, alloc, and_that_is_false(&rt, alloc), &DIFFERING);
+    check(&rt, alloc, and_that_one_admits(&rt, alloc), &AGREEING);
 }

@@ -1,8 +1,12 @@
+ghost use Rattle.std.specs.Prelude.{[], ◌∷◌};
+ghost use Rattle.netlist.specs.Circuit.{IsCircuit, plain};
+
+use crate::bounds::circuit;
 use crate::pairs::{Case, check, expect, net_of};
 use circuit_search::{Caps, Search, Sieve};
 use lemma_book::{Book, Entry, Task};
 use lits::{Lit, Node, Side};
-use netlist::Net;
+use netlist::{And, Net};
 use std::alloc::Global;
 use std::process::Abort;
 use worked_circuits::{and, one_gate, two_input_circuit};
@@ -27,6 +31,7 @@ fn words_of(found: &Option<Entry>, dropped: u64) -> &'static str {
         Some(Entry::Merge { .. }) => "merge",
         Some(Entry::Apart { .. }) => "apart",
         Some(Entry::Out { .. }) => "out",
+        Some(Entry::OutApart { .. }) => "out apart",
         Some(_) => "another",
         None => "none",
     }
@@ -74,14 +79,15 @@ fn found_of_output(rt: &impl Abort, alloc: Global, net: &Net, search: &mut Searc
 fn found_of_patterns(rt: &impl Abort, alloc: Global, net: &Net) -> &'static str {
     let mut sieve = Sieve::new(alloc, net, 1, 1).expect(rt, "memory");
     match sieve.difference(alloc, net).expect(rt, "memory") {
-        Some(input) => where_first_is_true(input.as_slice()),
+        Some(input) => which_is_true(input.as_slice()),
         None => "none",
     }
 }
 
-fn where_first_is_true(input: &[bool]) -> &'static str {
+fn which_is_true(input: &[bool]) -> &'static str {
     match input {
         [true, _] => "first of two is true",
+        [false, true] => "second of two is true",
         _ => "another",
     }
 }
@@ -148,4 +154,57 @@ fn what_searches_find(rt: HostRuntime) {
     let alloc = rt.alloc();
     check(&rt, alloc, equal(&rt, alloc), &EQUAL);
     check(&rt, alloc, different(&rt, alloc), &DIFFERENT);
+}
+
+/// The first input, and the second, where A has these gates and constraints.
+fn inputs_under(rt: &impl Abort, alloc: Global, gates: &[And], constraints: &[u32]) -> Net
+    requires { IsCircuit
+        (record (plain (1 ∷ 2 ∷ []) gates.now (2 ∷ [])) { constraints = constraints.now }) }
+{
+    let a = circuit(rt, alloc, gates, 2, constraints);
+    net_of(rt, alloc, Ok(a), two_input_circuit(alloc, &[], 4))
+}
+
+/// Where the inputs are equal, or where none is admitted.
+static AGREE: Searches = Searches(&[(Asked::Output, "out"), (Asked::Difference, "none")]);
+
+/// Where the second input alone is true. Without the constraint the search would find the first alone.
+static SECOND_ALONE: Searches = Searches(&[
+    (Asked::Output, "out apart"),
+    (Asked::Difference, "second of two is true"),
+]);
+
+#[test]
+fn what_searches_find_under_constraints(rt: HostRuntime) {
+    let alloc = rt.alloc();
+    // Neither input is true without the other.
+    let gates = [and(3, 2, 5), and(4, 3, 4)];
+    check(
+        &rt,
+        alloc,
+        inputs_under(&rt, alloc, &gates, &[7, 9]),
+        &AGREE,
+    );
+    let gates = [and(3, 3, 4)];
+    check(
+        &rt,
+        alloc,
+        inputs_under(&rt, alloc, &gates, &[6]),
+        &SECOND_ALONE,
+    );
+}
+
+/// No input is admitted: by the constant, by two constraints, and by a gate and a constraint.
+#[test]
+fn what_searches_find_where_no_input_is_admitted(rt: HostRuntime) {
+    let alloc = rt.alloc();
+    check(&rt, alloc, inputs_under(&rt, alloc, &[], &[0]), &AGREE);
+    check(&rt, alloc, inputs_under(&rt, alloc, &[], &[2, 3]), &AGREE);
+    let gates = [and(3, 2, 4)];
+    check(
+        &rt,
+        alloc,
+        inputs_under(&rt, alloc, &gates, &[6, 3]),
+        &AGREE,
+    );
 }

@@ -15,6 +15,7 @@ use worked_circuits::{and, circuit, one_gate, swapped_ands, two_xors};
 
 /// The numbers that the program goes by where it isn't told others.
 const DEFAULTS: Options = Options {
+    workers: 4,
     seed: 1,
     words: 4,
     sweep_budget: 100,
@@ -50,7 +51,7 @@ fn session_of(rt: &impl Abort, alloc: Global, pair: Pair, options: Options) -> S
 
 /// The session's verdict.
 fn verdict_of(
-    rt: &(impl Abort + Threads + Wait),
+    rt: &(impl Abort + Threads + Wait + Sync),
     alloc: Global,
     session: &mut Session,
 ) -> &'static str {
@@ -102,7 +103,7 @@ fn check_book(rt: &impl Abort, book: &Book, sweep_budget: u64, expected: &str) {
 /// Compares the session's verdict, and what its book says, before and after it is taken; and the verdict of a
 /// second check.
 fn check_session(
-    rt: &(impl Abort + Threads + Wait),
+    rt: &(impl Abort + Threads + Wait + Sync),
     alloc: Global,
     session: &mut Session,
     sweep_budget: u64,
@@ -119,7 +120,7 @@ fn check_session(
 
 /// The same of a session of the circuits.
 fn check_pair(
-    rt: &(impl Abort + Threads + Wait),
+    rt: &(impl Abort + Threads + Wait + Sync),
     alloc: Global,
     pair: Pair,
     options: Options,
@@ -180,10 +181,11 @@ fn number_of(bits: &[bool]) -> u32 {
 }
 
 /// The input that is told where the first input is compared with false, with this seed and so many words.
-fn told_with(rt: &(impl Abort + Threads + Wait), alloc: Global, seed: u64, words: u32) -> u32
+fn told_with(rt: &(impl Abort + Threads + Wait + Sync), alloc: Global, seed: u64, words: u32) -> u32
     requires { (1 ≤ words) × (words ≤ 64) }
 {
     let options = Options {
+        workers: 4,
         seed,
         words,
         sweep_budget: 100,
@@ -198,6 +200,7 @@ fn told_with(rt: &(impl Abort + Threads + Wait), alloc: Global, seed: u64, words
 }
 
 const ENOUGH_FOR_OUTPUTS: Options = Options {
+    workers: 4,
     seed: 1,
     words: 4,
     sweep_budget: 1,
@@ -206,6 +209,7 @@ const ENOUGH_FOR_OUTPUTS: Options = Options {
 };
 
 const ONE_CLAUSE: Options = Options {
+    workers: 4,
     seed: 1,
     words: 4,
     sweep_budget: 1,

@@ -129,6 +129,7 @@ static SPENT: Derivation = Derivation {
 
 /// A check of two XORs with one clause for each query.
 const ONE_CLAUSE: Options = Options {
+    workers: 4,
     seed: 1,
     words: 4,
     sweep_budget: 1,
@@ -137,7 +138,11 @@ const ONE_CLAUSE: Options = Options {
 };
 
 /// Checks the session.
-fn verdict_of(rt: &(impl Abort + Threads + Wait), alloc: Global, session: &mut Session) -> Verdict
+fn verdict_of(
+    rt: &(impl Abort + Threads + Wait + Sync),
+    alloc: Global,
+    session: &mut Session,
+) -> Verdict
     ensures { IsFound session.new.net session.new.options (begun_by session.old) session.new.pool
         session.new.book result }
 {
@@ -153,7 +158,7 @@ fn is_open(verdict: &Verdict) -> bool {
 }
 
 /// The session of two XORs that was checked within that budget, and left output 0 open.
-fn left_open(rt: &(impl Abort + Threads + Wait), alloc: Global) -> Session
+fn left_open(rt: &(impl Abort + Threads + Wait + Sync), alloc: Global) -> Session
     ensures { IsLegal result.net result.book }
 {
     let (a, b) = circuits(rt, alloc);

@@ -15,6 +15,7 @@ use worked_circuits::{circuit, one_gate, swapped_ands};
 
 /// The numbers that the program goes by where it isn't told others.
 const DEFAULTS: Options = Options {
+    workers: 4,
     seed: 1,
     words: 4,
     sweep_budget: 100,
@@ -36,7 +37,7 @@ fn desk_failing(alloc: Global, fails: &[u64]) -> Result<MemDesk, AllocError>
 /// Whether two ANDs whose fanins are swapped are found equivalent, and whether check 7 leaves the CNF and a
 /// proof, each whole, or as much of the two as this.
 fn writes(
-    rt: &(impl Threads + Wait),
+    rt: &(impl Threads + Wait + Sync),
     alloc: Global,
     fails: &[u64],
     is_written: bool,

@@ -17,7 +17,7 @@ pub enum AigerErr {
     /// How many.
     #[error("{0} latches")]
     HasLatches(u64),
-    /// The section's letter: `B`, `J` or `F`, and `C` where constraints are refused.
+    /// The section's letter: `B`, `J` or `F`.
     #[error("section {} is not supported", char::from(*.0))]
     HasProperty(u8),
     /// The place of the byte that stands where a number, a space or a line's end is due.

@@ -7,7 +7,7 @@ use std::sync::Wait;
 use std::thread::Threads;
 
 /// The commands of the page, in its order.
-pub(crate) const EXAMPLES: [&[&str]; 11] = [
+pub(crate) const EXAMPLES: [&[&str]; 14] = [
     &[
         "check",
         "adder_ripple.aag",
@@ -42,6 +42,15 @@ pub(crate) const EXAMPLES: [&[&str]; 11] = [
         "names",
     ],
     &["check", "subtract_ab.aag", "subtract_ba.aag"],
+    &[
+        "check",
+        "digit_full.aag",
+        "digit_short.aag",
+        "--out",
+        "digit",
+    ],
+    &["lrat", "digit.0.cnf", "digit.0.lrat"],
+    &["check", "digit_full.aag", "digit_free.aag"],
     &["check", "adder_ripple.aag", "adder_cut.aag"],
     &["lrat", "and.cnf", "and.lrat"],
     &["lrat", "and.cnf", "and_refused.lrat"],
@@ -70,7 +79,7 @@ fn line_of(alloc: Global, words: &[String]) -> Result<String, PutErr> {
 
 /// Says the command, runs it, and says the status that it ends with.
 pub(crate) fn show<D: Desk>(
-    rt: &(impl Threads + Wait),
+    rt: &(impl Threads + Wait + Sync),
     alloc: Global,
     example: &[&str],
     desk: &mut D,

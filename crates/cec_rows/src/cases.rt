@@ -348,7 +348,11 @@ fn is_told(ran: Result<Ran, AllocError>, status: Status) -> bool {
 }
 
 /// Runs the program on each of these words.
-fn check_words(rt: &(impl Threads + Wait + Abort + AllocGlobal), rows: &[&[&str]], status: Status) {
+fn check_words(
+    rt: &(impl Threads + Wait + Sync + Abort + AllocGlobal),
+    rows: &[&[&str]],
+    status: Status,
+) {
     for words in rows {
         let is_told = is_told(run_words(rt, &SWAPPED, words, &[]), status);
         assert!(rt; is_told, "{words:?}");

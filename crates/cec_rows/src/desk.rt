@@ -1,7 +1,7 @@
 //! Runs the program over a desk in memory, and asks how it ends and what it leaves.
 use crate::files::WORDS;
 use cec_top::{Kept, Status, run};
-use desk_port::{MemDesk, OpenGate};
+use desk_port::{Gate, MemDesk, OpenGate};
 use std::alloc::{AllocError, Global};
 use std::collections::BTreeMap;
 use std::process::Abort;
@@ -95,16 +95,27 @@ fn words_with_program(alloc: Global, words: &[&str]) -> Result<Vec<String>, Allo
 
 /// Runs the program on these words behind its name, over a desk with these files that fails at these calls.
 pub(crate) fn run_words(
-    rt: &(impl Threads + Wait + AllocGlobal),
+    rt: &(impl Threads + Wait + Sync + AllocGlobal),
     files: &[(&str, &[u8])],
     words: &[&str],
     fails: &[u64],
+) -> Result<Ran, AllocError> {
+    run_by(rt, files, words, fails, &OpenGate)
+}
+
+/// The same where the workers pass this gate.
+pub(crate) fn run_by<G: Gate + Sync>(
+    rt: &(impl Threads + Wait + Sync + AllocGlobal),
+    files: &[(&str, &[u8])],
+    words: &[&str],
+    fails: &[u64],
+    gate: &G,
 ) -> Result<Ran, AllocError> {
     let alloc = rt.alloc();
     let words = words_with_program(alloc, words)?;
     let fails = Vec::from_slice(alloc, fails)?;
     let mut desk = MemDesk::new(alloc, files_named(alloc, files)?, fails)?;
-    let (status, kept) = run(rt, alloc, words.as_slice(), &mut desk, &OpenGate);
+    let (status, kept) = run(rt, alloc, words.as_slice(), &mut desk, gate);
     Ok(Ran { status, desk, kept })
 }
 
@@ -158,24 +169,57 @@ pub(crate) fn expect(rt: &impl Abort, what: &str, is_so: bool) {
     assert!(rt; is_so, "{what}");
 }
 
-/// Runs a case over these files, and asks how it ends and what it leaves.
-pub(crate) fn check_over(
-    rt: &(impl Threads + Wait + Abort + AllocGlobal),
+/// The words of a case with so many workers, if they ask for a check; else the words alone.
+fn words_by<'a>(
+    alloc: Global,
+    words: &[&'a str],
+    many: &'a str,
+) -> Result<Vec<&'a str>, AllocError> {
+    let mut all = Vec::from_slice(alloc, words)?;
+    if words.first() == Some(&"check") {
+        all.push("--workers")?;
+        all.push(many)?;
+    }
+    Ok(all)
+}
+
+/// Runs a case over these files by so many workers, and asks how it ends and what it leaves.
+fn check_by(
+    rt: &(impl Threads + Wait + Sync + Abort + AllocGlobal),
     files: &[(&str, &[u8])],
     case: &Case<'_>,
+    many: &str,
 ) {
-    match run_words(rt, files, case.words, case.fails) {
+    let words = words_by(rt.alloc(), case.words, many).expect(rt, "memory");
+    match run_words(rt, files, words.as_slice(), case.fails) {
         Ok(ran) => check_end(rt, &ran, case),
         Err(AllocError) => check(rt, case, "memory", false),
     }
 }
 
+/// The numbers of workers by which each case is run.
+const NUMBERS_OF_WORKERS: [&str; 4] = ["1", "2", "4", "64"];
+
+/// Runs a case over these files by each number of workers, and asks how it ends and what it leaves.
+pub(crate) fn check_over(
+    rt: &(impl Threads + Wait + Sync + Abort + AllocGlobal),
+    files: &[(&str, &[u8])],
+    case: &Case<'_>,
+) {
+    for many in NUMBERS_OF_WORKERS {
+        check_by(rt, files, case, many);
+    }
+}
+
 /// The same over the files of the case.
-pub(crate) fn check_case(rt: &(impl Threads + Wait + Abort + AllocGlobal), case: &Case<'_>) {
+pub(crate) fn check_case(rt: &(impl Threads + Wait + Sync + Abort + AllocGlobal), case: &Case<'_>) {
     check_over(rt, case.files, case);
 }
 
-pub(crate) fn check_cases(rt: &(impl Threads + Wait + Abort + AllocGlobal), cases: &[Case<'_>]) {
+pub(crate) fn check_cases(
+    rt: &(impl Threads + Wait + Sync + Abort + AllocGlobal),
+    cases: &[Case<'_>],
+) {
     for case in cases {
         check_case(rt, case);
     }

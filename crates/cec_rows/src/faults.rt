@@ -110,7 +110,7 @@ fn ends_so(ran: &Ran, whole: &Ran, call: &str, end: &str) -> bool {
 
 /// Runs the check with the call failing, and asks how it ends.
 fn is_so(
-    rt: &(impl Threads + Wait + AllocGlobal),
+    rt: &(impl Threads + Wait + Sync + AllocGlobal),
     check: &Check<'_>,
     whole: &Ran,
     line: &str,
@@ -121,7 +121,11 @@ fn is_so(
 }
 
 /// Asks it of each call, beside the run in which none fails.
-fn check_calls(rt: &(impl Threads + Wait + Abort + AllocGlobal), check: &Check<'_>, whole: &Ran) {
+fn check_calls(
+    rt: &(impl Threads + Wait + Sync + Abort + AllocGlobal),
+    check: &Check<'_>,
+    whole: &Ran,
+) {
     let is_said = whole.desk.said() == check.verdict.as_bytes();
     expect(rt, check.verdict, is_said && whole.status == check.status);
     for line in check.calls.split_inclusive('\n') {
@@ -129,7 +133,7 @@ fn check_calls(rt: &(impl Threads + Wait + Abort + AllocGlobal), check: &Check<'
     }
 }
 
-fn check_all(rt: &(impl Threads + Wait + Abort + AllocGlobal), check: &Check<'_>) {
+fn check_all(rt: &(impl Threads + Wait + Sync + Abort + AllocGlobal), check: &Check<'_>) {
     match run_words(rt, check.files, check.words, &[]) {
         Ok(whole) => check_calls(rt, check, &whole),
         Err(AllocError) => expect(rt, "memory", false),

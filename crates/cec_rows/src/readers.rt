@@ -33,8 +33,8 @@ static ASCII_FAULTS: [Case<'_>; 12] = [
         ..BAD_A
     },
     Case {
-        files: &[("A", b"aag 1 1 0 0 0 0 1\n2\n2\n"), WHOLE_B],
-        warned: "cec: A: section C is not supported\n",
+        files: &[("A", b"aag 1 1 0 0 0 1 1\n2\n2\n2\n"), WHOLE_B],
+        warned: "cec: A: section B is not supported\n",
         ..BAD_A
     },
     Case {
@@ -112,7 +112,7 @@ fn is_refused(ran: &Ran, line: &str) -> bool {
 
 /// Whether the file with so many bytes left is refused for what is missing.
 fn is_cut(
-    rt: &(impl Threads + Wait + AllocGlobal),
+    rt: &(impl Threads + Wait + Sync + AllocGlobal),
     file: &[u8],
     bytes: usize,
 ) -> Result<bool, AllocError>

@@ -123,7 +123,7 @@ fn books_of(status: u8) -> usize {
 
 /// Whether a run in which the call fails ends so.
 fn ends_so(
-    rt: &(impl Threads + Wait + AllocGlobal),
+    rt: &(impl Threads + Wait + Sync + AllocGlobal),
     all: &Ran,
     calls: Calls,
     call: u64,
@@ -138,7 +138,7 @@ fn ends_so(
     )
 }
 
-fn check_calls(rt: &(impl Threads + Wait + Abort + AllocGlobal), all: &Ran) {
+fn check_calls(rt: &(impl Threads + Wait + Sync + Abort + AllocGlobal), all: &Ran) {
     for calls in &CALLS {
         for call in calls.first..=calls.last {
             expect(

@@ -241,7 +241,7 @@ static FAULTS: [(&str, &str); 31] = [
 
 /// Whether check 0 is told, and the line of the script is warned of by this text.
 fn is_refused(
-    rt: &(impl Threads + Wait + AllocGlobal),
+    rt: &(impl Threads + Wait + Sync + AllocGlobal),
     line: &str,
     fault: &str,
 ) -> Result<bool, AllocError> {

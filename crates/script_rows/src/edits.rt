@@ -1,5 +1,3 @@
-ghost use Rattle.std.specs.Prelude.{◌≡◌, []};
-
 use crate::told::{applied, expect, made, parts};
 use lits::Side;
 use netlist::{Circuit, Net};
@@ -9,17 +7,7 @@ use std::process::Abort;
 use std::test::*;
 use worked_circuits::{and, one_gate, swapped_ands, two_input_circuit};
 
-/// The circuit, if it has no constraint: only of such ones there are nets.
-fn plain(rt: &impl Abort, circuit: Circuit) -> Circuit
-    ensures { result.constraints ≡ [] }
-{
-    assert!(rt; circuit.constraints().is_empty(), "no constraint");
-    circuit
-}
-
 pub(crate) fn net_of(rt: &impl Abort, alloc: Global, a: Circuit, b: Circuit) -> Net {
-    let a = plain(rt, a);
-    let b = plain(rt, b);
     Net::of(alloc, a, b).expect(rt, "a net")
 }
 
@@ -75,6 +63,25 @@ const OF_THREE_GATES: &str = concat!(
     "set a 6 4 2 => 6 4 2, out 6;check => no edit; => no edit;set c 6 4 4 => bad line",
 );
 
+/// Edits with two faults that follow each other in the order in which they are judged, and some that don't. All are of
+/// the three gates, since a refused edit leaves the circuits as they were.
+const FAULTS_IN_PAIRS: &str = concat!(
+    // No line; no gate; no literal, the first fanin before the second; not earlier, likewise.
+    "set b 13 2 4 => bad line;set b 7 14 2 => bad line;set b 12 33554434 2 => bad line;",
+    "set b 12 14 2 => no gate 12;set b 12 2 16 => no gate 12;set b 12 10 8 => no gate 12;",
+    "set b 6 14 16 => no literal 14;set b 6 16 14 => no literal 16;set b 6 14 8 => no literal 14;set b 6 8 14 => no literal 14;",
+    "set b 8 10 9 => literal 10 is not earlier;set b 8 8 10 => literal 8 is not earlier;",
+    // No line; taken; no gate to stand before; then the fanins.
+    "new b 7 2 4 end => bad line;new b 8 2 4 before 17 => bad line;new b 8 33554434 4 end => bad line;",
+    "new b 8 2 4 before 16 => literal 8 is taken;new b 0 14 2 end => literal 0 is taken;new b 2 8 2 before 6 => literal 2 is taken;",
+    "new b 12 14 2 before 16 => no gate 16;new b 12 2 14 before 4 => no gate 4;new b 12 10 8 before 16 => no gate 16;",
+    "new b 12 14 16 end => no literal 14;new b 12 12 8 before 6 => no literal 12;new b 12 8 13 before 6 => no literal 13;",
+    "new b 12 10 8 before 8 => literal 10 is not earlier;new b 12 8 11 before 8 => literal 8 is not earlier;",
+    // A gate that isn't there isn't read, and an output that isn't there has no literal.
+    "drop b 7 => bad line;drop b 13 => bad line;drop b 12 => no gate 12;",
+    "out b 33554434 12 => bad line;out b 1 33554434 => bad line;out b 1 12 => no output 1;out b 1 13 => no output 1",
+);
+
 /// The scripts of the worked pairs of two ANDs.
 const OF_TWO_ANDS: &str = concat!(
     "set b 6 4 4 => 6 4 4, out 6;set b 6 4 2 => 6 4 2, out 6;drop b 6 => gate 6 is in use;",
@@ -91,6 +98,16 @@ fn scripts(rt: HostRuntime) {
         OF_THREE_GATES,
     );
     check_script(&rt, rt.alloc(), two_ands(&rt, rt.alloc()), OF_TWO_ANDS);
+}
+
+#[test]
+fn faults_in_pairs(rt: HostRuntime) {
+    check_script(
+        &rt,
+        rt.alloc(),
+        three_gates(&rt, rt.alloc()),
+        FAULTS_IN_PAIRS,
+    );
 }
 
 /// Edits that no line spells; each but the first has a later fault too.

@@ -7,7 +7,7 @@ use crate::told::expect;
 use keep_lemmas::keep;
 use lemma_book::{Book, Entry, Offered};
 use lits::{Clause, Listed, Lit, Node, Ref, Side, Step};
-use netlist::Net;
+use netlist::{Circuit, Names, Net};
 use netlist_edits::{Command, Edit, apply, read_line};
 use std::alloc::Global;
 use std::process::Abort;
@@ -82,6 +82,25 @@ fn out(rt: &impl Abort, alloc: Global, output: u32, var: u32, place: u64) -> Ent
     let mut steps = Vec::new(alloc);
     steps.push(one).expect(rt, "memory");
     steps.push(two).expect(rt, "memory");
+    Entry::Out {
+        output,
+        steps: Listed::of(steps),
+    }
+}
+
+/// The output is the first input and true, which is one where constraint 1 of A holds. The step cites the units
+/// of these constraints of A.
+fn out_under(rt: &impl Abort, alloc: Global, output: u32, constraints: &[u32]) -> Entry {
+    let x = Node::Xor(output);
+    let mut hints = Vec::new(alloc);
+    for k in constraints {
+        hints.push(Ref::Bound(Side::A, *k)).expect(rt, "memory");
+    }
+    hints.push(Ref::Axiom(Node::Const, 0)).expect(rt, "memory");
+    hints.push(Ref::Axiom(x, 1)).expect(rt, "memory");
+    let mut steps = Vec::new(alloc);
+    let only = step(rt, alloc, &[lit(x, true)], hints.as_slice());
+    steps.push(only).expect(rt, "memory");
     Entry::Out {
         output,
         steps: Listed::of(steps),
@@ -201,6 +220,13 @@ fn name_of(node: Node) -> (&'static str, u32) {
     }
 }
 
+fn side_name(side: Side) -> &'static str {
+    match side {
+        Side::A => "a",
+        Side::B => "b",
+    }
+}
+
 fn push(rt: &impl Abort, words: &mut String, word: &str) {
     words.push_str(word).expect(rt, "memory");
 }
@@ -220,6 +246,7 @@ fn push_hint(rt: &impl Abort, alloc: Global, words: &mut String, hint: Ref) {
         }
         Ref::Entry(place, k) => format!(in alloc; "e{place}.{k} "),
         Ref::Own(place) => format!(in alloc; "s{place} "),
+        Ref::Bound(side, k) => format!(in alloc; "{}!{k} ", side_name(side)),
     };
     push(rt, words, word.expect(rt, "memory").as_str());
 }
@@ -284,12 +311,13 @@ fn bits_of(rt: &impl Abort, alloc: Global, inputs: &[Listed<bool>]) -> String {
 
 // ---- what is kept over an edit
 
-/// An entry that is wanted: the merge of a gate, or an output with its gate and the place of that gate's
-/// merge.
+/// An entry that is wanted: the merge of a gate, an output with its gate and the place of that gate's merge,
+/// or an output with the constraints of A whose units it cites.
 #[derive(Clone, Copy)]
 enum Wanted {
     Merge(u32),
     Out(u32, u32, u64),
+    Under(u32, &'static [u32]),
 }
 
 fn wanted_words(rt: &impl Abort, alloc: Global, wanted: &[Wanted]) -> String {
@@ -298,6 +326,7 @@ fn wanted_words(rt: &impl Abort, alloc: Global, wanted: &[Wanted]) -> String {
         let entry = match *entry {
             Wanted::Merge(var) => merge(rt, alloc, var),
             Wanted::Out(output, var, place) => out(rt, alloc, output, var, place),
+            Wanted::Under(output, constraints) => out_under(rt, alloc, output, constraints),
         };
         push_entry(rt, alloc, &mut words, &entry);
     }
@@ -422,4 +451,59 @@ fn keep_one(rt: HostRuntime) {
     let book = two_merges(&rt, rt.alloc(), &net);
     let wanted = [Wanted::Merge(3)];
     check_kept(&rt, rt.alloc(), &net, book, "set b 8 5 5", &wanted, "");
+}
+
+/// Both outputs of A are the first input, those of B are true. A's constraints are its gate, the AND of both
+/// inputs, and the first input.
+fn constrained(rt: &impl Abort, alloc: Global) -> Net {
+    let first = Circuit::of(
+        alloc,
+        Vec::from_slice(alloc, &[1, 2]).expect(rt, "memory"),
+        Vec::from_slice(alloc, &[and(3, 2, 4)]).expect(rt, "memory"),
+        Vec::from_slice(alloc, &[2, 2]).expect(rt, "memory"),
+        Vec::from_slice(alloc, &[6, 2]).expect(rt, "memory"),
+        Names::none(alloc, 2, 2),
+    );
+    let second = circuit(alloc, &[1, 2], &[], &[1, 1]).expect(rt, "memory");
+    net_of(rt, alloc, first.expect(rt, "memory"), second)
+}
+
+/// An output that the unit of the first input shows, and one that cites the unit of the gate too.
+fn under_constraints(rt: &impl Abort, alloc: Global, net: &Net) -> Book
+    ensures { IsLegal net.now result }
+{
+    let mut book = Book::new(alloc, 1, 1);
+    put(rt, alloc, net, &mut book, out_under(rt, alloc, 0, &[1]));
+    put(rt, alloc, net, &mut book, out_under(rt, alloc, 1, &[0, 1]));
+    book
+}
+
+/// What cites a constraint's unit goes where the constraint's gate is set, and stays where another gate comes
+/// or another output changes.
+static UNDER_CONSTRAINTS: [Row; 3] = [
+    Row {
+        line: "set a 6 2 2",
+        wanted: &[Wanted::Under(0, &[1])],
+    },
+    Row {
+        line: "new b 6 2 4 end",
+        wanted: &[Wanted::Under(0, &[1]), Wanted::Under(1, &[0, 1])],
+    },
+    Row {
+        line: "out a 0 4",
+        wanted: &[Wanted::Under(1, &[0, 1])],
+    },
+];
+
+fn check_under_constraints<A: Abort>(rt: &A, alloc: Global) {
+    let net = constrained(rt, alloc);
+    for row in &UNDER_CONSTRAINTS {
+        let book = under_constraints(rt, alloc, &net);
+        check_kept(rt, alloc, &net, book, row.line, row.wanted, "");
+    }
+}
+
+#[test]
+fn kept_under_constraints(rt: HostRuntime) {
+    check_under_constraints(&rt, rt.alloc());
 }

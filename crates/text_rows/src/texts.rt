@@ -19,7 +19,7 @@ static CIRCUITS: [(AigerErr, &str); 13] = [
     (AigerErr::BadHeader, "bad header"),
     (AigerErr::TooLarge(16777217), "16777217 is above 16777216"),
     (AigerErr::HasLatches(1), "1 latches"),
-    (AigerErr::HasProperty(b'C'), "section C is not supported"),
+    (AigerErr::HasProperty(b'B'), "section B is not supported"),
     (AigerErr::BadNumber(14), "bad number at byte 14"),
     (AigerErr::BadLiteral(3), "bad literal 3"),
     (AigerErr::DefinedTwice(2), "literal 2 is defined twice"),

@@ -42,6 +42,7 @@ Arguments:
 Options:
       --edits <F>         Edit the circuits and check them again, as the script in file F says
       --out <PREFIX>      Leave the question and its proof in files whose names begin with PREFIX
+      --workers <N>       Settle pairs of nodes and outputs by N workers, from 1 to 64 [default: 4]
       --seed <N>          Draw the first patterns from N, from 0 to 18446744073709551615 [default: 1]
       --words <N>         Draw 64 times N first patterns, N from 1 to 64 [default: 4]
       --sweep-budget <N>  Give up on a pair of nodes after N learned clauses, \
@@ -167,30 +168,32 @@ static TOLD: [(&str, &str); 15] = [
 
 /// Words, and what they are taken for.
 const TAKEN: &str = concat!(
-    "cec check x y => x and y, to nowhere, by 1, 4, 100 and 100000;",
-    "cec check x y --out p => x and y, to p, by 1, 4, 100 and 100000;",
-    "cec check x y --budget 7 => x and y, to nowhere, by 1, 4, 100 and 7;",
-    "cec check x y --budget 7 --out p => x and y, to p, by 1, 4, 100 and 7;",
-    "cec check --out p --budget 7 x y => x and y, to p, by 1, 4, 100 and 7;",
-    "cec check x --budget=7 y --out=p => x and y, to p, by 1, 4, 100 and 7;",
-    "cec check x y --budget 1 => x and y, to nowhere, by 1, 4, 100 and 1;",
-    "cec check x y --budget 1000000000 => x and y, to nowhere, by 1, 4, 100 and 1000000000;",
-    "cec check x y --budget +007 => x and y, to nowhere, by 1, 4, 100 and 7;",
-    "cec check help check => help and check, to nowhere, by 1, 4, 100 and 100000;",
-    "cec check -- -x --out => -x and --out, to nowhere, by 1, 4, 100 and 100000;",
-    "cec check x y --seed 0 --words 1 --sweep-budget 1 => x and y, to nowhere, by 0, 1, 1 and 100000;",
+    "cec check x y => x and y, to nowhere, by 4 from 1, 4, 100 and 100000;",
+    "cec check x y --out p => x and y, to p, by 4 from 1, 4, 100 and 100000;",
+    "cec check x y --budget 7 => x and y, to nowhere, by 4 from 1, 4, 100 and 7;",
+    "cec check x y --budget 7 --out p => x and y, to p, by 4 from 1, 4, 100 and 7;",
+    "cec check --out p --budget 7 x y => x and y, to p, by 4 from 1, 4, 100 and 7;",
+    "cec check x --budget=7 y --out=p => x and y, to p, by 4 from 1, 4, 100 and 7;",
+    "cec check x y --budget 1 => x and y, to nowhere, by 4 from 1, 4, 100 and 1;",
+    "cec check x y --budget 1000000000 => x and y, to nowhere, by 4 from 1, 4, 100 and 1000000000;",
+    "cec check x y --budget +007 => x and y, to nowhere, by 4 from 1, 4, 100 and 7;",
+    "cec check help check => help and check, to nowhere, by 4 from 1, 4, 100 and 100000;",
+    "cec check -- -x --out => -x and --out, to nowhere, by 4 from 1, 4, 100 and 100000;",
+    "cec check x y --seed 0 --words 1 --sweep-budget 1 => x and y, to nowhere, by 4 from 0, 1, 1 and 100000;",
     "cec check x y --words 64 --seed 18446744073709551615 => \
-        x and y, to nowhere, by 18446744073709551615, 64, 100 and 100000;",
-    "cec check x y --sweep-budget 1000000000 => x and y, to nowhere, by 1, 4, 1000000000 and 100000;",
-    "cec check x y --seed=7 --budget 8 => x and y, to nowhere, by 7, 4, 100 and 8;",
-    "cec check --sweep-budget 5 x --words 6 y --out p => x and y, to p, by 1, 6, 5 and 100000;",
-    "cec check x y --match names => x and y by name, to nowhere, by 1, 4, 100 and 100000;",
-    "cec check x y --match position => x and y, to nowhere, by 1, 4, 100 and 100000;",
-    "cec check --match=names x y --out p => x and y by name, to p, by 1, 4, 100 and 100000;",
-    "cec check x y --edits s => x and y edited by s, to nowhere, by 1, 4, 100 and 100000;",
-    "cec check --out p --edits=s x y => x and y edited by s, to p, by 1, 4, 100 and 100000;",
+        x and y, to nowhere, by 4 from 18446744073709551615, 64, 100 and 100000;",
+    "cec check x y --sweep-budget 1000000000 => x and y, to nowhere, by 4 from 1, 4, 1000000000 and 100000;",
+    "cec check x y --seed=7 --budget 8 => x and y, to nowhere, by 4 from 7, 4, 100 and 8;",
+    "cec check --sweep-budget 5 x --words 6 y --out p => x and y, to p, by 4 from 1, 6, 5 and 100000;",
+    "cec check x y --match names => x and y by name, to nowhere, by 4 from 1, 4, 100 and 100000;",
+    "cec check x y --match position => x and y, to nowhere, by 4 from 1, 4, 100 and 100000;",
+    "cec check --match=names x y --out p => x and y by name, to p, by 4 from 1, 4, 100 and 100000;",
+    "cec check x y --edits s => x and y edited by s, to nowhere, by 4 from 1, 4, 100 and 100000;",
+    "cec check --out p --edits=s x y => x and y edited by s, to p, by 4 from 1, 4, 100 and 100000;",
     "cec check x --match names y --edits check => \
-        x and y by name edited by check, to nowhere, by 1, 4, 100 and 100000;",
+        x and y by name edited by check, to nowhere, by 4 from 1, 4, 100 and 100000;",
+    "cec check x y --workers 1 => x and y, to nowhere, by 1 from 1, 4, 100 and 100000;",
+    "cec check --workers=64 x y --seed 2 => x and y, to nowhere, by 64 from 2, 4, 100 and 100000;",
     "cec lrat f p => p of f;",
     "cec self adder 1 => an adder of 1;",
     "cec self parity 4096 => a parity of 4096;",
@@ -232,7 +235,9 @@ const REFUSED: &str = concat!(
     "cec check x y --seed 18446744073709551616 => \
         invalid value '18446744073709551616' for '--seed <N>': number too large to fit in target type\n;",
     "cec check x y --seed -1 => unexpected argument '-1' found\n;",
-    "cec check x y --workers 4 => unexpected argument '--workers' found\n;",
+    "cec check x y --workers 0 => invalid value '0' for '--workers <N>': 0 is not in 1..=64\n;",
+    "cec check x y --workers 65 => invalid value '65' for '--workers <N>': 65 is not in 1..=64\n;",
+    "cec self adder 1 --workers 4 => unexpected argument '--workers' found\n;",
     "cec self adders 4 => \
         invalid value 'adders' for '<KIND>'\n  [possible values: adder, parity, comparator]\n;",
     "cec self adder 0 => invalid value '0' for '<N>': 0 is not in 1..=4096\n;",
@@ -269,8 +274,8 @@ fn files_of(alloc: Global, check: &CheckWords<'_>) -> Result<String, AllocError>
 /// The numbers that a check was given.
 fn numbers_of(alloc: Global, check: &CheckWords<'_>) -> Result<String, AllocError> {
     format!(in alloc;
-        "{}, {}, {} and {}",
-        check.seed, check.words, check.sweep_budget, check.budget
+        "{} from {}, {}, {} and {}",
+        check.workers, check.seed, check.words, check.sweep_budget, check.budget
     )
 }
 

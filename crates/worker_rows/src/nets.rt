@@ -63,7 +63,7 @@ pub(crate) fn pool_for(rt: &impl Abort, alloc: Global, net: &Net) -> Pool
     pool
 }
 
-/// So many solvers, at most four.
+/// So many solvers, at most 64.
 pub(crate) fn solvers(rt: &impl Abort, alloc: Global, many: usize) -> Vec<WatchSolver>
     ensures { (1 ≤ length result.items) × (length result.items ≤ 64) }
 {
@@ -73,6 +73,6 @@ pub(crate) fn solvers(rt: &impl Abort, alloc: Global, many: usize) -> Vec<WatchS
             .push(WatchSolver::new(alloc).expect(rt, "memory"))
             .expect(rt, "memory");
     }
-    assert!(rt; !solvers.is_empty() && solvers.len() <= 4);
+    assert!(rt; !solvers.is_empty() && solvers.len() <= 64);
     solvers
 }

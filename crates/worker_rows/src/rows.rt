@@ -53,4 +53,5 @@ fn sweep_and_outputs(rt: HostRuntime) {
     check(&rt, alloc, 1);
     check(&rt, alloc, 2);
     check(&rt, alloc, 4);
+    check(&rt, alloc, 64);
 }
