@@ -1,4 +1,4 @@
-"""What a check does, pair by pair, as counted by a program whose copy of the crates is changed so that it counts.
+"""What a check by one worker does, pair by pair, as counted by a program whose copy of the crates is changed so that it counts.
 
 The program that is proved tells no numbers, since at a verdict nothing else is said. The changes below add counters to the search
 and to the session; the program that prints them is built by `rt try`, without proof and with checks, so it tells no times. Those by
@@ -19,7 +19,8 @@ SECONDS = 1000
 NAMES = ["rounds", "merges by structure", "by search", "by cone", "aparts by sieve", "by search", "by cone", "spents", "conflicts",
          "decisions", "entries dropped"]
 
-SEARCH, ENGINE, SESSION = "circuit_search/src/search.rt", "check_session/src/engine.rt", "check_session/src/session.rt"
+SEARCH, SESSION, SWEEP = "circuit_search/src/search.rt", "check_session/src/session.rt", "check_session/src/sweep.rt"
+WORKER, ROUNDS = "sweep_workers/src/worker.rt", "sweep_workers/src/rounds.rt"
 
 # file, what stands there, what is put in its place. The counters: rounds, Aparts by the sieve, conflicts, decisions, merges and Aparts
 # that the search found (those by the sieve too), entries that were dropped.
@@ -42,17 +43,28 @@ CHANGES = [
      "        match entry {\n            Entry::Merge { .. } => self.tally[4] += 1,\n"
      "            Entry::Apart { .. } => self.tally[5] += 1,\n            _ => {}\n        }\n    }\n\n"
      "    /// The entry, if it is good over the book; else it is counted."),
-    (ENGINE, "        self.sieve.sift(net, tasks)", "        self.search.tally[0] += 1;\n        self.sieve.sift(net, tasks)"),
-    (ENGINE, "        self.is_known = telling.is_some();",
-     "        self.is_known = telling.is_some();\n"
-     "        self.search.tally[1] += u64::from(self.is_known);\n        self.search.tally[5] += u64::from(self.is_known);"),
-    (ENGINE, "    search: Search,\n    solver: WatchSolver,\n}", "    pub(crate) search: Search,\n    solver: WatchSolver,\n}"),
-    (SESSION, "    verdict: Verdict,\n}", "    verdict: Verdict,\n    tally: [u64; 7],\n}"),
-    (SESSION, "    let (book, pool) = sweep.into_parts();",
-     "    let tally = sweep.engine.search.tally;\n    let (book, pool) = sweep.into_parts();"),
-    (SESSION, "        found,\n        verdict,\n", "        found,\n        verdict,\n        tally,\n"),
-    (SESSION, "    found: Option<Verdict>,\n}", "    found: Option<Verdict>,\n    pub tally: [u64; 7],\n}"),
-    (SESSION, "            found: None,\n        })", "            found: None,\n            tally: [0; 7],\n        })"),
+    (WORKER, "    search: Option<Search>,\n    refuter: R,\n}",
+     "    pub search: Option<Search>,\n    refuter: R,\n    pub rounds: u64,\n    pub sifted: u64,\n}"),
+    (WORKER, "            refuter: _,\n        } = self;",
+     "            refuter: _,\n            rounds: _,\n            sifted: _,\n        } = self;"),
+    (WORKER, "            search: _,\n            refuter,\n        } = self;",
+     "            search: _,\n            refuter,\n            rounds: _,\n            sifted: _,\n        } = self;"),
+    (WORKER, "            search: None,\n            refuter,\n",
+     "            search: None,\n            refuter,\n            rounds: 0,\n            sifted: 0,\n"),
+    (WORKER, "            Some(entry) => Ok(entry),\n            None => self.ask(",
+     "            Some(entry) => {\n                self.sifted += 1;\n                Ok(entry)\n            }\n            None => self.ask("),
+    (ROUNDS, "    sieve.lock(rt).sift(net, due)?;", "    workers[0].rounds += 1;\n    sieve.lock(rt).sift(net, due)?;"),
+    (SWEEP, "    pub(crate) verdict: Verdict,\n}", "    pub(crate) verdict: Verdict,\n    pub(crate) tally: [u64; 7],\n}"),
+    (SWEEP, "        verdict,\n    })\n}\n\n/// The verdict of the sweep",
+     "        verdict,\n        tally: [0; 7],\n    })\n}\n\n/// The verdict of the sweep"),
+    (SWEEP, "        verdict,\n    })\n}\n\n/// So many workers", "        verdict,\n        tally,\n    })\n}\n\n/// So many workers"),
+    (SWEEP, "    is_swept(net);\n",
+     "    is_swept(net);\n"
+     "    let mut tally = match &workers[0].search {\n        Some(search) => search.tally,\n        None => [0; 7],\n    };\n"
+     "    tally[0] = workers[0].rounds;\n    tally[1] = workers[0].sifted;\n    tally[5] += workers[0].sifted;\n"),
+    (SESSION, "    edits: Vec<Edit>,\n}", "    edits: Vec<Edit>,\n    pub tally: [u64; 7],\n}"),
+    (SESSION, "            edits: _,\n        } = self;", "            edits: _,\n            tally: _,\n        } = self;"),
+    (SESSION, "            edits: Vec::new(alloc),\n        })", "            edits: Vec::new(alloc),\n            tally: [0; 7],\n        })"),
     (SESSION, "        self.book = checked.book;", "        self.tally = checked.tally;\n        self.book = checked.book;"),
 ]
 
@@ -70,6 +82,7 @@ use std::sync::Wait;
 use std::thread::Threads;
 
 const OPTIONS: Options = Options {
+    workers: 1,
     seed: 1,
     words: 4,
     sweep_budget: 100,
@@ -91,7 +104,7 @@ fn counts(book: &Book) -> [u64; 3] {
     found
 }
 
-fn answer<R: Files + Alloc + Threads + Wait>(rt: &R, alloc: Global, line: &str, text: &mut String) -> io::Result<()> {
+fn answer<R: Files + Alloc + Threads + Wait + Sync>(rt: &R, alloc: Global, line: &str, text: &mut String) -> io::Result<()> {
     let Some((first, second)) = line.split_once("\\t") else {
         return Ok(());
     };

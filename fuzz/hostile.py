@@ -15,6 +15,7 @@ counts; status 1 where anything is wrong.
 """
 import argparse
 import contextlib
+import itertools
 import os
 import random
 import resource
@@ -28,7 +29,9 @@ import time
 from pathlib import Path
 
 import sharing
+from memory import Checker, fault_in_files, told_in
 from rounds import SEED, Tally, house
+from scripts import VERDICT
 from aiger import make_binary
 from workload import adder
 
@@ -42,6 +45,8 @@ CANNOT_WRITE = b"cec: cannot write\n"
 OUT_OF_MEMORY = b"cec: out of memory\n"
 CHECK = ["check", "A", "B", "--out", "p"]
 OWN = ("p.0.cnf", "p.0.lrat")
+SCRIPT = b"set b 6 4 4\ncheck\nset b 6 4 2\ncheck\n"
+EDITS = ["check", "A", "B", "--edits", "F", "--out", "p"]
 
 
 class Ran:
@@ -86,7 +91,7 @@ class Rig:
         self.left_out, self.slow = [], []
         self.scratch = tempfile.mkdtemp(prefix="hostile-")
         os.chmod(self.scratch, 0o755)
-        self.program = shutil.copy(program, self.scratch)
+        self.program, self.checker = shutil.copy(program, self.scratch), Checker(self.scratch)
         self.whole = {}
 
     @contextlib.contextmanager
@@ -458,6 +463,95 @@ def memory(rig):
             expect(rig, name, folder, 0, said=b"EQUIVALENT\n", words=CHECK[:3], limits=limits)
 
 
+def fault_of_script(rig, run, whole):
+    """What is wrong with a run over a script that ended before its last check: the verdicts that are said have their files, and of
+    the next check stands a first part."""
+    told = told_in(whole.said.decode(), run.said.decode(), True)
+    if told is None:
+        return "other words than verdicts"
+    return fault_in_files(("A", "B", "F"), whole.files, run.files, told, rig.checker)
+
+
+def expect_script(rig, name, folder, whole, checks, status, line=b"", words=None, **how):
+    """Runs with the script, and asks for this end behind so many checks. What is no file isn't looked at."""
+    run = rig.ran(folder, words or EDITS, **how)
+    run.files = {file: content for file, content in run.files.items() if content != b"no file"}
+    said = "".join(VERDICT.findall(whole.said.decode())[:checks]).encode()
+    rig.judge(name, run, first(fault_of_end(run, status, line, said), fault_of_script(rig, run, whole)))
+
+
+def scripts(rig):
+    """Edit scripts that can't be read or are no plain files, and checks behind the first whose files can't be written."""
+    with rig.folder(F=SCRIPT) as folder:
+        whole = rig.ran(folder, EDITS)
+    rig.judge("a script", whole, fault_of_end(whole, 0, b"", b"EQUIVALENT\nDIFFERENT\noutput 0\ninput 01\nEQUIVALENT\n"))
+    scripts_that_cannot_be_read(rig)
+    scripts_that_are_no_plain_files(rig, whole)
+    ways = {"a folder": os.mkdir, "/dev/full": lambda path: os.symlink("/dev/full", path)}
+    for check, kind, what in itertools.product(range(3), ("cnf", "lrat"), ways):
+        name = f"p.{check}.{kind}"
+        # Nothing is written of the empty proof of the check that differs.
+        if what == "a folder" or whole.files[name]:
+            with rig.folder(F=SCRIPT) as folder:
+                ways[what](Path(folder, name))
+                expect_script(rig, f"{what} {name}", folder, whole, check, 6, CANNOT_WRITE)
+    scripts_and_signals(rig)
+
+
+def scripts_that_cannot_be_read(rig):
+    for what, name in [("missing", "X"), ("a folder", "."), ("empty", ""), ("of 256 bytes", "n" * 256), ("behind a file", "B/A")]:
+        with rig.folder() as folder:
+            words = EDITS[:4] + [name] + EDITS[5:]
+            expect(rig, f"a script {what}", folder, 5, f"cec: {name}: cannot read\n".encode(), words=words)
+    with rig.folder() as folder:
+        line = b"cec: /dev/zero: longer than 1073741824 bytes\n"
+        expect(rig, "/dev/zero as a script", folder, 4, line, words=EDITS[:4] + ["/dev/zero"] + EDITS[5:])
+        line = b"cec: A: line 1: bad line\n"
+        expect(rig, "a circuit as a script", folder, 4, line, said=b"EQUIVALENT\n", words=EDITS[:4] + ["A"])
+
+
+def scripts_that_are_no_plain_files(rig, whole):
+    with rig.folder() as folder:
+        path = Path(folder, "F")
+        os.mkfifo(path)
+        writer = threading.Thread(target=put_slowly, args=(path, SCRIPT), daemon=True)
+        writer.start()
+        run = rig.ran(folder, EDITS)
+        run.files["F"] = SCRIPT
+        rig.judge("a FIFO as a script", run, first(fault_of_end(run, 0, b"", whole.said), fault_of_script(rig, run, whole)))
+        writer.join(5)
+    for name, checks, how in (("/dev/stdin", 3, {"stdin": subprocess.PIPE, "given": SCRIPT}), ("/dev/null", 1, {})):
+        with rig.folder(F=SCRIPT) as folder:
+            expect_script(rig, f"{name} as a script", folder, whole, checks, 0, words=EDITS[:4] + [name] + EDITS[5:], **how)
+    # All three files are read before the first check writes over them.
+    for read, name in (("A", "p.0.cnf"), ("B", "p.1.cnf"), ("F", "p.2.lrat")):
+        with rig.folder(F=SCRIPT) as folder:
+            os.rename(Path(folder, read), Path(folder, name))
+            run = rig.ran(folder, [name if word == read else word for word in EDITS])
+            same = all(run.files.get(file) == content for file, content in whole.files.items() if file.startswith("p."))
+            ends = fault_of_end(run, 0, b"", whole.said)
+            rig.judge(f"{read} under the name {name}", run, first(ends, None if same else "other files"))
+
+
+def scripts_and_signals(rig):
+    """Runs over a long script that are ended by a signal: a verdict is said only with its files."""
+    with rig.folder(F=SCRIPT * 200) as folder:
+        whole = rig.ran(folder, EDITS)
+    rig.judge("a long script", whole, fault_of_end(whole, 0, b"", b"EQUIVALENT\n" + 200 * b"DIFFERENT\noutput 0\ninput 01\nEQUIVALENT\n"))
+    ended = 0
+    for _ in range(rig.words.runs):
+        with rig.folder(F=SCRIPT * 200) as folder:
+            start = time.monotonic()
+            process = rig.started(folder, EDITS)
+            time.sleep(rig.rng.uniform(0, 1.1 * whole.seconds))
+            process.kill()
+            said, warned = process.communicate(timeout=SECONDS)
+            run = Ran(process.returncode, said, warned, time.monotonic() - start, files_in(folder))
+            ended += run.status == -signal.SIGKILL
+            rig.judge("a long script that is killed", run, fault_of_script(rig, run, whole))
+    print(f"{ended} of {rig.words.runs} runs over a long script were killed, in up to {whole.seconds:.1f} s")
+
+
 def processor_seconds():
     """The processor's seconds of the processes that were run so far."""
     used = resource.getrusage(resource.RUSAGE_CHILDREN)
@@ -512,7 +606,7 @@ def slots(rig):
     compared(rig, "literals of a clause", ["lrat", "A", "EMPTY"], sharing.literals(rig.rng, count))
 
 
-GROUPS = (names, devices, streams, inputs, signals, together, memory, load, slots)
+GROUPS = (names, devices, streams, inputs, signals, scripts, together, memory, load, slots)
 
 
 def main():

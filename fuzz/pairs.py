@@ -5,9 +5,11 @@ Usage: pairs.py [PROGRAM [CHECKER]] [--runs N] [--seed N]
 
 PROGRAM is the repository's own where it is left out. CHECKER (else tools/lrat_strict.py) is a strict LRAT checker that is called as `CHECKER [--steps] CNF PROOF` and prints VERIFIED for a refutation, and
 with --steps `STEPS COUNT` for lines that are all steps and add no empty clause. For each pair the circuits are evaluated
-on every input here. EQUIVALENT must be true and its proof VERIFIED. DIFFERENT must name an output and an input on which it
-differs, and with the whole budget the first output that differs. UNDECIDED may list only outputs whose logs stand at
-those lines of the file, as long as the budget, and each other output must be equal. Status 1 where anything is wrong.
+on every input here, and what counts are the inputs on which each constraint of both is true, of which there may be none. EQUIVALENT must be
+true and its proof VERIFIED. DIFFERENT must name an output and such an input on which it differs, and with the whole budget the first
+output that differs. UNDECIDED may list only outputs whose logs stand at those lines of the file, as long as the budget, and each other
+output must be equal. Some pairs are matched by name: the second file then has its inputs and outputs in another order, and is judged
+by the first one's. Status 1 where anything is wrong.
 """
 import itertools
 import random
@@ -46,18 +48,50 @@ def rewritten(rng, circuit):
     return inputs, outputs, gates
 
 
-def text(circuit):
+def literals_of(circuit):
+    """Every literal: constants, inputs and gates, and their negations."""
+    positive = [0, *circuit[0], *(lhs for lhs, _, _ in circuit[2])]
+    return positive + [literal + 1 for literal in positive]
+
+
+def drawn_constraints(rng, a, b):
+    """Literals of each circuit that have to be true: mostly none, some that leave no input, some under which the circuits agree."""
+    drawn = rng.random()
+    if drawn < 0.4:
+        return (), ()
+    if drawn < 0.6:
+        agreeing = [literal for literal in literals_of(a) if not differing_outputs(a, b, ((literal,), ()))]
+        return ((rng.choice(agreeing),) if agreeing else ()), ()
+    return tuple(tuple(rng.choice(literals_of(side)) for _ in range(rng.choice([0, 1, 1, 2]))) for side in (a, b))
+
+
+def symbols(kind, names):
+    return [f"{kind}{place} {name}" for place, name in enumerate(names)]
+
+
+def text(circuit, constraints=(), names=((), ())):
+    """The file in ASCII, with the names of the inputs and those of the outputs, where there are any."""
     inputs, outputs, gates = circuit
     variables = max([0] + [literal // 2 for literal in inputs] + [lhs // 2 for lhs, _, _ in gates])
-    lines = [f"aag {variables} {len(inputs)} 0 {len(outputs)} {len(gates)}"]
-    lines += [str(literal) for literal in inputs + outputs]
+    lines = [f"aag {variables} {len(inputs)} 0 {len(outputs)} {len(gates)}" + (f" 0 {len(constraints)}" if constraints else "")]
+    lines += [str(literal) for literal in [*inputs, *outputs, *constraints]]
     lines += [f"{lhs} {left} {right}" for lhs, left, right in gates]
+    lines += symbols("i", names[0]) + symbols("o", names[1])
     return "\n".join(lines) + "\n"
 
 
-def evaluated(circuit, bits):
-    """The outputs' truth values."""
-    inputs, outputs, gates = circuit
+def named_files(rng, a, b, bounds):
+    """Both files with names, the second with its inputs and its outputs in an order of its own."""
+    pool = rng.sample(["x", "y", "z z", "sum[0]", "1", "-", "\u00e9", "c"], len(a[0])), rng.sample(["x", "o", "carry out", "q"], len(a[1]))
+    orders = [rng.sample(range(len(places)), len(places)) for places in b[:2]]
+    turned = [[places[k] for k in order] for places, order in zip(b[:2], orders)]
+    names = [[places[k] for k in order] for places, order in zip(pool, orders)]
+    return text(a, bounds[0], pool), text((*turned, b[2]), bounds[1], names)
+
+
+def values_of(circuit, bits, literals):
+    """The truth values of literals."""
+    inputs, _, gates = circuit
     values = {0: False}
     values.update({literal // 2: bit for literal, bit in zip(inputs, bits)})
 
@@ -66,14 +100,25 @@ def evaluated(circuit, bits):
 
     for lhs, left, right in gates:
         values[lhs // 2] = value(left) and value(right)
-    return [value(literal) for literal in outputs]
+    return [value(literal) for literal in literals]
 
 
-def differing_outputs(a, b):
-    """The outputs that differ on some input."""
+def evaluated(circuit, bits):
+    """The outputs' truth values."""
+    return values_of(circuit, bits, circuit[1])
+
+
+def is_admitted(a, b, bounds, bits):
+    """Whether each constraint of both circuits is true on the input."""
+    return all(values_of(a, bits, bounds[0])) and all(values_of(b, bits, bounds[1]))
+
+
+def differing_outputs(a, b, bounds=((), ())):
+    """The outputs that differ on some admitted input."""
     found = set()
     for bits in itertools.product([False, True], repeat=len(a[0])):
-        found |= {j for j, (x, y) in enumerate(zip(evaluated(a, bits), evaluated(b, bits))) if x != y}
+        if is_admitted(a, b, bounds, bits):
+            found |= {j for j, (x, y) in enumerate(zip(evaluated(a, bits), evaluated(b, bits))) if x != y}
     return found
 
 
@@ -90,7 +135,7 @@ def judged_equal(said, differing, folder, checker):
     return None if strict == "VERIFIED" else "its proof is " + strict
 
 
-def judged_different(said, a, b, differing, folder, budget):
+def judged_different(said, a, b, differing, folder, budget, bounds=((), ())):
     match = re.fullmatch(r"DIFFERENT\noutput (\d+)\ninput (none|[01]+)\n", said)
     if not match:
         return "no such verdict"
@@ -98,6 +143,8 @@ def judged_different(said, a, b, differing, folder, budget):
     if len(digits) != len(a[0]) or (match[2] == "none") != (not a[0]):
         return "an input of another length"
     bits = [digit == "1" for digit in digits]
+    if not is_admitted(a, b, bounds, bits):
+        return "an input that isn't admitted"
     if evaluated(a, bits)[output] == evaluated(b, bits)[output]:
         return "a wrong no"
     if budget is None and output != min(differing):
@@ -124,15 +171,15 @@ def judged_open(said, differing, folder, checker, budget):
     return None if strict == f"STEPS {spans[-1][2] - clauses}" else "its lines are " + strict
 
 
-def judged(ran, a, b, folder, checker, budget):
+def judged(ran, a, b, bounds, folder, checker, budget):
     """None where the answer is right, else what is wrong."""
-    differing = differing_outputs(a, b)
+    differing = differing_outputs(a, b, bounds)
     if ran.stderr:
         return "a warning"
     if ran.returncode == 0:
         return judged_equal(ran.stdout, differing, folder, checker)
     if ran.returncode == 1:
-        return judged_different(ran.stdout, a, b, differing, folder, budget)
+        return judged_different(ran.stdout, a, b, differing, folder, budget, bounds)
     if ran.returncode == 2 and budget is not None:
         return judged_open(ran.stdout, differing, folder, checker, budget)
     return "no answer"
@@ -144,15 +191,17 @@ def main():
     with tempfile.TemporaryDirectory() as folder:
         for _ in range(words.runs):
             a = random_circuit(rng, rng.randrange(0, 5), rng.randrange(0, 4), rng.randrange(0, 9))
-            b = rewritten(rng, a)
-            Path(folder, "A").write_text(text(a))
-            Path(folder, "B").write_text(text(b))
+            b = rewritten(rng, a) if rng.random() < 0.75 else random_circuit(rng, len(a[0]), len(a[1]), rng.randrange(0, 9))
+            bounds, by_name = drawn_constraints(rng, a, b), rng.random() < 0.3
+            files = named_files(rng, a, b, bounds) if by_name else (text(a, bounds[0]), text(b, bounds[1]))
+            Path(folder, "A").write_text(files[0])
+            Path(folder, "B").write_text(files[1])
             budget = rng.choice([None, None, 1, 2, 3])
-            command = [words.program, "check", "A", "B", "--out", "p"]
+            command = [words.program, "check", "A", "B", "--out", "p"] + (["--match", "names"] if by_name else [])
             command += [] if budget is None else ["--budget", str(budget)]
             ran = subprocess.run(command, cwd=folder, capture_output=True, text=True)
-            fault = judged(ran, a, b, folder, checker, budget)
-            tally.add(ran.returncode, fault and f"{fault}: {ran!r}, on {text(a)!r} and {text(b)!r}")
+            fault = judged(ran, a, b, bounds, folder, checker, budget)
+            tally.add(ran.returncode, fault and f"{fault}: {ran!r}, on {files!r}")
     tally.end()
 
 

@@ -14,7 +14,7 @@ import subprocess
 import tempfile
 from pathlib import Path
 
-from pairs import differing_outputs, judged_different, judged_equal, judged_open, random_circuit, rewritten, text
+from pairs import differing_outputs, drawn_constraints, judged_different, judged_equal, judged_open, random_circuit, rewritten, text
 from rounds import Tally, house, words_of
 from second_edits import checks_of, command_in, edited, fault_of
 
@@ -81,23 +81,28 @@ def drawn_script(rng, sides):
     return ("\n".join(lines) + end).encode()
 
 
-def judged_check(said, check, number, folder, checker, budget):
+def judged_check(said, check, bounds, number, folder, checker, budget):
     """What is wrong with a check's verdict and files, or None."""
     a, b = check
     for name in ("cnf", "lrat"):
         Path(folder, f"p.0.{name}").write_bytes(Path(folder, f"q.{number}.{name}").read_bytes())
-    differing = differing_outputs(a, b)
+    differing = differing_outputs(a, b, bounds)
     word = said.split("\n")[0]
     if word == "EQUIVALENT":
         return judged_equal(said, differing, folder, checker)
     if word == "DIFFERENT":
-        return judged_different(said, a, b, differing, folder, budget)
+        return judged_different(said, a, b, differing, folder, budget, bounds)
     return judged_open(said, differing, folder, checker, budget) if budget is not None else "UNDECIDED within an ample budget"
 
 
-def judged(ran, sides, script, folder, checker, budget):
+def names_after(checks):
+    """The names of the files that lie there after so many checks."""
+    return {"A", "B", "F"} | {f"q.{number}.{kind}" for number in range(checks) for kind in ("cnf", "lrat")}
+
+
+def judged(ran, sides, bounds, script, folder, checker, budget):
     """None where the run is right, else what is wrong."""
-    checks, refused = checks_of(sides, script)
+    checks, refused = checks_of(sides, script, bounds)
     verdicts = VERDICT.findall(ran.stdout)
     if "".join(verdicts) != ran.stdout or len(verdicts) != len(checks):
         return "other verdicts than checks"
@@ -105,32 +110,49 @@ def judged(ran, sides, script, folder, checker, budget):
     warned = f"cec: F: line {refused[0]}: {refused[1]}\n" if refused else ""
     if (ran.returncode, ran.stderr) != (status, warned):
         return f"not status {status} with {warned!r}"
-    if Path(folder, f"q.{len(checks)}.cnf").exists():
-        return "files of a check that wasn't made"
+    if {file.name for file in Path(folder).iterdir()} != names_after(len(checks)):
+        return "other files than those of the checks"
     for number, (said, check) in enumerate(zip(verdicts, checks)):
-        fault = judged_check(said, check, number, folder, checker, budget)
+        fault = judged_check(said, check, bounds, number, folder, checker, budget)
         if fault:
             return f"check {number}: {fault}"
     return None
+
+
+def tried(program, checker, sides, bounds, script, budget=None, options=()):
+    """(status, what is wrong or None) of a run over these circuits, with these constraints and words more, and this script."""
+    texts = [text(sides[side], bounds[place]) for place, side in enumerate("ab")]
+    with tempfile.TemporaryDirectory() as folder:
+        for name, file in zip("AB", texts):
+            Path(folder, name).write_text(file)
+        Path(folder, "F").write_bytes(script)
+        command = [program, "check", "A", "B", "--edits", "F", "--out", "q", *options]
+        command += [] if budget is None else ["--budget", str(budget), "--sweep-budget", "1"]
+        ran = subprocess.run(command, cwd=folder, capture_output=True, text=True)
+        fault = judged(ran, sides, bounds, script, folder, checker, budget)
+        return ran.returncode, fault and f"{fault}: {ran!r}, on {texts!r} and {shortened(script)}"
+
+
+def shortened(script):
+    """A script as it is shown where a run on it is wrong."""
+    return repr(script) if len(script) <= 4096 else f"{script[:2048]!r} .. {script[-2048:]!r}"
+
+
+def drawn_pair(rng):
+    """A random circuit, and another one that is mostly of the same functions."""
+    a = random_circuit(rng, rng.randrange(0, 5), rng.randrange(0, 4), rng.randrange(0, 9))
+    return {"a": a, "b": rewritten(rng, a)}
 
 
 def main():
     words = words_of(__doc__, 400, "checker")
     rng, tally, checker = random.Random(words.seed), Tally(words.seed), house.checker(words.checker)
     for _ in range(words.runs):
-        with tempfile.TemporaryDirectory() as folder:
-            a = random_circuit(rng, rng.randrange(0, 5), rng.randrange(0, 4), rng.randrange(0, 9))
-            sides = {"a": a, "b": rewritten(rng, a)}
-            script = drawn_script(rng, sides)
-            for name, circuit in (("A", a), ("B", sides["b"])):
-                Path(folder, name).write_text(text(circuit))
-            Path(folder, "F").write_bytes(script)
-            budget = rng.choice([None, None, 1, 2, 3])
-            command = [words.program, "check", "A", "B", "--edits", "F", "--out", "q"]
-            command += [] if budget is None else ["--budget", str(budget), "--sweep-budget", "1"]
-            ran = subprocess.run(command, cwd=folder, capture_output=True, text=True)
-            fault = judged(ran, sides, script, folder, checker, budget)
-            tally.add(ran.returncode, fault and f"{fault}: {ran!r}, on {text(a)!r}, {text(sides['b'])!r} and {script!r}")
+        sides = drawn_pair(rng)
+        bounds = drawn_constraints(rng, sides["a"], sides["b"])
+        script = drawn_script(rng, sides)
+        budget = rng.choice([None, None, 1, 2, 3])
+        tally.add(*tried(words.program, checker, sides, bounds, script, budget))
     tally.end()
 
 

@@ -8,10 +8,10 @@ GATES = 16_777_216
 
 def number_in(word):
     """The number of a word that has digits only and isn't above the limit, or None."""
-    if not word or any(byte not in b"0123456789" for byte in word):
+    if not word or word.strip(b"0123456789"):
         return None
-    number = int(word)
-    return number if number <= MOST else None
+    digits = word.lstrip(b"0") or b"0"
+    return int(digits) if len(digits) <= len(str(MOST)) and int(digits) <= MOST else None
 
 
 def gate_in(word):
@@ -124,8 +124,8 @@ def lines_of(script):
     return lines[:-1] if not lines[-1] else lines
 
 
-def checks_of(sides, script):
-    """(the pairs of circuits of the checks, in order; the refused line's number and text, or None)."""
+def checks_of(sides, script, bounds=((), ())):
+    """(the pairs of circuits of the checks, in order; the refused line's number and text, or None), where the circuits have these constraints."""
     sides, checks = dict(sides), [(sides["a"], sides["b"])]
     for number, line in enumerate(lines_of(script), 1):
         command = command_in(line)
@@ -134,7 +134,7 @@ def checks_of(sides, script):
         if command == ["check"]:
             checks.append((sides["a"], sides["b"]))
         elif command:
-            fault = fault_of(sides[command[1]], command)
+            fault = fault_of(sides[command[1]], command, bounds["ab".index(command[1])])
             if fault:
                 return checks, (number, fault)
             sides[command[1]] = edited(sides[command[1]], command)

@@ -13,6 +13,8 @@
 #include <stddef.h>
 #include <stdio.h>
 #include <stdlib.h>
+#include <sys/syscall.h>
+#include <unistd.h>
 
 static atomic_ullong calls;
 static unsigned long long first_refused, last_refused;
@@ -49,7 +51,7 @@ __attribute__((constructor)) static void begin(void)
     atomic_store(&calls, 0);
 }
 
-__attribute__((destructor)) static void end(void)
+static void tell_count(void)
 {
     unsigned long long count = atomic_load(&calls);
     const char *name = getenv("FAIL_ALLOC_COUNT");
@@ -58,6 +60,19 @@ __attribute__((destructor)) static void end(void)
         fprintf(file, "%llu\n", count);
         fclose(file);
     }
+}
+
+__attribute__((destructor)) static void end(void)
+{
+    tell_count();
+}
+
+/* A program of several threads may end by this call, which runs no destructor. */
+void _exit(int status)
+{
+    tell_count();
+    syscall(SYS_exit_group, status);
+    __builtin_unreachable();
 }
 
 static int is_refused(void)

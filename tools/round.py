@@ -27,10 +27,14 @@ MEASURING = {
     "bench/sweep.py": NAMED,
     "bench/sim.py": NONE,
     "bench/board.py": NONE,
+    "bench/edits.py": NAMED,
+    "bench/workers.py": NAMED,
 }
 
 JUDGING = {
     "fuzz/hostile.py": FIRST,
+    "fuzz/script_faults.py": FIRST,
+    "fuzz/workers.py": FIRST,
     "fuzz/wrong_search.py": NONE,
     "fuzz/workloads.py": FIRST,
     "fuzz/books.py": NONE,
@@ -42,6 +46,8 @@ JUDGING = {
     "fuzz/proofs.py": FIRST,
     "fuzz/pairs.py": FIRST,
     "fuzz/structure.py": FIRST,
+    "fuzz/scripts.py": FIRST,
+    "fuzz/kept.py": NONE,
     "tools/real_aiger.py": FIRST,
     "tools/examples.py": FIRST,
     "tools/believe.py": ("--check",),
