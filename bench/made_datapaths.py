@@ -128,5 +128,5 @@ def values(circuit, words):
     return [value(literal) for literal in circuit.outputs]
 
 
-KINDS = {"copies": (copies, 64), "hashes": (hashes, 12), "processors": (processors, 8), "adders": (adder, 512)}
+KINDS = {"copies": (copies, 384), "hashes": (hashes, 5), "processors": (processors, 40), "adders": (adder, 3000)}
 SMALL = {"small copies": (copies, 1), "small adders": (adder, 24)}

@@ -3,7 +3,7 @@
 
 Usage: workers.py [--program PROGRAM] [--workers N ..] [--rounds N] [--only WORD] [--corpus FOLDER --pairs NAME ..]
 
-Pairs of more than 10,000 gates whose time is queries (`made_datapaths.py`: copies of adders, a processor, a hash, an adder of 512 bits,
+Pairs of more than 10,000 gates whose time is queries (`made_datapaths.py`: copies of adders, a processor, a hash, an adder of 3,000 bits,
 each in two architectures), or the named ones of a corpus as for `sweep.py`, and two pairs of under 1,000 gates. Each is checked by 1, 2,
 4 and 64 workers; the times are medians of three rounds, without files. Beside those of one worker stand the ratios, then the peak
 memory that a worker more takes, in bytes a gate. How much of a run is parallel is the part of the time in which a run by four workers has
@@ -27,13 +27,18 @@ from house import program
 HEAD = f"{'pair':20} {'gates':>7} {'workers':>7} {'wall s':>8} {'of one':>6} {'CPU s':>8} {'of one':>6} {'MB':>7} {'B/gate+worker':>13}"
 
 
+# A small process that starts the program and tells of it: one that is started from here would have the memory of this script as the least
+# that it is said to have taken.
+LAUNCHER = """import os, sys, time
+begun = time.monotonic()
+_, _, used = os.wait4(os.posix_spawn(sys.argv[1], sys.argv[1:], os.environ), 0)
+print(time.monotonic() - begun, used.ru_utime + used.ru_stime, used.ru_maxrss * 1024, file=sys.stderr)"""
+
+
 def timed(command):
     """(seconds by the clock, seconds of the processors, peak memory in bytes, the verdict) of a run."""
-    begun = time.monotonic()
-    running = subprocess.Popen(command, stdout=subprocess.PIPE, text=True)
-    said = running.stdout.read()
-    _, _, used = os.wait4(running.pid, 0)
-    return time.monotonic() - begun, used.ru_utime + used.ru_stime, used.ru_maxrss * 1024, (said.split() or ["nothing"])[0]
+    ran = subprocess.run([sys.executable, "-S", "-c", LAUNCHER, *command], capture_output=True, text=True, check=True)
+    return *map(float, ran.stderr.split()[-3:]), (ran.stdout.split() or ["nothing"])[0]
 
 
 def parallel_share(command):

@@ -108,7 +108,9 @@ class Rig:
             shutil.rmtree(made, ignore_errors=True)
 
     def started(self, folder, words, limits=None, **how):
-        """A process of the program."""
+        """A process of the program. A check that leaves its files is made by one worker, so that they are the same each time."""
+        if "--out" in words and "--workers" not in words:
+            words = [*words, "--workers", "1"]
         how = {"stdin": subprocess.DEVNULL, "stdout": subprocess.PIPE, "stderr": subprocess.PIPE, **how}
         return subprocess.Popen([self.program, *words], cwd=folder, preexec_fn=limited(limits), **how)
 
@@ -552,6 +554,28 @@ def scripts_and_signals(rig):
     print(f"{ended} of {rig.words.runs} runs over a long script were killed, in up to {whole.seconds:.1f} s")
 
 
+def threads(rig):
+    """64 workers where few threads or none can be started, for want of address space, of leave or of stack."""
+    pair, words = dict(zip("AB", adders(64))), ["check", "A", "B", "--workers", "64"]
+    with rig.folder(**pair) as folder:
+        whole = expect(rig, "64 workers", folder, 0, said=b"EQUIVALENT\n", words=words)
+    statuses = [within(rig, "64 workers", pair, words, whole, megabytes) for megabytes in (12, 15, 20, 40, 100, 200, 400, 1000)]
+    print(f"64 workers in 12 to 1,000 MB: statuses {statuses}")
+    # With stacks of 64 KB the program is ended by a signal at times where there are 64 workers, and never was with 4.
+    for kilobytes in (128, 256):
+        with rig.folder(**pair) as folder:
+            limits = {resource.RLIMIT_STACK: kilobytes << 10}
+            expect(rig, f"64 workers with stacks of {kilobytes} KB", folder, 0, said=b"EQUIVALENT\n", words=words, limits=limits)
+    how = as_nobody(rig, "threads without leave")
+    for most in (1, 2, 3, 5, 20, 60) if how else ():
+        with rig.folder(**pair) as folder:
+            before = files_in(folder)
+            run = rig.ran(folder, words, {resource.RLIMIT_NPROC: most}, **how)
+            without = run.status == 7 and run.warned == OUT_OF_MEMORY and not run.said
+            ends = None if without else fault_of_end(run, 0, b"", b"EQUIVALENT\n")
+            rig.judge(f"64 workers with leave for {most} threads", run, first(ends, fault_of_files(run, before)))
+
+
 def processor_seconds():
     """The processor's seconds of the processes that were run so far."""
     used = resource.getrusage(resource.RUSAGE_CHILDREN)
@@ -606,7 +630,7 @@ def slots(rig):
     compared(rig, "literals of a clause", ["lrat", "A", "EMPTY"], sharing.literals(rig.rng, count))
 
 
-GROUPS = (names, devices, streams, inputs, signals, scripts, together, memory, load, slots)
+GROUPS = (names, devices, streams, inputs, signals, scripts, threads, together, memory, load, slots)
 
 
 def main():

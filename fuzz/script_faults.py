@@ -284,12 +284,12 @@ def many(round_):
 
 
 def limit(round_):
-    """A circuit of as many gates as may be; no output, so each check finds the circuits equivalent."""
+    """A circuit of as many gates as may be, so that every variable is taken: the limit is told before that, before a gate that isn't there
+    and before a fanin that isn't earlier. It has no output, so check 0 finds it equivalent to an empty circuit."""
     full = f"aig {MOST_GATES} 0 0 0 {MOST_GATES}\n".encode() + b"\x02\x00" * MOST_GATES
-    last = 2 * MOST_GATES
-    script = f"drop a {last}\ncheck\nnew a {last} 5 2 end\ncheck\nnew a 0 {last + 1} {last} before 33554430\n".encode()
+    script = f"\nnew a 0 {2 * MOST_GATES + 1} {2 * MOST_GATES} before 0\n".encode()
     files = {"A": full, "B": b"aag 0 0 0 0 0\n", "F": script}
-    told(round_, "a gate more than 16,777,216", files, SAME * 3, 4, b"cec: F: line 5: too many gates\n")
+    told(round_, "a gate more than 16,777,216", files, SAME, 4, b"cec: F: line 2: too many gates\n")
 
 
 GROUPS = {"cut": cut, "bytes": bytes_, "pairs": pairs, "long": long, "many": many, "limit": limit}

@@ -7,8 +7,8 @@ Usage: workers.py [PROGRAM [CHECKER]] [--runs N] [--seed N] [--side N] [--only W
 PROGRAM and CHECKER are as for `pairs.py`; without the second one tools/lrat_strict.c, where `cc` is there. The groups, of which --only
 runs those alone whose names have the word:
 
-small   N random pairs (400) as in `pairs.py`, and a quarter as many with random edit scripts as in `scripts.py`, judged by their values
-large   half as many pairs with gates enough that several workers have something to do, a third of them with tight budgets
+small   N random pairs (400) as in `pairs.py`, constraints among them, and a quarter as many with random edit scripts as in `scripts.py`, judged by their values
+large   half as many pairs with gates enough that several workers have something to do, parities among them, and half with tight budgets
 corpus  the pairs of FOLDER (as for `bench/sweep.py`), of the named classes, else a small corpus made here, each by 1, 2, 4 and 64
         workers, or by those of --workers alone. With --minutes they are drawn, one after another, until the time is up
 
@@ -28,13 +28,14 @@ from collections import Counter
 from concurrent.futures import ThreadPoolExecutor
 from pathlib import Path
 
-from pairs import judged, random_circuit, rewritten, text
+from pairs import drawn_constraints, judged, literals_of, random_circuit, rewritten, text
 from rounds import SEED, Tally, house
 from scripts import drawn_pair, drawn_script, tried
 from wrong_search import expanded
 
 sys.path.insert(0, str(house.TOP / "bench"))
 import made_pairs
+from workload import Circuit
 
 MANY = (1, 2, 2, 3, 4, 4, 8, 16, 64, 64)
 STATUS = {"EQUIVALENT": 0, "DIFFERENT": 1, "UNDECIDED": 2}
@@ -59,26 +60,28 @@ class Round:
                 self.by_workers[workers] += 1
                 self.tally.add(status, fault)
 
-    def case(self, a, b, budget, workers, held):
-        """A call that runs the check of two circuits and judges it by their values."""
+    def case(self, a, b, bounds, budget, workers, held):
+        """A call that runs the check of two circuits under constraints, and judges it by their values."""
+        texts = text(a, bounds[0]), text(b, bounds[1])
+
         def run():
             with tempfile.TemporaryDirectory() as folder:
-                for name, circuit in (("A", a), ("B", b)):
-                    Path(folder, name).write_text(text(circuit))
+                for name, file in zip("AB", texts):
+                    Path(folder, name).write_text(file)
                 command = [*held, self.program, "check", "A", "B", "--out", "p", "--workers", str(workers)]
                 command += [] if budget is None else ["--budget", str(budget), "--sweep-budget", str(min(2, budget))]
                 try:
                     ran = subprocess.run(command, cwd=folder, capture_output=True, text=True, timeout=self.words.limit, check=False)
                 except subprocess.TimeoutExpired:
-                    return workers, "hang", f"it doesn't end: {workers} workers, {command!r} on {text(a)!r} and {text(b)!r}"
-                fault = judged(ran, a, b, folder, self.checker, budget)
-            return workers, ran.returncode, fault and f"{fault}: {workers} workers, {ran!r}, on {text(a)!r} and {text(b)!r}"
+                    return workers, "hang", f"it doesn't end: {workers} workers, {command!r} on {texts!r}"
+                fault = judged(ran, a, b, bounds, folder, self.checker, budget)
+            return workers, ran.returncode, fault and f"{fault}: {workers} workers, {ran!r}, on {texts!r}"
         return run
 
-    def script_case(self, sides, script, budget, workers):
+    def script_case(self, sides, bounds, script, budget, workers):
         """The same with an edit script."""
         def run():
-            status, fault = tried(self.program, self.checker, sides, ((), ()), script, budget, ("--workers", str(workers)))
+            status, fault = tried(self.program, self.checker, sides, bounds, script, budget, ("--workers", str(workers)))
             return workers, status, fault
         return run
 
@@ -87,18 +90,39 @@ def small(round_):
     rng, cases = round_.rng, []
     for k in range(round_.words.runs):
         a = random_circuit(rng, rng.randrange(0, 5), rng.randrange(0, 4), rng.randrange(0, 9))
-        cases.append(round_.case(a, rewritten(rng, a), rng.choice([None, None, 1, 2, 3]), rng.choice(MANY), round_.held()))
+        b = rewritten(rng, a)
+        cases.append(round_.case(a, b, drawn_constraints(rng, a, b), rng.choice([None, None, 1, 2, 3]), rng.choice(MANY), round_.held()))
         if k % 4 == 0:
             sides = drawn_pair(rng)
-            cases.append(round_.script_case(sides, drawn_script(rng, sides), rng.choice([None, None, 1, 2]), rng.choice(MANY)))
+            bounds = drawn_constraints(rng, sides["a"], sides["b"])
+            cases.append(round_.script_case(sides, bounds, drawn_script(rng, sides), rng.choice([None, None, 1, 2]), rng.choice(MANY)))
     round_.judge_all(cases)
+
+
+def parities(rng):
+    """Two circuits of the same parities of some inputs each, whose XORs are of other gates and in another order."""
+    inputs = rng.randrange(5, 9)
+    both, subsets = (Circuit(inputs), Circuit(inputs)), [rng.sample(range(inputs), rng.randrange(3, inputs + 1)) for _ in range(rng.randrange(1, 9))]
+    for turn, circuit in enumerate(both):
+        for subset in subsets:
+            made = circuit.input(subset[0])
+            for k in subset[1:] if turn == 0 else rng.sample(subset[1:], len(subset) - 1):
+                other = circuit.input(k)
+                made = circuit.differ(made, other) if turn == 0 else circuit.differ(other ^ 1, made) ^ 1
+            circuit.outputs.append(made)
+    return [([c.input(k) for k in range(inputs)], c.outputs, c.gates) for c in both]
 
 
 def large(round_):
     rng, cases = round_.rng, []
-    for _ in range(round_.words.runs // 2):
-        a = random_circuit(rng, rng.randrange(3, 9), rng.randrange(1, 12), rng.randrange(20, 120))
-        cases.append(round_.case(a, expanded(rewritten(rng, a)), rng.choice([None, None, 2]), rng.choice(MANY), round_.held()))
+    for k in range(round_.words.runs // 2):
+        if k % 3 == 0:
+            a, b = parities(rng)
+        else:
+            a = random_circuit(rng, rng.randrange(3, 9), rng.randrange(1, 12), rng.randrange(20, 120))
+            b = expanded(rewritten(rng, a))
+        bounds = tuple((rng.choice(literals_of(side)),) if k % 2 and rng.random() < 0.5 else () for side in (a, b))
+        cases.append(round_.case(a, b, bounds, rng.choice([None, None, 1, 2]), rng.choice(MANY), round_.held()))
     round_.judge_all(cases)
 
 
