@@ -100,10 +100,10 @@ fn has_told(ran: &Ran, told: usize) -> bool {
             None => return false,
         }
     }
-    let mut files = 0;
+    let mut files = 0_usize;
     for name in CNFS {
         if ran.desk.file(name).is_some() {
-            files += 1;
+            files = files.saturating_add(1);
         }
     }
     rest.is_empty() && files == told
