@@ -19,7 +19,7 @@ pub(crate) fn expect_text(rt: &impl Abort, what: &str, found: &str, expected: &s
     assert!(rt; found == expected, "{what}: {found}");
 }
 
-/// The circuit, if it has no constraint: only of such ones there are sessions.
+/// The circuit. The test fails where it has a constraint, which none of these cases has.
 pub(crate) fn plain(rt: &impl Abort, circuit: Circuit) -> Circuit
     ensures same { result ≡ circuit }
     ensures plain { result.constraints ≡ [] }

@@ -10,7 +10,7 @@ use std::process::Abort;
 use word_sim::Pool;
 use worked_circuits::{and, circuit, two_xors};
 
-/// The circuit, if it has no constraint: only of such ones there are nets.
+/// The circuit. The test fails where it has a constraint, which none of these cases has.
 fn plain(rt: &impl Abort, circuit: Circuit) -> Circuit
     ensures same { result ≡ circuit }
     ensures plain { result.constraints ≡ [] }
