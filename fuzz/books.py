@@ -6,8 +6,9 @@ Usage: books.py [--runs N] [--seed N]
 For each of N small pairs of circuits (200) entries are made that are good mostly: merges of equal nodes and outputs with steps found by
 unit propagation and drawn lemmas, inputs on which nodes differ, and logs of new clauses. Some are then spoilt in a place or two: a
 hint, a clause, a step, a node, an output, an input or the number of entries that were seen. A small program over the crate
-lemma_book, built without proof in a folder that is given up, offers each to its book. What it answers must be what
-second_book.py answers by the definition, a second book that takes what it finds good. Status 1 where any answer differs.
+lemma_book, built without proof in a folder that is given up, has each judged by one judge that it keeps, and offers it to its book.
+What both answer must be what second_book.py answers by the definition, a second book that takes what it finds good. Status 1 where
+any answer differs.
 """
 import argparse
 import random

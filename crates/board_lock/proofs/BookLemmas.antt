@@ -11,6 +11,7 @@ use Rattle.lemma_book.specs.Good.{IsGood}
 use Rattle.lemma_book.specs.Book.{StartsWith, answer_to}
 use Rattle.lemma_book.proofs.Facts.{good-longer}
 use Rattle.board_lock.specs.Story.{IsAnswer, said_of}
+use Rattle.board_lock.proofs.StoryLemmas.{settled-longer}
 
 take-all : {X : Type 0} (xs ys : List X) → take (length xs) (xs ++ ys) ≡ xs
 take-all [] [] = refl
@@ -46,3 +47,15 @@ pub good-first : (net : AigPair) (e : Entry) (n : ℕ) (book seen known : Entrie
 good-first net e n book seen known count same starts good =
     subst (λ (k : ℕ). IsGood net (first_entries k book) e) (sym (count ∙ ap (λ (x : Entries). length x.entries) same))
     (subst (λ (x : Entries). IsGood net x e) (sym (first-known book known starts)) good)
+
+-- ---- an entry that is settled by one of the part that is known
+
+-- so it is in the book
+pub settled-known : (book known : Entries) (e : Entry) (i : ℕ) → StartsWith book known → settled_at known.entries e ≡ Some i
+    → settled_at book.entries e ≡ Some i
+settled-known book known e i starts at =
+    subst (λ (es : List Entry). settled_at es e ≡ Some i) (sym starts.entries) (settled-longer known.entries starts.rest e i at)
+
+-- and it gets the machine's answer
+pub answer-settled : (book : Entries) (e : Entry) (i : ℕ) → settled_at book.entries e ≡ Some i → offered.Already i ≡ answer_to book e
+answer-settled book e i at = sym (ap (λ (o : Option ℕ). option_map_or offered.Already o (offered.At (length book.entries))) at)

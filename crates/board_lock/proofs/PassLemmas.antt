@@ -1,20 +1,23 @@
 -- What a pass is between two calls.
-use Rattle.std.proofs.Common.{◌≡◌, ℕ, ◌+◌, ◌<◌, ◌≤◌, Bool, true, false, cond, nat_le, List, [], ◌∷◌, length, sym, refl, ap, ◌∙◌, subst, arith}
+use Rattle.std.proofs.Common.{◌≡◌, ℕ, ◌+◌, ◌<◌, ◌≤◌, Bool, true, false, cond, nat_le, Some, List, [], ◌∷◌, length, sym, refl, ap, ◌∙◌, subst, arith}
 use mathlib.Core.Option.{Option, some, some-injective}
 use lib.ListN.{get_elem?}
 use Rattle.std.proofs.lemmas.Bool.Decides.{nat_tests}
 use Rattle.atomic_table.specs.Table.{Final, Seen, opening}
 use Rattle.atomic_table.specs.Seated.{TableId}
 use Rattle.netlist.specs.Net.{AigPair}
-use Rattle.lemma_book.specs.Entry.{Entries}
-use Rattle.lemma_book.specs.Book.{IsLegal}
+use Rattle.lemma_book.specs.declared.entry.Entry.{Entry}
+use Rattle.lemma_book.specs.declared.refused.Offered.TheVariants.{Already}
+use Rattle.lemma_book.specs.Entry.{Entries, settled_at}
+use Rattle.lemma_book.specs.Book.{IsLegal, StartsWith}
 use Rattle.board_lock.specs.declared.view.View.{View}
-use Rattle.board_lock.specs.Story.{Story, Root}
+use Rattle.board_lock.specs.Story.{Story, Root, note_of, said_of, story_after}
 use Rattle.board_lock.specs.Rule.{Kept}
-use Rattle.board_lock.specs.Views.{IsIdle, longer, both_of, numbering, kept_of, cut_of, opener}
-use Rattle.board_lock.specs.Plays.{Place}
-use Rattle.board_lock.specs.Pass.{IsPass, Held, held_of, SplitOff, IsWholePass}
+use Rattle.board_lock.specs.Views.{IsIdle, inside, noting, longer, both_of, numbering, kept_of, cut_of, opener}
+use Rattle.board_lock.specs.Plays.{Place, Tells, offered_note}
+use Rattle.board_lock.specs.Pass.{IsPass, Held, held_of, SplitOff, OfferedOne, IsWholePass}
 use Rattle.board_lock.specs.Closed.{IsAll, IsClosed}
+use Rattle.board_lock.proofs.BookLemmas.{answer-settled, settled-known}
 use Rattle.board_lock.proofs.TimesLemmas.{times-append}
 use Rattle.board_lock.proofs.Ends.{ends, begins}
 
@@ -65,3 +68,28 @@ closes root id me t words slots d h pass is idle whole final word slot =
     let drawn : e.drawn ≡ d = some-injective e.drawn d (ap (λ (ws : List ℕ). get_elem? ws 2) (sym e.words ∙ final.2) ∙ word) in
     let all : IsAll root me.0 d h = subst (λ (y : Story). IsAll root me.0 d y) same (subst (λ (k : ℕ). IsAll root me.0 k e.story) drawn e.all) in
     subst (λ (p : Held). IsClosed root p h.book h.turns h.missed d) is (record { legal = all.legal; replays = all.replays; known = all.known; so = all.so; each = all.turns; draws = all.draws; missed_is = all.missed; numbers = all.numbers })
+
+-- ---- an entry that is settled by one that the pass has seen
+
+pub tells-settled : (net : AigPair) (v : View) (taken now : Story) (e f : Entry) (number i : ℕ) → taken ≡ v.taken → number ≡ v.number → e ≡ f
+    → settled_at taken.book.entries e ≡ Some i → now ≡ story_after taken (note_of number (said_of e (Already i)))
+    → Tells net v (offered_note v f (Already i)) now
+tells-settled net v taken now e f number i story_is number_is asked at is = record {
+  pass = refl;
+  answer =
+      subst (λ (x : Entry). settled_at v.taken.book.entries x ≡ Some i) asked
+      (subst (λ (h : Story). settled_at h.book.entries e ≡ Some i) story_is at);
+  now_is = is ∙ rw (story_is, number_is) refl;
+}
+
+pub offered-settled : (t t' : TableId) (v came left new : View) (ticket i : ℕ) (story : Story) (old : Held) (e f : Entry) → held_of t v ≡ old
+    → came ≡ inside v ticket story → left ≡ came → new ≡ noting left (offered_note left f (Already i)) → t' ≡ t → e ≡ f
+    → StartsWith story.book v.known → settled_at old.known.entries e ≡ Some i → OfferedOne e old (held_of t' new) (Already i)
+offered-settled t t' v came left new ticket i story old e f is a b c same asked begins at =
+    let starts = subst (λ (h : Held). StartsWith story.book h.known) is begins in
+    record {
+      book = story.book;
+      begins = starts;
+      answer = answer-settled story.book e i (settled-known story.book old.known e i starts at);
+      new_is = rw (c, b, a, same, sym is, asked) refl;
+    }

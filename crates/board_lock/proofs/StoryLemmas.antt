@@ -24,7 +24,7 @@ use Rattle.board_lock.specs.Views.{learned}
 -- ---- a longer book
 
 -- an entry settles what it settled before
-settled-longer : (xs ys : List Entry) (e : Entry) (i : ℕ) → settled_at xs e ≡ Some i → settled_at (xs ++ ys) e ≡ Some i
+pub settled-longer : (xs ys : List Entry) (e : Entry) (i : ℕ) → settled_at xs e ≡ Some i → settled_at (xs ++ ys) e ≡ Some i
 settled-longer xs ys e i at = go (subject_of e) refl
   where
     on : (es : List Entry) (o : Option Subject) → subject_of e ≡ o → settled_at es e ≡ option_map_or (place_on es) o None

@@ -64,12 +64,13 @@ impl Board {
         ensures pass { IfOk result (λ r. r.1 ≡ opened r.0) }
         ensures err { IfErr result (λ e. e.0 ≡ book) }
     {
-        let Ok(seen) = book.copy(alloc) else {
+        let Ok(about) = about(alloc, net, &book) else {
             return Err((book, AllocError));
         };
-        match table_over(alloc, net, book) {
+        match table_about(alloc, &about, book) {
             Ok((table, place)) => {
-                let pass = Pass::of(place, 0, seen, 1 << 62);
+                let About { net: _, opening } = about;
+                let pass = Pass::of(place, 0, opening, 1 << 62);
                 Ok((Board { table, tasks }, pass))
             }
             Err(book) => Err((book, AllocError)),
@@ -100,21 +101,6 @@ impl Board {
 
 /// The table with the book's one history, which has no turn yet, and the first seat at it. Where memory is
 /// refused the book comes back.
-fn table_over(alloc: Global, net: &Net, book: Book) -> Result<(Lock, Place), Book>
-    requires { IsLegal net.now book }
-    ensures table { IfOk result (λ t. (t.0.shared.table_id.words ≡ 4) × (t.0.shared.table_id.slots ≡ 1)
-        × (t.0.shared.key ≡ record { net = net.now; opening = book })) }
-    ensures place { IfOk result (λ t. (t.1.table_id ≡ t.0.shared.table_id) × (t.1.id ≡ 0)
-        × (t.1.me ≡ (opener (record { net = net.now; opening = book }), []))) }
-    ensures err { IfErr result (λ b. b ≡ book) }
-{
-    let Ok(about) = about(alloc, net, &book) else {
-        return Err(book);
-    };
-    table_about(alloc, &about, book)
-}
-
-/// The same, where net and book were copied.
 fn table_about(alloc: Global, about: &About, book: Book) -> Result<(Lock, Place), Book>
     requires legal { IsLegal about.now.net book }
     requires opening { about.now.opening ≡ book }
@@ -143,7 +129,8 @@ fn slots_of(alloc: Global, book: Book) -> Result<Vec<History>, Book>
     Ok(slots)
 }
 
-/// Copies of the net and of the book.
+/// Copies of the net and of the book. The table is told them when it is made, and keeps neither: the first pass
+/// gets the book.
 fn about(alloc: Global, net: &Net, book: &Book) -> Result<About, AllocError>
     ensures { IfOk result (λ a. a ≡ record { net = net.now; opening = book.now }) }
 {

@@ -1,7 +1,8 @@
-ghost use Rattle.std.specs.Prelude.{◌≡◌, ◌+◌, ◌^◌, ◌<◌, ◌≤◌, [], length, IfOk, IfErr, OnOk, OnErr};
-ghost use Rattle.lemma_book.specs.Entry.{first_entries};
+ghost use Rattle.std.specs.Prelude.{◌≡◌, ◌+◌, ◌^◌, ◌<◌, ◌≤◌, Some, [], length, IfOk, IfErr, OnOk, OnErr};
+ghost use Rattle.lemma_book.specs.Entry.{first_entries, settled_at};
 ghost use Rattle.lemma_book.specs.Book.{IsLegal, StartsWith, IsFrom, answer_to};
 ghost use Rattle.lemma_book.specs.Good.{IsGood};
+ghost use Rattle.lemma_book.specs.declared.refused.Offered.TheVariants.{Already};
 ghost use Rattle.sweep_core.specs.Run.{what_of as what_of_answer};
 ghost use Rattle.board_lock.specs.declared.view.Said.TheVariants.{Known};
 ghost use Rattle.board_lock.specs.Story.{Story, story_after, story_missed, note_of, said_of, IsAnswer};
@@ -107,6 +108,22 @@ impl History {
             }
             Err(refused) => Err(refused),
         }
+    }
+
+    /// Notes that the entry at a place settles this one, which isn't put last. Where memory is refused nothing
+    /// has changed.
+    pub fn note_settled(&mut self, pass: u64, entry: &Entry, place: u64) -> Result<(), AllocError>
+        requires { settled_at self.old.book.entries entry.now ≡ Some place }
+        ensures noted { OnOk result (self.new ≡ story_after self.old (note_of pass (said_of entry.now (Already place)))) }
+        ensures err { OnErr result (self.new ≡ self.old) }
+    {
+        self.turns.reserve(1)?;
+        let _settled = entry;
+        self.turns.push_reserved(Turn {
+            pass,
+            what: What::Already(place),
+        });
+        Ok(())
     }
 }
 

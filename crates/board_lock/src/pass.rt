@@ -1,5 +1,7 @@
 //! A pass of a board: what one thread does to the shared book.
-ghost use Rattle.std.specs.Prelude.{◌≡◌, ◌+◌, ◌^◌, ◌<◌, ◌≤◌, length, IfOk, IfErr, OnErr};
+ghost use Rattle.std.specs.Prelude.{◌≡◌, ◌+◌, ◌^◌, ◌<◌, ◌≤◌, Some, length, IfOk, IfErr, OnOk, OnErr};
+ghost use Rattle.lemma_book.specs.Entry.{settled_at};
+ghost use Rattle.lemma_book.specs.declared.refused.Offered.TheVariants.{Already};
 ghost use Rattle.lemma_book.specs.Good.{IsGood};
 ghost use Rattle.lemma_book.specs.Book.{IsFrom};
 ghost use Rattle.board_lock.specs.Views.{IsIdle};
@@ -178,6 +180,60 @@ impl Pass {
         ensures spent { Spends self.old self.new }
     {
         self.offer_by::<Brand, R>(rt, alloc, net, board, entry)
+    }
+
+    /// Notes that an entry is settled by one that the pass has seen, as if it had been offered too late. It isn't
+    /// checked. Where memory is refused the turn is missed.
+    pub fn note_settled<R: Wait>(
+        &mut self,
+        rt: &R,
+        alloc: Global,
+        board: &Board,
+        entry: &Entry,
+        place: u64,
+    ) -> Result<(), AllocError>
+        requires own { self.old.table ≡ board.now.table }
+        requires left { 1 ≤ self.old.left }
+        requires settled { settled_at self.old.known.entries entry.now ≡ Some place }
+        ensures ok { OnOk result (OfferedOne entry.now self.old self.new (Already place)) }
+        ensures err { OnErr result (self.new ≡ missed_one self.old) }
+        ensures spent { Spends self.old self.new }
+    {
+        self.note_settled_by::<Brand, R>(rt, alloc, board, entry, place)
+    }
+
+    fn note_settled_by<N: Asked, R: Wait>(
+        &mut self,
+        rt: &R,
+        alloc: Global,
+        board: &Board,
+        entry: &Entry,
+        place: u64,
+    ) -> Result<(), AllocError>
+        requires asked { entry.now ≡ N.entry }
+        requires own { self.old.table ≡ board.now.table }
+        requires left { 1 ≤ self.old.left }
+        requires settled { settled_at self.old.known.entries entry.now ≡ Some place }
+        ensures ok { OnOk result (OfferedOne entry.now self.old self.new (Already place)) }
+        ensures err { OnErr result (self.new ≡ missed_one self.old) }
+        ensures spent { Spends self.old self.new }
+    {
+        turn::come_in(rt, &board.table, &mut self.place);
+        let mut history = turn::take(alloc, &board.table, &mut self.place);
+        match history.note_settled(self.number, entry, place) {
+            Ok(()) => {
+                let settled = Offered::Already(place);
+                turn::leave_offered::<N>(&board.table, &mut self.place, history, settled);
+                self.left -= 1;
+                Ok(())
+            }
+            Err(AllocError) => {
+                history.miss();
+                turn::miss(&board.table, &mut self.place, history);
+                self.left -= 1;
+                Err(AllocError)
+            }
+        }
     }
 
     fn offer_by<N: Asked, R: Wait>(

@@ -1,6 +1,7 @@
 -- What is known of the values of gates on one input, while a node is evaluated by its cone.
-use Rattle.std.specs.Prelude.{◌≡◌, ℕ, ◌<◌, ◌≤◌, nat_eq, Bool, not, ◌&&◌, if◌then◌else◌, Option, None, List, Result, MatchResult, MatchOption, IfSome, IsSome}
-use Rattle.std.specs.HashMap.{HashMap, get}
+use Rattle.std.specs.Prelude.{◌≡◌, ℕ, ◌<◌, ◌≤◌, ◌==◌, Bool, true, not, ◌&&◌, if◌then◌else◌, Option, None, Some, List, Result, MatchResult, MatchOption, IfSome, IsSome}
+use Rattle.std.specs.List.{slice_index_or}
+use Rattle.lits.specs.Clause.{has}
 use Rattle.netlist.specs.declared.gate.Placed.{Placed}
 use Rattle.netlist.specs.declared.gate.Fanins.{Fanins}
 use Rattle.netlist.specs.Net.{AigPair, node_at, value_of}
@@ -19,13 +20,21 @@ pub record IsAndAt (net : AigPair) (bits : List Bool) (position : ℕ) (f : Fani
   pub right : f.right.position < position
   pub value : value_at net bits position ≡ (placed_value (value_at net bits) f.left && placed_value (value_at net bits) f.right)
 
-module _ {S : Type 0} (known : HashMap ℕ Bool S) where
+-- the value at a position, in a table of those that are known
+abbrev pub known_at : List (Option Bool) → ℕ → Option Bool
+known_at values p = slice_index_or values p None
+
+-- each position whose value is known is listed
+abbrev pub AreListed : List (Option Bool) → List ℕ → Type 0
+AreListed values listed = (p : ℕ) (b : Bool) → known_at values p ≡ Some b → has ◌==◌ listed p ≡ true
+
+module _ (known : List (Option Bool)) where
   -- each value that is known is that of the node
   abbrev pub AreValues : AigPair → List Bool → Type 0
-  AreValues net bits = (p : ℕ) → IfSome (get nat_eq known p) (λ b. b ≡ value_at net bits p)
+  AreValues net bits = (p : ℕ) → IfSome (known_at known p) (λ b. b ≡ value_at net bits p)
 
   abbrev pub IsUnknown : ℕ → Type 0
-  IsUnknown p = get nat_eq known p ≡ None
+  IsUnknown p = known_at known p ≡ None
 
   -- the value of the node at the position, or an earlier node whose value is needed and isn't known
   abbrev pub IsValueOrNeeds : AigPair → List Bool → ℕ → Result Bool ℕ → Type 0
@@ -33,4 +42,4 @@ module _ {S : Type 0} (known : HashMap ℕ Bool S) where
 
   -- a position up to the sought one whose value isn't known; none where that of the sought one is known
   abbrev pub IsNext : ℕ → Option ℕ → Type 0
-  IsNext sought o = MatchOption o (IsSome (get nat_eq known sought)) (λ p. (p ≤ sought) × IsUnknown p)
+  IsNext sought o = MatchOption o (IsSome (known_at known sought)) (λ p. (p ≤ sought) × IsUnknown p)

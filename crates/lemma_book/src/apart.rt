@@ -7,26 +7,30 @@ ghost use Rattle.lemma_book.specs.Good.{IsThere, ArePlaced, IsApart, HasApart};
 ghost use Rattle.lemma_book.specs.Judging.{Tells};
 ghost use Rattle.lemma_book.specs.ConeValue.{AreValues};
 
-use crate::cone_value::{Known, value_at};
+use crate::cone_value::value_at;
 use crate::entry::Entry;
-use crate::node_hasher::NodeHasher;
+use crate::values::Values;
 use lits::{Lit, Node, Side};
 use netlist::{Net, laws};
 use std::alloc::{AllocError, Global};
-use std::collections::HashMap;
 
 /// Whether values differ where the entry says so: two nodes are evaluated by their cones, and for an output
-/// both circuits, where the input is admitted.
-pub(crate) fn has_apart(alloc: Global, net: &Net, entry: &Entry) -> Result<bool, AllocError>
+/// both circuits, where the input is admitted. `known` is kept from entry to entry for its memory alone.
+pub(crate) fn has_apart(
+    alloc: Global,
+    net: &Net,
+    known: &mut Values,
+    entry: &Entry,
+) -> Result<bool, AllocError>
     requires there { IsThere net.now entry.now }
     ensures { IfOk result (Tells (HasApart net.now entry.now)) }
 {
     match entry {
         Entry::Apart { node, lit, input } => {
-            are_apart(alloc, net, *node, *lit, input.as_slice())
+            are_apart(alloc, net, known, *node, *lit, input.as_slice())
         }
         Entry::OutApart { output, input } => {
-            outputs_are_apart(alloc, net, *output, input.as_slice())
+            outputs_are_apart(alloc, net, known, *output, input.as_slice())
         }
         Entry::Merge { .. } | Entry::Spent { .. } | Entry::Out { .. } | Entry::OutSpent { .. } => {
             Ok(true)
@@ -38,6 +42,7 @@ pub(crate) fn has_apart(alloc: Global, net: &Net, entry: &Entry) -> Result<bool,
 fn are_apart(
     alloc: Global,
     net: &Net,
+    known: &mut Values,
     node: Node,
     lit: Lit,
     input: &[bool],
@@ -48,9 +53,9 @@ fn are_apart(
     if input.len() != net.circuit(Side::A).inputs().len() {
         return Ok(false);
     }
-    let mut known = HashMap::with_hasher(alloc, NodeHasher::new());
-    let value = node_value(alloc, net, input, &mut known, node)?;
-    let target = node_value(alloc, net, input, &mut known, lit.node)?;
+    known.forget();
+    let value = node_value(alloc, net, input, known, node)?;
+    let target = node_value(alloc, net, input, known, lit.node)?;
     Ok(value != (target != lit.neg))
 }
 
@@ -59,7 +64,7 @@ fn node_value(
     alloc: Global,
     net: &Net,
     input: &[bool],
-    known: &mut Known,
+    known: &mut Values,
     node: Node,
 ) -> Result<bool, AllocError>
     requires placed { IsSome (position_of net.now node) }
@@ -79,6 +84,7 @@ fn node_value(
 fn outputs_are_apart(
     alloc: Global,
     net: &Net,
+    known: &mut Values,
     output: u32,
     input: &[bool],
 ) -> Result<bool, AllocError>
@@ -88,7 +94,7 @@ fn outputs_are_apart(
     if input.len() != net.circuit(Side::A).inputs().len() {
         return Ok(false);
     }
-    if !is_admitted(alloc, net, input)? {
+    if !is_admitted(alloc, net, known, input)? {
         return Ok(false);
     }
     let first = output_of(alloc, net, input, Side::A, output)?;
@@ -98,16 +104,21 @@ fn outputs_are_apart(
 
 /// Whether each constraint of both circuits is true on the input. They are evaluated by their cones, which
 /// often have nodes in common, so each node that is reached gets its value once.
-fn is_admitted(alloc: Global, net: &Net, input: &[bool]) -> Result<bool, AllocError>
+fn is_admitted(
+    alloc: Global,
+    net: &Net,
+    known: &mut Values,
+    input: &[bool],
+) -> Result<bool, AllocError>
     requires whole { length input.now ≡ length net.now.a.inputs }
     ensures { IfOk result (Tells (IsAdmitted net.now input.now)) }
 {
     laws::is_net(net);
-    let mut known = HashMap::with_hasher(alloc, NodeHasher::new());
-    Ok(
-        are_met(alloc, net, input, &mut known, Side::A)?
-            && are_met(alloc, net, input, &mut known, Side::B)?,
-    )
+    known.forget();
+    if !are_met(alloc, net, input, known, Side::A)? {
+        return Ok(false);
+    }
+    are_met(alloc, net, input, known, Side::B)
 }
 
 /// Whether each constraint of one side is true on the input.
@@ -115,7 +126,7 @@ fn are_met(
     alloc: Global,
     net: &Net,
     input: &[bool],
-    known: &mut Known,
+    known: &mut Values,
     side: Side,
 ) -> Result<bool, AllocError>
     requires whole { length input.now ≡ length net.now.a.inputs }
@@ -137,7 +148,7 @@ fn is_met(
     alloc: Global,
     net: &Net,
     input: &[bool],
-    known: &mut Known,
+    known: &mut Values,
     side: Side,
     k: u32,
 ) -> Result<bool, AllocError>

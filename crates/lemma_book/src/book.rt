@@ -276,6 +276,22 @@ impl Book {
         })
     }
 
+    /// The first so many entries as a book of its own, which shares them.
+    pub fn first(&self, alloc: Global, count: u64) -> Result<Book, AllocError>
+        requires { count ≤ length self.now.entries }
+        ensures { IfOk result (λ b. b ≡ record {
+          sweep_budget = self.now.sweep_budget;
+          out_budget = self.now.out_budget;
+          entries = take count self.now.entries;
+        }) }
+    {
+        let mut book = Book::new(alloc, self.sweep_budget, self.out_budget);
+        for i in 0..count {
+            book.push_shared(self, i)?;
+        }
+        Ok(book)
+    }
+
     /// Takes over, and shares, what a longer book has behind this one. Where memory is refused nothing
     /// is taken.
     pub fn catch_up(&mut self, alloc: Global, longer: &Book) -> Result<(), AllocError>

@@ -2,13 +2,9 @@ ghost use Rattle.std.specs.Prelude.{◌≡◌, ◌<◌, ◌≤◌, length, All, 
 ghost use Rattle.netlist.specs.Net.{IsNet, nodes_of};
 ghost use Rattle.lemma_book.specs.ConeValue.{value_at, placed_value, IsAndAt, AreValues, IsUnknown, IsValueOrNeeds, IsNext};
 
-use crate::node_hasher::NodeHasher;
+use crate::values::Values;
 use netlist::{Fanins, Net, Placed};
 use std::alloc::{AllocError, Global};
-use std::collections::HashMap;
-
-/// Values of nodes by position. A cone's positions lie near each other, and so do their places in the table.
-pub(crate) type Known = HashMap<u32, bool, NodeHasher>;
 
 /// The value of the node at a position on the input, by that part of its cone on which it rests: where
 /// one fanin of a gate is false the other one isn't asked for. What is found is kept in `known`, for
@@ -19,7 +15,7 @@ pub(crate) fn value_at(
     alloc: Global,
     net: &Net,
     input: &[bool],
-    known: &mut Known,
+    known: &mut Values,
     position: u32,
 ) -> Result<bool, AllocError>
     requires net { IsNet net.now }
@@ -34,7 +30,7 @@ pub(crate) fn value_at(
     while let Some(at) = next {
         next = match value_or_needed(net, input, known, at) {
             Ok(value) => {
-                let _ = known.insert(at, value)?;
+                known.note(at, value)?;
                 next_unknown(known, &mut waiting, position)
             }
             Err(fanin) => {
@@ -43,24 +39,24 @@ pub(crate) fn value_at(
             }
         };
     }
-    match known.get(&position) {
-        Some(value) => Ok(*value),
+    match known.at(position) {
+        Some(value) => Ok(value),
         None => unreachable!(),
     }
 }
 
 /// The last of the waiting positions whose value isn't known yet, or else the sought one.
-fn next_unknown(known: &Known, waiting: &mut Vec<u32>, sought: u32) -> Option<u32>
+fn next_unknown(known: &Values, waiting: &mut Vec<u32>, sought: u32) -> Option<u32>
     requires waiting { All (λ p. p ≤ sought) waiting.old.items }
     ensures waiting { All (λ p. p ≤ sought) waiting.new.items }
     ensures next { IsNext known.now sought result }
 {
     while let Some(at) = waiting.pop() {
-        if !known.contains_key(&at) {
+        if known.at(at).is_none() {
             return Some(at);
         }
     }
-    if known.contains_key(&sought) {
+    if known.at(sought).is_some() {
         None
     } else {
         Some(sought)
@@ -68,7 +64,7 @@ fn next_unknown(known: &Known, waiting: &mut Vec<u32>, sought: u32) -> Option<u3
 }
 
 /// The value of the node at a position, or the position of a fanin that has to be known first.
-fn value_or_needed(net: &Net, input: &[bool], known: &Known, position: u32) -> Result<bool, u32>
+fn value_or_needed(net: &Net, input: &[bool], known: &Values, position: u32) -> Result<bool, u32>
     requires net { IsNet net.now }
     requires whole { length input.now ≡ length net.now.a.inputs }
     requires there { position < length (nodes_of net.now) }
@@ -101,7 +97,7 @@ fn first_value(net: &Net, input: &[bool], position: u32) -> bool
 fn both(
     net: &Net,
     input: &[bool],
-    known: &Known,
+    known: &Values,
     position: u32,
     fanins: Fanins,
 ) -> Result<bool, u32>
@@ -123,7 +119,7 @@ fn both(
 }
 
 /// The value of a literal, if that of its node is known.
-fn literal_value(net: &Net, input: &[bool], known: &Known, lit: Placed) -> Option<bool>
+fn literal_value(net: &Net, input: &[bool], known: &Values, lit: Placed) -> Option<bool>
     requires whole { length input.now ≡ length net.now.a.inputs }
     requires known { AreValues known.now net.now input.now }
     ensures some { IfSome result (λ b. b ≡ placed_value (value_at net.now input.now) lit) }
@@ -132,7 +128,7 @@ fn literal_value(net: &Net, input: &[bool], known: &Known, lit: Placed) -> Optio
     let value = if lit.position as usize <= input.len() {
         first_value(net, input, lit.position)
     } else {
-        *known.get(&lit.position)?
+        known.at(lit.position)?
     };
     Some(value != lit.neg)
 }

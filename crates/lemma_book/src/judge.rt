@@ -14,15 +14,77 @@ use crate::refused::{Fault, Judgement};
 use crate::shape::{has_count, has_seen, has_shape};
 use crate::sources::{ConeClauses, NodeClauses, OutClauses, positive};
 use crate::steps::first_bad;
+use crate::values::Values;
 use lits::{Lit, Node, Step};
 use netlist::Net;
 use std::alloc::{AllocError, Global};
+use unit_prop::StepCheck;
+
+/// Judges entries, one after another, over books of nets.
+///
+/// Its tables are kept from entry to entry: one look at a mark tells whether a literal is true in a step, and
+/// the values of a cone stand by position. For entries that are judged one at a time, each with memory of its
+/// own, to hash literals and positions was a sixth of a check, and for hashes (SHA-2) three quarters.
+pub struct Judge {
+    check: StepCheck<Lit>,
+    known: Values,
+}
+
+// Written out, so that a drop is one call and not one for each field at each exit of a function.
+impl Drop for Judge {
+    fn drop(self) {
+        let Judge { check: _, known: _ } = self;
+    }
+}
+
+impl Judge {
+    /// A judge of many entries. Its tables grow with the nodes that it meets, up to some ten bytes for each
+    /// variable of the circuits.
+    pub fn new(alloc: Global) -> Judge {
+        Judge {
+            check: StepCheck::marked(alloc),
+            known: Values::new(alloc),
+        }
+    }
+
+    /// A judge of one entry, which takes the memory that its steps need.
+    pub(crate) fn once(alloc: Global) -> Judge {
+        Judge {
+            check: StepCheck::new(alloc),
+            known: Values::new(alloc),
+        }
+    }
+
+    /// Judges an entry over a book: it is good, or this is the first cause against it.
+    ///
+    /// Each step takes the time of its hints; for a log that was spent the cone is made, and unit
+    /// propagation is run over it before each of its clauses.
+    pub fn judge(
+        &mut self,
+        alloc: Global,
+        net: &Net,
+        book: &Book,
+        entry: &Entry,
+    ) -> Result<Judgement, AllocError>
+        requires legal { IsLegal net.now book.now }
+        ensures { IfOk result (IsJudgement net.now book.now entry.now) }
+    {
+        if let Some(judgement) = cause_of_names(alloc, net, book, &mut self.known, entry)? {
+            return Ok(judgement);
+        }
+        match cause_of_sizes(net, book, entry) {
+            Some(fault) => Ok(Judgement::Bad(fault)),
+            None => judge_steps(alloc, net, book, &mut self.check, entry),
+        }
+    }
+}
 
 /// The first cause against an entry, of those that come before its shape.
 pub(crate) fn cause_of_names(
     alloc: Global,
     net: &Net,
     book: &Book,
+    known: &mut Values,
     entry: &Entry,
 ) -> Result<Option<Judgement>, AllocError>
     ensures { IfOk result (λ o. MatchOption o
@@ -38,7 +100,7 @@ pub(crate) fn cause_of_names(
     if !has_earlier(net, entry) {
         return Ok(Some(Judgement::Bad(Fault::NotEarlier)));
     }
-    if !has_apart(alloc, net, entry)? {
+    if !has_apart(alloc, net, known, entry)? {
         return Ok(Some(Judgement::NotApart));
     }
     Ok(None)
@@ -68,6 +130,7 @@ pub(crate) fn judge_steps(
     alloc: Global,
     net: &Net,
     book: &Book,
+    check: &mut StepCheck<Lit>,
     entry: &Entry,
 ) -> Result<Judgement, AllocError>
     requires legal { IsLegal net.now book.now }
@@ -77,13 +140,13 @@ pub(crate) fn judge_steps(
     match entry {
         Entry::Merge { steps, .. } => {
             let all = OutClauses { net, book };
-            match first_bad(alloc, &NodeClauses { all }, steps.as_slice())? {
+            match first_bad(check, &NodeClauses { all }, steps.as_slice())? {
                 Some((k, bad)) => Ok(Judgement::Bad(Fault::Step(k, bad))),
                 None => Ok(Judgement::Good),
             }
         }
         Entry::Out { steps, .. } => {
-            match first_bad(alloc, &OutClauses { net, book }, steps.as_slice())? {
+            match first_bad(check, &OutClauses { net, book }, steps.as_slice())? {
                 Some((k, bad)) => Ok(Judgement::Bad(Fault::Step(k, bad))),
                 None => Ok(Judgement::Good),
             }
@@ -93,9 +156,9 @@ pub(crate) fn judge_steps(
             lit,
             seen,
             log,
-        } => judge_spent(alloc, net, book, *node, *lit, *seen, log.as_slice()),
+        } => judge_spent(alloc, net, book, check, *node, *lit, *seen, log.as_slice()),
         Entry::OutSpent { output, seen, log } => {
-            judge_out_spent(alloc, net, book, *output, *seen, log.as_slice())
+            judge_out_spent(alloc, net, book, check, *output, *seen, log.as_slice())
         }
         Entry::Apart { .. } | Entry::OutApart { .. } => Ok(Judgement::Good),
     }
@@ -106,6 +169,7 @@ fn judge_spent(
     alloc: Global,
     net: &Net,
     book: &Book,
+    check: &mut StepCheck<Lit>,
     node: Node,
     lit: Lit,
     seen: u64,
@@ -117,7 +181,7 @@ fn judge_spent(
 {
     let cone = book.cone(alloc, net, seen, &[positive(node), lit])?;
     let cone = cone.as_slice();
-    if let Some((k, bad)) = first_bad(alloc, &ConeClauses { cone }, log)? {
+    if let Some((k, bad)) = first_bad(check, &ConeClauses { cone }, log)? {
         return Ok(Judgement::Bad(Fault::Step(k, bad)));
     }
     match first_stale(alloc, cone, None, log)? {
@@ -131,6 +195,7 @@ fn judge_out_spent(
     alloc: Global,
     net: &Net,
     book: &Book,
+    check: &mut StepCheck<Lit>,
     output: u32,
     seen: u64,
     log: &[Step],
@@ -141,7 +206,7 @@ fn judge_out_spent(
 {
     let cone = book.output_cone(alloc, net, seen, output)?;
     let cone = cone.as_slice();
-    if let Some((k, bad)) = first_bad(alloc, &ConeClauses { cone }, log)? {
+    if let Some((k, bad)) = first_bad(check, &ConeClauses { cone }, log)? {
         return Ok(Judgement::Bad(Fault::Step(k, bad)));
     }
     let differs = positive(Node::Xor(output));

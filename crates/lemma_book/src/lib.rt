@@ -4,7 +4,7 @@
 //! A `Merge` shows by proof steps that a node has the value of an earlier literal, an `Apart` has an input
 //! on which they differ, and a `Spent` has the log of a solver that spent its whole budget; `Out`,
 //! `OutApart` and `OutSpent` say the same of an output. Later entries may cite the clauses of earlier
-//! merges. `Book::judge` decides whether an entry is good over a book, `Book::offer` takes it where it is,
+//! merges. `Judge::judge` decides whether an entry is good over a book, `Book::offer` takes it where it is,
 //! and `Book::append` takes one that is known to be good. In a legal book a merge's node and target have one
 //! value on every input, and an `Out`'s outputs on every admitted one (`laws`): an input is admitted where all
 //! constraints of both circuits are true on it. So the steps of an `Out` may cite the constraints, and the log
@@ -20,6 +20,7 @@
 
 pub use book::Book;
 pub use entry::{Entry, Subject, Task};
+pub use judge::Judge;
 pub use node_hasher::NodeHasher;
 pub use refused::{Fault, Judgement, Offered, Refused};
 pub use turn::{Turn, What};
@@ -42,4 +43,5 @@ mod shelf;
 mod sources;
 mod steps;
 mod turn;
+mod values;
 mod walk;

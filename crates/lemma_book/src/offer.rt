@@ -7,28 +7,20 @@ ghost use Rattle.lemma_book.specs.Book.{IsLegal, answer_to, book_after, IsFrom};
 
 use crate::book::Book;
 use crate::entry::Entry;
-use crate::judge::{cause_of_names, cause_of_sizes, judge_steps};
+use crate::judge::Judge;
 use crate::refused::{Judgement, Offered, Refused};
 use netlist::Net;
 use std::alloc::{AllocError, Global};
 
 impl Book {
     /// Judges an entry over this book, which stays as it is: it is good, or this is the first cause
-    /// against it.
-    ///
-    /// Each step takes the time of its hints; for a log that was spent the cone is made, and unit
-    /// propagation is run over it before each of its clauses.
+    /// against it. Who judges many keeps a `Judge`.
     pub fn judge(&self, alloc: Global, net: &Net, entry: &Entry) -> Result<Judgement, AllocError>
         requires legal { IsLegal net.now self.now }
         ensures { IfOk result (IsJudgement net.now self.now entry.now) }
     {
-        if let Some(judgement) = cause_of_names(alloc, net, self, entry)? {
-            return Ok(judgement);
-        }
-        match cause_of_sizes(net, self, entry) {
-            Some(fault) => Ok(Judgement::Bad(fault)),
-            None => judge_steps(alloc, net, self, entry),
-        }
+        let mut judge = Judge::once(alloc);
+        judge.judge(alloc, net, self, entry)
     }
 
     /// Takes an entry that is good over this book as its last one. Any other comes back with the first

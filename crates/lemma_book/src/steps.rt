@@ -7,7 +7,7 @@ ghost use Rattle.unit_prop.specs.Log.{with_own};
 ghost use Rattle.lemma_book.specs.Judging.{IsFirstBad, IsFaultOf};
 
 use lits::{Lit, Ref, Step};
-use std::alloc::{AllocError, Global};
+use std::alloc::AllocError;
 use unit_prop::{BadStep, StepCheck, StepErr, Why};
 
 /// Clauses that the hints of an entry's steps may name, besides the entry's own earlier steps.
@@ -24,15 +24,14 @@ pub(crate) trait Sources {
 
 /// The first of the steps that is none over the sources and the steps before it, and its first fault.
 pub(crate) fn first_bad<S: Sources>(
-    alloc: Global,
+    check: &mut StepCheck<Lit>,
     sources: &S,
     steps: &[Step],
 ) -> Result<Option<(u64, BadStep)>, AllocError>
     ensures { IfOk result (IsFirstBad (S.Sources.find sources.now) steps.now) }
 {
-    let mut check = StepCheck::new(alloc);
     for (k, step) in steps.iter().enumerate() {
-        if let Some(bad) = fault_of(&mut check, sources, &steps[..k], step)? {
+        if let Some(bad) = fault_of(check, sources, &steps[..k], step)? {
             return Ok(Some((k as u64, bad)));
         }
     }

@@ -38,3 +38,5 @@ pub use Rattle.lits.proofs.ClauseLemmas.{has-append, has-firsts}
 pub use Rattle.lits.proofs.ClauseLemmas.{firsts-push, no_repeat-push, has_pair-push}
 -- a pair among the literals seen so far and the next one stands among all of them
 pub use Rattle.lits.proofs.ClauseLemmas.{has_pair-append}
+-- no two literals have one code
+pub use Rattle.lits.proofs.CodeLemmas.{own-code_of_lit, own-code_of_dim}

@@ -4,3 +4,4 @@ mod SameLemmas
 mod ClauseLemmas
 mod LitLaws
 mod IndexLemmas
+mod CodeLemmas

@@ -3,4 +3,5 @@ pub mod Assignment
 pub mod Dimacs
 pub mod Chains
 pub mod Code
+pub mod Finder
 pub mod Same

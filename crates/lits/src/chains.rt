@@ -171,7 +171,7 @@ impl Chains {
 }
 
 /// The same by looking through the list.
-fn place_in<L: Literal>(lits: &[L], lit: L) -> Option<usize>
+pub(crate) fn place_in<L: Literal>(lits: &[L], lit: L) -> Option<usize>
     ensures some { IfSome result (λ place. slice_get lits.now place ≡ Some lit) }
     ensures none { IfNone result (has L.PartialEq.eq lits.now lit ≡ false) }
 {

@@ -7,9 +7,9 @@
 //!
 //! Definitions: `specs/Clause.antt` (what a clause is), `specs/Assignment.antt` (assignments, what a clause
 //! asks of one, satisfiable), `specs/Dimacs.antt` (literals of DIMACS files), `specs/Same.antt` (equal,
-//! negated), `specs/Code.antt` (numbers of literals), `specs/Chains.antt` (how a set finds its literals).
-//! Begin to read at `node.rt`, then `literal.rt`, `dimacs.rt`, `chains.rt`, `literal_set.rt`, `clause.rt`,
-//! `step.rt`, `listed.rt`.
+//! negated), `specs/Code.antt` (numbers of literals), `specs/Chains.antt` and `specs/Finder.antt` (how a set
+//! finds its literals). Begin to read at `node.rt`, then `literal.rt`, `dimacs.rt`, `chains.rt`, `marks.rt`,
+//! `literal_set.rt`, `clause.rt`, `step.rt`, `listed.rt`.
 #![tactic(auto)]
 
 pub use clause::{Clause, ClauseErr};
@@ -23,8 +23,10 @@ pub use step::{Named, Ref, Step};
 mod chains;
 mod clause;
 mod dimacs;
+mod finder;
 mod listed;
 mod literal;
 mod literal_set;
+mod marks;
 mod node;
 mod step;

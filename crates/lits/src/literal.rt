@@ -15,7 +15,7 @@ pub trait Literal: Copy + Eq + Default {
 
     ghost code: { Self → ℕ };
 
-    /// A number of the literal, by which tables spread literals.
+    /// A number of the literal, by which tables spread or mark literals.
     fn code(self) -> u64
         ensures { result ≡ code self };
 

@@ -1,16 +1,19 @@
 ghost use Rattle.std.specs.Prelude.{◌≡◌, false, [], ◌∷◌, ◌++◌, Some, slice_get, IfOk, IfSome, IfNone, OnOk, OnErr, if◌then◌else◌};
 ghost use Rattle.lits.specs.Clause.{has, firsts};
+ghost use Rattle.lits.specs.Finder.{HasOwnCodes};
 
 use crate::chains::Chains;
+use crate::finder::Finder;
 use crate::literal::Literal;
+use crate::marks::Marks;
 use std::alloc::{AllocError, Global};
 use std::marker::Model;
 
 /// Literals in the order in which they came, each once. A few are looked through, and among more one is found
-/// in constant time on average.
+/// in constant time on average; in a set that has marks, in one look.
 pub struct LiteralSet<L: Literal> {
     order: Vec<L>,
-    chains: Chains,
+    finder: Finder,
 }
 
 // Written out, so that a drop is one call and not one for each field at each exit of a function.
@@ -18,20 +21,20 @@ impl<L: Literal> Drop for LiteralSet<L> {
     fn drop(self) {
         let LiteralSet {
             order: _,
-            chains: _,
+            finder: _,
         } = self;
     }
 }
 
 impl<L: Literal> Model for LiteralSet<L> {
     ghost use Rattle.std.specs.Prelude.{List};
-    ghost use Rattle.lits.specs.Chains.{IsReady};
+    ghost use Rattle.lits.specs.Finder.{IsFinder};
 
     ghost Value = { List L };
 
     ghost view = { λ s. s.order.items };
 
-    ghost invariant = { λ s. IsReady L.Literal.code s.chains.heads.items s.chains.links.items s.order.items };
+    ghost invariant = { λ s. IsFinder L.PartialEq.eq L.Literal.code s.order.items s.finder };
 }
 
 impl<L: Literal> LiteralSet<L> {
@@ -41,7 +44,7 @@ impl<L: Literal> LiteralSet<L> {
     {
         LiteralSet {
             order: Vec::new(alloc),
-            chains: Chains::new(alloc),
+            finder: Finder::Chains(Chains::new(alloc)),
         }
     }
 
@@ -51,8 +54,20 @@ impl<L: Literal> LiteralSet<L> {
     {
         Ok(LiteralSet {
             order: Vec::with_capacity(alloc, capacity)?,
-            chains: Chains::new(alloc),
+            finder: Finder::Chains(Chains::new(alloc)),
         })
+    }
+
+    /// The empty set, which finds each literal in one look by a mark for each code. The marks take a byte for
+    /// each code up to the greatest that the set ever has, so this is for a set that is kept and emptied often.
+    pub fn marked(alloc: Global) -> LiteralSet<L>
+        requires { HasOwnCodes L.Literal.code }
+        ensures { result ≡ [] }
+    {
+        LiteralSet {
+            order: Vec::new(alloc),
+            finder: Finder::Marks(Marks::new(alloc)),
+        }
     }
 
     /// The literals of a list, each at its first place.
@@ -70,7 +85,7 @@ impl<L: Literal> LiteralSet<L> {
     pub fn has(&self, lit: L) -> bool
         ensures { result ≡ has L.PartialEq.eq self.now lit }
     {
-        self.chains.has(self.order.as_slice(), lit)
+        self.finder.has(self.order.as_slice(), lit)
     }
 
     /// The place of a literal, from 0; none exactly where the set hasn't the literal.
@@ -78,7 +93,7 @@ impl<L: Literal> LiteralSet<L> {
         ensures some { IfSome result (λ place. slice_get self.now place ≡ Some lit) }
         ensures none { IfNone result (has L.PartialEq.eq self.now lit ≡ false) }
     {
-        self.chains.place(self.order.as_slice(), lit)
+        self.finder.place(self.order.as_slice(), lit)
     }
 
     /// Puts a literal last, unless it is there already.
@@ -101,7 +116,7 @@ impl<L: Literal> LiteralSet<L> {
     {
         self.order.reserve(1)?;
         let alloc = *self.order.allocator();
-        self.chains.expect(alloc, self.order.as_slice(), lit)?;
+        self.finder.expect(alloc, self.order.as_slice(), lit)?;
         self.order.push_reserved(lit);
         Ok(())
     }
@@ -110,6 +125,7 @@ impl<L: Literal> LiteralSet<L> {
     pub fn clear(&mut self)
         ensures { self.new ≡ [] }
     {
+        self.finder.forget(self.order.as_slice());
         self.order.clear();
     }
 
@@ -124,7 +140,7 @@ impl<L: Literal> LiteralSet<L> {
     pub fn into_vec(self) -> Vec<L>
         ensures { result.items ≡ self }
     {
-        let LiteralSet { order, chains: _ } = self;
+        let LiteralSet { order, finder: _ } = self;
         order
     }
 }

@@ -1,6 +1,7 @@
 ghost use Rattle.std.specs.Prelude.{◌≡◌, true, false, not, ◌++◌, [], ◌∷◌, Ok, Err, OnOk, OnErr, IfErr, if◌then◌else◌, ◌&&◌};
 ghost use Rattle.std.specs.List.{list_any};
 ghost use Rattle.lits.specs.Clause.{has, has_pair};
+ghost use Rattle.lits.specs.Finder.{HasOwnCodes};
 ghost use Rattle.unit_prop.specs.Step.{IfBad, start_of, open_in, is_satisfied, after_hint};
 ghost use Rattle.unit_prop.specs.StepCheck.{Assumes, IsOpenPart};
 
@@ -40,6 +41,18 @@ impl<L: Literal> StepCheck<L> {
     {
         StepCheck {
             set: LiteralSet::new(alloc),
+            clashed: false,
+        }
+    }
+
+    /// A check that has begun no step, for many steps. It looks each literal up once, by a mark for each code,
+    /// which takes a byte for each code up to the greatest that it meets.
+    pub fn marked(alloc: Global) -> StepCheck<L>
+        requires { HasOwnCodes L.Literal.code }
+        ensures { result ≡ record { set = []; clashed = false } }
+    {
+        StepCheck {
+            set: LiteralSet::marked(alloc),
             clashed: false,
         }
     }

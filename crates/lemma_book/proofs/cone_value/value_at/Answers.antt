@@ -1,18 +1,24 @@
 -- A value that is found is new, and a fanin stands before its gate.
-use Rattle.std.proofs.Common.{◌<◌, ◌+◌, ℕ, Option, Some, subst, sym, arith, nat_eq, rules}
-use Rattle.std.specs.HashMap.{Updates}
+use Rattle.std.proofs.Common.{◌<◌, ◌+◌, ℕ, Option, Some, subst, sym, arith}
 use Rattle.lemma_book.specs.ConeValue.{IsNext}
-use Rattle.lemma_book.proofs.ConeValueLemmas.{unknown_below, rank, found-smaller}
+use Rattle.lemma_book.proofs.ConeValueLemmas.{unknown_below, rank, found-smaller, values-noted}
 use Rattle.lemma_book.proofs.cone_value.value_at.Goals as goal
 
-pub loop-next-smaller-in_ok-insert-in-Ok : goal.loop-next-smaller-in_ok-insert-in-Ok
-loop-next-smaller-in_ok-insert-in-Ok c =
+pub loop-next-preserved-in_ok-note-in-Ok : goal.loop-next-preserved-in_ok-note-in-Ok
+loop-next-preserved-in_ok-note-in-Ok c = (
+  values-noted c.loop-next.known c.note.new.self c.in-Some.at c.in-Ok.value c.in_ok-note-in-Ok.ensures.value c.note.ensures.others
+      c.args.net.now c.args.input.now c.in-Ok.ensures c.loop-next.invariant.0,
+  c.next_unknown-next-in-Ok.ensures.waiting,
+  c.next_unknown-next-in-Ok.ensures.next,
+)
+
+pub loop-next-smaller-in_ok-note-in-Ok : goal.loop-next-smaller-in_ok-note-in-Ok
+loop-next-smaller-in_ok-note-in-Ok c =
     let sought = c.args.position in
     let at : IsNext c.loop-next.known sought (Some c.in-Some.at) = subst (λ (o : Option ℕ). IsNext c.loop-next.known sought o) c.in-Some.is c.loop-next.invariant.2 in
-    let put : Updates nat_eq c.loop-next.known c.insert.new.self c.in-Some.at (Some c.in-Ok.value) = search rules in
-    subst (λ (o : Option ℕ). unknown_below (sought + 1) c.insert.new.self (sought + 1) + rank c.next_unknown-next-in-Ok.result
+    subst (λ (o : Option ℕ). unknown_below (sought + 1) c.note.new.self (sought + 1) + rank c.next_unknown-next-in-Ok.result
     < unknown_below (sought + 1) c.loop-next.known (sought + 1) + rank o) (sym c.in-Some.is)
-    (found-smaller c.loop-next.known c.insert.new.self c.in-Some.at c.in-Ok.value put.0 sought c.next_unknown-next-in-Ok.result at.1 at.0
+    (found-smaller c.loop-next.known c.note.new.self c.in-Some.at c.in-Ok.value c.in_ok-note-in-Ok.ensures.value c.note.ensures.others sought c.next_unknown-next-in-Ok.result at.1 at.0
     c.next_unknown-next-in-Ok.ensures.next)
 
 pub loop-next-smaller : goal.loop-next-smaller
