@@ -1,2 +1,4 @@
 mod FilesLemmas
-mod Pieces
+mod WriteLemmas
+mod PieceLemmas
+pub mod Facts

@@ -152,14 +152,18 @@ Writes old new bytes (Err not_put.Failed) =
     OfSomePrefix bytes (λ part. WriteFault (after_write old part) new)
 Writes old new bytes (Err not_put.NoMemory) = new ≡ old
 
--- Bytes that went out by several calls of `write`. Where one was refused, those of the earlier
--- calls stay, so that some first part of the whole was put.
-abbrev pub WritesInPieces : DeskState → DeskState → List ℕ → Result (Unit {0}) PutErr → Type 0
-WritesInPieces old new bytes (Ok _) = new ≡ after_write old bytes
-WritesInPieces old new bytes (Err not_put.Failed) =
-    OfSomePrefix bytes (λ part. WriteFault (after_write old part) new)
-WritesInPieces old new bytes (Err not_put.NoMemory) =
-    OfSomePrefix bytes (λ part. new ≡ after_write old part)
+-- How many bytes each `write` that was done had, in order, where a desk tells them.
+abbrev pub Sizes : Type 0
+Sizes = Option (List ℕ)
+
+-- Told sizes with those of more writes behind them.
+abbrev pub and_sizes : Sizes → List ℕ → Sizes
+and_sizes told more = option_map (λ sizes. sizes ++ more) told
+
+-- A `write` that is done has one more size, that of its bytes; a refused one has none.
+abbrev pub SizesAfterWrite : Sizes → Sizes → List ℕ → Result (Unit {0}) PutErr → Type 0
+SizesAfterWrite old new bytes (Ok _) = new ≡ and_sizes old (length bytes ∷ [])
+SizesAfterWrite old new bytes (Err _) = new ≡ old
 
 -- `close`: nothing is started after Failed either.
 abbrev pub Closes : DeskState → DeskState → Result (Unit {0}) PutErr → Type 0

@@ -1,3 +1,4 @@
 pub mod Desk
+pub mod Pieces
 pub mod MemDesk
 pub mod MemFiles

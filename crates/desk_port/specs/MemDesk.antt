@@ -6,7 +6,7 @@ use Rattle.std.specs.Global.{Vec}
 use Rattle.std.specs.List.{list_any}
 use Rattle.std.specs.Option.{ForSome, option_map}
 use Rattle.std.specs.declared.alloc.Global.{Global}
-use Rattle.desk_port.specs.Desk.{DeskState, HasMore, StartedIsThere, after_read, last_count}
+use Rattle.desk_port.specs.Desk.{DeskState, HasMore, Sizes, StartedIsThere, after_read, last_count}
 use Rattle.desk_port.specs.MemFiles.{files_of}
 use Rattle.desk_port.specs.declared.errors.ReadErr.{ReadErr}
 use Rattle.desk_port.specs.declared.errors.ReadErr.TheVariants as not_read
@@ -26,6 +26,10 @@ state_of d = record {
   write_faults = d.write_faults;
   warn_faults = d.warn_faults;
 }
+
+-- How many bytes each write that was done had.
+abbrev pub sizes_of : MemDesk → Sizes
+sizes_of d = Some d.sizes.items
 
 -- The number of the call that comes next, and those of the calls that fail.
 abbrev pub next_call : MemDesk → ℕ

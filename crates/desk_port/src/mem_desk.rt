@@ -1,8 +1,8 @@
 //! A desk in memory.
-ghost use Rattle.std.specs.Prelude.{◌≡◌, IfOk, IsSome, None, Some, map, string_bytes};
+ghost use Rattle.std.specs.Prelude.{◌≡◌, [], IfOk, IsSome, None, Some, map, string_bytes};
 ghost use Rattle.std.specs.Option.{ForSome, option_map};
 ghost use Rattle.desk_port.specs.Desk.{Closes, Reads, Says, Starts, Warns, Writes};
-ghost use Rattle.desk_port.specs.Desk.{NoCountFalls, Rose, after_close, untouched};
+ghost use Rattle.desk_port.specs.Desk.{NoCountFalls, Rose, SizesAfterWrite, after_close, untouched};
 ghost use Rattle.desk_port.specs.MemFiles.{files_of};
 
 use crate::desk::Desk;
@@ -26,6 +26,7 @@ pub struct MemDesk {
     said: Vec<u8>,
     warned: Vec<u8>,
     asked: Vec<String>,
+    sizes: Vec<u64>,
     read_faults: u64,
     write_faults: u64,
     warn_faults: u64,
@@ -44,6 +45,7 @@ impl Drop for MemDesk {
             said: _,
             warned: _,
             asked: _,
+            sizes: _,
             read_faults: _,
             write_faults: _,
             warn_faults: _,
@@ -52,7 +54,7 @@ impl Drop for MemDesk {
 }
 
 impl MemDesk {
-    ghost use Rattle.desk_port.specs.MemDesk.{failing_calls, next_call, state_of};
+    ghost use Rattle.desk_port.specs.MemDesk.{failing_calls, next_call, sizes_of, state_of};
     ghost use Rattle.desk_port.specs.MemDesk.{Finds, is_due, next_count};
 
     /// A desk with these files that fails at the calls of these numbers. Nothing is started on it,
@@ -65,6 +67,7 @@ impl MemDesk {
         ensures state { IfOk result (λ desk. state_of desk ≡ untouched (files_of files)) }
         ensures next { IfOk result (λ desk. next_call desk ≡ 0) }
         ensures failing { IfOk result (λ desk. failing_calls desk ≡ fails.items) }
+        ensures sizes { IfOk result (λ desk. sizes_of desk ≡ Some []) }
     {
         Ok(MemDesk {
             alloc,
@@ -75,6 +78,7 @@ impl MemDesk {
             said: Vec::new(alloc),
             warned: Vec::new(alloc),
             asked: Vec::new(alloc),
+            sizes: Vec::new(alloc),
             read_faults: 0,
             write_faults: 0,
             warn_faults: 0,
@@ -111,6 +115,13 @@ impl MemDesk {
         ensures { (state_of self.now).asked ≡ Some (map string_bytes result.now) }
     {
         self.asked.as_slice()
+    }
+
+    /// How many bytes each `write` that was done had, in order.
+    pub fn sizes(&self) -> &[u64]
+        ensures { sizes_of self.now ≡ Some result.now }
+    {
+        self.sizes.as_slice()
     }
 
     // Whether the call that comes next fails.
@@ -157,10 +168,12 @@ impl MemDesk {
 }
 
 impl Desk for MemDesk {
-    ghost use Rattle.desk_port.specs.MemDesk.{FailsWhenDue, ReadsExactly, state_of};
+    ghost use Rattle.desk_port.specs.MemDesk.{FailsWhenDue, ReadsExactly, sizes_of, state_of};
     ghost use Rattle.desk_port.specs.MemDesk.{started_is_there, with_warn_fault, with_write_fault};
 
     ghost state = { state_of };
+
+    ghost sizes = { sizes_of };
 
     ghost started_is_there = { started_is_there };
 
@@ -168,6 +181,7 @@ impl Desk for MemDesk {
     fn read(&mut self, alloc: Global, name: &str, limit: u64) -> Result<Vec<u8>, ReadErr>
         ensures answer { Reads (state_of self.old) (state_of self.new) name.now limit result }
         ensures counts { NoCountFalls (state_of self.old) (state_of self.new) }
+        ensures sizes { sizes_of self.new ≡ sizes_of self.old }
         ensures exact { ReadsExactly self.old self.new name.now limit result }
     {
         let answer = self.find(alloc, name, limit);
@@ -186,6 +200,7 @@ impl Desk for MemDesk {
         requires { (state_of self.old).started ≡ None }
         ensures answer { Starts (state_of self.old) (state_of self.new) name.now result }
         ensures counts { NoCountFalls (state_of self.old) (state_of self.new) }
+        ensures sizes { sizes_of self.new ≡ sizes_of self.old }
         ensures exact { FailsWhenDue self.old self.new
             (with_write_fault (state_of self.old)) result }
     {
@@ -204,6 +219,7 @@ impl Desk for MemDesk {
         requires { IsSome (state_of self.old).started }
         ensures answer { Writes (state_of self.old) (state_of self.new) bytes.now result }
         ensures counts { NoCountFalls (state_of self.old) (state_of self.new) }
+        ensures sizes { SizesAfterWrite (sizes_of self.old) (sizes_of self.new) bytes.now result }
         ensures exact { FailsWhenDue self.old self.new
             (with_write_fault (state_of self.old)) result }
     {
@@ -211,8 +227,10 @@ impl Desk for MemDesk {
             self.fail_to_put();
             return Err(PutErr::Failed);
         }
+        self.sizes.reserve(1)?;
         let name = self.started.as_ref().unwrap();
         mem_files::extend(&mut self.files, name.as_str(), bytes)?;
+        self.sizes.push_reserved(bytes.len() as u64);
         self.count_call();
         Ok(())
     }
@@ -222,6 +240,7 @@ impl Desk for MemDesk {
         requires { IsSome (state_of self.old).started }
         ensures answer { Closes (state_of self.old) (state_of self.new) result }
         ensures counts { NoCountFalls (state_of self.old) (state_of self.new) }
+        ensures sizes { sizes_of self.new ≡ sizes_of self.old }
         ensures exact { let closed = after_close (state_of self.old) in
             FailsWhenDue self.old self.new (with_write_fault closed) result }
     {
@@ -237,6 +256,7 @@ impl Desk for MemDesk {
     fn say(&mut self, bytes: &[u8]) -> Result<(), PutErr>
         ensures answer { Says (state_of self.old) (state_of self.new) bytes.now result }
         ensures counts { NoCountFalls (state_of self.old) (state_of self.new) }
+        ensures sizes { sizes_of self.new ≡ sizes_of self.old }
         ensures exact { FailsWhenDue self.old self.new
             (with_write_fault (state_of self.old)) result }
     {
@@ -252,6 +272,7 @@ impl Desk for MemDesk {
     fn warn(&mut self, bytes: &[u8]) -> Result<(), PutErr>
         ensures answer { Warns (state_of self.old) (state_of self.new) bytes.now result }
         ensures counts { NoCountFalls (state_of self.old) (state_of self.new) }
+        ensures sizes { sizes_of self.new ≡ sizes_of self.old }
         ensures exact { FailsWhenDue self.old self.new
             (with_warn_fault (state_of self.old)) result }
     {

@@ -8,9 +8,13 @@ use Rattle.tokens.specs.Text.{literal_text}
 abbrev pub IsOver : ℕ → DimacsLiteral → Type 0
 IsOver variables literal = (1 ≤ literal.var) × (literal.var ≤ variables)
 
--- a clause: its literals, each with a space behind it, then 0 and the line's end
+-- a literal of a clause, with a space behind it
+abbrev pub literal_word : DimacsLiteral → List ℕ
+literal_word d = literal_text d ++ 32 ∷ []
+
+-- a clause: its literals, then 0 and the line's end
 unfoldable pub clause_text : List DimacsLiteral → List ℕ
-clause_text clause = flat_map (λ d. literal_text d ++ 32 ∷ []) clause ++ codes "0\n"
+clause_text clause = flat_map literal_word clause ++ codes "0\n"
 
 -- the header: how many variables and how many clauses there are
 unfoldable pub header_text : ℕ → ℕ → List ℕ

@@ -2,7 +2,8 @@
 //! signed number and each clause ended by 0.
 //!
 //! `read` answers the formula that a text spells, or its first fault, and `print` writes the text of a list
-//! of clauses to a desk's started file. The law says that what is written is read back.
+//! of clauses to a desk's started file. `CnfText` is for who has no list of them: it takes one literal after
+//! another. The law says that what is written is read back.
 //!
 //! Begin to read at `cnf.rt` and with the grammar, `specs/Reading.antt`. Then, as data flows: `words.rt` (the
 //! words of a text, without comments), `header.rt`, `clauses.rt`, `writing.rt`, `laws.rt`, and `error.rt`.
@@ -15,7 +16,7 @@
 pub use cnf::{Cnf, read};
 pub use error::CnfErr;
 pub use laws::written_formula;
-pub use writing::print;
+pub use writing::{CnfText, print};
 
 mod clauses;
 mod cnf;

@@ -1,9 +1,10 @@
 -- How a command leaves its files, one after another, and then says its verdict; and what stands where that fails.
-use Rattle.std.specs.Prelude.{◌≡◌, ◌⊎◌, ℕ, List, [], ◌∷◌, Some, None, Result, Ok, Err}
+use Rattle.std.specs.Prelude.{◌≡◌, ◌⊎◌, ℕ, List, [], ◌∷◌, length, Some, None, Result, Ok, Err}
 use Rattle.std.specs.Option.{option_map}
-use Rattle.desk_port.specs.Desk.{DeskState, WriteFault, OfSomePrefix, put, after_emptying, after_write, after_say}
+use Rattle.std.specs.List.{flat_map}
+use Rattle.desk_port.specs.Desk.{DeskState, WriteFault, OfSomePrefix, put, after_emptying, after_say}
+use Rattle.desk_port.specs.Pieces.{piece_sizes}
 use Rattle.desk_port.specs.declared.errors.PutErr.{PutErr}
-use Rattle.desk_port.specs.declared.errors.PutErr.TheVariants as not_put
 use Rattle.endings.specs.Stops.{stop_of_put}
 use Rattle.endings.specs.declared.stop.Stop.{Stop}
 use Rattle.endings.specs.declared.stop.Stop.TheVariants.{CannotRead, TooLong, BadFile, NotAlike, CannotWrite, OutOfMemory}
@@ -53,11 +54,9 @@ abbrev pub StopsAmong : List Output → DeskState → DeskState → Stop → Typ
 StopsAmong [] old new stop = ⊥
 StopsAmong (o ∷ os) old new stop = StopsIn o old new stop ⊎ StopsAmong os (after_file old o) new stop
 
--- the bytes are put at the end of the started file, in any number of pieces, also in none where there are no bytes
-abbrev pub Puts : {A : Type 0} → List ℕ → DeskState → DeskState → Result A PutErr → Type 0
-Puts bytes old new (Ok a) = (new ≡ after_write old bytes) ⊎ ((bytes ≡ []) × (new ≡ old))
-Puts bytes old new (Err not_put.Failed) = OfSomePrefix bytes (λ part. WriteFault (after_write old part) new)
-Puts bytes old new (Err not_put.NoMemory) = (new ≡ old) ⊎ OfSomePrefix bytes (λ part. new ≡ after_write old part)
+-- the sizes of the writes by which files go out, each in whole pieces and a rest
+abbrev pub sizes_of : List Output → List ℕ
+sizes_of outputs = flat_map (λ o. piece_sizes (length o.bytes)) outputs
 
 -- the text is said; where that failed, a first part of it
 abbrev pub Says : List ℕ → DeskState → DeskState → Result (Unit {0}) Stop → Type 0

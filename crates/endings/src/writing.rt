@@ -1,5 +1,7 @@
-ghost use Rattle.std.specs.Prelude.{◌≡◌, ℕ, List, None, IsSome, IfOk};
-ghost use Rattle.endings.specs.Writing.{Puts, Says, WritesFile};
+ghost use Rattle.std.specs.Prelude.{◌≡◌, ℕ, List, None, IsSome, IfOk, OnOk, length};
+ghost use Rattle.desk_port.specs.Desk.{and_sizes};
+ghost use Rattle.desk_port.specs.Pieces.{WritesInPieces, piece_sizes};
+ghost use Rattle.endings.specs.Writing.{Says, WritesFile};
 
 use crate::stop::Stop;
 use desk_port::{Desk, PutErr};
@@ -17,11 +19,12 @@ pub trait Content {
 
     ghost tells: { Self → Self.Told → Type 0 };
 
-    /// Puts the bytes into the started file.
+    /// Puts the bytes into the started file, in pieces.
     fn put<D: Desk>(&self, alloc: Global, desk: &mut D) -> Result<Self::Told, PutErr>
         requires started { IsSome (D.state desk.old).started }
         requires ready { is_ready self.now }
-        ensures puts { Puts (bytes self.now) (D.state desk.old) (D.state desk.new) result }
+        ensures puts { WritesInPieces (bytes self.now) (D.state desk.old) (D.state desk.new)
+            (D.sizes desk.old) (D.sizes desk.new) result }
         ensures tells { IfOk result (tells self.now) };
 }
 
@@ -36,6 +39,8 @@ pub fn write_file<D: Desk, C: Content>(
     requires ready { C.is_ready content.now }
     ensures writes { WritesFile (record { name = name.now; bytes = C.bytes content.now }) (D.state desk.old)
         (D.state desk.new) result }
+    ensures sizes { OnOk result (D.sizes desk.new
+        ≡ and_sizes (D.sizes desk.old) (piece_sizes (length (C.bytes content.now)))) }
     ensures tells { IfOk result (C.tells content.now) }
 {
     desk.start(name)?;

@@ -1,7 +1,7 @@
 -- What a desk of real files shows: no content, but what is started and the faults that it counted.
 use Rattle.std.specs.Prelude.{ℕ, List, Option, Some, None, IfSome, string_bytes}
 use Rattle.std.specs.Option.{option_map}
-use Rattle.desk_port.specs.Desk.{DeskState, StartedIsThere}
+use Rattle.desk_port.specs.Desk.{DeskState, Sizes, StartedIsThere}
 use Rattle.os_desk.specs.declared.os_desk.OsDesk.{OsDesk}
 
 abbrev pub state_of : {R O E F D : Type 0} → OsDesk R O E F D → DeskState
@@ -15,6 +15,10 @@ state_of d = record {
   write_faults = d.write_faults;
   warn_faults = d.warn_faults;
 }
+
+-- It tells no sizes of its writes.
+abbrev pub sizes_of : {R O E F D : Type 0} → OsDesk R O E F D → Sizes
+sizes_of d = None
 
 -- The started file, standard output and standard error.
 abbrev pub file_of : {R O E F D : Type 0} → OsDesk R O E F D → Option F

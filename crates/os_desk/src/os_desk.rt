@@ -1,7 +1,7 @@
 //! Real files, standard output and standard error.
 ghost use Rattle.std.specs.Prelude.{◌≡◌, ◌≤◌, IfErr, IfOk, IfSome, IsSome, None, OnOk, length};
 ghost use Rattle.std.specs.Io.KnownBytes.{Appends};
-ghost use Rattle.desk_port.specs.Desk.{Closes, NoCountFalls, Reads, Rose, Says, Starts, Warns, Writes};
+ghost use Rattle.desk_port.specs.Desk.{Closes, NoCountFalls, Reads, Rose, Says, SizesAfterWrite, Starts, Warns, Writes};
 ghost use Rattle.desk_port.specs.MemDesk.{next_count};
 
 use crate::streams::{put_all, read_within};
@@ -56,15 +56,18 @@ impl<R: Files, O: Write, E: Write> OsDesk<R, O, E> {
 
 impl<R: Files, O: Write, E: Write> Desk for OsDesk<R, O, E> {
     ghost use Rattle.os_desk.specs.OsDesk.{started_is_there, state_of};
-    ghost use Rattle.os_desk.specs.OsDesk.{err_of, file_of, out_of};
+    ghost use Rattle.os_desk.specs.OsDesk.{err_of, file_of, out_of, sizes_of};
 
     ghost state = { state_of };
+
+    ghost sizes = { sizes_of };
 
     ghost started_is_there = { started_is_there };
 
     fn read(&mut self, alloc: Global, name: &str, limit: u64) -> Result<Vec<u8>, ReadErr>
         ensures answer { Reads (state_of self.old) (state_of self.new) name.now limit result }
         ensures counts { NoCountFalls (state_of self.old) (state_of self.new) }
+        ensures sizes { sizes_of self.new ≡ sizes_of self.old }
         ensures one { IfErr result (λ e. e ≡ ReadErr.Failed → (state_of self.new).read_faults
             ≡ next_count (state_of self.old).read_faults) }
     {
@@ -80,6 +83,7 @@ impl<R: Files, O: Write, E: Write> Desk for OsDesk<R, O, E> {
         requires { (state_of self.old).started ≡ None }
         ensures answer { Starts (state_of self.old) (state_of self.new) name.now result }
         ensures counts { NoCountFalls (state_of self.old) (state_of self.new) }
+        ensures sizes { sizes_of self.new ≡ sizes_of self.old }
         ensures one { IfErr result (λ e. e ≡ PutErr.Failed → (state_of self.new).write_faults
             ≡ next_count (state_of self.old).write_faults) }
     {
@@ -100,6 +104,7 @@ impl<R: Files, O: Write, E: Write> Desk for OsDesk<R, O, E> {
         requires { IsSome (state_of self.old).started }
         ensures answer { Writes (state_of self.old) (state_of self.new) bytes.now result }
         ensures counts { NoCountFalls (state_of self.old) (state_of self.new) }
+        ensures sizes { SizesAfterWrite (sizes_of self.old) (sizes_of self.new) bytes.now result }
         ensures one { IfErr result (λ e. e ≡ PutErr.Failed → (state_of self.new).write_faults
             ≡ next_count (state_of self.old).write_faults) }
         ensures put { OnOk result
@@ -119,6 +124,7 @@ impl<R: Files, O: Write, E: Write> Desk for OsDesk<R, O, E> {
         requires { IsSome (state_of self.old).started }
         ensures answer { Closes (state_of self.old) (state_of self.new) result }
         ensures counts { NoCountFalls (state_of self.old) (state_of self.new) }
+        ensures sizes { sizes_of self.new ≡ sizes_of self.old }
         ensures one { IfErr result (λ e. e ≡ PutErr.Failed → (state_of self.new).write_faults
             ≡ next_count (state_of self.old).write_faults) }
     {
@@ -129,6 +135,7 @@ impl<R: Files, O: Write, E: Write> Desk for OsDesk<R, O, E> {
     fn say(&mut self, bytes: &[u8]) -> Result<(), PutErr>
         ensures answer { Says (state_of self.old) (state_of self.new) bytes.now result }
         ensures counts { NoCountFalls (state_of self.old) (state_of self.new) }
+        ensures sizes { sizes_of self.new ≡ sizes_of self.old }
         ensures one { IfErr result (λ e. e ≡ PutErr.Failed → (state_of self.new).write_faults
             ≡ next_count (state_of self.old).write_faults) }
         ensures put { OnOk result
@@ -144,6 +151,7 @@ impl<R: Files, O: Write, E: Write> Desk for OsDesk<R, O, E> {
     fn warn(&mut self, bytes: &[u8]) -> Result<(), PutErr>
         ensures answer { Warns (state_of self.old) (state_of self.new) bytes.now result }
         ensures counts { NoCountFalls (state_of self.old) (state_of self.new) }
+        ensures sizes { sizes_of self.new ≡ sizes_of self.old }
         ensures one { IfErr result (λ e. e ≡ PutErr.Failed → (state_of self.new).warn_faults
             ≡ next_count (state_of self.old).warn_faults) }
         ensures put { OnOk result
