@@ -18,7 +18,8 @@ use Rattle.proof_stitch.proofs.GrowLemmas.{Formula, Grows, grows-derives, grows-
 use Rattle.proof_stitch.proofs.StepLemmas.{clauses_in, IsDerived, grows-lists}
 use Rattle.proof_stitch.proofs.ShownLemmas.{merges-live, grows-entries}
 use Rattle.proof_stitch.proofs.BookLemmas.{IsSoundBook, log-derived, log-short, log-whole, total}
-use Rattle.proof_stitch.proofs.RefutationLemmas.{Spelling, fits_dimacs, length-additions, length-clauses_in, total-few}
+use Rattle.proof_stitch.proofs.RefutationLemmas.{fits_dimacs, length-additions, length-clauses_in, total-few}
+use Rattle.proof_stitch.proofs.TrimmedLemmas.{Spelling}
 use Rattle.proof_stitch.proofs.WriterLemmas.{text_from-lists}
 
 -- lists behind other lists

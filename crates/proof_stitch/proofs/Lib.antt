@@ -1,6 +1,12 @@
 mod RenameLemmas
 mod AxiomLemmas
 mod GrowLemmas
+mod RowLemmas
+mod TrimLemmas
+mod TrimmedLemmas
+mod MarkLemmas
+mod RisingLemmas
+mod ProgressLemmas
 mod StepLemmas
 mod ShownLemmas
 mod EmptyLemmas
@@ -8,6 +14,8 @@ mod XorLemmas
 mod BookLemmas
 mod RefutationLemmas
 mod WriterLemmas
+mod ReachLemmas
+mod WholeLemmas
 mod DerivationLemmas
 mod LogLemmas
 mod SpanLemmas

@@ -1,10 +1,10 @@
 -- What is written of a legal book that has an Out entry for each output refutes the miter.
 use Rattle.std.proofs.Common.{◌≡◌, ℕ, suc, ◌+◌, ◌*◌, ◌<◌, ◌≤◌, ◌^◌, true, Option, Some, None, List, [], ◌∷◌, ◌++◌, length, map, refl, sym, ap, ◌∙◌, subst, arith, length-append, add-zero}
 use Rattle.std.specs.Prelude.{slice_get, unwrap_or}
-use Rattle.std.specs.List.{list_any, range_with_len, slice_index_or, AllByRecursion}
+use Rattle.std.specs.List.{range_with_len, slice_index_or, AllByRecursion}
 use Rattle.std.proofs.lemmas.List.{length-map, append-nil}
 use Rattle.std.proofs.lemmas.Option.{none-some, same_Some}
-use Rattle.std.proofs.Math.Bool.{or-true}
+use Rattle.std.proofs.lemmas.Bool.{eq-eqb}
 use Rattle.lits.specs.declared.node.Node.TheVariants.{Input, Xor}
 use Rattle.lits.specs.declared.node.Side.TheVariants.{A, B}
 use Rattle.lits.specs.declared.literal.Lit.{Lit}
@@ -17,20 +17,17 @@ use Rattle.netlist.specs.Miter.{variable_of, variables_of, xors_of, miter_of}
 use Rattle.netlist.proofs.Facts.{length-range, at-place, variable-some, few_gates_of}
 use Rattle.lemma_book.specs.declared.entry.Entry.{Entry}
 use Rattle.lemma_book.specs.Entry.{equal_clause, has_out}
-use Rattle.lrat_text.specs.declared.step.LratStep.{LratStep}
-use Rattle.lrat_text.specs.declared.step.LratStep.TheVariants.{Add}
-use Rattle.lrat_text.specs.Writing.{text_from, AreWritable, numbered as lines_from}
-use Rattle.lrat_text.specs.Reading.{SpellsLrat}
-use Rattle.lrat_text.specs.Derivation.{formula_live, adds_empty}
+use Rattle.lrat_text.specs.Derivation.{formula_live}
 use Rattle.proof_stitch.specs.Steps.{additions_from, additions}
 use Rattle.proof_stitch.specs.Written.{written_steps, shown_clauses, shown_from, shown_ids, book_additions}
-use Rattle.proof_stitch.specs.Stitch.{unit_id, empty_addition, refutation_of, IsRefutation}
+use Rattle.proof_stitch.specs.Stitch.{unit_id, empty_addition, empty_line, is_for_empty, refutation_of, IsRefutation}
 use Rattle.proof_stitch.proofs.AxiomLemmas.{there}
-use Rattle.proof_stitch.proofs.GrowLemmas.{Formula, Grows, grows-derives, grows-writable}
+use Rattle.proof_stitch.proofs.GrowLemmas.{Formula, Grows}
 use Rattle.proof_stitch.proofs.StepLemmas.{clause_of, clauses_in, FitsDimacs}
 use Rattle.proof_stitch.proofs.ShownLemmas.{IsShown, shown-live, grows-entries}
 use Rattle.proof_stitch.proofs.EmptyLemmas.{IsWhole, empty-step}
-use Rattle.proof_stitch.proofs.XorLemmas.{all-in, equal_number, numbers-fresh, numbers-apart, numbers-inside, last-live}
+use Rattle.proof_stitch.proofs.XorLemmas.{all-in, equal_number, numbers-fresh, numbers-apart, numbers-inside, last-live, miter-some}
+use Rattle.proof_stitch.proofs.TrimmedLemmas.{Spelling, trimmed-written, trimmed-empty}
 use Rattle.proof_stitch.proofs.BookLemmas.{IsSoundBook, out-unit, total}
 
 -- a net has few nodes
@@ -112,15 +109,6 @@ length-clauses_in net (steps ∷ lists) =
       length-clauses_in net lists,
     )
 
-ends_empty : (at id : ℕ) (hints : List ℕ) (steps : List LratStep)
-    → list_any (λ line. adds_empty line.step) (lines_from at (steps ++ Add id [] hints ∷ [])) ≡ true
-ends_empty at id hints [] = refl
-ends_empty at id hints (s ∷ ss) = rw (ends_empty (at + 1) id hints ss) (or-true (adds_empty s))
-
--- what is written spells its lines
-abbrev pub Spelling : Type 0
-Spelling = (m : ℕ) (steps : List LratStep) → m < 2 ^ 64 → AreWritable m steps → SpellsLrat m (text_from m steps) (lines_from 1 steps)
-
 -- the steps of a legal book are few
 pub total-few : (net : AigPair) (out : ℕ) (entries : List Entry) → IsSoundBook net out entries
     → total (map written_steps entries) ≤ 50331649 * 1000000002
@@ -154,8 +142,7 @@ module _ (net : AigPair) (out : ℕ) (entries : List Entry) (book : IsSoundBook 
     inside = numbers-inside net;
   }
 
-  empty : (f : Formula) → f ≡ miter_of net ++ clauses_in net (map written_steps entries)
-      → Grows f (empty_addition net entries (m + length (book_additions net entries) + 1) ∷ [])
+  empty : (f : Formula) → f ≡ miter_of net ++ clauses_in net (map written_steps entries) → Grows f (empty_line net entries)
   empty f e = (
     record {
       id_is =
@@ -172,31 +159,38 @@ module _ (net : AigPair) (out : ℕ) (entries : List Entry) (book : IsSoundBook 
     tt,
   )
 
-  refutation-grows : Grows (miter_of net) (refutation_of net entries)
-  refutation-grows =
+  -- the miter grows by all steps and the empty clause
+  pub all-grow : Grows (miter_of net) (book_additions net entries ++ empty_line net entries)
+  all-grow =
       grows-entries net book.is_net (fits_dimacs net book.is_net) entries [] entries refl tt book.shown book.in_turn (miter_of net)
-      (sym (append-nil (miter_of net)))
-      (empty_addition net entries (m + length (book_additions net entries) + 1) ∷ []) (m + 1) refl empty
+      (sym (append-nil (miter_of net))) (empty_line net entries) (m + 1) refl empty
 
-  pub length-refutation : length (refutation_of net entries) ≡ total (map written_steps entries) + 1
-  length-refutation =
+  pub all-few : length (book_additions net entries ++ empty_line net entries) ≡ total (map written_steps entries) + 1
+  all-few =
       omega (
         arith,
-        length-append (book_additions net entries) (empty_addition net entries (m + length (book_additions net entries) + 1) ∷ []),
+        length-append (book_additions net entries) (empty_line net entries),
         length-additions net (shown_ids net entries) (m + 1) (map written_steps entries),
       )
 
-  -- the proof refutes the miter
+  -- the empty clause is asked for
+  pub empty-asked : is_for_empty net entries (m + length (book_additions net entries) + 1) ≡ true
+  empty-asked = rw (eq-eqb (m + length (book_additions net entries) + 1) (m + length (book_additions net entries) + 1) refl) refl
+
+  -- what is written refutes the miter
   pub refutation-refutes : Spelling → m < 2 ^ 32 → IsRefutation net (refutation_of net entries)
-  refutation-refutes spelling few = record {
-    spells =
-        spelling m (refutation_of net entries) (omega arith)
-        (grows-writable (miter_of net) (refutation_of net entries)
-        (omega (arith, length-refutation, total-few net out entries book)) refutation-grows);
-    refutes = record {
-      derives = grows-derives (miter_of net) (refutation_of net entries) 1 refutation-grows;
-      empty =
-          ends_empty 1 (m + length (book_additions net entries) + 1)
-          (map (unit_id net entries) outputs ++ m ∷ []) (book_additions net entries);
-    };
-  }
+  unfolding refutation_of
+  refutation-refutes spelling few =
+      let written =
+      trimmed-written (miter_of net) (is_for_empty net entries) (book_additions net entries ++ empty_line net entries) spelling all-grow
+      (miter-some net) (omega (arith, few)) (omega (arith, few, all-few, total-few net out entries book)) in
+      record {
+        spells = written.spells;
+        refutes = record {
+          derives = written.derives;
+          empty =
+              trimmed-empty m (is_for_empty net entries) (book_additions net entries)
+              (empty_addition net entries (m + length (book_additions net entries) + 1)) empty-asked refl;
+        };
+        ids = written.ids;
+      }

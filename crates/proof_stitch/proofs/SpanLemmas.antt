@@ -15,8 +15,9 @@ use Rattle.lrat_text.specs.declared.step.LratStep.{LratStep}
 use Rattle.proof_stitch.specs.declared.logs.Span.{Span}
 use Rattle.proof_stitch.specs.Steps.{additions_from, additions}
 use Rattle.proof_stitch.specs.Written.{written_steps, shown_ids, book_additions}
+use Rattle.proof_stitch.specs.Trimmed.{id_in}
 use Rattle.lemma_book.specs.Entry.{has_spent, outputs_of}
-use Rattle.proof_stitch.specs.Derivation.{spent_log, derivation_of, id_in, with_ids, IsSpan, AreSpans, spans_from, spans_of}
+use Rattle.proof_stitch.specs.Derivation.{spent_log, derivation_of, with_ids, IsSpan, AreSpans, spans_from, spans_of}
 use Rattle.proof_stitch.proofs.BookLemmas.{total}
 use Rattle.proof_stitch.proofs.RefutationLemmas.{length-additions}
 use Rattle.proof_stitch.proofs.DerivationLemmas.{additions-append}

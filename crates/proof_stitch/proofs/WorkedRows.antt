@@ -9,7 +9,7 @@ use Rattle.lits.specs.declared.step.Step.{Step}
 use Rattle.netlist.specs.Circuit.{Aig, plain}
 use Rattle.netlist.specs.Net.{AigPair}
 use Rattle.netlist.specs.Miter.{positive, negative}
-use Rattle.lrat_text.specs.declared.step.LratStep.TheVariants.{Add}
+use Rattle.lrat_text.specs.declared.step.LratStep.TheVariants.{Add, Del}
 use Rattle.lemma_book.specs.declared.entry.Entry.{Entry}
 use Rattle.lemma_book.specs.declared.entry.Entry.TheVariants.{Merge, Spent, Out, OutSpent}
 use Rattle.lemma_book.specs.Entry.{Entries, has_out}
@@ -79,10 +79,12 @@ swapped_legal = (
 swapped_out : has_out (merged ∷ Out 0 equal_steps ∷ []) 0 ≡ true
 swapped_out = refl
 
--- the steps of both entries by their ids, and the empty clause
+-- the steps of both entries by their ids, each deleted behind the last that cites it, and the empty clause
 refutation_of-swapped : refutation_of swapped (merged ∷ Out 0 equal_steps ∷ [])
     ≡ Add 13 (n 5 ∷ p 4 ∷ []) (5 ∷ 6 ∷ 4 ∷ []) ∷ Add 14 (p 5 ∷ n 4 ∷ []) (2 ∷ 3 ∷ 7 ∷ [])
-    ∷ Add 15 (n 6 ∷ p 4 ∷ []) (8 ∷ 13 ∷ []) ∷ Add 16 (n 6 ∷ []) (15 ∷ 14 ∷ 9 ∷ []) ∷ Add 17 [] (16 ∷ 12 ∷ []) ∷ []
+    ∷ Add 15 (n 6 ∷ p 4 ∷ []) (8 ∷ 13 ∷ []) ∷ Del (13 ∷ []) ∷ Add 16 (n 6 ∷ []) (15 ∷ 14 ∷ 9 ∷ []) ∷ Del (14 ∷ 15 ∷ [])
+    ∷ Add 17 [] (16 ∷ 12 ∷ []) ∷ []
+unfolding refutation_of
 refutation_of-swapped = refl
 
 -- the log of a query about two nodes takes no ids
@@ -113,9 +115,18 @@ abbrev second : Step
 second = record { clause = negative (Xor 0) ∷ []; hints = Own 0 ∷ Axiom (Xor 0) 1 ∷ [] }
 
 refutation_of-wires : refutation_of wires (Out 1 (only ∷ []) ∷ Out 0 (first ∷ second ∷ []) ∷ [])
-    ≡ Add 7 (n 4 ∷ []) (4 ∷ 5 ∷ []) ∷ Add 8 (n 3 ∷ p 2 ∷ []) (2 ∷ []) ∷ Add 9 (n 3 ∷ []) (8 ∷ 3 ∷ [])
+    ≡ Add 7 (n 4 ∷ []) (4 ∷ 5 ∷ []) ∷ Add 8 (n 3 ∷ p 2 ∷ []) (2 ∷ []) ∷ Add 9 (n 3 ∷ []) (8 ∷ 3 ∷ []) ∷ Del (8 ∷ [])
     ∷ Add 10 [] (9 ∷ 7 ∷ 6 ∷ []) ∷ []
+unfolding refutation_of
 refutation_of-wires = refl
+
+-- a step that nothing cites isn't written, nor what it alone cites, and those behind have the next ids
+refutation_of-unreached :
+    refutation_of wires (Out 1 (first ∷ second ∷ only ∷ []) ∷ Out 0 (first ∷ second ∷ []) ∷ [])
+    ≡ Add 7 (n 4 ∷ []) (4 ∷ 5 ∷ []) ∷ Add 8 (n 3 ∷ p 2 ∷ []) (2 ∷ []) ∷ Add 9 (n 3 ∷ []) (8 ∷ 3 ∷ []) ∷ Del (8 ∷ [])
+    ∷ Add 10 [] (9 ∷ 7 ∷ 6 ∷ []) ∷ []
+unfolding refutation_of
+refutation_of-unreached = refl
 
 -- logs come in the order of the outputs
 open_entries : List Entry
@@ -161,7 +172,9 @@ bounded_legal = (
 )
 
 refutation_of-bounded : refutation_of bounded (Out 0 bounded_steps ∷ [])
-    ≡ Add 11 (n 5 ∷ p 3 ∷ []) (3 ∷ 5 ∷ []) ∷ Add 12 (n 5 ∷ []) (11 ∷ 6 ∷ 9 ∷ 4 ∷ []) ∷ Add 13 [] (12 ∷ 10 ∷ []) ∷ []
+    ≡ Add 11 (n 5 ∷ p 3 ∷ []) (3 ∷ 5 ∷ []) ∷ Add 12 (n 5 ∷ []) (11 ∷ 6 ∷ 9 ∷ 4 ∷ []) ∷ Del (11 ∷ [])
+    ∷ Add 13 [] (12 ∷ 10 ∷ []) ∷ []
+unfolding refutation_of
 refutation_of-bounded = refl
 
 -- An input and no output on each side, and the constraint that the input is true. The miter is 1: (1), 2: (2), 3: (2), 4: ().
@@ -172,6 +185,7 @@ no_outputs = record {
 }
 
 refutation_of-no_outputs : refutation_of no_outputs [] ≡ Add 5 [] (4 ∷ []) ∷ []
+unfolding refutation_of
 refutation_of-no_outputs = refl
 
 -- the units of A in order, and then those of B

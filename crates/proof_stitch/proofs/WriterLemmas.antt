@@ -19,12 +19,10 @@ use Rattle.unit_prop.specs.Log.{with_own, InTurn, IsStepAfter}
 use Rattle.lemma_book.specs.declared.entry.Entry.{Entry}
 use Rattle.lemma_book.specs.Good.{AreOver, merge_clause, out_clause}
 use Rattle.lrat_text.specs.declared.step.LratStep.{LratStep}
-use Rattle.lrat_text.specs.declared.step.LratStep.TheVariants.{Add}
 use Rattle.lrat_text.specs.Writing.{line_text, text_from}
 use Rattle.proof_stitch.specs.Steps.{addition, additions_from, additions}
 use Rattle.proof_stitch.specs.Ids.{HasId, HasIds}
-use Rattle.proof_stitch.specs.Written.{written_steps, shown_clauses, shown_from, shown_ids, book_additions}
-use Rattle.proof_stitch.specs.Stitch.{unit_id, empty_addition, refutation_of}
+use Rattle.proof_stitch.specs.Written.{written_steps, shown_clauses, shown_from, shown_ids}
 use Rattle.proof_stitch.proofs.AxiomLemmas.{axiom-numbered, unit-numbered}
 use Rattle.proof_stitch.proofs.GrowLemmas.{IsFound, step-found, live-range}
 use Rattle.proof_stitch.proofs.StepLemmas.{clauses_in, IsDerived}
@@ -165,7 +163,7 @@ pub entry-at : (o : Option (Bor Entry)) (r : Bor Entry) (entries : List Entry) (
 entry-at o r entries i at is = sym at ∙ ap option_copied is
 
 -- the entry that comes next
-next-drop : (i : ℕ) (e : Entry) (entries : List Entry) → slice_get entries i ≡ Some e → drop i entries ≡ e ∷ drop (i + 1) entries
+pub next-drop : (i : ℕ) (e : Entry) (entries : List Entry) → slice_get entries i ≡ Some e → drop i entries ≡ e ∷ drop (i + 1) entries
 next-drop i e entries at =
     drop-cons entries i e (slice_get_within entries i e at)
     ∙ ap₂ (λ (x : Entry) (n : ℕ). x ∷ drop n entries) (get_or_from_slice_get entries i e e at) (sym (add-one i))
@@ -289,19 +287,3 @@ pub units-done : (f : ℕ → ℕ) (whole units : List ℕ) (j n : ℕ) → n �
 units-done f whole units j n past at =
     let none : n - j ≡ 0 = omega arith in
     sym (append-nil units) ∙ subst (λ (k : ℕ). units ++ map f (range_with_len j k) ≡ whole) none at
-
--- the text of the whole proof
-pub whole-text : (net : AigPair) (entries : List Entry) (text : List ℕ) (last : ℕ) (hints : List ℕ) (text' : List ℕ)
-    → text ≡ text_from (length (miter_of net)) (book_additions net entries)
-    → last ≡ length (miter_of net) + length (book_additions net entries)
-    → hints ≡ map (unit_id net entries) (range_with_len 0 (length net.a.outputs)) ++ length (miter_of net) ∷ []
-    → text' ≡ text ++ line_text last (Add (last + 1) [] hints)
-    → text' ≡ text_from (length (miter_of net)) (refutation_of net entries)
-whole-text net entries text last hints text' f g h k =
-    let m = length (miter_of net) in
-    let outs = book_additions net entries in
-    let empty = empty_addition net entries (m + length outs + 1) in
-    k ∙ rw (f, g, h) (sym (
-    text_from-lists net (shown_ids net entries) m (m + 1) (map written_steps entries) (empty ∷ []) refl
-    ∙ ap (λ (t : List ℕ). text_from m outs ++ t) (append-nil (line_text (m + length outs) empty))
-    ))

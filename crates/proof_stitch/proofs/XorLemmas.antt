@@ -31,6 +31,15 @@ pub all-in : (P : ℕ → Type 0) (a n m : ℕ) → ((i : ℕ) → i < m → P i
 all-in P a zero m all le = tt
 all-in P a (suc n) m all le = (all a (omega arith), all-in P (a + 1) n m all (omega arith))
 
+-- the miter has a clause
+pub miter-some : (net : AigPair) → 1 ≤ length (miter_of net)
+miter-some net =
+    omega (
+      arith,
+      length-map (clauses_of net) (λ (c : List Lit). map (numbered net) c),
+      length-append (defining_clauses net ++ units_of net) (map positive (xors_of net) ∷ []),
+    )
+
 module _ (net : AigPair) where
   -- the number of the literal that says that the outputs are equal
   abbrev pub equal_number : ℕ → DimacsLiteral

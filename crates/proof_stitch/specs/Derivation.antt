@@ -6,7 +6,6 @@ use Rattle.lits.specs.declared.step.Step.{Step}
 use Rattle.netlist.specs.Net.{AigPair}
 use Rattle.netlist.specs.Miter.{miter_of}
 use Rattle.lrat_text.specs.declared.step.LratStep.{LratStep}
-use Rattle.lrat_text.specs.declared.step.LratStep.TheVariants.{Add, Del}
 use Rattle.lrat_text.specs.Reading.{SpellsLrat}
 use Rattle.lrat_text.specs.Writing.{numbered}
 use Rattle.lrat_text.specs.Derivation.{Derives}
@@ -14,6 +13,7 @@ use Rattle.lemma_book.specs.declared.entry.Entry.{Entry}
 use Rattle.lemma_book.specs.Entry.{about, has_spent, log_of, outputs_of}
 use Rattle.proof_stitch.specs.Steps.{additions_from, additions}
 use Rattle.proof_stitch.specs.Text.{proof_text}
+use Rattle.proof_stitch.specs.Trimmed.{id_in}
 use Rattle.proof_stitch.specs.Written.{written_steps, shown_ids, book_additions}
 use Rattle.proof_stitch.specs.declared.logs.Span.{Span}
 
@@ -37,11 +37,6 @@ derivation_of net entries =
 pub record IsDerivation (net : AigPair) (lines : List LratStep) : Type 0 where
   pub spells : SpellsLrat (length (miter_of net)) (proof_text net lines) (numbered 1 lines)
   pub derives : Derives (miter_of net) (numbered 1 lines)
-
--- the id under which a line adds its clause
-abbrev pub id_in : LratStep → ℕ
-id_in (Add id clause hints) = id
-id_in (Del ids) = 0
 
 -- the lines with the ids from p to q
 abbrev pub with_ids : ℕ → ℕ → List LratStep → List LratStep

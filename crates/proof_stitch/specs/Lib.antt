@@ -2,5 +2,8 @@ pub mod Steps
 pub mod Ids
 pub mod Text
 pub mod Written
+pub mod Trimmed
+pub mod Table
+pub mod Progress
 pub mod Stitch
 pub mod Derivation

@@ -1,5 +1,5 @@
 -- The proof that a book refutes the miter, where it shows of every output that both circuits give it one value.
-use Rattle.std.specs.Prelude.{ℕ, ◌+◌, List, [], ◌∷◌, ◌++◌, length, map}
+use Rattle.std.specs.Prelude.{ℕ, ◌+◌, Bool, List, [], ◌∷◌, ◌++◌, length, map}
 use Rattle.std.specs.List.{slice_index_or}
 use Rattle.std.specs.Option.{option_map_or}
 use Rattle.netlist.specs.Net.{AigPair}
@@ -12,6 +12,7 @@ use Rattle.lrat_text.specs.Derivation.{Refutes}
 use Rattle.lemma_book.specs.declared.entry.Entry.{Entry}
 use Rattle.lemma_book.specs.declared.entry.Subject.TheVariants.{Output}
 use Rattle.lemma_book.specs.Entry.{place_on, outputs_of}
+use Rattle.proof_stitch.specs.Trimmed.{HaveNoGaps, is_asked, trimmed}
 use Rattle.proof_stitch.specs.Written.{shown_ids, book_additions}
 use Rattle.proof_stitch.specs.Text.{proof_text}
 
@@ -32,13 +33,23 @@ abbrev pub empty_addition : AigPair → List Entry → ℕ → LratStep
 empty_addition net entries id =
     Add id [] (unit_ids net entries ++ length (miter_of net) ∷ [])
 
--- the proof: the steps of the Merge and Out entries in the order of the book, then the empty clause
-abbrev pub refutation_of : AigPair → List Entry → List LratStep
-refutation_of net entries =
-    let lines = book_additions net entries in
-    lines ++ empty_addition net entries (length (miter_of net) + length lines + 1) ∷ []
+-- its line behind all steps of the Merge and Out entries
+abbrev pub empty_line : AigPair → List Entry → List LratStep
+empty_line net entries =
+    empty_addition net entries (length (miter_of net) + length (book_additions net entries) + 1) ∷ []
 
--- the lines refute the miter, and their text spells them
+-- What is asked for: the empty clause, with what it cites. The unit of each output is, where each has an Out entry.
+abbrev pub is_for_empty : AigPair → List Entry → ℕ → Bool
+is_for_empty net entries = is_asked [] (empty_line net entries)
+
+-- The proof: of the steps of the Merge and Out entries in the order of the book, and the empty clause behind them, what
+-- the empty clause rests on.
+unfoldable pub refutation_of : AigPair → List Entry → List LratStep
+refutation_of net entries =
+    trimmed (length (miter_of net)) (is_for_empty net entries) (book_additions net entries ++ empty_line net entries)
+
+-- the lines refute the miter, have ids without gaps, and their text spells them
 pub record IsRefutation (net : AigPair) (lines : List LratStep) : Type 0 where
   pub spells : SpellsLrat (length (miter_of net)) (proof_text net lines) (numbered 1 lines)
   pub refutes : Refutes (miter_of net) (numbered 1 lines)
+  pub ids : HaveNoGaps (length (miter_of net)) lines

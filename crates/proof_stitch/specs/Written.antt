@@ -1,5 +1,5 @@
--- What is written of a book: the steps of its Merge and Out entries in order, each of which ends with the clauses that
--- the entry shows. Later steps name these clauses by entry.
+-- The whole of what may be written of a book: the steps of its Merge and Out entries in order, each of which ends with the
+-- clauses that the entry shows. Later steps name these clauses by entry.
 use Rattle.std.specs.Prelude.{ℕ, ◌+◌, ◌-◌, List, [], ◌∷◌, length, map}
 use Rattle.lits.specs.declared.literal.Lit.{Lit}
 use Rattle.lits.specs.declared.step.Step.{Step}

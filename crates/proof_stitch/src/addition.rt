@@ -32,7 +32,7 @@ pub fn addition(
 }
 
 /// The literals as numbers of the miter.
-fn numbers(alloc: Global, net: &Net, lits: &[Lit]) -> Result<Vec<Dim>, AllocError>
+pub fn numbers(alloc: Global, net: &Net, lits: &[Lit]) -> Result<Vec<Dim>, AllocError>
     requires { AreNumbered net.now lits.now }
     ensures { IfOk result (λ v. v.items ≡ map (numbered net.now) lits.now) }
 {
@@ -50,8 +50,9 @@ fn number(net: &Net, lit: Lit) -> Dim
     net.cnf_number(lit).unwrap()
 }
 
-/// The hints as ids. Each was checked when its entry came into the book, so none is without an id.
-fn ids(
+/// The hints as ids in the whole proof. Each was checked when its entry came into the book, so none is without
+/// an id.
+pub fn ids(
     alloc: Global,
     net: &Net,
     shown: &[u64],
@@ -63,12 +64,13 @@ fn ids(
 {
     let mut ids = Vec::with_capacity(alloc, hints.len())?;
     for hint in hints {
-        ids.push(id(net, shown, first, *hint))?;
+        ids.push(id_of(net, shown, first, *hint))?;
     }
     Ok(ids)
 }
 
-fn id(net: &Net, shown: &[u64], first: u64, name: Ref) -> u64
+/// The id of a name's clause in the whole proof.
+pub fn id_of(net: &Net, shown: &[u64], first: u64, name: Ref) -> u64
     requires { HasId net.now shown.now first name }
     ensures { result ≡ id_of net.now shown.now first name }
 {

@@ -1,44 +1,131 @@
-ghost use Rattle.std.specs.Prelude.{◌≡◌, ◌+◌, ◌<◌, ◌^◌, IfOk, OnOk, length};
+ghost use Rattle.std.specs.Prelude.{◌≡◌, ℕ, ◌+◌, ◌<◌, ◌≤◌, ◌^◌, ◌∷◌, ◌++◌, Bool, List, All, IfOk, OnOk, length};
 ghost use Rattle.netlist.specs.Miter.{miter_of};
 ghost use Rattle.lemma_book.specs.Book.{IsLegal};
-ghost use Rattle.proof_stitch.specs.Written.{shown_ids, book_additions};
+ghost use Rattle.lrat_text.specs.declared.step.LratStep.{LratStep};
+ghost use Rattle.proof_stitch.specs.Ids.{HasIds};
+ghost use Rattle.proof_stitch.specs.Progress.{IsAtLine};
+ghost use Rattle.proof_stitch.specs.Steps.{addition, additions_from};
 ghost use Rattle.proof_stitch.specs.Stitch.{unit_ids, unit_in};
-ghost use Rattle.proof_stitch.specs.Text.{Puts};
+ghost use Rattle.proof_stitch.specs.Table.{HasMarks, IsStepId, KeepsShape};
+ghost use Rattle.proof_stitch.specs.Trimmed.{reached};
+ghost use Rattle.proof_stitch.specs.Written.{shown_ids, book_additions};
 
 use crate::addition::first_shown;
+use crate::by_step::ByStep;
 use crate::proof_text::ProofText;
+use crate::reach::UNUSED;
 use crate::shown::written_steps;
+use crate::written_step::write_step;
 use lemma_book::{Book, Subject};
+use lits::Step;
 use netlist::Net;
 use std::alloc::{AllocError, Global};
 
-/// Adds the steps of a book's Merge and Out entries, in order.
+/// Adds what is reached of the steps of a book's Merge and Out entries, in order, and the deletions.
 pub fn push_entries(
     alloc: Global,
     net: &Net,
     book: &Book,
     shown: &[u64],
+    marks: &ByStep,
+    names: &mut ByStep,
     proof: &mut ProofText,
 ) -> Result<(), AllocError>
     requires legal { IsLegal net.now book.now }
     requires shown { shown.now ≡ shown_ids net.now book.now.entries }
     requires start { proof.old.last ≡ length (miter_of net.now) }
-    ensures text { OnOk result (Puts proof.old (book_additions net.now book.now.entries) proof.new) }
-    ensures last { OnOk result (proof.new.last
-        ≡ length (miter_of net.now) + length (book_additions net.now book.now.entries)) }
+    requires marks { marks.now.clauses ≡ length (miter_of net.now) }
+    requires names { names.old.clauses ≡ length (miter_of net.now) }
+    requires all_marks { length marks.now.numbers.items ≡ length (book_additions net.now book.now.entries) }
+    requires all_names { length names.old.numbers.items ≡ length (book_additions net.now book.now.entries) }
+    ensures shape { KeepsShape names.old names.new }
+    ensures text { OnOk result ((asked : ℕ → Bool) (all left : List LratStep) →
+        HasMarks asked (reached asked all) marks.now →
+        IsAtLine (length (miter_of net.now)) asked all (book_additions net.now book.now.entries ++ left)
+        (length (miter_of net.now) + 1) names.old proof.old →
+        IsAtLine (length (miter_of net.now)) asked all left (length (miter_of net.now)
+        + length (book_additions net.now book.now.entries) + 1) names.new proof.new) }
     ensures room { OnOk result (proof.new.last + 1 < 2 ^ 60) }
 {
     net.clauses();
     book.sweep_budget();
     book.out_budget();
+    let mut first = proof.last + 1;
     for place in 0..book.len() {
         let entry = book.entry(place).unwrap();
-        proof.push_steps(alloc, net, shown, written_steps(entry))?;
+        let steps = written_steps(entry);
+        push_steps(alloc, net, shown, marks, names, first, steps, proof)?;
+        first += steps.len() as u64;
     }
     Ok(())
 }
 
-/// The ids of the outputs' units, in order of outputs.
+/// Adds what is reached of a list of steps, the first of which has that id in the whole proof.
+fn push_steps(
+    alloc: Global,
+    net: &Net,
+    shown: &[u64],
+    marks: &ByStep,
+    names: &mut ByStep,
+    first: u64,
+    steps: &[Step],
+    proof: &mut ProofText,
+) -> Result<(), AllocError>
+    requires ids { All (HasIds net.now shown.now first) steps.now }
+    requires above { marks.now.clauses < first }
+    requires within { first + length steps.now ≤ marks.now.clauses + length marks.now.numbers.items + 1 }
+    requires alike { KeepsShape marks.now names.old }
+    requires small { first + length steps.now < 2 ^ 63 }
+    requires behind { proof.old.last < first }
+    ensures shape { KeepsShape names.old names.new }
+    ensures text { OnOk result ((asked : ℕ → Bool) (all left : List LratStep) →
+        HasMarks asked (reached asked all) marks.now →
+        IsAtLine marks.now.clauses asked all
+        (additions_from net.now shown.now first first steps.now ++ left) first names.old proof.old →
+        IsAtLine marks.now.clauses asked all left (first + length steps.now) names.new proof.new) }
+    ensures behind { OnOk result (proof.new.last < first + length steps.now) }
+{
+    let mut id = first;
+    for step in steps {
+        push_step(alloc, net, shown, marks, names, first, id, step, proof)?;
+        id += 1;
+    }
+    Ok(())
+}
+
+/// Adds a step with its deletion, if it is reached.
+fn push_step(
+    alloc: Global,
+    net: &Net,
+    shown: &[u64],
+    marks: &ByStep,
+    names: &mut ByStep,
+    first: u64,
+    id: u64,
+    step: &Step,
+    proof: &mut ProofText,
+) -> Result<(), AllocError>
+    requires ids { HasIds net.now shown.now first step.now }
+    requires is_step { IsStepId marks.now id }
+    requires alike { KeepsShape marks.now names.old }
+    requires small { id < 2 ^ 63 }
+    requires behind { proof.old.last < id }
+    ensures shape { KeepsShape names.old names.new }
+    ensures text { OnOk result ((asked : ℕ → Bool) (all left : List LratStep) →
+        HasMarks asked (reached asked all) marks.now →
+        IsAtLine marks.now.clauses asked all
+        (addition net.now shown.now first id step.now ∷ left) id names.old proof.old →
+        IsAtLine marks.now.clauses asked all left (id + 1) names.new proof.new) }
+    ensures behind { OnOk result (proof.new.last ≤ proof.old.last + 1) }
+{
+    if marks.get(id) == UNUSED {
+        return Ok(());
+    }
+    write_step(alloc, net, shown, marks, names, first, id, step, proof)?;
+    Ok(())
+}
+
+/// The ids of the outputs' units in the whole proof, in order of outputs.
 pub fn units(alloc: Global, net: &Net, book: &Book, shown: &[u64]) -> Result<Vec<u64>, AllocError>
     requires { shown.now ≡ shown_ids net.now book.now.entries }
     ensures { IfOk result (λ v. v.items ≡ unit_ids net.now book.now.entries) }

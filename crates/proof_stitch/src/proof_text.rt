@@ -1,4 +1,5 @@
 ghost use Rattle.std.specs.Prelude.{◌≡◌, ◌+◌, ◌<◌, ◌^◌, [], ◌++◌, IsSome, OnOk, length};
+ghost use Rattle.lrat_text.specs.Steps.{id_after};
 ghost use Rattle.lrat_text.specs.Writing.{line_text};
 ghost use Rattle.proof_stitch.specs.Steps.{addition, additions_behind};
 ghost use Rattle.proof_stitch.specs.Ids.{HasIds, HaveIds};
@@ -6,7 +7,7 @@ ghost use Rattle.proof_stitch.specs.Text.{Puts, Stitches};
 
 use crate::addition::addition;
 use crate::stitch_err::StitchErr;
-use desk_port::Desk;
+use desk_port::{Desk, PutErr, put_in_pieces};
 use lits::Step;
 use lrat_text::{LratStep, push_line};
 use netlist::Net;
@@ -31,29 +32,30 @@ impl ProofText {
         }
     }
 
-    /// Adds a clause under the next id.
-    pub fn push(&mut self, addition: &LratStep) -> Result<(), AllocError>
-        requires { self.old.last + 1 < 2 ^ 64 }
+    /// Adds a line.
+    pub fn push(&mut self, line: &LratStep) -> Result<(), AllocError>
         ensures text { OnOk result
-            (self.new.text.items ≡ self.old.text.items ++ line_text self.old.last addition.now) }
-        ensures last { OnOk result (self.new.last ≡ self.old.last + 1) }
+            (self.new.text.items ≡ self.old.text.items ++ line_text self.old.last line.now) }
+        ensures last { OnOk result (self.new.last ≡ id_after self.old.last line.now) }
     {
-        push_line(&mut self.text, self.last, addition)?;
-        self.last += 1;
+        push_line(&mut self.text, self.last, line)?;
+        if let LratStep::Add { id, .. } = line {
+            self.last = *id;
+        }
         Ok(())
     }
 
-    /// Puts the text into the started file in one write, or in none where there is no text.
-    pub fn write<D: Desk>(&self, desk: &mut D) -> Result<(), StitchErr>
+    /// Puts the text into the started file in pieces.
+    pub fn write<D: Desk>(&self, alloc: Global, desk: &mut D) -> Result<(), StitchErr>
         requires { IsSome (D.state desk.old).started }
-        ensures { Stitches self.now.text.items (D.state desk.old) (D.state desk.new) result }
+        ensures { Stitches self.now.text.items (D.state desk.old) (D.state desk.new) (D.sizes desk.old)
+            (D.sizes desk.new) result }
     {
-        let text = self.text.as_slice();
-        if text.is_empty() {
-            return Ok(());
+        match put_in_pieces(alloc, desk, self.text.as_slice()) {
+            Ok(()) => Ok(()),
+            Err(PutErr::Failed) => Err(StitchErr::Write),
+            Err(PutErr::NoMemory) => Err(StitchErr::NoMemory),
         }
-        desk.write(text)?;
-        Ok(())
     }
 
     /// Adds the clauses of a list of steps. `shown` has by entry of the book the id of the first of the

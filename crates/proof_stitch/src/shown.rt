@@ -1,6 +1,6 @@
-ghost use Rattle.std.specs.Prelude.{◌≡◌, IfOk, length};
+ghost use Rattle.std.specs.Prelude.{◌≡◌, ◌<◌, ◌^◌, IfOk, length};
 ghost use Rattle.lemma_book.specs.Book.{IsLegal};
-ghost use Rattle.proof_stitch.specs.Written.{written_steps, shown_clauses, shown_ids};
+ghost use Rattle.proof_stitch.specs.Written.{written_steps, shown_clauses, shown_ids, book_additions};
 
 use lemma_book::{Book, Entry};
 use lits::Step;
@@ -24,6 +24,23 @@ pub fn shown_ids(alloc: Global, net: &Net, book: &Book) -> Result<Vec<u64>, Allo
         shown.push(next - shown_count(entry))?;
     }
     Ok(shown)
+}
+
+/// How many steps the Merge and Out entries have.
+pub fn written_count(net: &Net, book: &Book) -> u64
+    requires { IsLegal net.now book.now }
+    ensures count { result ≡ length (book_additions net.now book.now.entries) }
+    ensures few { result < 2 ^ 60 }
+{
+    net.clauses();
+    book.sweep_budget();
+    book.out_budget();
+    let mut count = 0;
+    for place in 0..book.len() {
+        let entry = book.entry(place).unwrap();
+        count += written_steps(entry).len() as u64;
+    }
+    count
 }
 
 /// The steps of an entry that are written.

@@ -3,7 +3,7 @@ ghost use Rattle.lemma_book.specs.Book.{IsLegal};
 ghost use Rattle.proof_stitch.specs.Text.{proof_text, Stitches};
 ghost use Rattle.proof_stitch.specs.Derivation.{derivation_of, spans_of, IsDerivation, AreSpans, AreWhole};
 
-use crate::entries::push_entries;
+use crate::all_entries::push_all;
 use crate::laws;
 use crate::logs::{Span, push_logs};
 use crate::proof_text::ProofText;
@@ -26,7 +26,7 @@ pub fn derivation<D: Desk>(
     requires started { IsSome (D.state desk.old).started }
     requires legal { IsLegal net.now book.now }
     ensures writes { Stitches (proof_text net.now (derivation_of net.now book.now.entries))
-        (D.state desk.old) (D.state desk.new) result }
+        (D.state desk.old) (D.state desk.new) (D.sizes desk.old) (D.sizes desk.new) result }
     ensures derives { IsDerivation net.now (derivation_of net.now book.now.entries) }
     ensures spans { IfOk result (λ spans. AreSpans net.now book.now.entries spans.items) }
     ensures numbers { IfOk result (λ spans. spans.items ≡ spans_of net.now book.now.entries) }
@@ -36,7 +36,7 @@ pub fn derivation<D: Desk>(
 {
     laws::derives(net, book);
     let (proof, spans) = whole_derivation(alloc, net, book)?;
-    proof.write(desk)?;
+    proof.write(alloc, desk)?;
     Ok(spans)
 }
 
@@ -56,7 +56,7 @@ fn whole_derivation(
     book.out_budget();
     let mut proof = ProofText::new(alloc, u64::from(net.clauses()));
     let shown = shown_ids(alloc, net, book)?;
-    push_entries(alloc, net, book, shown.as_slice(), &mut proof)?;
+    push_all(alloc, net, book, shown.as_slice(), &mut proof)?;
     let spans = push_logs(alloc, net, book, shown.as_slice(), &mut proof)?;
     Ok((proof, spans))
 }

@@ -5,7 +5,7 @@ use Rattle.proof_stitch.proofs.addition.ids.Goals as goal
 
 pub loop-hint-preserved : goal.loop-hint-preserved
 loop-hint-preserved c =
-    rw (c.in_ok-push.ensures.items, c.loop-hint.invariant, c.id.ensures)
+    rw (c.in_ok-push.ensures.items, c.loop-hint.invariant, c.id_of.ensures)
     (sym (map_more (id_of c.args.net.now c.args.shown.now c.args.first) c.args.hints.now c.loop-hint.hint-index _ c.loop-hint-test.true))
 
 pub returns : goal.returns

@@ -1,0 +1,517 @@
+-- A writer that goes through lines, one by one.
+use Rattle.std.proofs.Common.{◌≡◌, ℕ, ◌+◌, ◌<◌, ◌≤◌, ◌^◌, Bool, true, false, not, ◌&&◌, ◌||◌, eqb, List, [], ◌∷◌, ◌++◌, length, map, if◌then◌else◌, refl, sym, ap, ap₂, ◌∙◌, subst, arith, append_assoc, length-append, ◌⊎◌, inl, inr}
+use Rattle.std.specs.Prelude.{filter}
+use Rattle.std.specs.List.{AllByRecursion}
+use Rattle.std.specs.List.Sorted.{IsStrictlyIncreasing}
+use Rattle.std.proofs.lemmas.Bool.{eqb-true, eq-eqb, ne_eqb, le-leb, lt-leb, cases_eq, or_left, or_right}
+use Rattle.std.proofs.lemmas.List.{map-append, append-nil}
+use Rattle.std.proofs.lemmas.List.Folds.{list_any-append}
+use Rattle.lits.specs.Dimacs.{DimacsLiteral}
+use Rattle.lits.proofs.Facts.{all-append}
+use Rattle.lrat_text.specs.declared.step.LratStep.{LratStep}
+use Rattle.lrat_text.specs.declared.step.LratStep.TheVariants.{Add, Del}
+use Rattle.lrat_text.specs.Writing.{line_text, text_from}
+use Rattle.lits.specs.declared.step.Step.{Step}
+use Rattle.netlist.specs.Net.{AigPair}
+use Rattle.netlist.specs.Miter.{numbered}
+use Rattle.proof_stitch.specs.Steps.{addition, id_of}
+use Rattle.proof_stitch.specs.Progress.{InRow, IsAtLine, Rises, WritesStep}
+use Rattle.proof_stitch.specs.declared.by_step.ByStep.{ByStep}
+use Rattle.proof_stitch.specs.Table.{HasMarks, IsPut, IsStepId, KeepsShape, always, last_use, named_in, number_at}
+use Rattle.proof_stitch.specs.Trimmed.{id_in, has_id, cites, is_cited, reached, last_cited, deletion, with_deletions, new_id, renamed, trimmed}
+use Rattle.proof_stitch.specs.declared.proof_text.ProofText.{ProofText}
+use Rattle.proof_stitch.proofs.MarkLemmas.{last_use-append, last_use-none, last_use-some, mark_of, mark-none, mark-some}
+use Rattle.proof_stitch.proofs.RowLemmas.{all-above, all-has_id, cites-below, follows-id, has_id-all, reached-all}
+use Rattle.proof_stitch.proofs.TrimmedLemmas.{new_id-low, new_id-next}
+use Rattle.proof_stitch.proofs.RisingLemmas.{has_id-filtered, same-members, rises-filter, rises-from, rises-push}
+
+-- a test of joined lines
+cited-append : (xs ys : List LratStep) (n : ℕ) → is_cited (xs ++ ys) n ≡ (is_cited xs n || is_cited ys n)
+cited-append xs ys n = list_any-append (λ l. cites l n) xs ys
+
+-- an id of joined lines
+has_id-append : (xs ys : List LratStep) (n : ℕ) → has_id (map id_in (xs ++ ys)) n ≡ (has_id (map id_in xs) n || has_id (map id_in ys) n)
+has_id-append xs ys n =
+    ap (λ (l : List ℕ). has_id l n) (map-append id_in xs ys) ∙ list_any-append (λ id. eqb id n) (map id_in xs) (map id_in ys)
+
+-- maps that agree on a list
+map-same : (f g : ℕ → ℕ) (ids : List ℕ) → AllByRecursion (λ n. f n ≡ g n) ids → map f ids ≡ map g ids
+map-same f g [] all = refl
+map-same f g (i ∷ is) all = ap₂ (λ (n : ℕ) (ns : List ℕ). n ∷ ns) all.0 (map-same f g is all.1)
+
+-- a deletion by new ids
+renamed-deletion : (name : ℕ → ℕ) (ids : List ℕ) → map (renamed name) (deletion ids) ≡ deletion (map name ids)
+renamed-deletion name [] = refl
+renamed-deletion name (n ∷ ns) = refl
+
+-- the text of a line, its deletion and what stands behind
+text-behind : (last id : ℕ) (clause : List DimacsLiteral) (hints ids : List ℕ) (rest : List LratStep)
+    → text_from last (Add id clause hints ∷ (deletion ids ++ rest)) ≡ text_from last (Add id clause hints ∷ deletion ids) ++ text_from id rest
+text-behind last id clause hints [] rest =
+    ap (λ (t : List ℕ). t ++ text_from id rest) (sym (append-nil (line_text last (Add id clause hints))))
+text-behind last id clause hints (n ∷ ns) rest =
+    let here = line_text last (Add id clause hints) in
+    let gone = line_text id (Del (n ∷ ns)) in
+    ap (λ (t : List ℕ). here ++ (t ++ text_from id rest)) (sym (append-nil gone))
+    ∙ sym (append_assoc here (gone ++ []) (text_from id rest))
+
+-- the new id of a step
+named-above : (t : ByStep) (n : ℕ) → t.clauses < n → named_in t n ≡ number_at t n
+named-above t n above = ap (λ (b : Bool). if b then n else number_at t n) (lt-leb n t.clauses above)
+
+-- the text of a step and its deletion
+pub step-text : (text text' text'' : List ℕ) (last last' : ℕ) (clause clause' : List DimacsLiteral) (hints hints' gone gone' : List ℕ)
+    → text' ≡ text ++ line_text last (Add (last + 1) clause hints) → last' ≡ last + 1 → text'' ≡ text' ++ text_from last' (deletion gone)
+    → clause ≡ clause' → hints ≡ hints' → gone ≡ gone'
+    → text'' ≡ text ++ text_from last (Add (last + 1) clause' hints' ∷ deletion gone')
+step-text text text' text'' last last' clause clause' hints hints' gone gone' p q r e f g =
+    r ∙ rw (p, q, e, f, g)
+    (append_assoc text (line_text last (Add (last + 1) clause' hints')) (text_from (last + 1) (deletion gone')))
+
+-- before the first line
+pub at-start : (m : ℕ) (asked : ℕ → Bool) (all : List LratStep) (names : ByStep) (proof : ProofText) → InRow m all
+    → proof.text.items ≡ [] → proof.last ≡ m → IsAtLine m asked all all (m + 1) names proof
+at-start m asked all names proof row text last = record {
+  last = m;
+  next_is = refl;
+  row = row;
+  done = [];
+  parts = refl;
+  least = omega arith;
+  low = tt;
+  rises = tt;
+  cited = λ n lt. refl;
+  known = λ n w le. inl le;
+  names_are = λ n h. cc;
+  last_is = omega (arith, last);
+  text_is = rw (text, last) refl;
+}
+
+module _ {m : ℕ} {asked : ℕ → Bool} {all left : List LratStep} {next : ℕ} {names : ByStep} {proof : ProofText} (line : LratStep)
+    (at : IsAtLine m asked all (line ∷ left) next names proof) where
+  abbrev kept : List LratStep
+  kept = reached asked all
+
+  abbrev name : ℕ → ℕ
+  name = new_id m kept
+
+  abbrev is_wanted : Bool
+  is_wanted = asked (id_in line) || is_cited (reached asked left) (id_in line)
+
+  pub line-id : id_in line ≡ next
+  line-id = follows-id at.last line at.row.0 ∙ sym at.next_is
+
+  -- the lines behind
+  behind-above : AllByRecursion (λ l. at.last + 1 < id_in l) (reached asked left)
+  behind-above = reached-all (λ l. at.last + 1 < id_in l) asked left (all-above (at.last + 1) left at.row.1)
+
+  wider : AllByRecursion (λ l. (m < id_in l) × (id_in l ≤ at.last + 1)) at.done
+  wider = go at.done at.low
+    where
+      go : (ls : List LratStep) → AllByRecursion (λ l. (m < id_in l) × (id_in l ≤ at.last)) ls → AllByRecursion (λ l. (m < id_in l) × (id_in l ≤ at.last + 1)) ls
+      go [] a = tt
+      go (l ∷ ls) a = ((a.0.0, omega (arith, a.0.1)), go ls a.1)
+
+  -- a line that isn't reached
+  module _ (unwanted : is_wanted ≡ false) where
+    behind : reached asked (line ∷ left) ≡ reached asked left
+    behind = rw unwanted refl
+
+    pub at-skip : IsAtLine m asked all left (next + 1) names proof
+    at-skip = record {
+      last = at.last + 1;
+      next_is = omega (arith, at.next_is);
+      row = at.row.1;
+      done = at.done;
+      parts = at.parts ∙ ap (λ (l : List LratStep). at.done ++ l) behind;
+      least = omega (arith, at.least);
+      low = wider;
+      rises = at.rises;
+      cited = λ n lt. at.cited n (omega (arith, lt));
+      known = λ n w le. known n w le (cases_eq n (id_in line));
+      names_are = at.names_are;
+      last_is = at.last_is;
+      text_is = subst (λ (l : List LratStep). proof.text.items ++ text_from proof.last (map (renamed name) (with_deletions asked at.done l)) ≡ text_from m (trimmed m asked all)) behind at.text_is;
+    }
+      where
+        known : (n : ℕ) → (asked n || is_cited (reached asked left) n) ≡ true → n ≤ at.last + 1 → ((n ≡ id_in line) ⊎ (n ≡ id_in line → ⊥))
+            → (n ≤ m) ⊎ (has_id (map id_in at.done) n ≡ true)
+        known n w le (inl e) =
+            let f : true ≡ false = sym w ∙ ap (λ (k : ℕ). asked k || is_cited (reached asked left) k) e ∙ unwanted in cc
+        known n w le (inr ne) =
+            at.known n (subst (λ (l : List LratStep). (asked n || is_cited l n) ≡ true) (sym behind) w)
+            (omega (arith, le, ne, follows-id at.last line at.row.0))
+
+  -- one that is
+  module _ (wanted : is_wanted ≡ true) where
+    ahead : reached asked (line ∷ left) ≡ line ∷ reached asked left
+    ahead = rw wanted refl
+
+    whole : kept ≡ at.done ++ line ∷ reached asked left
+    whole = at.parts ∙ ap (λ (l : List LratStep). at.done ++ l) ahead
+
+    known-before : (n : ℕ) → (asked n || is_cited (line ∷ reached asked left) n) ≡ true → n ≤ at.last → (n ≤ m) ⊎ (has_id (map id_in at.done) n ≡ true)
+    known-before n w le = at.known n (subst (λ (l : List LratStep). (asked n || is_cited l n) ≡ true) (sym ahead) w) le
+
+    -- the new id of the line
+    next-name : name (id_in line) ≡ proof.last + 1
+    next-name =
+        ap (λ (l : List LratStep). new_id m l (id_in line)) whole
+        ∙ new_id-next m at.done (reached asked left) line at.last (follows-id at.last line at.row.0) at.least (go at.done at.low) behind-above
+        ∙ ap (λ (n : ℕ). n + 1) (sym at.last_is)
+      where
+        go : (ls : List LratStep) → AllByRecursion (λ l. (m < id_in l) × (id_in l ≤ at.last)) ls → AllByRecursion (λ l. id_in l ≤ at.last) ls
+        go [] a = tt
+        go (l ∷ ls) a = (a.0.1, go ls a.1)
+
+    done-ids : (n : ℕ) → has_id (map id_in at.done) n ≡ true → (m < n) × (n ≤ at.last)
+    done-ids n h = has_id-all (λ k. (m < k) × (k ≤ at.last)) (map id_in at.done) n (go at.done at.low) h
+      where
+        go : (ls : List LratStep) → AllByRecursion (λ l. (m < id_in l) × (id_in l ≤ at.last)) ls → AllByRecursion (λ k. (m < k) × (k ≤ at.last)) (map id_in ls)
+        go [] a = tt
+        go (l ∷ ls) a = (a.0, go ls a.1)
+
+    -- ids of what stays are above those of the formula
+    kept-above : AllByRecursion (λ l. m < id_in l) kept
+    kept-above =
+        subst (λ (l : List LratStep). AllByRecursion (λ l. m < id_in l) l) (sym whole)
+        (all-append (λ l. m < id_in l) at.done (line ∷ reached asked left) (go at.done at.low)
+        (omega (arith, follows-id at.last line at.row.0, at.least), over (reached asked left) behind-above))
+      where
+        go : (ls : List LratStep) → AllByRecursion (λ l. (m < id_in l) × (id_in l ≤ at.last)) ls → AllByRecursion (λ l. m < id_in l) ls
+        go [] a = tt
+        go (l ∷ ls) a = (a.0.0, go ls a.1)
+
+        over : (ls : List LratStep) → AllByRecursion (λ l. at.last + 1 < id_in l) ls → AllByRecursion (λ l. m < id_in l) ls
+        over [] a = tt
+        over (l ∷ ls) a = (omega (arith, a.0, at.least), over ls a.1)
+
+    -- the last line of all, which cites only what is asked for
+    module _ (clauses : names.clauses ≡ m) (hints : List ℕ) (is : line ≡ Add next [] hints) (none : left ≡ [])
+        (asks : (n : ℕ) → cites line n ≡ true → asked n ≡ true) where
+      named-now : (n : ℕ) → cites line n ≡ true → named_in names n ≡ name n
+      named-now n h =
+          let range = cites-below at.last line at.row.0 n h in
+          elim (known-before n (or_left (asked n) (is_cited (line ∷ reached asked left) n) (asks n h)) range.1) [
+            | inl low ↦ rw (le-leb n names.clauses (omega (arith, low, clauses))) (sym (new_id-low m kept n low kept-above))
+            | inr done ↦ at.names_are n done
+          ]
+
+      none-behind : reached asked left ≡ []
+      none-behind = ap (reached asked) none
+
+      none-falls : last_cited asked at.done line [] ≡ []
+      none-falls = filter-none (map id_in at.done)
+        where
+          fails : (n : ℕ) → (cites line n && not (asked n || is_cited [] n)) ≡ false
+          fails n = go (cites line n) refl
+            where
+              go : (b : Bool) → cites line n ≡ b → (cites line n && not (asked n || is_cited [] n)) ≡ false
+              go false e = rw e refl
+              go true e = rw (e, asks n e) refl
+
+          filter-none : (ids : List ℕ) → filter (λ n. cites line n && not (asked n || is_cited [] n)) ids ≡ []
+          filter-none [] = refl
+          filter-none (i ∷ is) = rw (fails i) (filter-none is)
+
+      pub at-end : text_from m (trimmed m asked all)
+          ≡ proof.text.items ++ line_text proof.last (Add (proof.last + 1) [] (map (named_in names) hints))
+      at-end =
+          sym at.text_is
+          ∙ ap (λ (t : List ℕ). proof.text.items ++ t)
+          (ap (λ (l : List LratStep). text_from proof.last (map (renamed name) (with_deletions asked at.done l))) (ahead ∙ ap (λ (l : List LratStep). line ∷ l) none-behind)
+          ∙ ap (λ (l : List ℕ). text_from proof.last (renamed name line ∷ map (renamed name) (deletion l ++ []))) none-falls
+          ∙ ap (λ (l : LratStep). text_from proof.last (l ∷ [])) same-line
+          ∙ append-nil (line_text proof.last (Add (proof.last + 1) [] (map (named_in names) hints))))
+        where
+          same-line : renamed name line ≡ Add (proof.last + 1) [] (map (named_in names) hints)
+          same-line =
+              let id : name next ≡ proof.last + 1 = ap name (sym line-id) ∙ next-name in
+              ap (renamed name) is
+              ∙ ap₂ (λ (i : ℕ) (hs : List ℕ). Add i [] hs) id
+              (map-same name (named_in names) hints
+              (all-has_id (λ k. name k ≡ named_in names k) hints
+              (λ k h. sym (named-now k (subst (λ (l : LratStep). cites l k ≡ true) (sym is) h)))))
+
+      -- how many lines stay
+      pub end-count : length kept ≡ length at.done + 1
+      end-count =
+          ap length (whole ∙ ap (λ (l : List LratStep). at.done ++ line ∷ l) none-behind)
+          ∙ length-append at.done (line ∷ [])
+
+    module _ (names' : ByStep) (shape : KeepsShape names names') (clauses : names.clauses ≡ m)
+        (within : IsStepId names (id_in line)) (put : IsPut (id_in line) (proof.last + 1) names names') where
+      clauses' : names'.clauses ≡ m
+      clauses' = shape.clauses ∙ clauses
+
+      -- new ids of earlier lines, and of this one
+      named-done : (n : ℕ) → has_id (map id_in at.done) n ≡ true → named_in names' n ≡ name n
+      named-done n h =
+          let range = done-ids n h in
+          let is : IsStepId names n = (omega (arith, range.0, clauses), omega (arith, range.1, within.1, follows-id at.last line at.row.0)) in
+          let other : eqb n (id_in line) ≡ false = ne_eqb n (id_in line) (λ (e : n ≡ id_in line). omega (arith, e, range.1, follows-id at.last line at.row.0)) in
+          named-above names' n (omega (arith, range.0, clauses'))
+          ∙ put n is
+          ∙ ap (λ (b : Bool). if b then proof.last + 1 else number_at names n) other
+          ∙ sym (named-above names n is.0)
+          ∙ at.names_are n h
+
+      named-own : named_in names' (id_in line) ≡ name (id_in line)
+      named-own =
+          named-above names' (id_in line) (omega (arith, within.0, shape.clauses))
+          ∙ put (id_in line) within
+          ∙ ap (λ (b : Bool). if b then proof.last + 1 else number_at names (id_in line)) (eq-eqb (id_in line) (id_in line) refl)
+          ∙ sym next-name
+
+      -- and of what the line cites
+      named-cited : (n : ℕ) → cites line n ≡ true → named_in names' n ≡ name n
+      named-cited n h =
+          let range = cites-below at.last line at.row.0 n h in
+          elim (known-before n (or_right (asked n) (is_cited (line ∷ reached asked left) n) (or_left (cites line n) (is_cited (reached asked left) n) h)) range.1) [
+            | inl low ↦ rw (le-leb n names'.clauses (omega (arith, low, clauses'))) (sym (new_id-low m kept n low kept-above))
+            | inr done ↦ named-done n done
+          ]
+
+      module _ (marks : ByStep) (has : HasMarks asked kept marks) (alike : KeepsShape marks names) (small : id_in line < 2 ^ 63)
+          (gone : List ℕ) (rises : IsStrictlyIncreasing gone)
+          (members : (n : ℕ) → has_id gone n ≡ (cites line n && eqb (number_at marks n) (id_in line))) where
+        -- the line is the last to cite a step exactly where its mark says so
+        last-mark : (n : ℕ) → cites line n ≡ true → m < n
+            → eqb (number_at marks n) (id_in line) ≡ not (asked n || is_cited (reached asked left) n)
+        last-mark n h above = rw (has.marks n is) (go (asked n) (is_cited (reached asked left) n) refl refl)
+          where
+            range : (1 ≤ n) × (n ≤ at.last)
+            range = cites-below at.last line at.row.0 n h
+
+            is : IsStepId marks n
+            is = (
+              omega (arith, above, alike.clauses, clauses),
+              omega (arith, range.1, within.1, alike.clauses, alike.steps, follows-id at.last line at.row.0),
+            )
+
+            go : (b c : Bool) → asked n ≡ b → is_cited (reached asked left) n ≡ c → eqb (mark_of asked kept n) (id_in line) ≡ not (b || c)
+            go true c e f = rw e (ne_eqb always (id_in line) (λ (same : always ≡ id_in line). omega (arith, same, small)))
+            go false true e f =
+                let some : at.last + 1 < last_use (reached asked left) n = last_use-some (at.last + 1) (reached asked left) n behind-above f in
+                let mine : last_use (line ∷ reached asked left) n ≡ last_use (reached asked left) n = last_use-append (line ∷ []) (reached asked left) n (omega (arith, some)) in
+                let is_use : last_use kept n ≡ last_use (reached asked left) n =
+                ap (λ (l : List LratStep). last_use l n) whole ∙ last_use-append at.done (line ∷ reached asked left) n (omega (arith, some, mine)) ∙ mine in
+                rw (e, is_use) (ne_eqb (last_use (reached asked left) n) (id_in line) (λ (same : last_use (reached asked left) n ≡ id_in line). omega (arith, same, some, follows-id at.last line at.row.0)))
+            go false false e f =
+                let mine : last_use (line ∷ reached asked left) n ≡ id_in line = rw (last_use-none (reached asked left) n f, h) refl in
+                let is_use : last_use kept n ≡ id_in line =
+                ap (λ (l : List LratStep). last_use l n) whole ∙ last_use-append at.done (line ∷ reached asked left) n (omega (arith, mine, follows-id at.last line at.row.0)) ∙ mine in
+                rw (e, is_use) (eq-eqb (id_in line) (id_in line) refl)
+
+        abbrev falls : ℕ → Bool
+        falls n = cites line n && not (asked n || is_cited (reached asked left) n)
+
+        same : (n : ℕ) → has_id gone n ≡ has_id (last_cited asked at.done line (reached asked left)) n
+        same n = members n ∙ go (cites line n) refl ∙ sym (has_id-filtered falls (map id_in at.done) n)
+          where
+            none : (b : Bool) → (b && false) ≡ false
+            none true = refl
+            none false = refl
+
+            go : (b : Bool) → cites line n ≡ b → (cites line n && eqb (number_at marks n) (id_in line)) ≡ (has_id (map id_in at.done) n && falls n)
+            go false e = rw e (sym (none (has_id (map id_in at.done) n)))
+            go true e = elim (known-before n wanted-here range.1) [
+              | inl low ↦
+                  let zero : number_at marks n ≡ 0 = rw (le-leb n marks.clauses (omega (arith, low, clauses, alike.clauses))) refl in
+                  let not-done : has_id (map id_in at.done) n ≡ false = done-not low (has_id (map id_in at.done) n) refl in
+                  rw (e, zero, not-done) (ne_eqb 0 (id_in line) (λ (f : 0 ≡ id_in line). omega (arith, f, follows-id at.last line at.row.0)))
+              | inr done ↦ rw (e, done) (last-mark n e (done-ids n done).0)
+            ]
+              where
+                range : (1 ≤ n) × (n ≤ at.last)
+                range = cites-below at.last line at.row.0 n e
+
+                wanted-here : (asked n || is_cited (line ∷ reached asked left) n) ≡ true
+                wanted-here = or_right (asked n) (is_cited (line ∷ reached asked left) n) (or_left (cites line n) (is_cited (reached asked left) n) e)
+
+                done-not : n ≤ m → (b : Bool) → has_id (map id_in at.done) n ≡ b → b ≡ false
+                done-not low false f = refl
+                done-not low true f = absurd (omega (arith, low, (done-ids n f).0))
+
+        gone-is : gone ≡ last_cited asked at.done line (reached asked left)
+        gone-is =
+            same-members gone (last_cited asked at.done line (reached asked left)) (rises-from gone rises)
+            (rises-filter falls (map id_in at.done) at.rises) same
+
+        -- the line and its deletion
+        pub at-write : (proof' : ProofText) (clause : List DimacsLiteral) (hints : List ℕ) → line ≡ Add next clause hints
+            → proof'.last ≡ proof.last + 1
+            → proof'.text.items
+            ≡ proof.text.items
+            ++ text_from proof.last (Add (proof.last + 1) clause (map (named_in names') hints) ∷ deletion (map (named_in names') gone))
+            → IsAtLine m asked all left (next + 1) names' proof'
+        at-write proof' clause hints is last text = record {
+          last = at.last + 1;
+          next_is = omega (arith, at.next_is);
+          row = at.row.1;
+          done = at.done ++ line ∷ [];
+          parts = whole ∙ sym (append_assoc at.done (line ∷ []) (reached asked left));
+          least = omega (arith, at.least);
+          low =
+              all-append (λ l. (m < id_in l) × (id_in l ≤ at.last + 1)) at.done (line ∷ []) wider
+              ((omega (arith, at.least, own), omega (arith, own)), tt);
+          rises =
+              subst Rises (sym (map-append id_in at.done (line ∷ [])))
+              (rises-push (map id_in at.done) (id_in line) at.rises
+              (all-has_id (λ k. k < id_in line) (map id_in at.done) (λ k h. omega (arith, own, (done-ids k h).1))));
+          cited = λ n lt. cited-append at.done (line ∷ []) n ∙ rw (at.cited n (omega (arith, lt))) (beyond n lt (cites line n) refl);
+          known = λ n w le. known n w le (cases_eq n (id_in line));
+          names_are = λ n h. names_are n (has_id (map id_in at.done) n) refl (sym (has_id-append at.done (line ∷ []) n) ∙ h);
+          last_is = omega (arith, last, at.last_is, length-append at.done (line ∷ []));
+          text_is = text_is;
+        }
+          where
+            own : id_in line ≡ at.last + 1
+            own = follows-id at.last line at.row.0
+
+            beyond : (n : ℕ) → at.last + 1 < n → (b : Bool) → cites line n ≡ b → (b || false) ≡ false
+            beyond n lt false e = refl
+            beyond n lt true e = absurd (omega (arith, lt, (cites-below at.last line at.row.0 n e).1))
+
+            known : (n : ℕ) → (asked n || is_cited (reached asked left) n) ≡ true → n ≤ at.last + 1 → ((n ≡ id_in line) ⊎ (n ≡ id_in line → ⊥))
+                → (n ≤ m) ⊎ (has_id (map id_in (at.done ++ line ∷ [])) n ≡ true)
+            known n w le (inl e) =
+                inr (has_id-append at.done (line ∷ []) n
+                ∙ or_right (has_id (map id_in at.done) n) (has_id (id_in line ∷ []) n) (rw (eq-eqb (id_in line) n (sym e)) refl))
+            known n w le (inr ne) = more (known-before n still (omega (arith, le, ne, own)))
+              where
+                still : (asked n || is_cited (line ∷ reached asked left) n) ≡ true
+                still = go (asked n) refl
+                  where
+                    go : (b : Bool) → asked n ≡ b → (asked n || is_cited (line ∷ reached asked left) n) ≡ true
+                    go true e = rw e refl
+                    go false e = rw e (or_right (cites line n) (is_cited (reached asked left) n) (rw e at w))
+
+                more : ((n ≤ m) ⊎ (has_id (map id_in at.done) n ≡ true)) → (n ≤ m) ⊎ (has_id (map id_in (at.done ++ line ∷ [])) n ≡ true)
+                more (inl low) = inl low
+                more (inr h) = inr (has_id-append at.done (line ∷ []) n ∙ or_left (has_id (map id_in at.done) n) (has_id (id_in line ∷ []) n) h)
+
+            names_are : (n : ℕ) (b : Bool) → has_id (map id_in at.done) n ≡ b → (has_id (map id_in at.done) n || has_id (id_in line ∷ []) n) ≡ true
+                → named_in names' n ≡ name n
+            names_are n true e h = named-done n e
+            names_are n false e h = go (eqb (id_in line) n) refl
+              where
+                go : (b : Bool) → eqb (id_in line) n ≡ b → named_in names' n ≡ name n
+                go true f = subst (λ (k : ℕ). named_in names' k ≡ name k) (eqb-true (id_in line) n f) named-own
+                go false f = let g : false ≡ true = rw (e, f) at h in cc
+
+            here : List LratStep
+            here = map (renamed name) (with_deletions asked (at.done ++ line ∷ []) (reached asked left))
+
+            hints-same : map name hints ≡ map (named_in names') hints
+            hints-same =
+                map-same name (named_in names') hints
+                (all-has_id (λ k. name k ≡ named_in names' k) hints
+                (λ k h. sym (named-cited k (subst (λ (l : LratStep). cites l k ≡ true) (sym is) h))))
+
+            gone-same : map name (last_cited asked at.done line (reached asked left)) ≡ map (named_in names') gone
+            gone-same =
+                ap (map name) (sym gone-is)
+                ∙ map-same name (named_in names') gone
+                (all-has_id (λ k. name k ≡ named_in names' k) gone
+                (λ k h. sym (named-cited k (first k (eqb (number_at marks k) (id_in line)) (cites line k) refl (sym (members k) ∙ h)))))
+              where
+                first : (k : ℕ) (c b : Bool) → cites line k ≡ b → (b && c) ≡ true → cites line k ≡ true
+                first k c true e h = e
+                first k c false e h = cc
+
+            line-same : renamed name line ≡ Add (proof.last + 1) clause (map (named_in names') hints)
+            line-same =
+                let id : name next ≡ proof.last + 1 = ap name (sym line-id) ∙ next-name in
+                ap (renamed name) is
+                ∙ ap₂ (λ (i : ℕ) (hs : List ℕ). Add i clause hs) id hints-same
+
+            lines-same : Add (proof.last + 1) clause (map (named_in names') hints) ∷ (deletion (map (named_in names') gone) ++ here)
+                ≡ map (renamed name) (with_deletions asked at.done (line ∷ reached asked left))
+            lines-same =
+                ap₂ (λ (l : LratStep) (ls : List LratStep). l ∷ ls) (sym line-same)
+                (ap (λ (l : List ℕ). deletion l ++ here) (sym gone-same)
+                ∙ ap (λ (l : List LratStep). l ++ here) (sym (renamed-deletion name (last_cited asked at.done line (reached asked left))))
+                ∙ sym (map-append (renamed name) (deletion (last_cited asked at.done line (reached asked left)))
+                (with_deletions asked (at.done ++ line ∷ []) (reached asked left))))
+
+            text_is : proof'.text.items ++ text_from proof'.last here ≡ text_from m (trimmed m asked all)
+            text_is =
+                rw (text, last)
+                (append_assoc proof.text.items
+                (text_from proof.last (Add (proof.last + 1) clause (map (named_in names') hints) ∷ deletion (map (named_in names') gone)))
+                (text_from (proof.last + 1) here)
+                ∙ ap (λ (t : List ℕ). proof.text.items ++ t)
+                (sym (text-behind proof.last (proof.last + 1) clause (map (named_in names') hints) (map (named_in names') gone) here)
+                ∙ ap (text_from proof.last) lines-same)
+                ∙ subst (λ (l : List LratStep). proof.text.items ++ text_from proof.last (map (renamed name) (with_deletions asked at.done l)) ≡ text_from m (trimmed m asked all))
+                ahead at.text_is)
+
+-- what the mark of the next line says
+module _ {m : ℕ} {asked : ℕ → Bool} {all left : List LratStep} {next : ℕ} {names : ByStep} {proof : ProofText} (line : LratStep)
+    (at : IsAtLine m asked all (line ∷ left) next names proof) (marks : ByStep) (has : HasMarks asked (reached asked all) marks)
+    (is : IsStepId marks next) where
+  -- no line before it cites it, nor does it itself
+  cited-behind : (l : List LratStep) → reached asked (line ∷ left) ≡ l → is_cited (reached asked all) (id_in line) ≡ is_cited l (id_in line)
+  cited-behind l e =
+      ap (λ (k : List LratStep). is_cited k (id_in line)) (at.parts ∙ ap (λ (k : List LratStep). at.done ++ k) e)
+      ∙ cited-append at.done l (id_in line)
+      ∙ rw (at.cited (id_in line) (omega (arith, follows-id at.last line at.row.0))) refl
+
+  own-uncited : cites line (id_in line) ≡ false
+  own-uncited = go (cites line (id_in line)) refl
+    where
+      go : (b : Bool) → cites line (id_in line) ≡ b → b ≡ false
+      go false e = refl
+      go true e = absurd (omega (arith, follows-id at.last line at.row.0, (cites-below at.last line at.row.0 (id_in line) e).1))
+
+  mark-is : number_at marks (id_in line) ≡ mark_of asked (reached asked all) (id_in line)
+  mark-is = has.marks (id_in line) (subst (IsStepId marks) (sym (line-id line at)) is)
+
+  test-is : (b : Bool) → (asked (id_in line) || is_cited (reached asked left) (id_in line)) ≡ b
+      → (asked (id_in line) || is_cited (reached asked all) (id_in line)) ≡ b
+  test-is false e =
+      let behind : reached asked (line ∷ left) ≡ reached asked left = rw e refl in
+      rw (cited-behind (reached asked left) behind) e
+  test-is true e =
+      let ahead : reached asked (line ∷ left) ≡ line ∷ reached asked left = rw e refl in
+      rw (cited-behind (line ∷ reached asked left) ahead, own-uncited) e
+
+  -- without one the line isn't reached
+  pub skip-line : number_at marks next ≡ 0 → IsAtLine m asked all left (next + 1) names proof
+  skip-line none = go (asked (id_in line) || is_cited (reached asked left) (id_in line)) refl
+    where
+      go : (b : Bool) → (asked (id_in line) || is_cited (reached asked left) (id_in line)) ≡ b → IsAtLine m asked all left (next + 1) names proof
+      go false e = at-skip line at e
+      go true e =
+          let some = mark-some asked (reached asked all) (id_in line) has.ids (test-is true e) in
+          absurd (omega (arith, some, mark-is, none, ap (number_at marks) (line-id line at)))
+
+  -- and with one it is
+  pub wanted-line : (number_at marks next ≡ 0 → ⊥) → (asked (id_in line) || is_cited (reached asked left) (id_in line)) ≡ true
+  wanted-line some = go (asked (id_in line) || is_cited (reached asked left) (id_in line)) refl
+    where
+      go : (b : Bool) → (asked (id_in line) || is_cited (reached asked left) (id_in line)) ≡ b → b ≡ true
+      go true e = refl
+      go false e =
+          absurd (some (ap (number_at marks) (sym (line-id line at)) ∙ mark-is
+          ∙ mark-none asked (reached asked all) (id_in line) (test-is false e)))
+
+-- a step that is written
+pub write-line : {m : ℕ} {asked : ℕ → Bool} {all left : List LratStep} {names : ByStep} {proof : ProofText}
+    (net : AigPair) (shown : List ℕ) (marks : ByStep) (first id : ℕ) (step : Step) (names' : ByStep) (proof' : ProofText)
+    → IsAtLine m asked all (addition net shown first id step ∷ left) id names proof → marks.clauses ≡ m
+    → HasMarks asked (reached asked all) marks → IsStepId marks id → KeepsShape marks names → id < 2 ^ 63
+    → (number_at marks id ≡ 0 → ⊥) → KeepsShape names names' → IsPut id (proof.last + 1) names names'
+    → WritesStep net shown marks first id step names' proof proof'
+    → IsAtLine m asked all left (id + 1) names' proof'
+write-line {m} {asked} {all} {left} {names} {proof} net shown marks first id step names' proof' at clauses has is alike small some shape put written =
+    at-write line at (wanted-line line at marks has is some) names' shape (alike.clauses ∙ clauses) within put marks has alike small
+    written.gone written.rises written.members proof' (map (numbered net) step.clause) (map (id_of net shown first) step.hints) refl
+    written.last written.text
+  where
+    line : LratStep
+    line = addition net shown first id step
+
+    within : IsStepId names id
+    within = (omega (arith, is.0, alike.clauses), omega (arith, is.1, alike.clauses, alike.steps))

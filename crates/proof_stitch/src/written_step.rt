@@ -1,0 +1,118 @@
+//! A step that is reached, as it is written: its line, by new ids, and the deletion of what it is the last to cite.
+ghost use Rattle.std.specs.Prelude.{◌≡◌, ℕ, ◌+◌, ◌<◌, ◌^◌, ◌++◌, ◌==◌, ◌&&◌, IfOk, OnOk, filter, map};
+ghost use Rattle.std.specs.List.Sorted.{IsStrictlyIncreasing};
+ghost use Rattle.proof_stitch.specs.Ids.{HasIds};
+ghost use Rattle.proof_stitch.specs.Progress.{WritesStep};
+ghost use Rattle.proof_stitch.specs.Table.{KeepsShape, IsPut, named_in, number_at};
+ghost use Rattle.lrat_text.specs.Writing.{text_from};
+ghost use Rattle.proof_stitch.specs.Trimmed.{deletion, has_id};
+
+use crate::addition::{ids, numbers};
+use crate::by_step::ByStep;
+use crate::proof_text::ProofText;
+use lits::{Listed, Step};
+use lrat_text::LratStep;
+use netlist::Net;
+use std::alloc::{AllocError, Global};
+
+/// Writes a step under the next new id. `id` is its id in the whole proof, and `first` that of the first step
+/// of its list.
+pub fn write_step(
+    alloc: Global,
+    net: &Net,
+    shown: &[u64],
+    marks: &ByStep,
+    names: &mut ByStep,
+    first: u64,
+    id: u64,
+    step: &Step,
+    proof: &mut ProofText,
+) -> Result<(), AllocError>
+    requires ids { HasIds net.now shown.now first step.now }
+    requires room { proof.old.last + 1 < 2 ^ 64 }
+    ensures shape { KeepsShape names.old names.new }
+    ensures named { IsPut id (proof.old.last + 1) names.old names.new }
+    ensures text { OnOk result (WritesStep net.now shown.now marks.now first id step.now names.new
+        proof.old proof.new) }
+{
+    let next = proof.last + 1;
+    names.set(id, next);
+    let cited = ids(alloc, net, shown, first, step.hints.as_slice())?;
+    let clause = numbers(alloc, net, step.clause.lits())?;
+    let hints = new_ids(alloc, names, cited.as_slice())?;
+    let addition = LratStep::Add {
+        id: next,
+        clause: Listed::of(clause),
+        hints: Listed::of(hints),
+    };
+    proof.push(&addition)?;
+    let gone = last_cited(alloc, marks, cited.as_slice(), id)?;
+    delete(alloc, names, gone.as_slice(), proof)?;
+    Ok(())
+}
+
+/// Writes the deletion of some clauses, if there are any.
+fn delete(
+    alloc: Global,
+    names: &ByStep,
+    gone: &[u64],
+    proof: &mut ProofText,
+) -> Result<(), AllocError>
+    ensures text { OnOk result (proof.new.text.items ≡ proof.old.text.items
+        ++ text_from proof.old.last (deletion (map (named_in names.now) gone.now))) }
+    ensures last { OnOk result (proof.new.last ≡ proof.old.last) }
+{
+    if gone.is_empty() {
+        return Ok(());
+    }
+    let ids = new_ids(alloc, names, gone)?;
+    proof.push(&LratStep::Del {
+        ids: Listed::of(ids),
+    })
+}
+
+/// The new ids of some ids.
+pub fn new_ids(alloc: Global, names: &ByStep, ids: &[u64]) -> Result<Vec<u64>, AllocError>
+    ensures { IfOk result (λ v. v.items ≡ map (named_in names.now) ids.now) }
+{
+    let mut new_ids = Vec::with_capacity(alloc, ids.len())?;
+    for id in ids {
+        new_ids.push(new_id(names, *id))?;
+    }
+    Ok(new_ids)
+}
+
+fn new_id(names: &ByStep, id: u64) -> u64
+    ensures { result ≡ named_in names.now id }
+{
+    if id <= names.clauses {
+        id
+    } else {
+        names.get(id)
+    }
+}
+
+/// Of the steps with these ids those that the step with the id `by` is the last to cite, each once and in order.
+fn last_cited(alloc: Global, marks: &ByStep, cited: &[u64], by: u64) -> Result<Vec<u64>, AllocError>
+    ensures rises { IfOk result (λ v. IsStrictlyIncreasing v.items) }
+    ensures members { IfOk result (λ v. (n : ℕ) →
+        has_id v.items n ≡ (has_id cited.now n && (number_at marks.now n == by))) }
+{
+    let mut gone = used_last(alloc, marks, cited, by)?;
+    gone.sort_unstable();
+    gone.dedup();
+    Ok(gone)
+}
+
+/// Those that bear that mark, as they come.
+fn used_last(alloc: Global, marks: &ByStep, cited: &[u64], by: u64) -> Result<Vec<u64>, AllocError>
+    ensures { IfOk result (λ v. v.items ≡ filter (λ n. number_at marks.now n == by) cited.now) }
+{
+    let mut found = Vec::new(alloc);
+    for id in cited {
+        if marks.get(*id) == by {
+            found.push(*id)?;
+        }
+    }
+    Ok(found)
+}
