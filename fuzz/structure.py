@@ -3,10 +3,11 @@
 
 Usage: structure.py [PROGRAM] [--runs N] [--seed N]
 
-Random pairs of equal circuits (fanins swapped, gates doubled) are checked with --out. The first lines of the proof have to be the
-merges that the rule gives: gate by gate in the order of positions, to what the roots of the fanins fold to, else to the earliest
+Random pairs of equal circuits (fanins swapped, gates doubled) are checked with --out. The first additions of the proof have to be the
+merges that the rule gives, without those that nothing cites: gate by gate in the order of positions, to what the roots of the fanins fold to, else to the earliest
 unmerged gate over the same two roots; each of the two clauses with the hints that scanning finds in the clauses of the gate, of its
-twin, of the constant where a root or the target is it, and of the merges that the fanins pass, in the order of the miter. Status 1
+twin, of the constant where a root or the target is it, and of the merges that the fanins pass, in the order of the miter. Each line
+but the last has to be cited, and deleted behind the last line that cites it, unless the last line does. Status 1
 where a line differs. 2,000 runs take some half a minute on a processor.
 """
 import random
@@ -133,15 +134,46 @@ def rewritten(rng, circuit):
     return inputs, outputs, [(lhs, right, left) if rng.random() < 0.5 else (lhs, left, right) for lhs, left, right in gates]
 
 
+def numbers_of(line):
+    """The id, the literals and the hints of an addition."""
+    numbers = [int(word) for word in line.split()]
+    end = numbers.index(0, 1)
+    return numbers[0], numbers[1:end], numbers[end + 1:-1]
+
+
+def with_deletions(additions, clauses):
+    """These lines, each with the deletion of what it is the last to cite, but for what the last line cites."""
+    hints = [numbers_of(line)[2] for line in additions]
+    last = {name: place for place, names in enumerate(hints) for name in names if name > clauses}
+    lines = []
+    for place, line in enumerate(additions):
+        lines.append(line)
+        gone = sorted(name for name, use in last.items() if use == place) if place + 1 < len(additions) else []
+        if gone:
+            lines.append(" ".join(map(str, [clauses + 1 + place, "d", *gone, 0])))
+    return lines, all(clauses + 1 + place in last for place in range(len(additions) - 1))
+
+
 def fault_of(ran, folder, a, b):
     if ran.returncode != 0 or ran.stdout != "EQUIVALENT\n":
         return "no yes"
     clauses = int(Path(folder, "p.0.cnf").read_text().split()[3])
     proof = Path(folder, "p.0.lrat").read_text().splitlines()
-    for k, line in enumerate(expected_lines(a, b, clauses)):
-        if k >= len(proof) or proof[k] != line:
-            return f"line {k + 1} isn't {line!r} but {proof[k:k + 1]!r}"
-    return None
+    additions = [line for line in proof if line.split()[1] != "d"]
+    names, place = {}, 0
+    for line in expected_lines(a, b, clauses):
+        name, literals, hints = numbers_of(line)
+        if numbers_of(additions[place])[1] != literals:
+            continue
+        renamed = [names.get(hint, "left out") if hint > clauses else hint for hint in hints]
+        wanted = " ".join(map(str, [clauses + 1 + place, *literals, 0, *renamed, 0]))
+        if additions[place] != wanted:
+            return f"addition {place + 1} isn't {wanted!r} but {additions[place]!r}"
+        names[name], place = clauses + 1 + place, place + 1
+    lines, reached = with_deletions(additions, clauses)
+    if lines != proof:
+        return f"deletions aren't as in {lines!r} but as in {proof!r}"
+    return None if reached else f"a line that nothing cites in {proof!r}"
 
 
 def main():

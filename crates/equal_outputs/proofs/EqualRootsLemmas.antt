@@ -264,3 +264,10 @@ module _ (net : AigPair) (book : Entries) (j : ℕ) (asks : IsUnsettled net book
           (subst (λ (h : Lit). AreShown (base net book j asks) (negative (Xor j)) h steps) left-is
           (subst (λ (y : Lit). AreShown (base net book j asks) y d.left steps) x-is
           (subst (λ (b : List Named). AreShown b x d.left steps) base-is shown)))
+
+-- what shows an output equal are two steps at most
+pub few-shown : (base : List Named) (lit half : Lit) (steps : List Step) → AreShown base lit half steps → length steps ≤ 2
+few-shown base lit half [] shown = omega arith
+few-shown base lit half (r ∷ []) shown = omega arith
+few-shown base lit half (r ∷ s ∷ []) shown = omega arith
+few-shown base lit half (q ∷ r ∷ s ∷ steps) shown = absurd shown

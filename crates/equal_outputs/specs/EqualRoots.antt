@@ -1,5 +1,5 @@
 -- Outputs whose literals have one root, and the steps that show that they are equal.
-use Rattle.std.specs.Prelude.{◌≡◌, ◌≢◌, ℕ, ◌<◌, None, Some, List, [], ◌∷◌, ◌++◌, length, map}
+use Rattle.std.specs.Prelude.{◌≡◌, ◌≢◌, ℕ, ◌<◌, ◌≤◌, None, Some, List, [], ◌∷◌, ◌++◌, length, map}
 use Rattle.lits.specs.Clause.{IsClause}
 use Rattle.lits.specs.Same.{same_lit, opposite}
 use Rattle.lits.specs.declared.literal.Lit.{Lit}
@@ -29,6 +29,11 @@ pub record IsUnsettled (net : AigPair) (book : Entries) (j : ℕ) : Type 0 where
 abbrev pub IsOutOf : ℕ → Entry → Type 0
 IsOutOf j (Out i steps) = i ≡ j
 IsOutOf j _ = ⊥
+
+-- an Out has two steps at most
+abbrev pub HasFewSteps : Entry → Type 0
+HasFewSteps (Out i steps) = length steps ≤ 2
+HasFewSteps _ = ⊥
 
 -- the roots of the output's literals of the two sides differ
 abbrev pub HaveOtherRoots : AigPair → List Entry → ℕ → Type 0

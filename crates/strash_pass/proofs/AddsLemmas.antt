@@ -1,5 +1,5 @@
 -- Books that grow by the pass's merges.
-use Rattle.std.proofs.Common.{◌≡◌, ℕ, ◌+◌, ◌≤◌, Some, List, [], ◌∷◌, ◌++◌, length, map, refl, sym, ap, ◌∙◌, subst, arith, length-append, append-nil, append_assoc}
+use Rattle.std.proofs.Common.{None, ◌≡◌, ℕ, ◌+◌, ◌≤◌, Some, List, [], ◌∷◌, ◌++◌, length, map, refl, sym, ap, ◌∙◌, subst, arith, length-append, append-nil, append_assoc}
 use Rattle.std.specs.Prelude.{slice_get, Result, Ok, Err, OnOk, OnErr}
 use Rattle.std.specs.List.{AllByRecursion}
 use Rattle.std.proofs.lemmas.List.{length-map}
@@ -93,6 +93,10 @@ pub stops-so : {T E : Type 0} (net : AigPair) (k : ℕ) (book new : Entries) (r 
 stops-so net k book new (Ok t) s = tt
 stops-so net k book new (Err x) s = s
 
+-- before the first gate
+pub first-none : (net : AigPair) (book : Entries) → AddsFirstPart net 0 book book
+first-none net book = record { end = 0; adds = adds-none net 0 0 book (omega arith); plain = λ k d below. absurd (omega (arith, below)) }
+
 pub stops-later : {T E : Type 0} (net : AigPair) (k m : ℕ) (book mid new : Entries) (r : Result T E) → AddsStructural net k m book mid
     → OnErr r (AddsFirstPart net m mid new) → OnErr r (AddsFirstPart net k book new)
 stops-later net k m book mid new (Ok t) first s = tt
@@ -152,10 +156,11 @@ module _ (net : AigPair) (book new : Entries) (n : ℕ) (d : Definition) (at : s
 
   pub twin-grows : {T E : Type 0} (c : Definition) (way : List Lit) (r : Result T E) → IsNet net → way ≡ way_of book.entries d
       → ArePlainBelow net book.entries n → IsTwin net book.entries c d
+      → folded (root_of book.entries d.left) (root_of book.entries d.right) ≡ None
       → OnOk r (Merges net book new (way ++ way_of book.entries c) d.node (positive c.node)) → OnErr r (new ≡ book)
       → AddsStructural net n (n + 1) book new
-  twin-grows c way r net_is is plain twin =
-      grows _ (finding-twin net book.entries n d c twin.unfolded (twin-first net net_is book.entries n c d at plain twin))
+  twin-grows c way r net_is is plain twin unfolded =
+      grows _ (finding-twin net book.entries n d c unfolded (twin-first net net_is book.entries n c d at plain twin))
       (way ++ way_of book.entries c) (positive c.node)
       (ap (λ (w : List Lit). w ++ way_of book.entries c) is) refl r
 

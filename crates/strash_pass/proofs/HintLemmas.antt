@@ -1,6 +1,5 @@
 -- Hints that are found by words are those that scanning finds by sets of literals.
-use Rattle.std.proofs.Common.{◌≡◌, ℕ, ◌+◌, ◌^◌, ◌<◌, ◌==◌, w64, Bool, true, false, not, Option, Some, None, List, [], ◌∷◌, ◌++◌, length, map, filter, take, get_or, refl, sym, ap, ◌∙◌, subst, append_assoc}
-use Rattle.std.specs.Prelude.{Result, Ok, Err, IfOk}
+use Rattle.std.proofs.Common.{◌≡◌, ℕ, ◌+◌, ◌^◌, ◌<◌, ◌==◌, w64, Bool, true, false, not, Option, Some, None, List, [], ◌∷◌, ◌++◌, map, filter, refl, sym, ap, ◌∙◌, subst, append_assoc}
 use Rattle.std.specs.Int.{trailing_zeros}
 use Rattle.std.specs.List.{find, AllByRecursion}
 use Rattle.std.proofs.lemmas.Bool.{and_parts, not-true, or_left}
@@ -8,11 +7,10 @@ use Rattle.std.proofs.lemmas.Option.{none-some, same_Some}
 use Rattle.lits.specs.declared.literal.Lit.{Lit}
 use Rattle.lits.specs.declared.step.Named.{Named}
 use Rattle.lits.specs.declared.step.Ref.{Ref}
-use Rattle.lits.specs.declared.step.Step.{Step}
 use Rattle.lits.specs.Clause.{has, firsts, has_pair, no_repeat, IsClause}
 use Rattle.lits.specs.Same.{same_lit, opposite}
 use Rattle.lits.specs.contracts.literal.LitLiteral.TheImpl.Laws as lit
-use Rattle.lits.proofs.Facts.{has-firsts, lit_laws, take_one}
+use Rattle.lits.proofs.Facts.{has-firsts, lit_laws}
 use Rattle.unit_prop.specs.Step.{fault_from, is_satisfied, open_in, IsStep}
 use Rattle.unit_prop.specs.Propagation.{IsConsistent}
 use Rattle.unit_prop.specs.HintScan.{asks, is_asking, IsNamed, ScansTo}
@@ -224,19 +222,6 @@ scanned-step base one other clause hints named is e scans =
     ap (λ (c : List Lit). map opposite (firsts same_lit c)) e ∙ ap (map opposite) (two-once one other is) in
     rw (apart, once) (faultless base named 1 (opposite one ∷ opposite other ∷ []) hints (two-consistent one other is) scans)
 
-pub step-shown : {E : Type 0} (r : Result Step E) (base : List Named) (one other : Lit) (hints : List Ref) → IsNamed base
-    → IsClause same_lit opposite (one ∷ other ∷ []) → ScansTo base (opposite one ∷ opposite other ∷ []) hints
-    → IfOk r (λ s. (s.clause ≡ one ∷ other ∷ []) × (s.hints ≡ hints))
-    → IfOk r (λ s. (s.clause ≡ one ∷ other ∷ []) × IsStep same_lit opposite (base_clause base) s.clause s.hints)
-step-shown (Ok s) base one other hints named is scans p =
-    (p.0, scanned-step base one other s.clause s.hints named is p.0 (subst (ScansTo base (opposite one ∷ opposite other ∷ [])) (sym p.1) scans))
-step-shown (Err e) base one other hints named is scans p = tt
-
-pub step-scans : {E : Type 0} (r : Result Step E) (base : List Named) (set : List Lit) (clause : List Lit) (hints : List Ref) → ScansTo base set hints
-    → IfOk r (λ s. (s.clause ≡ clause) × (s.hints ≡ hints)) → IfOk r (λ s. ScansTo base set s.hints)
-step-scans (Ok s) base set clause hints scans p = subst (ScansTo base set) (sym p.1) scans
-step-scans (Err e) base set clause hints scans p = tt
-
 -- ---- clauses as words, one after another
 pub coded-push : (bit : Lit → Option ℕ) (ns : List Named) (cs : List Coded) (n : Named) (c : Coded) → AreCoded bit ns cs → c.by ≡ n.by
     → AreBits bit n.clause c.word → AreCoded bit (ns ++ n ∷ []) (cs ++ c ∷ [])
@@ -244,8 +229,3 @@ coded-push bit [] [] n c all by bits = ((by, bits), tt)
 coded-push bit [] (x ∷ xs) n c all by bits = absurd all
 coded-push bit (m ∷ ms) [] n c all by bits = absurd all
 coded-push bit (m ∷ ms) (x ∷ xs) n c all by bits = (all.0, coded-push bit ms xs n c all.1 by bits)
-
-pub coded-next : (bit : Lit → Option ℕ) (base : List Named) (i : ℕ) (n : Named) (cs new : List Coded) (c : Coded) → i < length base → n ≡ get_or base i n
-    → AreCoded bit (take i base) cs → new ≡ cs ++ c ∷ [] → c.by ≡ n.by → AreBits bit n.clause c.word → AreCoded bit (take (i + 1) base) new
-coded-next bit base i n cs new c within at all e by bits =
-    rw (e, take_one base i n within at) (coded-push bit (take i base) cs n c all by bits)

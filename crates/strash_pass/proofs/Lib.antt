@@ -1,3 +1,4 @@
+pub mod Facts
 mod WordLemmas
 mod HintLemmas
 mod MergeLemmas
@@ -8,3 +9,6 @@ mod WayLemmas
 mod TwinLemmas
 mod AddsLemmas
 mod PassLemmas
+mod PlaceLemmas
+mod CodeLemmas
+mod TwinTable

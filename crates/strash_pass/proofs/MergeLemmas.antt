@@ -1,5 +1,5 @@
 -- A merge by two steps over the clauses of some nodes is good.
-use Rattle.std.proofs.Common.{◌≡◌, ℕ, ◌+◌, ◌≤◌, Bool, true, false, not, Option, Some, None, List, [], ◌∷◌, ◌++◌, length, map, take, refl, sym, ap, ◌∙◌, subst, arith}
+use Rattle.std.proofs.Common.{◌≡◌, ℕ, ◌+◌, ◌≤◌, Bool, true, false, not, Option, Some, None, List, [], ◌∷◌, ◌++◌, length, map, take, get_or, refl, sym, ap, ◌∙◌, subst, arith}
 use Rattle.std.specs.Option.{option_map_or}
 use Rattle.std.specs.List.{AllByRecursion}
 use Rattle.std.proofs.lemmas.Option.{none-some}
@@ -31,6 +31,7 @@ use Rattle.lemma_book.specs.Book.{book_after}
 use Rattle.lemma_book.proofs.Facts.{good-merge, root-unsettled, placed-there, on-node-named, IsNoXor, HasNodeName, irreflexive}
 use Rattle.strash_pass.specs.Strash.{AreScanned}
 use Rattle.strash_pass.specs.Pass.{AreNotXors, is_xor, AreSteps}
+use Rattle.strash_pass.proofs.HintLemmas.{scanned-step}
 
 no-xors : (lits : List Lit) → AreNotXors lits → AllByRecursion IsNoXor (nodes_in lits)
 no-xors [] all = tt
@@ -83,17 +84,7 @@ module _ (node : Node) (target : Lit) (apart : same_node target.node node ≡ fa
   pub above-clause : IsClause same_lit opposite (positive node ∷ opposite target ∷ [])
   above-clause = record { once = rw (differ false (not target.neg)) refl; apart = rw (differ true (not target.neg)) refl }
 
-  -- the steps that were put into an empty list
-  pub steps-are : (base : List Named) (l m : Lit) (below above : Step) (none one two : List Step) → l ≡ negative node → m ≡ opposite target
-      → none ≡ [] → one ≡ none ++ below ∷ [] → two ≡ one ++ above ∷ []
-      → (below.clause ≡ l ∷ target ∷ []) × IsStep same_lit opposite (base_clause base) below.clause below.hints
-      → (above.clause ≡ positive node ∷ m ∷ []) × IsStep same_lit opposite (base_clause base) above.clause above.hints
-      → AreSteps base node target two
-  steps-are base l m below above none one two l_is m_is e f g first second =
-      rw (g, f, e)
-      ((first.0 ∙ ap (λ (x : Lit). x ∷ target ∷ []) l_is, first.1), (second.0 ∙ ap (λ (x : Lit). positive node ∷ x ∷ []) m_is, second.1))
-
-  -- and their hints are those of a scan
+  -- the steps that were put into an empty list, with the hints of a scan
   pub steps-scanned : (base : List Named) (l m : Lit) (below above : Step) (none one two : List Step) → l ≡ negative node → m ≡ opposite target
       → none ≡ [] → one ≡ none ++ below ∷ [] → two ≡ one ++ above ∷ []
       → below.clause ≡ l ∷ target ∷ [] → above.clause ≡ positive node ∷ m ∷ []
@@ -112,6 +103,26 @@ module _ (node : Node) (target : Lit) (apart : same_node target.node node ≡ fa
     where
       all : two ≡ below ∷ above ∷ []
       all = g ∙ ap (λ (s : List Step). s ++ above ∷ []) (f ∙ ap (λ (s : List Step). s ++ below ∷ []) e)
+
+  -- hints of a scan make steps
+  pub scanned-steps : (base : List Named) → IsNamed base → (steps : List Step) → AreScanned base node target steps → AreSteps base node target steps
+  scanned-steps base named [] s = absurd (omega (arith, ap length s.clauses))
+  scanned-steps base named (below ∷ []) s = absurd (omega (arith, ap length s.clauses))
+  scanned-steps base named (below ∷ above ∷ []) s =
+      let first : below.clause ≡ negative node ∷ target ∷ [] = ap (λ (cs : List (List Lit)). get_or cs 0 []) s.clauses in
+      let second : above.clause ≡ positive node ∷ opposite target ∷ [] = ap (λ (cs : List (List Lit)). get_or cs 1 []) s.clauses in (
+        (
+          first,
+          scanned-step base (negative node) target below.clause below.hints named below-clause first
+              (subst (λ (c : List Lit). ScansTo base (map opposite c) below.hints) first s.hints.0),
+        ),
+        (
+          second,
+          scanned-step base (positive node) (opposite target) above.clause above.hints named above-clause second
+              (subst (λ (c : List Lit). ScansTo base (map opposite c) above.hints) second s.hints.1.0),
+        ),
+      )
+  scanned-steps base named (below ∷ above ∷ more ∷ rest) s = absurd (omega (arith, ap length s.clauses))
 
 module _ (net : AigPair) (book : Entries) (node : Node) (target : Lit) (unmerged : IsRoot book.entries node) where
   unsettled : place_on book.entries (Merged node) ≡ None

@@ -1,25 +1,24 @@
 -- How the pass goes on: a gate that was merged, merges now, or is noted.
 use Rattle.std.proofs.Common.{◌≡◌, ℕ, suc, ◌+◌, ◌<◌, ◌^◌, map, Bool, true, false, cond, Option, Some, None, List, [], ◌∷◌, ◌++◌, length, refl, sym, ap, ◌∙◌, subst, arith, length-append, ◌⊎◌, inl, inr}
-use Rattle.std.specs.Prelude.{slice_get, nat_lt, Result, Ok, Err, OnOk}
-use Rattle.std.specs.Option.{option_map, option_and_then, is_some, option_or}
+use Rattle.std.specs.Prelude.{slice_get, nat_lt, Result, Ok, Err, OnOk, IfSome, IfNone}
+use Rattle.std.specs.Option.{option_map, option_and_then, is_some}
 use Rattle.std.proofs.lemmas.Bool.Decides.{nat_tests}
 use Rattle.std.proofs.lemmas.Option.{none-some, same_Some, slice_get_within}
-use Rattle.indexmap.specs.IndexMap.{get}
-use Rattle.lits.specs.Same.{same_lit, same_node}
+use Rattle.lits.specs.Same.{same_node}
 use Rattle.lits.specs.declared.node.Side.{Side}
 use Rattle.lits.specs.declared.node.Side.TheVariants.{A, B}
 use Rattle.lits.specs.declared.node.Node.{Node}
 use Rattle.lits.specs.declared.node.Node.TheVariants.{Gate}
 use Rattle.netlist.specs.declared.gate.And.{And}
 use Rattle.std.proofs.lemmas.List.{length-map}
-use Rattle.std.proofs.lemmas.Bool.{and_parts}
+use Rattle.std.proofs.lemmas.Bool.{cases_lt}
 use Rattle.lits.specs.declared.literal.Lit.{Lit}
 use Rattle.lits.specs.declared.step.Step.{Step}
-use Rattle.lits.proofs.Facts.{same-node_self, exact-lit, lit_laws}
+use Rattle.lits.proofs.Facts.{same-node_self}
 use Rattle.netlist.specs.declared.gate.Definition.{Definition}
 use Rattle.netlist.specs.Place.{place_of}
-use Rattle.netlist.specs.Net.{AigPair, IsNet, circuit_of, defined_by, definition_of, definitions, position_of}
-use Rattle.netlist.proofs.Facts.{at-place, place_of-append, or_place, slice_get-left, few_gates_of, gate-definition, or_place-none}
+use Rattle.netlist.specs.Net.{AigPair, IsNet, circuit_of, defined_by, definition_of, definitions, node_at, nodes_of, position_of}
+use Rattle.netlist.proofs.Facts.{at-place, place_of-append, or_place, slice_get-left, slice_get-right, few_gates_of, gate-definition, or_place-none, node-at, length-nodes, length-definitions}
 use Rattle.lemma_book.specs.declared.entry.Entry.{Entry}
 use Rattle.lemma_book.specs.declared.entry.Entry.TheVariants.{Merge}
 use Rattle.lemma_book.specs.declared.entry.Subject.TheVariants.{Merged}
@@ -27,10 +26,12 @@ use Rattle.lemma_book.specs.Entry.{Entries, is_on, place_on}
 use Rattle.lemma_book.specs.Root.{MergeAt, merge_in, merge_of, root_of, IsRoot}
 use Rattle.lemma_book.specs.Book.{IsLegal}
 use Rattle.lemma_book.proofs.Facts.{root-kept, root-unsettled}
-use Rattle.strash_pass.specs.declared.pair.Pair.{Pair}
-use Rattle.strash_pass.specs.declared.visit.Pass.{Pass}
+use Rattle.strash_pass.specs.declared.twins.Noted.{Noted}
+use Rattle.strash_pass.specs.Codes.{code_of}
+use Rattle.strash_pass.specs.Twins.{HasCodes, HasNote, Table}
 use Rattle.strash_pass.specs.Strash.{folded, AreTwins, IsPlain, ArePlain, ArePlainBelow}
-use Rattle.strash_pass.specs.Pass.{gates_before, same_pair, pair_of, IsSeen, IsPass, IsTwin, Merges}
+use Rattle.strash_pass.specs.Pass.{gates_before, AreCodes, IsListed, IsSeen, IsPass, IsTwin, Merges}
+use Rattle.strash_pass.proofs.CodeLemmas.{code-one}
 use Rattle.strash_pass.proofs.GateFacts.{IsGate, is-gate, gate-a, gate-b, apart-placed}
 
 -- ---- one more merge
@@ -128,9 +129,16 @@ module _ (net : AigPair) (is : IsNet net) (book new : Entries) (legal : IsLegal 
         | inr s ↦ inr (sym x.left ∙ s.0 ∙ y.right, sym x.right ∙ s.1 ∙ y.left)
       ]
 
+  codes-same : (note : Noted) (c : Definition) → IsSame book.entries new.entries c
+      → AreCodes net note (root_of book.entries c.left) (root_of book.entries c.right)
+      → AreCodes net note (root_of new.entries c.left) (root_of new.entries c.right)
+  codes-same note c s codes =
+      subst (λ (x : Lit). AreCodes net note x (root_of new.entries c.right)) (sym s.left)
+      (subst (λ (y : Lit). AreCodes net note (root_of book.entries c.left) y) (sym s.right) codes)
+
   -- the gate merges now
-  pub pass-merged : (p : Pass) → IsPass net book.entries p n → IsPass net new.entries p (n + 1)
-  pass-merged p pass = record { plain = plain; sound = sound; whole = whole }
+  pub pass-merged : (t : Table) → IsPass net book.entries t n → IsPass net new.entries t (n + 1)
+  pass-merged t pass = record { plain = plain; heads = pass.heads; few = omega (arith, pass.few); sound = sound; whole = whole }
     where
       plain : ArePlainBelow net new.entries (n + 1)
       plain k c below here root =
@@ -146,40 +154,63 @@ module _ (net : AigPair) (is : IsNet net) (book new : Entries) (legal : IsLegal 
             | inr s ↦ absurd (merged-d (subst (λ (x : Definition). IsRoot new.entries x.node) s root))
           ]
 
-      sound : (a b : Lit) (c : Definition) → get same_pair p.gates (pair_of a b) ≡ Some c → IsSeen net new.entries (n + 1) a b c
-      sound a b c e =
-          let old = pass.sound a b c e in
-          let s = same old.place c old.below old.at in
+      sound : (i : ℕ) (note : Noted) → slice_get t.notes i ≡ Some note → IsSeen net new.entries (n + 1) note
+      sound i note e =
+          let old = pass.sound i note e in
+          let s = same old.place old.gate old.below old.at in
           record {
             place = old.place;
+            gate = old.gate;
             below = omega (arith, old.below);
             at = old.at;
+            position = old.position;
             unmerged = s.merged ∙ old.unmerged;
-            left = s.left ∙ old.left;
-            right = s.right ∙ old.right;
+            codes = codes-same note old.gate s old.codes;
           }
 
       whole : (k : ℕ) (c : Definition) → k < n + 1 → slice_get (definitions net) k ≡ Some c → IsRoot new.entries c.node
-          → is_some (get same_pair p.gates (pair_of (root_of new.entries c.left) (root_of new.entries c.right))) ≡ true
+          → IsListed net t (root_of new.entries c.left) (root_of new.entries c.right)
       whole k c below here root =
           elim (at-most k c below here) [
             | inl l ↦
                 let s = same k c l here in
-                ap (λ (x : Lit). is_some (get same_pair p.gates (pair_of x (root_of new.entries c.right)))) s.left
-                ∙ ap (λ (x : Lit). is_some (get same_pair p.gates (pair_of (root_of book.entries c.left) x))) s.right
-                ∙ pass.whole k c l here (sym s.merged ∙ root)
+                let old = pass.whole k c l here (sym s.merged ∙ root) in
+                record { place = old.place; note = old.note; at = old.at; codes = codes-same old.note c s old.codes }
             | inr s ↦ absurd (merged-d (subst (λ (x : Definition). IsRoot new.entries x.node) s root))
           ]
 
-exact-pair : (x y : Pair) → same_pair x y ≡ true → x ≡ y
-exact-pair x y e =
-    let both = and_parts (same_lit x.left y.left) (same_lit x.right y.right) e in
-    ap (λ (l : Lit). pair_of l x.right) (exact-lit x.left y.left both.0) ∙ ap (pair_of y.left) (exact-lit x.right y.right both.1)
+-- ---- notes and literals
+-- a note that has the codes of both pairs has the roots of twins
+codes-twins : (net : AigPair) (note : Noted) (x y a b : Lit) → AreCodes net note x y → AreCodes net note a b → ((x ≡ a) × (y ≡ b)) ⊎ ((x ≡ b) × (y ≡ a))
+codes-twins net note x y a b (inl s) (inl t) = inl (code-one net x a note.low s.0 t.0, code-one net y b note.high s.1 t.1)
+codes-twins net note x y a b (inl s) (inr t) = inr (code-one net x b note.low s.0 t.1, code-one net y a note.high s.1 t.0)
+codes-twins net note x y a b (inr s) (inl t) = inr (code-one net x b note.high s.0 t.1, code-one net y a note.low s.1 t.0)
+codes-twins net note x y a b (inr s) (inr t) = inl (code-one net x a note.high s.0 t.0, code-one net y b note.low s.1 t.1)
 
-same-pair_self : (x : Pair) → same_pair x x ≡ true
-same-pair_self x = rw (lit_laws.equivalence.refl x.left, lit_laws.equivalence.refl x.right) refl
+-- the note of two numbers is that of the literals with these codes, and the other way round
+codes-of : (net : AigPair) (note : Noted) (a b : Lit) (x y : ℕ) → code_of net a ≡ Some x → code_of net b ≡ Some y → HasCodes note x y → AreCodes net note a b
+codes-of net note a b x y e f (inl c) = inl (e ∙ ap Some (sym c.0), f ∙ ap Some (sym c.1))
+codes-of net note a b x y e f (inr c) = inr (e ∙ ap Some (sym c.1), f ∙ ap Some (sym c.0))
 
-module _ (net : AigPair) (es : List Entry) (p : Pass) (n : ℕ) (d : Definition) (at : slice_get (definitions net) n ≡ Some d) (pass : IsPass net es p n) where
+of-codes : (net : AigPair) (note : Noted) (a b : Lit) (x y : ℕ) → code_of net a ≡ Some x → code_of net b ≡ Some y → AreCodes net note a b → HasCodes note x y
+of-codes net note a b x y e f (inl c) = inl (same_Some note.low x (sym c.0 ∙ e), same_Some note.high y (sym c.1 ∙ f))
+of-codes net note a b x y e f (inr c) = inr (same_Some note.low y (sym c.1 ∙ f), same_Some note.high x (sym c.0 ∙ e))
+
+flip-codes : (net : AigPair) (note : Noted) (a b : Lit) → AreCodes net note a b → AreCodes net note b a
+flip-codes net note a b (inl c) = inr (c.1, c.0)
+flip-codes net note a b (inr c) = inl (c.1, c.0)
+
+-- no gates were visited
+pub pass-start : (net : AigPair) (es : List Entry) (heads : ℕ) → heads ≡ length (nodes_of net) → IsPass net es (record { heads = heads; notes = [] }) 0
+pass-start net es heads e = record {
+  plain = λ k d below. absurd (omega (arith, below));
+  heads = e;
+  few = omega arith;
+  sound = λ i note at. absurd (none-some note at);
+  whole = λ k c below. absurd (omega (arith, below));
+}
+
+module _ (net : AigPair) (es : List Entry) (p : Table) (n : ℕ) (d : Definition) (at : slice_get (definitions net) n ≡ Some d) (pass : IsPass net es p n) where
   next : (k : ℕ) (c : Definition) → k < n + 1 → slice_get (definitions net) k ≡ Some c → (k < n) ⊎ ((k ≡ n) × (c ≡ d))
   next k c below here = go (nat_lt k n) refl
     where
@@ -189,6 +220,17 @@ module _ (net : AigPair) (es : List Entry) (p : Pass) (n : ℕ) (d : Definition)
           let same : k ≡ n = grind (arith, nat_tests) in
           inr (same, same_Some c d (sym here ∙ ap (slice_get (definitions net)) same ∙ at))
 
+  seen-more : (note : Noted) → IsSeen net es n note → IsSeen net es (n + 1) note
+  seen-more note old = record {
+    place = old.place;
+    gate = old.gate;
+    below = omega (arith, old.below);
+    at = old.at;
+    position = old.position;
+    unmerged = old.unmerged;
+    codes = old.codes;
+  }
+
   -- the gate was merged before
   pub pass-skipped : (IsRoot es d.node → ⊥) → IsPass net es p (n + 1)
   pass-skipped merged = record {
@@ -197,9 +239,9 @@ module _ (net : AigPair) (es : List Entry) (p : Pass) (n : ℕ) (d : Definition)
           | inl l ↦ pass.plain k c l here root
           | inr s ↦ absurd (merged (subst (λ (x : Definition). IsRoot es x.node) s.1 root))
         ];
-    sound = λ a b c e.
-        let old = pass.sound a b c e in
-        record { place = old.place; below = omega (arith, old.below); at = old.at; unmerged = old.unmerged; left = old.left; right = old.right };
+    heads = pass.heads;
+    few = omega (arith, pass.few);
+    sound = λ i note e. seen-more note (pass.sound i note e);
     whole = λ k c below here root.
         elim (next k c below here) [
           | inl l ↦ pass.whole k c l here root
@@ -207,79 +249,153 @@ module _ (net : AigPair) (es : List Entry) (p : Pass) (n : ℕ) (d : Definition)
         ];
   }
 
-  -- the gate is noted: it doesn't fold, and no gate was noted with its roots
-  module _ (q : Pass) (a b : Lit) (left : a ≡ root_of es d.left) (right : b ≡ root_of es d.right) (root : IsRoot es d.node) (unfolded : folded a b ≡ None)
-      (none : get same_pair p.gates (pair_of a b) ≡ None) (none_turned : get same_pair p.gates (pair_of b a) ≡ None)
-      (puts : (x : Pair) → get same_pair q.gates x ≡ cond (same_pair (pair_of a b) x) (Some d) (get same_pair p.gates x)) where
-    no-twin : (j : ℕ) (c : Definition) → j < n → slice_get (definitions net) j ≡ Some c → IsRoot es c.node → ¬ AreTwins es c d
-    no-twin j c below here root_c twins =
-        let some = pass.whole j c below here root_c in
-        elim twins [
-          | inl s ↦
-              let same : pair_of (root_of es c.left) (root_of es c.right) ≡ pair_of a b =
-              ap (λ (x : Lit). pair_of x (root_of es c.right)) (s.0 ∙ sym left) ∙ ap (pair_of a) (s.1 ∙ sym right) in
-              let f : true ≡ false = sym some ∙ ap (λ (x : Pair). is_some (get same_pair p.gates x)) same ∙ ap is_some none in
-              cc
-          | inr s ↦
-              let same : pair_of (root_of es c.left) (root_of es c.right) ≡ pair_of b a =
-              ap (λ (x : Lit). pair_of x (root_of es c.right)) (s.0 ∙ sym right) ∙ ap (pair_of b) (s.1 ∙ sym left) in
-              let f : true ≡ false = sym some ∙ ap (λ (x : Pair). is_some (get same_pair p.gates x)) same ∙ ap is_some none_turned in
-              cc
-        ]
+  -- ---- the table is asked for the gate's roots, which don't fold
+  module _ (is : IsNet net) (a b : Lit) (x y gate : ℕ) (left : a ≡ root_of es d.left) (right : b ≡ root_of es d.right) (root : IsRoot es d.node)
+      (unfolded : folded a b ≡ None) (code_a : code_of net a ≡ Some x) (code_b : code_of net b ≡ Some y) (position : position_of net d.node ≡ Some gate) where
+    plain-roots : folded (root_of es d.left) (root_of es d.right) ≡ None
+    plain-roots = ap (λ (x : Lit). folded x (root_of es d.right)) (sym left) ∙ ap (folded a) (sym right) ∙ unfolded
 
-    pub pass-noted : IsPass net es q (n + 1)
-    pass-noted = record { plain = plain; sound = sound; whole = whole }
+    -- the note of an earlier gate with these codes is a twin's
+    pub noted-twin : (h : HasNote p.notes x y) (c : Definition) → defined_by net (node_at net h.note.gate) ≡ Some c → IsTwin net es c d
+    noted-twin h c defined =
+        subst (λ (z : Definition). IsTwin net es z d) same
+        (record {
+          first = seen.place;
+          second = n;
+          earlier = seen.below;
+          at_first = seen.at;
+          at_second = at;
+          unmerged = seen.unmerged;
+          twins = twins;
+        })
       where
-        plain-d : IsPlain net es n d
-        plain-d root_d =
-            (ap (λ (x : Lit). folded x (root_of es d.right)) (sym left) ∙ ap (folded a) (sym right) ∙ unfolded, no-twin)
+        seen : IsSeen net es n h.note
+        seen = pass.sound h.place h.note h.at
 
-        plain : ArePlainBelow net es (n + 1)
-        plain k c below here root_c =
-            elim (next k c below here) [
-              | inl l ↦ pass.plain k c l here root_c
-              | inr s ↦ subst (λ (x : Definition). IsPlain net es k x) (sym s.1) (subst (λ (i : ℕ). IsPlain net es i d) (sym s.0) plain-d) root_c
-            ]
+        gate-c : IsGate net seen.place seen.gate
+        gate-c = is-gate net is seen.place seen.gate seen.at
 
-        sound : (x y : Lit) (c : Definition) → get same_pair q.gates (pair_of x y) ≡ Some c → IsSeen net es (n + 1) x y c
-        sound x y c e = go (same_pair (pair_of a b) (pair_of x y)) refl
-          where
-            go : (t : Bool) → same_pair (pair_of a b) (pair_of x y) ≡ t → IsSeen net es (n + 1) x y c
-            go false f =
-                let g : get same_pair p.gates (pair_of x y) ≡ Some c = sym (puts (pair_of x y) ∙ rw f refl) ∙ e in
-                let old = pass.sound x y c g in
-                record { place = old.place; below = omega (arith, old.below); at = old.at; unmerged = old.unmerged; left = old.left; right = old.right }
-            go true f =
-                let pair = exact-pair (pair_of a b) (pair_of x y) f in
-                let one : a ≡ x = ap (λ (z : Pair). z.left) pair in
-                let two : b ≡ y = ap (λ (z : Pair). z.right) pair in
-                let same : d ≡ c = same_Some d c (sym (puts (pair_of x y) ∙ rw f refl) ∙ e) in
-                subst (λ (z : Definition). IsSeen net es (n + 1) x y z) same
-                (record { place = n; below = omega arith; at = at; unmerged = root; left = sym left ∙ one; right = sym right ∙ two })
+        same : seen.gate ≡ c
+        same =
+            let node : node_at net h.note.gate ≡ seen.gate.node =
+            ap (node_at net) seen.position ∙ node-at net seen.gate.node (1 + length net.a.inputs + seen.place) gate-c.node in
+            same_Some seen.gate c (sym gate-c.defined ∙ ap (defined_by net) (sym node) ∙ defined)
 
-        put-stays : (x : Pair) → is_some (get same_pair p.gates x) ≡ true → is_some (get same_pair q.gates x) ≡ true
-        put-stays x some = ap is_some (puts x) ∙ go (same_pair (pair_of a b) x)
-          where
-            go : (t : Bool) → is_some (cond t (Some d) (get same_pair p.gates x)) ≡ true
-            go true = refl
-            go false = some
+        twins : AreTwins es seen.gate d
+        twins =
+            subst (λ (l : Lit). ((root_of es seen.gate.left ≡ l) × (root_of es seen.gate.right ≡ root_of es d.right))
+            ⊎ ((root_of es seen.gate.left ≡ root_of es d.right) × (root_of es seen.gate.right ≡ l))) left
+            (subst (λ (r : Lit). ((root_of es seen.gate.left ≡ a) × (root_of es seen.gate.right ≡ r))
+            ⊎ ((root_of es seen.gate.left ≡ r) × (root_of es seen.gate.right ≡ a))) right
+            (codes-twins net h.note (root_of es seen.gate.left) (root_of es seen.gate.right) a b seen.codes
+            (codes-of net h.note a b x y code_a code_b h.codes)))
 
-        whole : (k : ℕ) (c : Definition) → k < n + 1 → slice_get (definitions net) k ≡ Some c → IsRoot es c.node
-            → is_some (get same_pair q.gates (pair_of (root_of es c.left) (root_of es c.right))) ≡ true
-        whole k c below here root_c =
-            elim (next k c below here) [
-              | inl l ↦ put-stays (pair_of (root_of es c.left) (root_of es c.right)) (pass.whole k c l here root_c)
-              | inr s ↦
-                  ap (λ (x : Definition). is_some (get same_pair q.gates (pair_of (root_of es x.left) (root_of es x.right)))) s.1
-                  ∙ ap (λ (x : Lit). is_some (get same_pair q.gates (pair_of x (root_of es d.right)))) (sym left)
-                  ∙ ap (λ (x : Lit). is_some (get same_pair q.gates (pair_of a x))) (sym right)
-                  ∙ ap is_some (puts (pair_of a b)) ∙ rw (same-pair_self (pair_of a b)) refl
-            ]
+    -- a note is always a gate's
+    pub noted-gate : (h : HasNote p.notes x y) → defined_by net (node_at net h.note.gate) ≡ None → ⊥
+    noted-gate h none =
+        let seen = pass.sound h.place h.note h.at in
+        let gate-c = is-gate net is seen.place seen.gate seen.at in
+        let node : node_at net h.note.gate ≡ seen.gate.node =
+        ap (node_at net) seen.position ∙ node-at net seen.gate.node (1 + length net.a.inputs + seen.place) gate-c.node in
+        none-some seen.gate (sym none ∙ ap (defined_by net) node ∙ gate-c.defined)
+
+    pub noted-defined : (h : HasNote p.notes x y) (new : Table) (o : Option Definition) → new ≡ p → o ≡ defined_by net (node_at net h.note.gate)
+        → IfSome o (λ c. IsTwin net es c d × IsPass net es new n)
+    noted-defined h new (Some c) same e = (noted-twin h c (sym e), subst (λ (t : Table). IsPass net es t n) (sym same) pass)
+    noted-defined h new None same e = tt
+
+    pub noted-some : (h : HasNote p.notes x y) (new : Table) (o : Option Definition) → o ≡ defined_by net (node_at net h.note.gate)
+        → IfNone o (IsPass net es new (n + 1))
+    noted-some h new (Some c) e = tt
+    noted-some h new None e = absurd (noted-gate h (sym e))
+
+    -- and stands at a position
+    pub noted-within : (h : HasNote p.notes x y) → h.note.gate < length (nodes_of net)
+    noted-within h =
+        let seen = pass.sound h.place h.note h.at in
+        omega (arith, seen.position, slice_get_within (definitions net) seen.place seen.gate seen.at, length-nodes net, length-definitions net)
+
+    -- where there is none, the gate is noted
+    module _ (none : HasNote p.notes x y → ⊥) (note : Noted) (codes : HasCodes note x y) (is_gate : note.gate ≡ gate) where
+      here-codes : AreCodes net note (root_of es d.left) (root_of es d.right)
+      here-codes =
+          subst (λ (l : Lit). AreCodes net note l (root_of es d.right)) left
+          (subst (λ (r : Lit). AreCodes net note a r) right (codes-of net note a b x y code_a code_b codes))
+
+      no-twin : (j : ℕ) (c : Definition) → j < n → slice_get (definitions net) j ≡ Some c → IsRoot es c.node → ¬ AreTwins es c d
+      no-twin j c below here root_c twins =
+          let old = pass.whole j c below here root_c in
+          let roots : AreCodes net old.note (root_of es d.left) (root_of es d.right) =
+          elim twins [
+            | inl s ↦
+                subst (λ (l : Lit). AreCodes net old.note l (root_of es d.right)) s.0
+                (subst (λ (r : Lit). AreCodes net old.note (root_of es c.left) r) s.1 old.codes)
+            | inr s ↦
+                flip-codes net old.note (root_of es d.right) (root_of es d.left)
+                (subst (λ (l : Lit). AreCodes net old.note l (root_of es d.left)) s.0
+                (subst (λ (r : Lit). AreCodes net old.note (root_of es c.left) r) s.1 old.codes))
+          ] in
+          none (record {
+            place = old.place;
+            note = old.note;
+            at = old.at;
+            codes = of-codes net old.note a b x y code_a code_b
+                (subst (λ (l : Lit). AreCodes net old.note l b) (sym left)
+                (subst (λ (r : Lit). AreCodes net old.note (root_of es d.left) r) (sym right) roots));
+          })
+
+      pub pass-noted : IsPass net es (record { heads = p.heads; notes = p.notes ++ note ∷ [] }) (n + 1)
+      pass-noted = record { plain = plain; heads = pass.heads; few = omega (arith, pass.few, length-append p.notes (note ∷ [])); sound = sound; whole = whole }
+        where
+          plain : ArePlainBelow net es (n + 1)
+          plain k c below here root_c =
+              elim (next k c below here) [
+                | inl l ↦ pass.plain k c l here root_c
+                | inr s ↦
+                    subst (λ (x : Definition). IsPlain net es k x) (sym s.1)
+                    (subst (λ (i : ℕ). IsPlain net es i d) (sym s.0) (λ root_d. (plain-roots, no-twin))) root_c
+              ]
+
+          sound : (i : ℕ) (m : Noted) → slice_get (p.notes ++ note ∷ []) i ≡ Some m → IsSeen net es (n + 1) m
+          sound i m e = elim (cases_lt i (length p.notes)) [
+            | inl l ↦ seen-more m (pass.sound i m (sym (slice_get-left p.notes (note ∷ []) i l) ∙ e))
+            | inr le ↦
+                let inside = slice_get_within (p.notes ++ note ∷ []) i m e in
+                let last : i ≡ length p.notes + 0 = omega (arith, le, inside, length-append p.notes (note ∷ [])) in
+                let same : note ≡ m = same_Some note m (sym (slice_get-right p.notes (note ∷ []) 0) ∙ ap (slice_get (p.notes ++ note ∷ [])) (sym last) ∙ e) in
+                let stands : gate ≡ 1 + length net.a.inputs + n =
+                same_Some gate (1 + length net.a.inputs + n) (sym position ∙ (is-gate net is n d at).node) in
+                subst (IsSeen net es (n + 1)) same
+                (record { place = n; gate = d; below = omega arith; at = at; position = is_gate ∙ stands; unmerged = root; codes = here-codes })
+          ]
+
+          more : (u v : Lit) → IsListed net p u v → IsListed net (record { heads = p.heads; notes = p.notes ++ note ∷ [] }) u v
+          more u v old = record {
+            place = old.place;
+            note = old.note;
+            at = slice_get-left p.notes (note ∷ []) old.place (slice_get_within p.notes old.place old.note old.at) ∙ old.at;
+            codes = old.codes;
+          }
+
+          whole : (k : ℕ) (c : Definition) → k < n + 1 → slice_get (definitions net) k ≡ Some c → IsRoot es c.node
+              → IsListed net (record { heads = p.heads; notes = p.notes ++ note ∷ [] }) (root_of es c.left) (root_of es c.right)
+          whole k c below here root_c =
+              elim (next k c below here) [
+                | inl l ↦ more (root_of es c.left) (root_of es c.right) (pass.whole k c l here root_c)
+                | inr s ↦
+                    subst (λ (x : Definition). IsListed net (record { heads = p.heads; notes = p.notes ++ note ∷ [] }) (root_of es x.left) (root_of es x.right)) (sym s.1)
+                    (record {
+                      place = length p.notes + 0;
+                      note = note;
+                      at = slice_get-right p.notes (note ∷ []) 0;
+                      codes = here-codes;
+                    })
+              ]
 
 -- where both sides were visited, all gates are plain
-pub all-plain : {T E : Type 0} (net : AigPair) (es : List Entry) (p : Pass) (r : Result T E) → OnOk r (IsPass net es p p.visited)
-    → OnOk r (p.visited ≡ gates_before net B + length (circuit_of net B).gates) → OnOk r (ArePlain net es)
-all-plain net es p (Ok t) pass visited =
+pub all-plain : {T E : Type 0} (net : AigPair) (es : List Entry) (p : Table) (visited : ℕ) (r : Result T E) → OnOk r (IsPass net es p visited)
+    → OnOk r (visited ≡ gates_before net B + length (circuit_of net B).gates) → OnOk r (ArePlain net es)
+all-plain net es p n (Ok t) pass visited =
     λ k d below. pass.plain k d
     (omega (
       arith,
@@ -289,49 +405,7 @@ all-plain net es p (Ok t) pass visited =
       length-map net.a.gates (definition_of A net.a),
       length-map net.b.gates (definition_of B net.b),
     ))
-all-plain net es p (Err e) pass visited = tt
-
--- a gate that was noted with a gate's roots, in either order, is its twin
-pub seen-twin : (net : AigPair) (es : List Entry) (p : Pass) (n : ℕ) (d c : Definition) → slice_get (definitions net) n ≡ Some d → IsPass net es p n
-    → (a b : Lit) → a ≡ root_of es d.left → b ≡ root_of es d.right → folded a b ≡ None
-    → option_or (get same_pair p.gates (pair_of a b)) (get same_pair p.gates (pair_of b a)) ≡ Some c → IsTwin net es c d
-seen-twin net es p n d c at pass a b left right unfolded e = go (get same_pair p.gates (pair_of a b)) refl
-  where
-    plain : folded (root_of es d.left) (root_of es d.right) ≡ None
-    plain = ap (λ (x : Lit). folded x (root_of es d.right)) (sym left) ∙ ap (folded a) (sym right) ∙ unfolded
-
-    go : (o : Option Definition) → get same_pair p.gates (pair_of a b) ≡ o → IsTwin net es c d
-    go (Some x) f =
-        let same : x ≡ c = same_Some x c (sym (ap (λ (o : Option Definition). option_or o (get same_pair p.gates (pair_of b a))) f) ∙ e) in
-        let seen = pass.sound a b c (f ∙ ap Some same) in
-        record {
-          first = seen.place;
-          second = n;
-          earlier = seen.below;
-          at_first = seen.at;
-          at_second = at;
-          unmerged = seen.unmerged;
-          twins = inl (seen.left ∙ left, seen.right ∙ right);
-          unfolded = plain;
-        }
-    go None f =
-        let turned : get same_pair p.gates (pair_of b a) ≡ Some c = sym (ap (λ (o : Option Definition). option_or o (get same_pair p.gates (pair_of b a))) f) ∙ e in
-        let seen = pass.sound b a c turned in
-        record {
-          first = seen.place;
-          second = n;
-          earlier = seen.below;
-          at_first = seen.at;
-          at_second = at;
-          unmerged = seen.unmerged;
-          twins = inr (seen.left ∙ right, seen.right ∙ left);
-          unfolded = plain;
-        }
-
--- none was noted with them
-pub none-noted : (x y : Option Definition) → option_or x y ≡ None → (x ≡ None) × (y ≡ None)
-none-noted None y e = (refl, e)
-none-noted (Some d) y e = absurd (none-some d (sym e))
+all-plain net es p n (Err e) pass visited = tt
 
 -- what isn't merged is a root, what is merged isn't
 pub root-from : (o : Option MergeAt) (b : Bool) → b ≡ is_some o → b ≡ false → o ≡ None
@@ -342,7 +416,7 @@ pub no-root : (o : Option MergeAt) (b : Bool) → b ≡ is_some o → b ≡ true
 no-root o b e f g = let h : true ≡ false = sym f ∙ e ∙ ap is_some g in cc
 
 -- there are few gates
-pub few-gates : (net : AigPair) → IsNet net → (n : ℕ) (d : Definition) → slice_get (definitions net) n ≡ Some d → n < 2 ^ 40
+pub few-gates : (net : AigPair) → IsNet net → (n : ℕ) (d : Definition) → slice_get (definitions net) n ≡ Some d → n < 2 ^ 26
 few-gates net is n d e =
     omega (
       arith,

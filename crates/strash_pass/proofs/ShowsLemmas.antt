@@ -37,15 +37,6 @@ apart-fanins es l r apart = go (same_lit l (opposite r)) refl
         let roots : root_of es l ≡ opposite (root_of es r) = ap (root_of es) (exact-lit l (opposite r) e) ∙ root-opposite es r in
         let f : true ≡ false = sym (same-lit_self (root_of es l)) ∙ ap (same_lit (root_of es l)) roots ∙ apart in cc
 
-flip-apart : (a b : Lit) → same_lit a (opposite b) ≡ false → same_lit b (opposite a) ≡ false
-flip-apart a b apart = go (same_lit b (opposite a)) refl
-  where
-    go : (c : Bool) → same_lit b (opposite a) ≡ c → c ≡ false
-    go false e = refl
-    go true e =
-        let roots : opposite b ≡ a = ap opposite (exact-lit b (opposite a) e) ∙ laws.twice-law a in
-        let f : true ≡ false = sym (same-lit_self a) ∙ ap (same_lit a) (sym roots) ∙ apart in cc
-
 -- what folding found
 pub fold-cases : (P : Type 0) (a b t : Lit) → folded a b ≡ Some t
     → (a ≡ negative Const → t ≡ negative Const → P) → (b ≡ negative Const → t ≡ negative Const → P) → (a ≡ opposite b → t ≡ negative Const → P)
@@ -68,19 +59,6 @@ fold-cases P a b t e one two three four five six =
     go false false false false false true e1 e2 e3 e4 e5 e6 = six e3 (exact-lit a b e6) (some a (rw (e1, e2, e3, e4, e5, e6) refl))
     go false false false false false false e1 e2 e3 e4 e5 e6 =
         let none : None ≡ Some t = sym (rw (e1, e2, e3, e4, e5, e6) refl) ∙ e in absurd (none-some t none)
-
--- where it didn't fold the roots aren't complements
-pub unfolded-apart : (a b : Lit) → folded a b ≡ None → same_lit a (opposite b) ≡ false
-unfolded-apart a b e = go (same_lit a (negative Const)) (same_lit b (negative Const)) (same_lit a (opposite b)) refl refl refl
-  where
-    no : Some (negative Const) ≡ folded a b → same_lit a (opposite b) ≡ false
-    no f = absurd (none-some (negative Const) (sym (f ∙ e)))
-
-    go : (x y z : Bool) → same_lit a (negative Const) ≡ x → same_lit b (negative Const) ≡ y → same_lit a (opposite b) ≡ z → same_lit a (opposite b) ≡ false
-    go true y z f g h = no (rw f refl)
-    go false true z f g h = no (rw (f, g) refl)
-    go false false true f g h = no (rw (f, g, h) refl)
-    go false false false f g h = h
 
 module _ (net : AigPair) (book : Entries) (legal : IsLegal net book) (nodes : List Node) (given : List Lit)
     (is : IsOpen same_lit opposite (base_clauses (clauses_on net book.entries nodes)) given) where
@@ -115,6 +93,16 @@ module _ (net : AigPair) (book : Entries) (legal : IsLegal net book) (nodes : Li
         gate-both is.set d.node d.left d.right far-left far-right takes-gate (apart-fanins book.entries d.left d.right apart)
         ((along net book legal nodes is.set is.closed.units (length book.entries) d.left reaches.left).1 e)
         ((along net book legal nodes is.set is.closed.units (length book.entries) d.right reaches.right).1 f)
+
+    -- a gate isn't false where these roots are true, which they aren't where they are complements
+    not-down : is.set (root_of book.entries d.left) ≡ true → is.set (root_of book.entries d.right) ≡ true → is.set (negative d.node) ≡ true → ⊥
+    not-down e f off = go (same_lit (root_of book.entries d.left) (opposite (root_of book.entries d.right))) refl
+      where
+        go : (b : Bool) → same_lit (root_of book.entries d.left) (opposite (root_of book.entries d.right)) ≡ b → ⊥
+        go false apart = clash (positive d.node) (both-up apart e f) off
+        go true same =
+            clash (root_of book.entries d.right) f
+            (ap is.set (sym (exact-lit (root_of book.entries d.left) (opposite (root_of book.entries d.right)) same)) ∙ e)
 
   -- the constant is true, where the nodes have it
   const-true : has same_node nodes Const ≡ true → IsRoot book.entries Const → is.set (positive Const) ≡ true
@@ -174,23 +162,12 @@ module _ (net : AigPair) (book : Entries) (legal : IsLegal net book) (way : List
           (λ p f g. up p (ap is.set (sym g) ∙ on) (ap is.set (sym f ∙ sym g) ∙ on))
 
   -- a gate with a twin
-  module _ (j : ℕ) (c : Definition) (twin_gate : IsGate net j c) (twin_reaches : Reaches book.entries (nodes_in way) c) (twins : AreTwins book.entries c d)
-      (unfolded : folded a b ≡ None) where
+  module _ (j : ℕ) (c : Definition) (twin_gate : IsGate net j c) (twin_reaches : Reaches book.entries (nodes_in way) c) (twins : AreTwins book.entries c d) where
     abbrev x : Lit
     x = root_of book.entries c.left
 
     abbrev y : Lit
     y = root_of book.entries c.right
-
-    apart-ab : same_lit a (opposite b) ≡ false
-    apart-ab = unfolded-apart a b unfolded
-
-    apart-xy : same_lit x (opposite y) ≡ false
-    apart-xy =
-        elim twins [
-          | inl s ↦ ap (λ (l : Lit). same_lit l (opposite y)) s.0 ∙ ap (λ (l : Lit). same_lit a (opposite l)) s.1 ∙ apart-ab
-          | inr s ↦ ap (λ (l : Lit). same_lit l (opposite y)) s.0 ∙ ap (λ (l : Lit). same_lit b (opposite l)) s.1 ∙ flip-apart a b apart-ab
-        ]
 
     pub twin-shows : ShowsMerge net book.entries way d.node (positive c.node)
     twin-shows = record { below = below; above = above }
@@ -201,8 +178,7 @@ module _ (net : AigPair) (book : Entries) (legal : IsLegal net book) (way : List
             let off : is.set (negative c.node) ≡ true = is.closed.starts (negative c.node) (given-second (positive d.node) (negative c.node)) in
             let one = down-left net book legal (nodes_in way) _ is k d gate reaches n in
             let two = down-right net book legal (nodes_in way) _ is k d gate reaches n in
-            let up : is.set x ≡ true → is.set y ≡ true → ⊥ = λ e f.
-            clash net book legal (nodes_in way) _ is (positive c.node) (both-up net book legal (nodes_in way) _ is j c twin_gate twin_reaches apart-xy e f) off in
+            let up : is.set x ≡ true → is.set y ≡ true → ⊥ = λ e f. not-down net book legal (nodes_in way) _ is j c twin_gate twin_reaches e f off in
             elim twins [
               | inl s ↦ up (ap is.set s.0 ∙ one) (ap is.set s.1 ∙ two)
               | inr s ↦ up (ap is.set s.0 ∙ two) (ap is.set s.1 ∙ one)
@@ -214,8 +190,7 @@ module _ (net : AigPair) (book : Entries) (legal : IsLegal net book) (way : List
             let m : is.set (positive c.node) ≡ true = is.closed.starts (positive c.node) (given-second (negative d.node) (positive c.node)) in
             let one = down-left net book legal (nodes_in way) _ is j c twin_gate twin_reaches m in
             let two = down-right net book legal (nodes_in way) _ is j c twin_gate twin_reaches m in
-            let up : is.set a ≡ true → is.set b ≡ true → ⊥ = λ e f.
-            clash net book legal (nodes_in way) _ is (positive d.node) (both-up net book legal (nodes_in way) _ is k d gate reaches apart-ab e f) off in
+            let up : is.set a ≡ true → is.set b ≡ true → ⊥ = λ e f. not-down net book legal (nodes_in way) _ is k d gate reaches e f off in
             elim twins [
               | inl s ↦ up (ap is.set (sym s.0) ∙ one) (ap is.set (sym s.1) ∙ two)
               | inr s ↦ up (ap is.set (sym s.1) ∙ two) (ap is.set (sym s.0) ∙ one)

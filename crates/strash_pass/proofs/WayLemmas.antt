@@ -156,4 +156,4 @@ module _ (net : AigPair) (book : Entries) (legal : IsLegal net book) where
         (reaches-more book.entries ((way ++ positive c.node ∷ []) ++ passed_by book.entries c.left) (passed_by book.entries c.right) d
         (reaches-more book.entries (way ++ positive c.node ∷ []) (passed_by book.entries c.left) d
         (reaches-more book.entries way (positive c.node ∷ []) d reach.reaches)))
-        twin.first c gate-c twin-reach.reaches twin.twins twin.unfolded
+        twin.first c gate-c twin-reach.reaches twin.twins

@@ -1,3 +1,6 @@
 pub mod Strash
 pub mod Pass
 pub mod Coded
+pub mod Words
+pub mod Codes
+pub mod Twins

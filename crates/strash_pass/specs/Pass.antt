@@ -1,6 +1,6 @@
 -- What the pass keeps from gate to gate, and what it asks of a merge.
-use Rattle.std.specs.Prelude.{◌≡◌, ◌<◌, ℕ, Bool, true, false, List, [], ◌∷◌, map, length, slice_get, None, Some}
-use Rattle.std.specs.Option.{is_some, IsSome}
+use Rattle.std.specs.Prelude.{◌≡◌, ◌<◌, ◌≤◌, ◌+◌, ◌⊎◌, ℕ, Bool, true, false, List, [], ◌∷◌, map, length, slice_get, Some}
+use Rattle.std.specs.Option.{IsSome}
 use Rattle.std.specs.List.{AllByRecursion}
 use Rattle.lits.specs.declared.node.Node.TheVariants.{Xor}
 use Rattle.lits.specs.declared.node.Side.{Side}
@@ -11,9 +11,8 @@ use Rattle.lits.specs.declared.step.Named.{Named}
 use Rattle.lits.specs.declared.step.Step.{Step}
 use Rattle.lits.specs.Clause.{has}
 use Rattle.lits.specs.Same.{same_lit, same_node, opposite}
-use Rattle.indexmap.specs.IndexMap.{get}
 use Rattle.netlist.specs.declared.gate.Definition.{Definition}
-use Rattle.netlist.specs.Net.{AigPair, definitions, position_of}
+use Rattle.netlist.specs.Net.{AigPair, definitions, nodes_of, position_of}
 use Rattle.netlist.specs.Miter.{positive, negative}
 use Rattle.unit_prop.specs.Closure.{IsOpen}
 use Rattle.unit_prop.specs.Log.{base_clause, base_clauses}
@@ -23,33 +22,42 @@ use Rattle.lemma_book.specs.declared.entry.Entry.TheVariants.{Merge}
 use Rattle.lemma_book.specs.Entry.{Entries, with_last}
 use Rattle.lemma_book.specs.Root.{passed_by, root_of, IsRoot}
 use Rattle.lemma_book.specs.Cone.{Covers, clauses_on, nodes_in}
-use Rattle.strash_pass.specs.declared.pair.Pair.{Pair}
-use Rattle.strash_pass.specs.declared.visit.Pass.{Pass}
-use Rattle.strash_pass.specs.contracts.pair.PairPartialEq.TheImpl as pair_eq
-use Rattle.strash_pass.specs.Strash.{folded, ArePlainBelow, AreScanned, AreTwins}
+use Rattle.strash_pass.specs.declared.twins.Noted.{Noted}
+use Rattle.strash_pass.specs.Codes.{code_of}
+use Rattle.strash_pass.specs.Twins.{Table}
+use Rattle.strash_pass.specs.Strash.{ArePlainBelow, AreScanned, AreTwins}
 
--- the `==` of pairs
-abbrev pub same_pair : Pair → Pair → Bool
-same_pair = pair_eq.ghosts.eq
+-- the note has the codes of two literals, in either order
+abbrev pub AreCodes : AigPair → Noted → Lit → Lit → Type 0
+AreCodes net note a b =
+    ((code_of net a ≡ Some note.low) × (code_of net b ≡ Some note.high))
+    ⊎ ((code_of net a ≡ Some note.high) × (code_of net b ≡ Some note.low))
 
-abbrev pub pair_of : Lit → Lit → Pair
-pair_of a b = record { left = a; right = b }
-
--- c is one of the first n gates, isn't merged, and these are its fanins' roots
-pub record IsSeen (net : AigPair) (entries : List Entry) (n : ℕ) (a b : Lit) (c : Definition) : Type 0 where
+-- the note is of one of the first n gates, which isn't merged, and has its fanins' roots
+pub record IsSeen (net : AigPair) (entries : List Entry) (n : ℕ) (note : Noted) : Type 0 where
   pub place : ℕ
+  pub gate : Definition
   pub below : place < n
-  pub at : slice_get (definitions net) place ≡ Some c
-  pub unmerged : IsRoot entries c.node
-  pub left : root_of entries c.left ≡ a
-  pub right : root_of entries c.right ≡ b
+  pub at : slice_get (definitions net) place ≡ Some gate
+  pub position : note.gate ≡ 1 + length net.a.inputs + place
+  pub unmerged : IsRoot entries gate.node
+  pub codes : AreCodes net note (root_of entries gate.left) (root_of entries gate.right)
 
--- the first n gates are plain, and the table finds those of them that aren't merged by their roots
-pub record IsPass (net : AigPair) (entries : List Entry) (p : Pass) (n : ℕ) : Type 0 where
+-- the table has a note of the two literals
+pub record IsListed (net : AigPair) (table : Table) (a b : Lit) : Type 0 where
+  pub place : ℕ
+  pub note : Noted
+  pub at : slice_get table.notes place ≡ Some note
+  pub codes : AreCodes net note a b
+
+-- the first n gates are plain, and the table has those of them that aren't merged by their roots
+pub record IsPass (net : AigPair) (entries : List Entry) (table : Table) (n : ℕ) : Type 0 where
   pub plain : ArePlainBelow net entries n
-  pub sound : (a b : Lit) (c : Definition) → get same_pair p.gates (pair_of a b) ≡ Some c → IsSeen net entries n a b c
+  pub heads : table.heads ≡ length (nodes_of net)
+  pub few : length table.notes ≤ n
+  pub sound : (i : ℕ) (note : Noted) → slice_get table.notes i ≡ Some note → IsSeen net entries n note
   pub whole : (k : ℕ) (c : Definition) → k < n → slice_get (definitions net) k ≡ Some c → IsRoot entries c.node
-      → is_some (get same_pair p.gates (pair_of (root_of entries c.left) (root_of entries c.right))) ≡ true
+      → IsListed net table (root_of entries c.left) (root_of entries c.right)
 
 -- the nodes have a gate, which isn't merged, and those that are merged on its fanins' ways to their roots
 pub record Reaches (entries : List Entry) (nodes : List Node) (d : Definition) : Type 0 where
@@ -68,7 +76,7 @@ pub record HasGate (net : AigPair) (d : Definition) : Type 0 where
   pub place : ℕ
   pub at : slice_get (definitions net) place ≡ Some d
 
--- c is an earlier gate that isn't merged, over the same two roots, which don't fold
+-- c is an earlier gate that isn't merged, over the same two roots
 pub record IsTwin (net : AigPair) (entries : List Entry) (c d : Definition) : Type 0 where
   pub first : ℕ
   pub second : ℕ
@@ -77,7 +85,6 @@ pub record IsTwin (net : AigPair) (entries : List Entry) (c d : Definition) : Ty
   pub at_second : slice_get (definitions net) second ≡ Some d
   pub unmerged : IsRoot entries c.node
   pub twins : AreTwins entries c d
-  pub unfolded : folded (root_of entries d.left) (root_of entries d.right) ≡ None
 
 -- unit propagation over these clauses shows the clause of the two literals
 abbrev pub ShowsOver : List (List Lit) → Lit → Lit → Type 0

@@ -1,55 +1,16 @@
-ghost use Rattle.std.specs.Prelude.{◌≡◌, ◌≤◌, ◌<◌, [], ◌∷◌, length, IfOk, IfSome};
+ghost use Rattle.std.specs.Prelude.{◌≡◌, ◌≤◌, ◌<◌, [], ◌∷◌, length, IfSome};
 ghost use Rattle.std.specs.List.{position};
 ghost use Rattle.lits.specs.Same.{same_node, opposite};
-ghost use Rattle.strash_pass.specs.Coded.{bit_of, AreBits, AreCoded, AreMarks};
+ghost use Rattle.strash_pass.specs.Coded.{bit_of, AreBits, AreMarks};
 
 use crate::marks::{Marks, set};
-use lits::{Lit, Literal, Named, Node, Ref};
-use std::alloc::{AllocError, Global};
+use lits::{Lit, Literal, Node, Ref};
 
 /// A clause as a word of its literals' bits, with its name.
 #[derive(Clone, Copy)]
 pub struct Coded {
     pub word: u64,
     pub by: Ref,
-}
-
-/// The nodes of the clauses of two literals, as many as have bits.
-pub fn nodes_of(alloc: Global, base: &[Named]) -> Result<Vec<Node>, AllocError>
-    ensures { IfOk result (λ v. length v.items ≤ 32) }
-{
-    let mut nodes = Vec::with_capacity(alloc, 8)?;
-    for named in base {
-        // The clauses of three literals of a gate speak of no other nodes than those of two.
-        if named.clause.lits().len() > 2 {
-            continue;
-        }
-        for lit in named.clause.lits() {
-            if nodes.len() < 32 && !nodes.as_slice().contains(&lit.node) {
-                nodes.push(lit.node)?;
-            }
-        }
-    }
-    Ok(nodes)
-}
-
-/// The clauses as words; none where a literal's node isn't among the nodes.
-pub fn coded_by(
-    alloc: Global,
-    nodes: &[Node],
-    base: &[Named],
-) -> Result<Option<Vec<Coded>>, AllocError>
-    requires { length nodes.now ≤ 32 }
-    ensures { IfOk result (λ r. IfSome r (λ v. AreCoded (bit_of nodes.now) base.now v.items)) }
-{
-    let mut all = Vec::with_capacity(alloc, base.len())?;
-    for named in base {
-        match word_of(nodes, named.clause.lits()) {
-            Some(word) => all.push(Coded { word, by: named.by })?,
-            None => return Ok(None),
-        }
-    }
-    Ok(Some(all))
 }
 
 /// The marks where two literals are false; none where one of them has no bit.
@@ -64,7 +25,7 @@ pub fn marks_of(nodes: &[Node], one: Lit, other: Lit) -> Option<Marks>
 }
 
 /// The word of the literals' bits; none where one of them has none.
-fn word_of(nodes: &[Node], lits: &[Lit]) -> Option<u64>
+pub fn word_of(nodes: &[Node], lits: &[Lit]) -> Option<u64>
     requires { length nodes.now ≤ 32 }
     ensures { IfSome result (AreBits (bit_of nodes.now) lits.now) }
 {

@@ -1,4 +1,4 @@
-ghost use Rattle.std.specs.Prelude.{◌≡◌, ◌≤◌, ℕ, [], ◌∷◌, List, length, map, IfOk, IfSome};
+ghost use Rattle.std.specs.Prelude.{◌≡◌, ◌≤◌, ℕ, [], ◌∷◌, List, length, IfOk, IfSome};
 ghost use Rattle.std.specs.List.{find};
 ghost use Rattle.std.specs.Option.{option_copied};
 ghost use Rattle.lits.specs.Clause.{IsClause};
@@ -6,64 +6,40 @@ ghost use Rattle.lits.specs.Same.{same_lit, opposite};
 ghost use Rattle.lits.specs.declared.literal.Lit.{Lit};
 ghost use Rattle.lits.specs.declared.node.Node.{Node};
 ghost use Rattle.lits.specs.declared.step.Named.{Named};
-ghost use Rattle.unit_prop.specs.Closure.{IsOpen};
-ghost use Rattle.unit_prop.specs.HintScan.{IsNamed, ScansTo};
-ghost use Rattle.unit_prop.specs.Log.{base_clause, base_clauses};
-ghost use Rattle.unit_prop.specs.Step.{IsStep};
+ghost use Rattle.unit_prop.specs.HintScan.{ScansTo};
 ghost use Rattle.strash_pass.specs.Coded.{asks_word, bit_of, AreCoded, AreMarks};
+ghost use Rattle.strash_pass.specs.Words.{AreCodedOn};
 
 use crate::coded::{Coded, marks_of};
 use crate::marks::Marks;
-use lits::{Clause, Listed, Lit, Named, Node, Ref, Step};
+use lits::{Clause, Listed, Lit, Node, Ref, Step};
 use std::alloc::{AllocError, Global};
-use unit_prop::scanned_step;
 
-/// The step that adds the clause of two literals over the base, by the hints of `unit_prop::scan`.
+/// The step that adds the clause of two literals over the clauses that the words stand for, by the hints of
+/// `unit_prop::scan`; none where a literal has no bit, or scanning comes to no end.
 ///
 /// Scanning asks a dozen clauses of three literals a dozen times for each merge. As words of bits a clause
 /// is judged in a few instructions; with sets of literals that was half of the pass.
-pub fn step_over(
+pub fn step_by_words(
     alloc: Global,
-    base: &[Named],
     nodes: &[Node],
     coded: &[Coded],
     one: Lit,
     other: Lit,
-) -> Result<Step, AllocError>
-    requires named { IsNamed base.now }
+) -> Result<Option<Step>, AllocError>
     requires clause { IsClause same_lit opposite (one ∷ other ∷ []) }
-    requires shown { ¬ IsOpen same_lit opposite (base_clauses base.now) (map opposite (one ∷ other ∷ [])) }
     requires few { length nodes.now ≤ 32 }
-    requires coded { AreCoded (bit_of nodes.now) base.now coded.now }
-    ensures step { IfOk result (λ s. (s.clause ≡ one ∷ other ∷ [])
-        × IsStep same_lit opposite (base_clause base.now) s.clause s.hints) }
-    ensures first { IfOk result (λ s. ScansTo base.now (map opposite (one ∷ other ∷ [])) s.hints) }
+    ensures clause { IfOk result (λ r. IfSome r (λ s. s.clause ≡ one ∷ other ∷ [])) }
+    ensures scans { IfOk result (λ r. IfSome r (λ s. (base : List Named) → AreCodedOn nodes.now base coded.now
+        → ScansTo base (opposite one ∷ opposite other ∷ []) s.hints)) }
 {
-    match marks_of(nodes, one, other) {
-        Some(marks) => match hints_from(alloc, coded, marks)? {
-            Some(hints) => step_by(alloc, base, one, other, hints),
-            None => scanned_step(alloc, base, &[one, other]),
-        },
-        None => scanned_step(alloc, base, &[one, other]),
+    let Some(marks) = marks_of(nodes, one, other) else {
+        return Ok(None);
+    };
+    match hints_from(alloc, coded, marks)? {
+        Some(hints) => Ok(Some(step_of(alloc, one, other, hints)?)),
+        None => Ok(None),
     }
-}
-
-/// The step by hints that scanning gives.
-fn step_by(
-    alloc: Global,
-    base: &[Named],
-    one: Lit,
-    other: Lit,
-    hints: Vec<Ref>,
-) -> Result<Step, AllocError>
-    requires named { IsNamed base.now }
-    requires clause { IsClause same_lit opposite (one ∷ other ∷ []) }
-    requires scans { ScansTo base.now (opposite one ∷ opposite other ∷ []) hints.items }
-    ensures step { IfOk result (λ s. (s.clause ≡ one ∷ other ∷ [])
-        × IsStep same_lit opposite (base_clause base.now) s.clause s.hints) }
-    ensures first { IfOk result (λ s. ScansTo base.now (opposite one ∷ opposite other ∷ []) s.hints) }
-{
-    step_of(alloc, one, other, hints)
 }
 
 /// The step of two literals and these hints.

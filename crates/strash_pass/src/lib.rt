@@ -9,21 +9,30 @@
 //! `run` promises that it adds merges alone, that a legal book stays legal, and that afterwards no unmerged
 //! gate folds or has an earlier unmerged gate over the same roots. What each gate is merged to, by which
 //! steps and in which order, is a definition, so that a run can be repeated to the byte; where memory is
-//! refused, what stands is that of the first so many gates.
+//! refused, what stands is that of the first so many gates. `merge_to_twin` takes one such merge, of two gates
+//! that the caller knows to be twins.
 //!
 //! Definitions: `specs/Strash.antt` (what is left to merge, and what is merged to what), `specs/Pass.antt`
-//! (what the pass keeps), `specs/Coded.antt` (clauses as words of bits, by which `hints.rt` scans them).
+//! (what the pass keeps), `specs/Coded.antt` (clauses as words of bits, by which `hints.rt` scans them),
+//! `specs/Words.antt` (those of a few nodes, which `words.rt` makes), `specs/Codes.antt` and
+//! `specs/Twins.antt` (literals as numbers, and the table of gates by two of them).
 //! Begin to read at `pass.rt`, then `visit.rt`.
 #![tactic(auto)]
 
+pub use known_twin::merge_to_twin;
 pub use pass::run;
+pub use words::Words;
 
 mod coded;
+mod codes;
 mod fold;
 mod hints;
+mod known_twin;
 mod marks;
 mod merge;
 mod pair;
 mod pass;
+mod twins;
 mod visit;
 mod ways;
+mod words;

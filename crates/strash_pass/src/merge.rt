@@ -1,22 +1,22 @@
-ghost use Rattle.std.specs.Prelude.{◌≡◌, ◌≤◌, [], ◌∷◌, false, length, IfOk, IfSome, OnOk, OnErr};
-ghost use Rattle.lits.specs.Clause.{IsClause};
-ghost use Rattle.lits.specs.Same.{same_lit, same_node, opposite};
+ghost use Rattle.std.specs.Prelude.{◌≡◌, ◌≤◌, List, false, length, IfOk, IfSome, OnOk, OnErr};
+ghost use Rattle.lits.specs.Same.{same_node, opposite};
+ghost use Rattle.lits.specs.declared.step.Named.{Named};
 ghost use Rattle.netlist.specs.Net.{IsNet};
 ghost use Rattle.netlist.specs.Miter.{positive, negative};
-ghost use Rattle.unit_prop.specs.HintScan.{IsNamed, ScansTo};
-ghost use Rattle.unit_prop.specs.Log.{base_clause, base_clauses};
-ghost use Rattle.unit_prop.specs.Step.{IsStep};
+ghost use Rattle.unit_prop.specs.HintScan.{IsNamed};
+ghost use Rattle.unit_prop.specs.Log.{base_clauses};
 ghost use Rattle.lemma_book.specs.Entry.{with_last};
 ghost use Rattle.lemma_book.specs.Root.{IsRoot};
-ghost use Rattle.lemma_book.specs.Cone.{AreThere};
+ghost use Rattle.lemma_book.specs.Cone.{AreThere, clauses_on, nodes_in};
 ghost use Rattle.lemma_book.specs.Good.{ArePlaced, IsEarlier, IsGood};
 ghost use Rattle.lemma_book.specs.Book.{IsLegal};
 ghost use Rattle.strash_pass.specs.Strash.{AreScanned};
-ghost use Rattle.strash_pass.specs.Coded.{bit_of, AreCoded};
-ghost use Rattle.strash_pass.specs.Pass.{ShowsMerge, ShowsOver, AreSteps, Merges, AreNotXors};
+ghost use Rattle.strash_pass.specs.Words.{AreCodedOn};
+ghost use Rattle.strash_pass.specs.Pass.{ShowsMerge, ShowsOver, Merges, AreNotXors};
 
-use crate::coded::{Coded, coded_by, nodes_of};
-use crate::hints::step_over;
+use crate::coded::Coded;
+use crate::hints::step_by_words;
+use crate::words::Words;
 use lemma_book::{Book, Entry};
 use lits::{Listed, Lit, Literal, Named, Node, Step};
 use netlist::Net;
@@ -24,6 +24,7 @@ use std::alloc::{AllocError, Global};
 use unit_prop::scanned_step;
 
 /// Merges a node to a literal of an earlier one, by two steps over the clauses of the nodes on the way alone.
+/// Their literals are over these nodes and those of the others.
 ///
 /// Over the whole cone of the node, hints would run down to the inputs, and the proof of a circuit
 /// against itself would grow with the square of its depth.
@@ -31,9 +32,11 @@ pub fn merge(
     alloc: Global,
     net: &Net,
     book: &mut Book,
+    words: &mut Words,
     node: Node,
     target: Lit,
     way: &[Lit],
+    others: &[Lit],
 ) -> Result<(), AllocError>
     requires net { IsNet net.now }
     requires legal { IsLegal net.now book.old }
@@ -47,9 +50,107 @@ pub fn merge(
     ensures ok { OnOk result (Merges net.now book.old book.new way.now node target) }
     ensures err { OnErr result (book.new ≡ book.old) }
 {
-    let base = book.clauses_on(alloc, net, book.len(), way)?;
-    let steps = both_steps(alloc, &base, node, target)?;
+    let steps = steps_of(alloc, net, book, words, node, target, way, others)?;
     put(alloc, net, book, node, target, steps)
+}
+
+/// The steps that show the two clauses of the merge.
+fn steps_of(
+    alloc: Global,
+    net: &Net,
+    book: &Book,
+    words: &mut Words,
+    node: Node,
+    target: Lit,
+    way: &[Lit],
+    others: &[Lit],
+) -> Result<Vec<Step>, AllocError>
+    requires net { IsNet net.now }
+    requires legal { IsLegal net.now book.now }
+    requires there { AreThere net.now way.now }
+    requires no_xors { AreNotXors way.now }
+    requires apart { same_node target.node node ≡ false }
+    requires shows { ShowsMerge net.now book.now.entries way.now node target }
+    ensures { IfOk result
+        (λ v. AreScanned (clauses_on net.now book.now.entries (nodes_in way.now)) node target v.items) }
+{
+    match steps_by_words(alloc, net, book, words, node, target, way, others)? {
+        Some(steps) => Ok(steps),
+        None => steps_by_clauses(alloc, net, book, node, target, way),
+    }
+}
+
+/// The steps that show the two clauses of the merge, by the words of the clauses on the way; none where these
+/// can't be had.
+fn steps_by_words(
+    alloc: Global,
+    net: &Net,
+    book: &Book,
+    words: &mut Words,
+    node: Node,
+    target: Lit,
+    way: &[Lit],
+    others: &[Lit],
+) -> Result<Option<Vec<Step>>, AllocError>
+    requires net { IsNet net.now }
+    requires no_xors { AreNotXors way.now }
+    requires apart { same_node target.node node ≡ false }
+    ensures { IfOk result (λ r. IfSome r
+        (λ v. AreScanned (clauses_on net.now book.now.entries (nodes_in way.now)) node target v.items)) }
+{
+    if words.gather(net, book, way, others)? {
+        both_by_words(alloc, &words.nodes, &words.coded, node, target)
+    } else {
+        Ok(None)
+    }
+}
+
+/// The steps that show the two clauses of the merge from the clauses that the words stand for; none where
+/// scanning comes to no end.
+fn both_by_words(
+    alloc: Global,
+    nodes: &[Node],
+    coded: &[Coded],
+    node: Node,
+    target: Lit,
+) -> Result<Option<Vec<Step>>, AllocError>
+    requires few { length nodes.now ≤ 32 }
+    requires apart { same_node target.node node ≡ false }
+    ensures { IfOk result (λ r. IfSome r (λ v. (base : List Named) → AreCodedOn nodes.now base coded.now
+        → AreScanned base node target v.items)) }
+{
+    let lit = Lit { node, neg: false };
+    let Some(below) = step_by_words(alloc, nodes, coded, lit.not(), target)? else {
+        return Ok(None);
+    };
+    let Some(above) = step_by_words(alloc, nodes, coded, lit, target.not())? else {
+        return Ok(None);
+    };
+    let mut steps = Vec::with_capacity(alloc, 2)?;
+    steps.push(below)?;
+    steps.push(above)?;
+    Ok(Some(steps))
+}
+
+/// The steps that show the two clauses of the merge, by the list of the clauses on the way.
+fn steps_by_clauses(
+    alloc: Global,
+    net: &Net,
+    book: &Book,
+    node: Node,
+    target: Lit,
+    way: &[Lit],
+) -> Result<Vec<Step>, AllocError>
+    requires legal { IsLegal net.now book.now }
+    requires there { AreThere net.now way.now }
+    requires no_xors { AreNotXors way.now }
+    requires apart { same_node target.node node ≡ false }
+    requires shows { ShowsMerge net.now book.now.entries way.now node target }
+    ensures { IfOk result
+        (λ v. AreScanned (clauses_on net.now book.now.entries (nodes_in way.now)) node target v.items) }
+{
+    let base = book.clauses_on(alloc, net, book.len(), way)?;
+    both_steps(alloc, &base, node, target)
 }
 
 /// The steps that show the two clauses of the merge from the base.
@@ -63,40 +164,13 @@ fn both_steps(
     requires apart { same_node target.node node ≡ false }
     requires below { ShowsOver (base_clauses base.now) (negative node) target }
     requires above { ShowsOver (base_clauses base.now) (positive node) (opposite target) }
-    ensures steps { IfOk result (λ v. AreSteps base.now node target v.items) }
-    ensures scanned { IfOk result (λ v. AreScanned base.now node target v.items) }
+    ensures { IfOk result (λ v. AreScanned base.now node target v.items) }
 {
     let lit = Lit { node, neg: false };
     let mut steps = Vec::with_capacity(alloc, 2)?;
-    let nodes = nodes_of(alloc, base)?;
-    let coded = coded_by(alloc, &nodes, base)?;
-    steps.push(step_from(alloc, base, &nodes, &coded, lit.not(), target)?)?;
-    steps.push(step_from(alloc, base, &nodes, &coded, lit, target.not())?)?;
+    steps.push(scanned_step(alloc, base, &[lit.not(), target])?)?;
+    steps.push(scanned_step(alloc, base, &[lit, target.not()])?)?;
     Ok(steps)
-}
-
-/// The step that adds the clause of two literals over the base, which may stand as words too.
-fn step_from(
-    alloc: Global,
-    base: &[Named],
-    nodes: &[Node],
-    coded: &Option<Vec<Coded>>,
-    one: Lit,
-    other: Lit,
-) -> Result<Step, AllocError>
-    requires named { IsNamed base.now }
-    requires clause { IsClause same_lit opposite (one ∷ other ∷ []) }
-    requires shown { ShowsOver (base_clauses base.now) one other }
-    requires few { length nodes.now ≤ 32 }
-    requires coded { IfSome coded.now (λ v. AreCoded (bit_of nodes.now) base.now v.items) }
-    ensures step { IfOk result (λ s. (s.clause ≡ one ∷ other ∷ [])
-        × IsStep same_lit opposite (base_clause base.now) s.clause s.hints) }
-    ensures first { IfOk result (λ s. ScansTo base.now (opposite one ∷ opposite other ∷ []) s.hints) }
-{
-    match coded {
-        Some(coded) => step_over(alloc, base, nodes, coded, one, other),
-        None => scanned_step(alloc, base, &[one, other]),
-    }
 }
 
 /// Puts the merge by these steps last.

@@ -1,7 +1,7 @@
 use lits::Lit;
 
 /// The roots of a gate's fanins.
-#[derive(Clone, Copy, PartialEq, Eq, Hash)]
+#[derive(Clone, Copy)]
 pub struct Pair {
     pub left: Lit,
     pub right: Lit,

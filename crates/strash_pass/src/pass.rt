@@ -4,9 +4,10 @@ ghost use Rattle.lemma_book.specs.Book.{IsLegal};
 ghost use Rattle.strash_pass.specs.Strash.{AddsFirstPart, AddsMerges, AddsStructural, ArePlain};
 ghost use Rattle.strash_pass.specs.Pass.{gates_before, IsPass};
 
+use crate::twins::Twins;
 use crate::visit::Pass;
-use indexmap::IndexMap;
-use lemma_book::{Book, NodeHasher};
+use crate::words::Words;
+use lemma_book::Book;
 use lits::{Node, Side};
 use netlist::{Net, laws};
 use std::alloc::{AllocError, Global};
@@ -30,8 +31,9 @@ pub fn run(alloc: Global, net: &Net, book: &mut Book) -> Result<u64, AllocError>
     laws::is_net(net);
     let before = book.len();
     let mut pass = Pass {
-        gates: IndexMap::with_hasher(alloc, NodeHasher::new()),
+        twins: Twins::new(alloc, net.positions() as usize)?,
         visited: 0,
+        words: Words::new(alloc),
     };
     visit_both(&mut pass, alloc, net, book)?;
     Ok(book.len() - before)
@@ -41,7 +43,7 @@ pub fn run(alloc: Global, net: &Net, book: &mut Book) -> Result<u64, AllocError>
 fn visit_both(pass: &mut Pass, alloc: Global, net: &Net, book: &mut Book) -> Result<(), AllocError>
     requires net { IsNet net.now }
     requires legal { IsLegal net.now book.old }
-    requires pass { IsPass net.now book.old.entries pass.old pass.old.visited }
+    requires pass { IsPass net.now book.old.entries pass.old.twins pass.old.visited }
     requires visited { pass.old.visited ≡ 0 }
     ensures legal { IsLegal net.now book.new }
     ensures grows { AddsStructural net.now 0 (length (definitions net.now)) book.old book.new }
@@ -62,12 +64,12 @@ fn visit_side(
 ) -> Result<(), AllocError>
     requires net { IsNet net.now }
     requires legal { IsLegal net.now book.old }
-    requires pass { IsPass net.now book.old.entries pass.old pass.old.visited }
+    requires pass { IsPass net.now book.old.entries pass.old.twins pass.old.visited }
     requires visited { pass.old.visited ≡ gates_before net.now side }
     ensures legal { IsLegal net.now book.new }
     ensures grows { AddsStructural net.now (gates_before net.now side)
         (gates_before net.now side + length (circuit_of net.now side).gates) book.old book.new }
-    ensures pass { OnOk result (IsPass net.now book.new.entries pass.new pass.new.visited) }
+    ensures pass { OnOk result (IsPass net.now book.new.entries pass.new.twins pass.new.visited) }
     ensures visited { OnOk result
         (pass.new.visited ≡ gates_before net.now side + length (circuit_of net.now side).gates) }
     ensures stopped { OnErr result

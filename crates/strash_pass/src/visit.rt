@@ -1,30 +1,35 @@
-ghost use Rattle.std.specs.Prelude.{◌≡◌, ◌+◌, ◌∷◌, ◌++◌, Some, slice_get, OnOk, OnErr, IfOk};
-ghost use Rattle.std.specs.Option.{option_or};
+ghost use Rattle.std.specs.Prelude.{◌≡◌, ◌+◌, ◌∷◌, ◌++◌, None, Some, slice_get, OnOk, OnErr, IfOk};
 ghost use Rattle.netlist.specs.Net.{IsNet, definitions};
 ghost use Rattle.netlist.specs.Miter.{positive};
 ghost use Rattle.lemma_book.specs.Book.{IsLegal};
 ghost use Rattle.lemma_book.specs.Root.{passed_by, root_of};
 ghost use Rattle.strash_pass.specs.Strash.{AddsStructural};
 
+use crate::codes::{code_of, position_of};
 use crate::fold::folded;
 use crate::pair::Pair;
+use crate::twins::Twins;
 use crate::ways::{merge_folded, merge_twin};
-use indexmap::IndexMap;
-use lemma_book::{Book, NodeHasher};
+use crate::words::Words;
+use lemma_book::Book;
 use lits::Lit;
 use netlist::{Definition, Net};
 use std::alloc::{AllocError, Global};
 
-/// The gates that were visited and stay unmerged, by their fanins' roots, and how many gates were visited.
+/// The gates that were visited and stay unmerged, by their fanins' roots, how many gates were visited, and
+/// room for the clauses that a merge stands on.
 #[derive(Drop)]
 pub struct Pass {
-    pub gates: IndexMap<Pair, Definition, NodeHasher>,
+    pub twins: Twins,
     pub visited: u64,
+    pub words: Words,
 }
 
 impl Pass {
-    ghost use Rattle.indexmap.specs.IndexMap.{get};
-    ghost use Rattle.strash_pass.specs.Pass.{IsPass, pair_of, same_pair};
+    ghost use Rattle.std.specs.Prelude.{IfNone, IfSome};
+    ghost use Rattle.lemma_book.specs.Root.{IsRoot};
+    ghost use Rattle.strash_pass.specs.Strash.{folded};
+    ghost use Rattle.strash_pass.specs.Pass.{IsPass, IsTwin};
 
     /// Visits the next gate: it is merged where its fanins' roots decide it or an earlier gate has the
     /// same, and is noted where not.
@@ -37,11 +42,11 @@ impl Pass {
     ) -> Result<(), AllocError>
         requires net { IsNet net.now }
         requires legal { IsLegal net.now book.old }
-        requires pass { IsPass net.now book.old.entries self.old self.old.visited }
+        requires pass { IsPass net.now book.old.entries self.old.twins self.old.visited }
         requires gate { slice_get (definitions net.now) self.old.visited ≡ Some gate }
         ensures legal { IsLegal net.now book.new }
         ensures grows { AddsStructural net.now self.old.visited (self.old.visited + 1) book.old book.new }
-        ensures pass { OnOk result (IsPass net.now book.new.entries self.new self.new.visited) }
+        ensures pass { OnOk result (IsPass net.now book.new.entries self.new.twins self.new.visited) }
         ensures visited { OnOk result (self.new.visited ≡ self.old.visited + 1) }
         ensures err { OnErr result (book.new ≡ book.old) }
     {
@@ -60,11 +65,11 @@ impl Pass {
     ) -> Result<(), AllocError>
         requires net { IsNet net.now }
         requires legal { IsLegal net.now book.old }
-        requires pass { IsPass net.now book.old.entries self.old self.old.visited }
+        requires pass { IsPass net.now book.old.entries self.old.twins self.old.visited }
         requires gate { slice_get (definitions net.now) self.old.visited ≡ Some gate }
         ensures legal { IsLegal net.now book.new }
         ensures grows { AddsStructural net.now self.old.visited (self.old.visited + 1) book.old book.new }
-        ensures pass { OnOk result (IsPass net.now book.new.entries self.new (self.old.visited + 1)) }
+        ensures pass { OnOk result (IsPass net.now book.new.entries self.new.twins (self.old.visited + 1)) }
         ensures visited { self.new.visited ≡ self.old.visited }
         ensures err { OnErr result (book.new ≡ book.old) }
     {
@@ -73,38 +78,58 @@ impl Pass {
         }
         let (roots, way) = roots_of(alloc, book, gate)?;
         match folded(roots.left, roots.right) {
-            Some(target) => merge_folded(alloc, net, book, gate, roots, target, way),
-            None => match self.twin(roots.left, roots.right) {
-                Some(twin) => merge_twin(alloc, net, book, gate, twin, way),
-                None => {
-                    self.gates.insert(roots, gate)?;
-                    Ok(())
+            Some(target) => {
+                merge_folded(alloc, net, book, &mut self.words, gate, roots, target, way)
+            },
+            None => match self.twin(net, book, gate, roots)? {
+                Some(twin) => {
+                    merge_twin(alloc, net, book, &mut self.words, gate, twin, roots, way)
                 }
+                None => Ok(()),
             },
         }
     }
 
-    /// The gate that was noted with these roots, in either order.
-    fn twin(&self, left: Lit, right: Lit) -> Option<Definition>
-        ensures { result ≡ option_or
-            (get same_pair self.now.gates (pair_of left right))
-            (get same_pair self.now.gates (pair_of right left)) }
+    /// The gate that was noted with these roots, in either order; where there is none, this gate is noted.
+    fn twin(
+        &mut self,
+        net: &Net,
+        book: &Book,
+        gate: Definition,
+        roots: Pair,
+    ) -> Result<Option<Definition>, AllocError>
+        requires net { IsNet net.now }
+        requires legal { IsLegal net.now book.now }
+        requires pass { IsPass net.now book.now.entries self.old.twins self.old.visited }
+        requires gate { slice_get (definitions net.now) self.old.visited ≡ Some gate }
+        requires unmerged { IsRoot book.now.entries gate.node }
+        requires left { roots.left ≡ root_of book.now.entries gate.left }
+        requires right { roots.right ≡ root_of book.now.entries gate.right }
+        requires unfolded { folded roots.left roots.right ≡ None }
+        ensures twin { IfOk result (λ r. IfSome r (λ c. IsTwin net.now book.now.entries c gate
+            × IsPass net.now book.now.entries self.new.twins self.old.visited)) }
+        ensures noted { IfOk result (λ r. IfNone r
+            (IsPass net.now book.now.entries self.new.twins (self.old.visited + 1))) }
+        ensures visited { self.new.visited ≡ self.old.visited }
     {
-        match self.gates.get(&Pair { left, right }) {
-            Some(gate) => Some(*gate),
-            None => self
-                .gates
-                .get(&Pair {
-                    left: right,
-                    right: left,
-                })
-                .copied(),
+        let left = code_of(net, roots.left);
+        let right = code_of(net, roots.right);
+        match self
+            .twins
+            .twin_or_note(left, right, position_of(net, gate.node))?
+        {
+            Some(twin) => Ok(net.definition(net.node(twin))),
+            None => Ok(None),
         }
     }
 }
 
 /// The roots of a gate's fanins, and its way: the gate, and the merged nodes that its fanins pass.
-fn roots_of(alloc: Global, book: &Book, gate: Definition) -> Result<(Pair, Vec<Lit>), AllocError>
+pub fn roots_of(
+    alloc: Global,
+    book: &Book,
+    gate: Definition,
+) -> Result<(Pair, Vec<Lit>), AllocError>
     ensures left { IfOk result (λ r. r.0.left ≡ root_of book.now.entries gate.left) }
     ensures right { IfOk result (λ r. r.0.right ≡ root_of book.now.entries gate.right) }
     ensures way { IfOk result (λ r. r.1.items ≡ (positive gate.node ∷ passed_by book.now.entries gate.left)

@@ -8,6 +8,7 @@ ghost use Rattle.strash_pass.specs.Pass.{HasGate, IsTwin, IsWay, Merges};
 
 use crate::merge::merge;
 use crate::pair::Pair;
+use crate::words::Words;
 use lemma_book::Book;
 use lits::{Lit, Node};
 use netlist::{Definition, Net};
@@ -19,6 +20,7 @@ pub fn merge_folded(
     alloc: Global,
     net: &Net,
     book: &mut Book,
+    words: &mut Words,
     gate: Definition,
     roots: Pair,
     target: Lit,
@@ -37,7 +39,8 @@ pub fn merge_folded(
     ensures err { OnErr result (book.new ≡ book.old) }
 {
     let way = with_constant(way, roots.left, roots.right, target)?;
-    merge(alloc, net, book, gate.node, target, &way)
+    let others = [gate.left, gate.right, roots.left, roots.right];
+    merge(alloc, net, book, words, gate.node, target, &way, &others)
 }
 
 /// The way with the constant, where one of the literals is it.
@@ -64,8 +67,10 @@ pub fn merge_twin(
     alloc: Global,
     net: &Net,
     book: &mut Book,
+    words: &mut Words,
     gate: Definition,
     twin: Definition,
+    roots: Pair,
     way: Vec<Lit>,
 ) -> Result<(), AllocError>
     requires net { IsNet net.now }
@@ -85,5 +90,13 @@ pub fn merge_twin(
     way.push(target)?;
     let _left = book.root_by(twin.left, &mut way)?;
     let _right = book.root_by(twin.right, &mut way)?;
-    merge(alloc, net, book, gate.node, target, &way)
+    let others = [
+        gate.left,
+        gate.right,
+        twin.left,
+        twin.right,
+        roots.left,
+        roots.right,
+    ];
+    merge(alloc, net, book, words, gate.node, target, &way, &others)
 }

@@ -1,11 +1,12 @@
 -- The way has the XOR and what both literals pass, and the steps over its clauses are those of the entry.
-use Rattle.std.proofs.Common.{◌∙◌, [], ◌∷◌, ◌++◌, List, ap, sym, subst}
+use Rattle.std.proofs.Common.{◌≤◌, ◌∙◌, [], ◌∷◌, ◌++◌, List, length, ap, sym, subst}
 use Rattle.lits.specs.declared.node.Node.TheVariants.{Xor}
 use Rattle.lits.specs.declared.literal.Lit.{Lit}
+use Rattle.lits.specs.declared.step.Step.{Step}
 use Rattle.netlist.specs.Miter.{positive}
 use Rattle.lemma_book.specs.Root.{passed_by}
 use Rattle.equal_outputs.specs.EqualRoots.{AreShown}
-use Rattle.equal_outputs.proofs.EqualRootsLemmas.{equal-lits, other-lits, other-roots, lits-there, lits-way_to, lits-settle}
+use Rattle.equal_outputs.proofs.EqualRootsLemmas.{equal-lits, few-shown, other-lits, other-roots, lits-there, lits-way_to, lits-settle}
 use Rattle.equal_outputs.proofs.equal_roots.entry_of_equal_roots.Goals as goal
 
 pub returns-then-ne-clause-apart : goal.returns-then-ne-clause-apart
@@ -55,3 +56,8 @@ returns-clause-good c =
     c.in_ok-base.base.items c.len.result c.len.ensures c.in_ok-base.ensures c.not.result c.not.ensures
     c.of.result
     (subst (AreShown c.in_ok-base.base.items c.not.result c.in-Some.definition.left) (sym c.of.ensures) c.in_ok-steps.ensures)
+
+pub returns-clause-few : goal.returns-clause-few
+returns-clause-few c =
+    subst (λ (l : List Step). length l ≤ 2) (sym c.of.ensures)
+    (few-shown c.in_ok-base.base.items c.not.result c.in-Some.definition.left c.in_ok-steps.steps.items c.in_ok-steps.ensures)

@@ -1,58 +1,21 @@
--- The two steps stand on the clauses of the nodes on the way.
-use Rattle.std.proofs.Common.{◌≡◌, ◌∙◌, List, ap, sym, subst, take, ℕ, length}
-use Rattle.std.proofs.Math.Seq.{take-length}
+-- The steps are those of a scan over the clauses of the nodes on the way, so the entry is good.
+use Rattle.std.proofs.Common.{refl}
 use Rattle.std.proofs.lemmas.Result.{on_ok_weaker}
-use Rattle.lits.specs.declared.step.Named.{Named}
-use Rattle.lits.specs.declared.literal.Lit.{Lit}
-use Rattle.lits.specs.Same.{opposite}
-use Rattle.netlist.specs.Net.{AigPair}
-use Rattle.netlist.specs.Miter.{positive, negative}
-use Rattle.unit_prop.specs.Log.{base_clauses}
-use Rattle.lemma_book.specs.declared.entry.Entry.{Entry}
 use Rattle.lemma_book.specs.Cone.{clauses_on, nodes_in}
-use Rattle.strash_pass.specs.Strash.{AreScanned}
-use Rattle.strash_pass.specs.Pass.{ShowsOver}
-use Rattle.strash_pass.proofs.MergeLemmas.{base-named, earlier-apart, steps-good}
+use Rattle.strash_pass.proofs.MergeLemmas.{base-named, earlier-apart, scanned-steps, steps-good}
 use Rattle.strash_pass.proofs.merge.merge.Goals as goal
 
--- the clauses over all entries
-over-all : (net : AigPair) (es : List Entry) (way : List Lit) (base items : List Named) (n : ℕ) → base ≡ items
-    → items ≡ clauses_on net (take n es) (nodes_in way) → n ≡ length es → base ≡ clauses_on net es (nodes_in way)
-over-all net es way base items n e f count =
-    e ∙ f ∙ ap (λ (l : List Entry). clauses_on net l (nodes_in way)) (ap (λ (k : ℕ). take k es) count ∙ take-length es)
-
-pub both_steps-requires-clause-named : goal.both_steps-requires-clause-named
-both_steps-requires-clause-named c =
-    let es = c.args.book.now.entries in
-    base-named c.args.net.now es c.args.way.now c.requires.no_xors c.deref.result.now
-    (over-all c.args.net.now es c.args.way.now _ _ _ c.deref.ensures.value c.in_ok-base.ensures c.len.ensures)
-
-pub both_steps-requires-clause-apart : goal.both_steps-requires-clause-apart
-both_steps-requires-clause-apart c = earlier-apart c.args.net.now c.args.node c.args.target c.requires.earlier
-
-pub both_steps-requires-clause-below : goal.both_steps-requires-clause-below
-both_steps-requires-clause-below c =
-    subst (λ (b : List Named). ShowsOver (base_clauses b) (negative c.args.node) c.args.target)
-    (sym (over-all c.args.net.now c.args.book.now.entries c.args.way.now _ _ _ c.deref.ensures.value c.in_ok-base.ensures c.len.ensures)) c.requires.shows.below
-
-pub both_steps-requires-clause-above : goal.both_steps-requires-clause-above
-both_steps-requires-clause-above c =
-    subst (λ (b : List Named). ShowsOver (base_clauses b) (positive c.args.node) (opposite c.args.target))
-    (sym (over-all c.args.net.now c.args.book.now.entries c.args.way.now _ _ _ c.deref.ensures.value c.in_ok-base.ensures c.len.ensures)) c.requires.shows.above
+pub steps_of-requires-clause-apart : goal.steps_of-requires-clause-apart
+steps_of-requires-clause-apart c = earlier-apart c.args.net.now c.args.node c.args.target c.requires.earlier
 
 pub put-requires-clause-good : goal.put-requires-clause-good
 put-requires-clause-good c =
-    steps-good c.args.net.now c.args.book.now c.args.node c.args.target c.requires.unmerged c.args.way.now c.requires.no_xors c.deref.result.now
-    (over-all c.args.net.now c.args.book.now.entries c.args.way.now _ _ _ c.deref.ensures.value c.in_ok-base.ensures c.len.ensures)
-    c.requires.placed c.requires.earlier c.in_ok-steps.steps.items c.in_ok-steps.ensures.steps
+    let base = clauses_on c.args.net.now c.args.book.now.entries (nodes_in c.args.way.now) in
+    steps-good c.args.net.now c.args.book.now c.args.node c.args.target c.requires.unmerged c.args.way.now c.requires.no_xors base refl
+    c.requires.placed c.requires.earlier c.in_ok-steps.steps.items
+    (scanned-steps c.args.node c.args.target (earlier-apart c.args.net.now c.args.node c.args.target c.requires.earlier) base
+    (base-named c.args.net.now c.args.book.now.entries c.args.way.now c.requires.no_xors base refl) c.in_ok-steps.steps.items c.in_ok-steps.ensures)
 
 pub returns-clause-ok : goal.returns-clause-ok
 returns-clause-ok c =
-    let base_is = over-all c.args.net.now c.args.book.now.entries c.args.way.now _ _ _ c.deref.ensures.value c.in_ok-base.ensures c.len.ensures in
-    on_ok_weaker c.put.result
-    (λ e. record {
-      steps = c.in_ok-steps.steps.items;
-      last = e;
-      scanned = subst (λ (b : List Named). AreScanned b c.args.node c.args.target c.in_ok-steps.steps.items) base_is c.in_ok-steps.ensures.scanned;
-    })
-    c.put.ensures.ok
+    on_ok_weaker c.put.result (λ e. record { steps = c.in_ok-steps.steps.items; last = e; scanned = c.in_ok-steps.ensures }) c.put.ensures.ok

@@ -11,7 +11,7 @@ returns-clause-grows c =
 
 pub returns-clause-plain : goal.returns-clause-plain
 returns-clause-plain c =
-    all-plain c.args.net.now c.visit_side-2.new.book.entries c.visit_side-2.new.pass c.visit_side-2.result c.visit_side-2.ensures.pass c.visit_side-2.ensures.visited
+    all-plain c.args.net.now c.visit_side-2.new.book.entries c.visit_side-2.new.pass.twins c.visit_side-2.new.pass.visited c.visit_side-2.result c.visit_side-2.ensures.pass c.visit_side-2.ensures.visited
 
 pub returns-in_err-visit_side-clause-grows : goal.returns-in_err-visit_side-clause-grows
 returns-in_err-visit_side-clause-grows c =

@@ -9,6 +9,6 @@ abbrev pub invariant-loop-gate : goal.invariant-loop-gate
 invariant-loop-gate l = record {
   legal : IsLegal l.net l.book;
   grows : AddsStructural l.net (gates_before l.net l.side) l.pass.visited l.fn.book l.book;
-  pass : IsPass l.net l.book.entries l.pass l.pass.visited;
+  pass : IsPass l.net l.book.entries l.pass.twins l.pass.visited;
   visited : l.pass.visited ≡ gates_before l.net l.side + l.gate-index;
 }

@@ -1,19 +1,22 @@
 -- The gate merges, or it is noted.
-use Rattle.std.proofs.Common.{◌∙◌, [], List, sym, subst, arith}
+use Rattle.std.proofs.Common.{◌∙◌, [], List, Option, ap, sym, subst, arith}
+use Rattle.std.specs.Prelude.{IfSome}
+use Rattle.netlist.specs.declared.gate.Definition.{Definition}
 use Rattle.std.proofs.lemmas.Result.{on_ok_weaker}
 use Rattle.lits.specs.declared.literal.Lit.{Lit}
 use Rattle.netlist.specs.Miter.{positive}
-use Rattle.lemma_book.specs.Root.{merge_of}
-use Rattle.strash_pass.specs.Pass.{IsWay}
+use Rattle.lemma_book.specs.Root.{merge_of, root_of}
+use Rattle.strash_pass.specs.Strash.{folded}
+use Rattle.strash_pass.specs.Pass.{IsPass, IsTwin, IsWay}
 use Rattle.strash_pass.proofs.GateFacts.{is-gate}
 use Rattle.strash_pass.proofs.WayLemmas.{way-of}
 use Rattle.strash_pass.proofs.AddsLemmas.{adds-none, fold-grows, twin-grows}
-use Rattle.strash_pass.proofs.PassLemmas.{no-root, none-noted, pass-merged, pass-noted, pass-skipped, root-from, seen-twin}
+use Rattle.strash_pass.proofs.PassLemmas.{no-root, pass-merged, pass-skipped, root-from}
 use Rattle.strash_pass.proofs.visit.Pass.settle.Goals as goal
 
 pub returns-then-is_merged-clause-pass : goal.returns-then-is_merged-clause-pass
 returns-then-is_merged-clause-pass c =
-    pass-skipped c.args.net.now c.args.book.now.entries c.args.self.now c.args.self.now.visited c.args.gate c.requires.gate c.requires.pass
+    pass-skipped c.args.net.now c.args.book.now.entries c.args.self.now.twins c.args.self.now.visited c.args.gate c.requires.gate c.requires.pass
     (no-root (merge_of c.args.book.now.entries c.args.gate.node) c.is_merged.result c.is_merged.ensures c.if-is_merged.true)
 
 pub returns-then-is_merged-clause-grows : goal.returns-then-is_merged-clause-grows
@@ -41,7 +44,7 @@ pub returns-in-Some-clause-pass : goal.returns-in-Some-clause-pass
 returns-in-Some-clause-pass c =
     on_ok_weaker c.merge_folded.result
     (λ m. pass-merged c.args.net.now c.requires.net c.args.book.now c.merge_folded.new.book c.requires.legal c.args.self.now.visited c.args.gate c.requires.gate
-    _ c.in-Some.target m c.args.self.now c.requires.pass)
+    _ c.in-Some.target m c.args.self.now.twins c.requires.pass)
     c.merge_folded.ensures.ok
 
 pub merge_twin-requires-clause-way : goal.merge_twin-requires-clause-way
@@ -52,40 +55,22 @@ merge_twin-requires-clause-way c =
     subst (λ (l : List Lit). IsWay c.args.net.now es l c.args.gate) (sym c.in_ok-roots.ensures.way)
     (way-of c.args.net.now c.args.book.now c.requires.legal [] tt c.args.self.now.visited c.args.gate gate root)
 
-pub merge_twin-requires-clause-twin : goal.merge_twin-requires-clause-twin
-merge_twin-requires-clause-twin c =
-    seen-twin c.args.net.now c.args.book.now.entries c.args.self.now c.args.self.now.visited c.args.gate c.in-Some-twin.twin c.requires.gate c.requires.pass
-    c.in_ok-roots.roots.left c.in_ok-roots.roots.right c.in_ok-roots.ensures.left c.in_ok-roots.ensures.right (sym c.folded.ensures ∙ c.in-None.is)
-    (sym c.twin.ensures ∙ c.in-Some-twin.is)
-
-pub returns-in-Some-twin-clause-grows : goal.returns-in-Some-twin-clause-grows
-returns-in-Some-twin-clause-grows c =
+pub returns-in-Some-2-clause-grows : goal.returns-in-Some-2-clause-grows
+returns-in-Some-2-clause-grows c =
     let root = root-from (merge_of c.args.book.now.entries c.args.gate.node) c.is_merged.result c.is_merged.ensures c.if-is_merged.false in
-    let twin = seen-twin c.args.net.now c.args.book.now.entries c.args.self.now c.args.self.now.visited c.args.gate c.in-Some-twin.twin c.requires.gate
-    c.requires.pass c.in_ok-roots.roots.left c.in_ok-roots.roots.right c.in_ok-roots.ensures.left c.in_ok-roots.ensures.right
-    (sym c.folded.ensures ∙ c.in-None.is) (sym c.twin.ensures ∙ c.in-Some-twin.is) in
+    let found = subst (λ (o : Option Definition). IfSome o (λ x. IsTwin c.args.net.now c.args.book.now.entries x c.args.gate
+    × IsPass c.args.net.now c.args.book.now.entries c.twin.new.self.twins c.args.self.now.visited)) c.in-Some-2.is c.in_ok-twin-in-None.ensures.twin in
     twin-grows c.args.net.now c.args.book.now c.merge_twin.new.book c.args.self.now.visited c.args.gate c.requires.gate root
-    c.in-Some-twin.twin c.in_ok-roots.way.items c.merge_twin.result c.requires.net c.in_ok-roots.ensures.way c.requires.pass.plain twin
+    c.in-Some-2.twin c.in_ok-roots.way.items c.merge_twin.result c.requires.net c.in_ok-roots.ensures.way c.requires.pass.plain found.0
+    (ap (λ (x : Lit). folded x (root_of c.args.book.now.entries c.args.gate.right)) (sym c.in_ok-roots.ensures.left)
+    ∙ ap (folded c.in_ok-roots.roots.left) (sym c.in_ok-roots.ensures.right) ∙ sym c.folded.ensures ∙ c.in-None.is)
     c.merge_twin.ensures.ok c.merge_twin.ensures.err
 
-pub returns-in-Some-twin-clause-pass : goal.returns-in-Some-twin-clause-pass
-returns-in-Some-twin-clause-pass c =
+pub returns-in-Some-2-clause-pass : goal.returns-in-Some-2-clause-pass
+returns-in-Some-2-clause-pass c =
+    let found = subst (λ (o : Option Definition). IfSome o (λ x. IsTwin c.args.net.now c.args.book.now.entries x c.args.gate
+    × IsPass c.args.net.now c.args.book.now.entries c.twin.new.self.twins c.args.self.now.visited)) c.in-Some-2.is c.in_ok-twin-in-None.ensures.twin in
     on_ok_weaker c.merge_twin.result
     (λ m. pass-merged c.args.net.now c.requires.net c.args.book.now c.merge_twin.new.book c.requires.legal c.args.self.now.visited c.args.gate c.requires.gate
-    _ (positive c.in-Some-twin.twin.node) m c.args.self.now c.requires.pass)
+    _ (positive c.in-Some-2.twin.node) m c.twin.new.self.twins found.1)
     c.merge_twin.ensures.ok
-
-pub returns-in_ok-insert-in-None-twin-clause-pass : goal.returns-in_ok-insert-in-None-twin-clause-pass
-returns-in_ok-insert-in-None-twin-clause-pass c =
-    let es = c.args.book.now.entries in
-    let root = root-from (merge_of es c.args.gate.node) c.is_merged.result c.is_merged.ensures c.if-is_merged.false in
-    let none = none-noted _ _ (sym c.twin.ensures ∙ c.in-None-twin.is) in
-    pass-noted c.args.net.now es c.args.self.now c.args.self.now.visited c.args.gate c.requires.gate c.requires.pass
-    (record { gates = c.insert.new.self; visited = c.args.self.now.visited }) c.in_ok-roots.roots.left c.in_ok-roots.roots.right
-    c.in_ok-roots.ensures.left c.in_ok-roots.ensures.right root (sym c.folded.ensures ∙ c.in-None.is) none.0 none.1 c.in_ok-insert-in-None-twin.ensures.updates.0
-
-pub returns-in_ok-insert-in-None-twin-clause-grows : goal.returns-in_ok-insert-in-None-twin-clause-grows
-returns-in_ok-insert-in-None-twin-clause-grows c = adds-none _ _ _ _ (omega arith)
-
-pub returns-in_err-insert-in-None-twin-clause-grows : goal.returns-in_err-insert-in-None-twin-clause-grows
-returns-in_err-insert-in-None-twin-clause-grows c = adds-none _ _ _ _ (omega arith)

@@ -9,5 +9,4 @@ overflow_add-self c = omega (arith, few-gates c.args.net.now c.requires.net c.ar
 
 pub returns-clause-pass : goal.returns-clause-pass
 returns-clause-pass c =
-    let pass = subst (λ (n : ℕ). IsPass c.args.net.now c.settle.new.book.entries c.settle.new.self (n + 1)) (sym c.in_ok-settle.ensures.visited) c.in_ok-settle.ensures.pass in
-    record { plain = pass.plain; sound = pass.sound; whole = pass.whole }
+    subst (λ (n : ℕ). IsPass c.args.net.now c.settle.new.book.entries c.settle.new.self.twins (n + 1)) (sym c.in_ok-settle.ensures.visited) c.in_ok-settle.ensures.pass
