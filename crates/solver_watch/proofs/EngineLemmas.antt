@@ -83,8 +83,8 @@ same-variable m l e = go m.neg l.neg refl refl
     go false true f g = inr (other_neg (f ∙ sym (ap (λ (b : Bool). not b) g)))
 
 -- the clause's step joins the log
-pub known-learn : (f : Formula) (g : Formula) (step : Step) → IsKnown f → IsOver f.base.items step.clause
-    → g.base.items ≡ f.base.items → g.log.items ≡ f.log.items ++ step ∷ [] → Adds f.trail step.clause g.trail → IsKnown g
+pub known-learn : (f : Formula) (g : Formula) (step : Step) → IsKnown f → IsOver f.base step.clause
+    → g.base ≡ f.base → g.log.items ≡ f.log.items ++ step ∷ [] → Adds f.trail step.clause g.trail → IsKnown g
 known-learn f g step known over base log adds = record {
   names = subst (λ (b : List Named). IsBase b) (sym base) known.names;
   clauses = adds.clauses ∙ grown;
@@ -93,23 +93,23 @@ known-learn f g step known over base log adds = record {
       ∙ ap (λ (ns : List Node). has same_node ns l.node) (sym adds.numbers.behind) ∙ h));
 }
   where
-    grown : f.trail.clauses ++ step.clause ∷ [] ≡ clauses_of g.base.items g.log.items
+    grown : f.trail.clauses ++ step.clause ∷ [] ≡ clauses_of g.base g.log.items
     grown = rw (known.clauses, base, log, map-append (λ (s : Step). s.clause) f.log.items (step ∷ []))
-        (append_assoc (base_clauses f.base.items) (map (λ (s : Step). s.clause) f.log.items) (step.clause ∷ []))
+        (append_assoc (base_clauses f.base) (map (λ (s : Step). s.clause) f.log.items) (step.clause ∷ []))
 
-    within_now : AllByRecursion (λ s. IsOver g.base.items s.clause) g.log.items
+    within_now : AllByRecursion (λ s. IsOver g.base s.clause) g.log.items
     within_now = subst (λ (b : List Named). AllByRecursion (λ (s : Step). IsOver b s.clause) g.log.items) (sym base)
-        (subst (λ (ss : List Step). AllByRecursion (λ (s : Step). IsOver f.base.items s.clause) ss) (sym log)
-        (all-append (λ (s : Step). IsOver f.base.items s.clause) f.log.items (step ∷ []) known.within (over, tt)))
+        (subst (λ (ss : List Step). AllByRecursion (λ (s : Step). IsOver f.base s.clause) ss) (sym log)
+        (all-append (λ (s : Step). IsOver f.base s.clause) f.log.items (step ∷ []) known.within (over, tt)))
 
-    nodes_at : (l : Lit) → (has same_node f.trail.nodes l.node ≡ true) ⊎ (has same_node adds.numbers.more l.node ≡ true) → is_over g.base.items l ≡ true
+    nodes_at : (l : Lit) → (has same_node f.trail.nodes l.node ≡ true) ⊎ (has same_node adds.numbers.more l.node ≡ true) → is_over g.base l ≡ true
     nodes_at l (inl h) = subst (λ (b : List Named). is_over b l ≡ true) (sym base) (known.nodes l h)
     nodes_at l (inr h) =
         let w = witness lit_laws (λ m. same_node m.node l.node) step.clause (adds.numbers.from l.node h) in
-        let there : is_over f.base.items w.0 ≡ true = each-at lit_laws (λ (m : Lit). is_over f.base.items m ≡ true) step.clause w.0 over w.1 in
+        let there : is_over f.base w.0 ≡ true = each-at lit_laws (λ (m : Lit). is_over f.base m ≡ true) step.clause w.0 over w.1 in
         subst (λ (b : List Named). is_over b l ≡ true) (sym base) (elim (same-variable l w.0 (sym (exact-node w.0.node l.node w.2))) [
-          | inl e ↦ ap (λ (m : Lit). is_over f.base.items m) e ∙ there
-          | inr e ↦ ap (λ (m : Lit). is_over f.base.items m) e ∙ (over-opposite f.base.items w.0 ∙ there)
+          | inl e ↦ ap (λ (m : Lit). is_over f.base m) e ∙ there
+          | inr e ↦ ap (λ (m : Lit). is_over f.base m) e ∙ (over-opposite f.base w.0 ∙ there)
         ])
 
 any-place : (p : List Lit → Bool) (cs : List (List Lit)) → list_any p cs ≡ true → (i : ℕ) × (i < length cs) × (p (clause_at cs i) ≡ true)
@@ -120,13 +120,13 @@ any-place p (c ∷ cs) e = elim (or_cases (p c) (list_any p cs) e) [
 ]
 
 -- a variable of the base has a number
-pub over-numbered : (f : Formula) → IsKnown f → IsTrail f.trail → (l : Lit) → is_over f.base.items l ≡ true → has same_node f.trail.nodes l.node ≡ true
+pub over-numbered : (f : Formula) → IsKnown f → IsTrail f.trail → (l : Lit) → is_over f.base l ≡ true → has same_node f.trail.nodes l.node ≡ true
 over-numbered f known trail l h =
-    let w = any-place (λ c. has same_lit c l || has same_lit c (opposite l)) (base_clauses f.base.items) h in
-    let same : clause_at f.trail.clauses w.0 ≡ clause_at (base_clauses f.base.items) w.0 =
+    let w = any-place (λ c. has same_lit c l || has same_lit c (opposite l)) (base_clauses f.base) h in
+    let same : clause_at f.trail.clauses w.0 ≡ clause_at (base_clauses f.base) w.0 =
     ap (λ (cs : List (List Lit)). clause_at cs w.0) known.clauses
-    ∙ get_or-append (base_clauses f.base.items) (map (λ (s : Step). s.clause) f.log.items) [] w.0 w.1 in
-    elim (or_cases (has same_lit (clause_at (base_clauses f.base.items) w.0) l) (has same_lit (clause_at (base_clauses f.base.items) w.0) (opposite l)) w.2) [
+    ∙ get_or-append (base_clauses f.base) (map (λ (s : Step). s.clause) f.log.items) [] w.0 w.1 in
+    elim (or_cases (has same_lit (clause_at (base_clauses f.base) w.0) l) (has same_lit (clause_at (base_clauses f.base) w.0) (opposite l)) w.2) [
       | inl e ↦ trail.clauses_over w.0 l (ap (λ (c : List Lit). has same_lit c l) same ∙ e)
       | inr e ↦ trail.clauses_over w.0 (opposite l) (ap (λ (c : List Lit). has same_lit c (opposite l)) same ∙ e)
     ]
@@ -136,18 +136,18 @@ module _ (f : Formula) (target : List Lit) (known : IsKnown f) (trail : IsTrail 
     (complete : IsComplete f.trail.clauses f.trail.puts)
     (taken : (l : Lit) → has same_node f.trail.nodes l.node ≡ true
     → (has same_lit (lits_of f.trail.puts) l ≡ true) ⊎ (has same_lit (lits_of f.trail.puts) (opposite l) ≡ true)) where
-  valued : (l : Lit) → is_over f.base.items l ≡ true
+  valued : (l : Lit) → is_over f.base l ≡ true
       → (has same_lit (lits_of f.trail.puts) l ≡ true) ⊎ (has same_lit (lits_of f.trail.puts) (opposite l) ≡ true)
   valued l h = taken l (over-numbered f known trail l h)
 
-  clause-met : (c : List Lit) → IsOver f.base.items c → is_negated opposite (has same_lit (lits_of f.trail.puts)) c ≡ false
+  clause-met : (c : List Lit) → IsOver f.base c → is_negated opposite (has same_lit (lits_of f.trail.puts)) c ≡ false
       → list_any (has same_lit (lits_of f.trail.puts)) c ≡ true
   clause-met c over e = go (list_any (has same_lit (lits_of f.trail.puts)) c) refl
     where
       go : (b : Bool) → list_any (has same_lit (lits_of f.trail.puts)) c ≡ b → list_any (has same_lit (lits_of f.trail.puts)) c ≡ true
       go true g = g
       go false g = contrary _ (all-true lit_laws (λ m. has same_lit (lits_of f.trail.puts) (opposite m)) c (λ m h. which m h (valued m
-          (each-at lit_laws (λ (k : Lit). is_over f.base.items k ≡ true) c m over h)))) e
+          (each-at lit_laws (λ (k : Lit). is_over f.base k ≡ true) c m over h)))) e
         where
           which : (m : Lit) → has same_lit c m ≡ true
               → (has same_lit (lits_of f.trail.puts) m ≡ true) ⊎ (has same_lit (lits_of f.trail.puts) (opposite m) ≡ true)
@@ -156,8 +156,8 @@ module _ (f : Formula) (target : List Lit) (known : IsKnown f) (trail : IsTrail 
               (all-fail (has same_lit (lits_of f.trail.puts)) c g) h)
           which m h (inr k) = k
 
-  not-negated : AllByRecursion (λ c. is_negated opposite (has same_lit (lits_of f.trail.puts)) c ≡ false) (base_clauses f.base.items)
-  not-negated = all-left (λ c. is_negated opposite (has same_lit (lits_of f.trail.puts)) c ≡ false) (base_clauses f.base.items)
+  not-negated : AllByRecursion (λ c. is_negated opposite (has same_lit (lits_of f.trail.puts)) c ≡ false) (base_clauses f.base)
+  not-negated = all-left (λ c. is_negated opposite (has same_lit (lits_of f.trail.puts)) c ≡ false) (base_clauses f.base)
       (map (λ (s : Step). s.clause) f.log.items)
       (subst (λ (cs : List (List Lit)). AllByRecursion (λ c. is_negated opposite (has same_lit (lits_of f.trail.puts)) c ≡ false) cs) known.clauses
       (all-fail (is_negated opposite (has same_lit (lits_of f.trail.puts))) f.trail.clauses (go _ refl)))
@@ -168,17 +168,17 @@ module _ (f : Formula) (target : List Lit) (known : IsKnown f) (trail : IsTrail 
       go true e = absurd (complete.1 (inl e))
 
   pub model-is : ((l : Lit) → has same_lit target l ≡ true → has same_lit (lits_of f.trail.puts) (opposite l) ≡ true)
-      → IsModel f.base.items target (lits_of f.trail.puts)
+      → IsModel f.base target (lits_of f.trail.puts)
   model-is refuted = record {
     once = record { once = trail.single; apart = pair-none lit_laws (lits_of f.trail.puts) trail.consistent.apart };
-    within = each-of lit_laws (λ (l : Lit). is_over f.base.items l ≡ true) (lits_of f.trail.puts) (λ l h. known.nodes l (trail.puts_over l h));
+    within = each-of lit_laws (λ (l : Lit). is_over f.base l ≡ true) (lits_of f.trail.puts) (λ l h. known.nodes l (trail.puts_over l h));
     whole = λ l over. elim (valued l over) [
       | inl h ↦ or_left _ _ h
       | inr h ↦ or_right (has same_lit (lits_of f.trail.puts) l) _ h
     ];
-    meets = all-both (IsOver f.base.items) (λ c. is_negated opposite (has same_lit (lits_of f.trail.puts)) c ≡ false)
-        (λ c. list_any (has same_lit (lits_of f.trail.puts)) c ≡ true) (base_clauses f.base.items) clause-met
-        (all-occur lit_laws (base_clauses f.base.items)) not-negated;
+    meets = all-both (IsOver f.base) (λ c. is_negated opposite (has same_lit (lits_of f.trail.puts)) c ≡ false)
+        (λ c. list_any (has same_lit (lits_of f.trail.puts)) c ≡ true) (base_clauses f.base) clause-met
+        (all-occur lit_laws (base_clauses f.base)) not-negated;
     refutes = all-true lit_laws (λ l. has same_lit (lits_of f.trail.puts) (opposite l)) target (λ l h. refuted l h);
   }
 
@@ -213,7 +213,7 @@ known-same f g known same clauses nodes = record {
       ∙ known.nodes l (ap (λ (ns : List Node). has same_node ns l.node) (sym nodes) ∙ h);
 }
 
-pub over-same : (f g : Formula) (target : List Lit) → clauses_known g ≡ clauses_known f → IsOver f.base.items target → IsOver g.base.items target
+pub over-same : (f g : Formula) (target : List Lit) → clauses_known g ≡ clauses_known f → IsOver f.base target → IsOver g.base target
 over-same f g target same over = subst (λ (k : Clauses). IsOver k.base target) (sym same) over
 
 -- a conflict where all decisions are of the target's negations
@@ -279,7 +279,7 @@ whole-here t target assumed is below l h =
     ap (has same_lit (lits_of t.puts)) (sym w.2) ∙ has-at t.puts w.0 w.1
 
 pub over-base : (f g : Formula) (target : List Lit) (log : List Step)
-    → clauses_known g ≡ (let k : Clauses = record { base = f.base.items; log = log } in k) → IsOver f.base.items target → IsOver g.base.items target
+    → clauses_known g ≡ (let k : Clauses = record { base = f.base; log = log } in k) → IsOver f.base target → IsOver g.base target
 over-base f g target log same over = subst (λ (b : List Named). IsOver b target) (sym (ap (λ (k : Clauses). k.base) same)) over
 
 -- a search goes on where clauses have propagated

@@ -4,7 +4,7 @@ use Rattle.std.specs.Prelude.{map, filter}
 use Rattle.std.specs.List.{AllByRecursion}
 use Rattle.std.proofs.lemmas.List.Folds.{list_any-append}
 use Rattle.std.proofs.lemmas.Bool.{or_cases, or_left, or_right, and_parts, not-true}
-use Rattle.lits.specs.Clause.{has, firsts, has_pair}
+use Rattle.lits.specs.Clause.{has, firsts, has_pair, no_repeat, IsClause}
 use Rattle.lits.specs.Same.{same_lit, same_node, opposite}
 use Rattle.lits.specs.declared.literal.Lit.{Lit}
 use Rattle.lits.specs.declared.step.Step.{Step}
@@ -65,6 +65,42 @@ negations-apart t places trail within = pair-none lit_laws (negations_at t.puts 
     apart_at l h false e = e
     apart_at l h true e = contrary _ (on (opposite l) e) (trail.consistent.apart (opposite l) (on l h))
 
+-- nor a repeat, where no place stands twice
+negations-once : (t : TrailState) (places : List ℕ) → IsTrail t → AreWithin t.puts places → no_repeat nat_eq places ≡ true
+    → no_repeat same_lit (negations_at t.puts places) ≡ true
+negations-once t [] trail within once = refl
+negations-once t (p ∷ ps) trail within once =
+    let parts = and_parts (not (has nat_eq ps p)) (no_repeat nat_eq ps) once in
+    let rest = negations-once t ps trail (λ k h. within k (or_right (nat_eq p k) _ h)) parts.1 in
+    rw (fresh (not-true _ parts.0) (has same_lit (negations_at t.puts ps) (opposite (put_at t.puts p).lit)) refl, rest) refl
+  where
+    fresh : has nat_eq ps p ≡ false → (b : Bool) → has same_lit (negations_at t.puts ps) (opposite (put_at t.puts p).lit) ≡ b
+        → has same_lit (negations_at t.puts ps) (opposite (put_at t.puts p).lit) ≡ false
+    fresh none false e = e
+    fresh none true e =
+        let w = negation-of t.puts ps (opposite (put_at t.puts p).lit) e in
+        let at : (put_at t.puts w.0).lit ≡ (put_at t.puts p).lit =
+        sym (lit_laws.twice (put_at t.puts w.0).lit) ∙ ap opposite w.2 ∙ lit_laws.twice (put_at t.puts p).lit in
+        let same : w.0 ≡ p = place-one t.puts w.0 p trail.single (within w.0 (or_right (nat_eq p w.0) _ w.1)) (within p (or_left _ _ (same_refl p))) at in
+        contrary _ (ap (has nat_eq ps) (sym same) ∙ w.1) none
+
+-- such a list is its own first elements
+pub firsts-once : (xs : List Lit) → no_repeat same_lit xs ≡ true → firsts same_lit xs ≡ xs
+firsts-once [] once = refl
+firsts-once (x ∷ xs) once =
+    let parts = and_parts (not (has same_lit xs x)) (no_repeat same_lit xs) once in
+    ap (λ (ys : List Lit). x ∷ filter (λ y. not (same_lit x y)) ys) (firsts-once xs parts.1) ∙ ap (λ (ys : List Lit). x ∷ ys) (all-other xs (not-true _ parts.0))
+  where
+    all-other : (ys : List Lit) → has same_lit ys x ≡ false → filter (λ y. not (same_lit x y)) ys ≡ ys
+    all-other [] none = refl
+    all-other (y ∷ ys) none = go (same_lit y x) (same_lit x y) refl refl (λ rest. all-other ys rest)
+      where
+        go : (a b : Bool) → same_lit y x ≡ a → same_lit x y ≡ b → (has same_lit ys x ≡ false → filter (λ z. not (same_lit x z)) ys ≡ ys)
+            → filter (λ z. not (same_lit x z)) (y ∷ ys) ≡ y ∷ ys
+        go true b e f rec = contrary _ (or_left _ _ e) none
+        go false true e f rec = contrary _ (lit_laws.equivalence.symm y x ∙ f) e
+        go false false e f rec = rw f (ap (λ (zs : List Lit). y ∷ zs) (rec (rw e at none)))
+
 module _ (t : TrailState) (trail : IsTrail t) (point : ℕ) (cut : Cut) (is_cut : IsCut t point cut) where
   pub places-within : AreWithin t.puts (point ∷ cut.below.items)
   places-within k h = elim (or_cases (nat_eq point k) (has nat_eq cut.below.items k) h) [
@@ -74,6 +110,18 @@ module _ (t : TrailState) (trail : IsTrail t) (point : ℕ) (cut : Cut) (is_cut 
 
   pub below-within : AreWithin t.puts cut.below.items
   below-within k h = (is_cut.only k h).0
+
+  -- the point isn't of an earlier level
+  point-fresh : (b : Bool) → has nat_eq cut.below.items point ≡ b → has nat_eq cut.below.items point ≡ false
+  point-fresh false e = e
+  point-fresh true e = let low = (is_cut.only point e).1 in let at = is_cut.at_last in absurd (omega arith)
+
+  -- so what the cut teaches is a clause
+  pub cut-clause : IsClause same_lit opposite (negations_at t.puts (point ∷ cut.below.items))
+  cut-clause = record {
+    once = negations-once t (point ∷ cut.below.items) trail places-within (rw (point-fresh (has nat_eq cut.below.items point) refl, is_cut.once) refl);
+    apart = negations-apart t (point ∷ cut.below.items) trail places-within;
+  }
 
   -- what the goal negates
   goal-has : (l : Lit) → has same_lit (firsts same_lit (negations_at t.puts (point ∷ cut.below.items))) l
@@ -273,20 +321,20 @@ module _ (t : TrailState) (trail : IsTrail t) (point : ℕ) (cut : Cut) (is_cut 
 
 -- the goal's variables are in the base
 pub cut-over : (f : Formula) (places : List ℕ) → IsKnown f → IsTrail f.trail → AreWithin f.trail.puts places
-    → IsOver f.base.items (firsts same_lit (negations_at f.trail.puts places))
-cut-over f places known trail within = each-of lit_laws (λ (l : Lit). is_over f.base.items l ≡ true) (firsts same_lit (negations_at f.trail.puts places))
+    → IsOver f.base (firsts same_lit (negations_at f.trail.puts places))
+cut-over f places known trail within = each-of lit_laws (λ (l : Lit). is_over f.base l ≡ true) (firsts same_lit (negations_at f.trail.puts places))
     (λ l h. over_at l (negation-of f.trail.puts places l (sym (has-firsts lit_laws (negations_at f.trail.puts places) l) ∙ h)))
   where
-    over_at : (l : Lit) → (k : ℕ) × (has nat_eq places k ≡ true) × (opposite (put_at f.trail.puts k).lit ≡ l) → is_over f.base.items l ≡ true
+    over_at : (l : Lit) → (k : ℕ) × (has nat_eq places k ≡ true) × (opposite (put_at f.trail.puts k).lit ≡ l) → is_over f.base l ≡ true
     over_at l w = known.nodes l
         (ap (λ (m : Lit). has same_node f.trail.nodes m.node) (sym w.2)
         ∙ trail.puts_over (put_at f.trail.puts w.0).lit (has-at f.trail.puts w.0 (within w.0 w.1)))
 
-pub known-occurs : (f : Formula) (clause : List Lit) → IsOver f.base.items clause
-    → AllByRecursion (λ l. occurs same_lit opposite (clauses_of f.base.items f.log.items) l ≡ true) clause
-known-occurs f clause over = all-each (λ (l : Lit). is_over f.base.items l ≡ true)
-    (λ (l : Lit). occurs same_lit opposite (clauses_of f.base.items f.log.items) l ≡ true) clause
-    (λ l h. list_any-append (λ c. has same_lit c l || has same_lit c (opposite l)) (base_clauses f.base.items) (map (λ (s : Step). s.clause) f.log.items)
+pub known-occurs : (f : Formula) (clause : List Lit) → IsOver f.base clause
+    → AllByRecursion (λ l. occurs same_lit opposite (clauses_of f.base f.log.items) l ≡ true) clause
+known-occurs f clause over = all-each (λ (l : Lit). is_over f.base l ≡ true)
+    (λ (l : Lit). occurs same_lit opposite (clauses_of f.base f.log.items) l ≡ true) clause
+    (λ l h. list_any-append (λ c. has same_lit c l || has same_lit c (opposite l)) (base_clauses f.base) (map (λ (s : Step). s.clause) f.log.items)
     ∙ or_left _ _ h) over
 
 pub second-next : (puts : List Put) (below : List ℕ) (level k next : ℕ) → IsSecond puts below level → has nat_eq below k ≡ true
@@ -314,14 +362,14 @@ lesson-is f cut point second clause hints known trail is_cut level e step is_sec
       over = over;
       learned = record {
         step = step_here;
-        new = cut-new f.trail trail point cut is_cut (clauses_of f.base.items f.log.items) (sym known.clauses) level
+        new = cut-new f.trail trail point cut is_cut (clauses_of f.base f.log.items) (sym known.clauses) level
             (known-occurs f (firsts same_lit (negations_at f.trail.puts (point ∷ cut.below.items))) over);
       };
       lower = lower;
       quiet = λ low h. cut-quiet f.trail trail point cut is_cut second is_second lower low h;
     }) step
   where
-    over : IsOver f.base.items (firsts same_lit (negations_at f.trail.puts (point ∷ cut.below.items)))
+    over : IsOver f.base (firsts same_lit (negations_at f.trail.puts (point ∷ cut.below.items)))
     over = cut-over f (point ∷ cut.below.items) known trail (places-within f.trail trail point cut is_cut)
 
     lower : second < f.trail.last

@@ -8,6 +8,7 @@ mod HintLemmas
 mod NameLemmas
 mod LessonLemmas
 mod AssumeLemmas
+mod BaseLemmas
 mod TargetLemmas
 mod EngineLemmas
 mod ChoiceLemmas

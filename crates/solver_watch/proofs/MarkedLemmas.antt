@@ -1,11 +1,11 @@
 -- The steps of an analysis: one more place, one more clause.
-use Rattle.std.proofs.Common.{◌≡◌, ◌<◌, ◌≤◌, ◌+◌, ℕ, arith, Bool, true, false, ◌||◌, ◌⊎◌, inl, inr, List, [], ◌∷◌, ◌++◌, nat_eq, get_or, set, length, refl, sym, ap, subst, ◌∙◌, length-set}
-use Rattle.lits.specs.Clause.{has}
+use Rattle.std.proofs.Common.{◌≡◌, ◌<◌, ◌≤◌, ◌+◌, ℕ, arith, Bool, true, false, not, ◌||◌, ◌⊎◌, inl, inr, List, [], ◌∷◌, ◌++◌, nat_eq, get_or, set, length, refl, sym, ap, subst, ◌∙◌, length-set}
+use Rattle.lits.specs.Clause.{has, no_repeat}
 use Rattle.lits.proofs.Facts.{lit_laws}
 use Rattle.unit_prop.proofs.Facts.{contrary}
 use Rattle.std.proofs.Math.Nat.{eq-or-lt_of_le}
 use Rattle.std.proofs.lemmas.List.Elements.{All-get_or}
-use Rattle.std.proofs.lemmas.Bool.{or_cases, or_left, or_right}
+use Rattle.std.proofs.lemmas.Bool.{or_cases, or_left, or_right, and_parts, not-true}
 use Rattle.std.proofs.Math.Bool.{or-false, or_assoc}
 use Rattle.lits.specs.Same.{same_lit, opposite}
 use Rattle.lits.specs.declared.literal.Lit.{Lit}
@@ -43,6 +43,19 @@ append-test : (xs : List ℕ) (p k : ℕ) → has nat_eq (xs ++ p ∷ []) k ≡ 
 append-test [] p k = or-false (nat_eq p k)
 append-test (x ∷ xs) p k = rw (append-test xs p k) (sym (or_assoc (nat_eq x k) (has nat_eq xs k) (nat_eq p k)))
 
+-- one more that isn't there
+once-push : (xs : List ℕ) (p : ℕ) → no_repeat nat_eq xs ≡ true → has nat_eq xs p ≡ false → no_repeat nat_eq (xs ++ p ∷ []) ≡ true
+once-push [] p once none = refl
+once-push (x ∷ xs) p once none =
+    let parts = and_parts (not (has nat_eq xs x)) (no_repeat nat_eq xs) once in
+    go (nat_eq x p) (nat_eq p x) refl refl (not-true _ parts.0) (λ rest. once-push xs p parts.1 rest)
+  where
+    go : (a b : Bool) → nat_eq x p ≡ a → nat_eq p x ≡ b → has nat_eq xs x ≡ false
+        → (has nat_eq xs p ≡ false → no_repeat nat_eq (xs ++ p ∷ []) ≡ true) → no_repeat nat_eq (x ∷ (xs ++ p ∷ [])) ≡ true
+    go true b e f fresh rec = contrary _ (or_left _ _ e) none
+    go false true e f fresh rec = contrary _ (true-same x p (sym (same_exact p x f))) e
+    go false false e f fresh rec = rw (append-test xs p x, fresh, f, rec (rw e at none)) refl
+
 module _ (puts : List Put) (level : ℕ) (old new : Cut) (place : ℕ) (counted : IsCounted puts level old) (within : place < length puts)
     (free : is_marked old.marks place ≡ false) (marks : new.marks ≡ set old.marks place true) where
   inside : place < length old.marks
@@ -63,6 +76,7 @@ module _ (puts : List Put) (level : ℕ) (old new : Cut) (place : ℕ) (counted 
     room = room_new;
     all = λ k h m other. all_at k h m other (nat_eq k place) refl;
     only = λ k h. only_at k (counted.only k (sym (ap (λ (xs : List ℕ). has nat_eq xs k) below) ∙ h));
+    once = ap (no_repeat nat_eq) below ∙ counted.once;
     count = count ∙ rw (marks, open-set puts level old.marks place (length puts) within inside free, at) (ap (λ (n : ℕ). n + 1) counted.count);
   }
     where
@@ -82,9 +96,14 @@ module _ (puts : List Put) (level : ℕ) (old new : Cut) (place : ℕ) (counted 
     room = room_new;
     all = λ k h m other. ap (λ (xs : List ℕ). has nat_eq xs k) below ∙ append-test old.below.items place k ∙ all_at k h m other (nat_eq k place) refl;
     only = λ k h. only_at k (or_cases _ _ (sym (append-test old.below.items place k) ∙ sym (ap (λ (xs : List ℕ). has nat_eq xs k) below) ∙ h));
+    once = ap (no_repeat nat_eq) below ∙ once-push old.below.items place counted.once (new_place (has nat_eq old.below.items place) refl);
     count = count ∙ rw (marks, open-set puts level old.marks place (length puts) within inside free, at) (plus counted.count);
   }
     where
+      new_place : (b : Bool) → has nat_eq old.below.items place ≡ b → has nat_eq old.below.items place ≡ false
+      new_place false e = e
+      new_place true e = contrary _ (counted.only place e).1 free
+
       plus : {a b : ℕ} → a ≡ b → a ≡ b + 0
       plus e = omega arith
 

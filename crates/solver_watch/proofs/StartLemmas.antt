@@ -21,7 +21,7 @@ use Rattle.solver_watch.proofs.EngineLemmas.{same-variable, clauses-both}
 
 -- the first clauses of a base are taken
 pub record IsStarting (base : List Named) (f : Formula) : Type 0 where
-  pub base_is : f.base.items ≡ base
+  pub base_is : f.base ≡ base
   pub log_is : f.log.items ≡ []
   pub clauses : f.trail.clauses ≡ base_clauses base
   pub puts : f.trail.puts ≡ []
@@ -34,7 +34,7 @@ over-more base more l =
     ∙ list_any-append (λ c. has same_lit c l || has same_lit c (opposite l)) (base_clauses base) (base_clauses more)
 
 pub starting-next : (base : List Named) (i : ℕ) (n : Named) (f g : Formula) → i < length base → n ≡ get_or base i n → IsStarting (take i base) f
-    → Adds f.trail n.clause g.trail → g.base.items ≡ f.base.items ++ n ∷ [] → g.log.items ≡ f.log.items → IsStarting (take (i + 1) base) g
+    → Adds f.trail n.clause g.trail → g.base ≡ f.base ++ n ∷ [] → g.log.items ≡ f.log.items → IsStarting (take (i + 1) base) g
 starting-next base i n f g below at so_far adds base_new log_new =
     subst (λ (b : List Named). IsStarting b g) (sym (take_one base i n below at)) (record {
       base_is = base_new ∙ ap (λ (b : List Named). b ++ n ∷ []) so_far.base_is;
@@ -69,7 +69,7 @@ started base i f names past s = go (subst (λ (b : List Named). IsStarting b f) 
         within = rw all.log_is tt;
         nodes = λ l h. ap (λ (b : List Named). is_over b l) all.base_is ∙ all.nodes l h;
       };
-      clauses = clauses-both f.base.items base f.log.items [] all.base_is all.log_is;
+      clauses = clauses-both f.base base f.log.items [] all.base_is all.log_is;
       puts = all.puts;
       last = all.last;
     }

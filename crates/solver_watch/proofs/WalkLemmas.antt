@@ -4,7 +4,7 @@ use Rattle.std.specs.Prelude.{IsSome}
 use Rattle.std.specs.List.{list_any}
 use Rattle.std.proofs.Math.Nat.{eq-or-lt_of_le}
 use Rattle.std.proofs.lemmas.Bool.{or_cases, or_left, or_right}
-use Rattle.lits.specs.Clause.{has}
+use Rattle.lits.specs.Clause.{has, no_repeat}
 use Rattle.lits.specs.Same.{same_lit, opposite}
 use Rattle.lits.specs.declared.literal.Lit.{Lit}
 use Rattle.lits.proofs.Facts.{lit_laws}
@@ -34,6 +34,7 @@ blank-counted puts level cut blank = record {
   room = blank.room;
   all = λ k h m. contrary _ m (blank.none k);
   only = λ k h. let e : false ≡ true = sym (ap (λ (xs : List ℕ). has nat_eq xs k) blank.below) ∙ h in cc;
+  once = ap (no_repeat nat_eq) blank.below;
   count = blank.open_none ∙ sym (nothing (length puts));
 }
   where
@@ -156,6 +157,7 @@ module _ (t : TrailState) (trail : IsTrail t) (cut : Cut) (passed place : ℕ) (
     resolved = λ k from h mk. walking.resolved k (omega arith) h mk;
     lower = λ k h mk. walking.counted.all k (omega arith) mk (open-none t.puts t.last cut.marks place k none h mk);
     only = λ k h. only_at k (walking.counted.only k h);
+    once = walking.counted.once;
   }
     where
       none : open_below t.puts t.last cut.marks place ≡ 0

@@ -12,14 +12,14 @@ use Rattle.solver_watch.specs.declared.formula.Formula.{Formula}
 
 -- base and log
 abbrev pub clauses_known : Formula → Clauses
-clauses_known f = record { base = f.base.items; log = f.log.items }
+clauses_known f = record { base = f.base; log = f.log.items }
 
 -- the trail has the clauses of base and log in their order, and the base's variables alone
 pub record IsKnown (f : Formula) : Type 0 where
-  pub names : IsBase f.base.items
-  pub clauses : f.trail.clauses ≡ clauses_of f.base.items f.log.items
-  pub within : AllByRecursion (λ s. IsOver f.base.items s.clause) f.log.items
-  pub nodes : (l : Lit) → has same_node f.trail.nodes l.node ≡ true → is_over f.base.items l ≡ true
+  pub names : IsBase f.base
+  pub clauses : f.trail.clauses ≡ clauses_of f.base f.log.items
+  pub within : AllByRecursion (λ s. IsOver f.base s.clause) f.log.items
+  pub nodes : (l : Lit) → has same_node f.trail.nodes l.node ≡ true → is_over f.base l ≡ true
 
 -- the base is this one, with nothing learned and no literal put
 pub record IsStarted (base : List Named) (f : Formula) : Type 0 where

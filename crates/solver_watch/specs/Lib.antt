@@ -1,4 +1,5 @@
 pub mod Assuming
+pub mod Base
 pub mod Marked
 pub mod Known
 pub mod Choice

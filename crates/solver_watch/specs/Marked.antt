@@ -1,7 +1,7 @@
 -- Which places of a trail a conflict's analysis has met.
 use Rattle.std.specs.Prelude.{◌≡◌, ℕ, ◌+◌, ◌<◌, ◌≤◌, ◌⊎◌, map, Bool, true, false, ◌&&◌, zero, suc, List, [], nat_eq, length, Option, Some, None, if◌then◌else◌, slice_index_or}
 use Rattle.std.specs.List.{AllByRecursion}
-use Rattle.lits.specs.Clause.{has}
+use Rattle.lits.specs.Clause.{has, no_repeat}
 use Rattle.lits.specs.Same.{same_lit, opposite}
 use Rattle.lits.specs.declared.literal.Lit.{Lit}
 use Rattle.watch_lists.specs.Trail.{TrailState, put_at, clause_at, lits_of}
@@ -33,13 +33,14 @@ open_below puts level marks zero = 0
 open_below puts level marks (suc n) =
     open_below puts level marks n + (if is_marked marks n && nat_eq (put_at puts n).level level then 1 else 0)
 
--- `below` has the marked places of other levels, `count` tells those of that level
+-- `below` has the marked places of other levels, each once, and `count` tells those of that level
 pub record IsCounted (puts : List Put) (level : ℕ) (cut : Cut) : Type 0 where
   pub room : length puts ≤ length cut.marks
   pub all : (k : ℕ) → k < length puts → is_marked cut.marks k ≡ true → nat_eq (put_at puts k).level level ≡ false
       → has nat_eq cut.below.items k ≡ true
   pub only : (k : ℕ) → has nat_eq cut.below.items k ≡ true
       → (k < length puts) × (is_marked cut.marks k ≡ true) × (nat_eq (put_at puts k).level level ≡ false)
+  pub once : no_repeat nat_eq cut.below.items ≡ true
   pub count : cut.count ≡ open_below puts level cut.marks (length puts)
 
 -- nothing is met yet, and there is room for so many places
@@ -83,6 +84,7 @@ pub record IsCut (t : TrailState) (point : ℕ) (cut : Cut) : Type 0 where
   pub resolved : (k : ℕ) → point < k → k < length t.puts → is_marked cut.marks k ≡ true → IsResolved t cut.marks k
   pub lower : (k : ℕ) → k < point → is_marked cut.marks k ≡ true → has nat_eq cut.below.items k ≡ true
   pub only : (k : ℕ) → has nat_eq cut.below.items k ≡ true → (k < length t.puts) × ((put_at t.puts k).level < t.last)
+  pub once : no_repeat nat_eq cut.below.items ≡ true
 
 -- from the place on each marked place is resolved, so many of the last level; before it others of that level are marked
 pub record IsWalking (t : TrailState) (passed place : ℕ) (cut : Cut) : Type 0 where

@@ -32,7 +32,7 @@ IsFound old target new Learned = Learns old target new
 -- a search may go on
 pub record IsState (e : Engine) (target : List Lit) : Type 0 where
   pub known : IsKnown e.formula
-  pub over : IsOver e.formula.base.items target
+  pub over : IsOver e.formula.base target
   pub assuming : IsAssuming target e.formula.trail e.assumed
 
 -- one more literal is put
@@ -54,8 +54,8 @@ pub record IsBack (level : ℕ) (old new : Engine) : Type 0 where
 -- what a conflict teaches: a step that is learned, and a lower level, below which its clause asks for nothing
 pub record IsLesson (f : Formula) (lesson : Lesson) : Type 0 where
   pub trail : IsTrail f.trail
-  pub over : IsOver f.base.items lesson.step.clause
-  pub learned : IsLearned f.base.items f.log.items lesson.step
+  pub over : IsOver f.base lesson.step.clause
+  pub learned : IsLearned f.base f.log.items lesson.step
   pub lower : lesson.level < f.trail.last
   pub quiet : (level : ℕ) → level < lesson.level → IsQuiet (up_to level f.trail.puts) lesson.step.clause
 
@@ -66,6 +66,6 @@ pub record IsLearnt (old new : Engine) : Type 0 where
   pub learned : (target : List Lit) → IsAssuming target old.formula.trail old.assumed
       → IsLearnedFor (clauses_known old.formula) target step
   pub is : clauses_known new.formula
-      ≡ record { base = old.formula.base.items; log = old.formula.log.items ++ step ∷ [] }
+      ≡ record { base = old.formula.base; log = old.formula.log.items ++ step ∷ [] }
   pub assuming : (target : List Lit) → IsAssuming target old.formula.trail old.assumed
       → IsAssuming target new.formula.trail new.assumed

@@ -93,10 +93,10 @@ impl Engine {
         left: &mut u64,
     ) -> Result<Refuted, AllocError>
         requires known { IsKnown self.old.formula }
-        requires over { IsOver self.old.formula.base.items target.now }
-        ensures answer { IfOk result (Answers self.old.formula.base.items target.now
+        requires over { IsOver self.old.formula.base target.now }
+        ensures answer { IfOk result (Answers self.old.formula.base target.now
             self.old.formula.log.items left.old self.new.formula.log.items left.new) }
-        ensures base { OnOk result (self.new.formula.base.items ≡ self.old.formula.base.items) }
+        ensures base { OnOk result (self.new.formula.base ≡ self.old.formula.base) }
         ensures known { OnOk result (IsKnown self.new.formula) }
     {
         self.restarts = Restarts::new();

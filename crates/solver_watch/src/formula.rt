@@ -4,13 +4,14 @@ ghost use Rattle.watch_lists.specs.Trail.{Adds, IsQuiet, clause_at, up_to};
 ghost use Rattle.solver_plain.specs.Formula.{clause_named};
 ghost use Rattle.solver_watch.specs.Known.{IsKnown, IsStarted, clauses_known};
 
+use crate::base::Base;
 use lits::{Named, Ref, Step};
 use std::alloc::{AllocError, Global};
 use watch_lists::Trail;
 
 /// The clauses of a base and of the steps learned over it, by their names and on a trail.
 pub(crate) struct Formula {
-    pub(crate) base: Vec<Named>,
+    pub(crate) base: Base,
     pub(crate) log: Vec<Step>,
     /// It has the base's clauses and then the log's.
     pub(crate) trail: Trail,
@@ -33,7 +34,7 @@ impl Formula {
         ensures { IfOk result (λ f. clauses_known f ≡ record { base = []; log = [] }) }
     {
         Ok(Formula {
-            base: Vec::new(alloc),
+            base: Base::new(alloc),
             log: Vec::new(alloc),
             trail: Trail::new(alloc)?,
         })
@@ -57,15 +58,11 @@ impl Formula {
     fn add(&mut self, named: &Named) -> Result<(), AllocError>
         requires { self.old.trail.last ≡ 0 }
         ensures trail { OnOk result (Adds self.old.trail named.now.clause self.new.trail) }
-        ensures base { OnOk result (self.new.base.items ≡ self.old.base.items ++ named.now ∷ []) }
+        ensures base { OnOk result (self.new.base ≡ self.old.base ++ named.now ∷ []) }
         ensures log { self.new.log.items ≡ self.old.log.items }
     {
         self.trail.add(&named.clause)?;
-        let clause = named.clause.copy()?;
-        self.base.push(Named {
-            clause,
-            by: named.by,
-        })?;
+        self.base.push(named)?;
         Ok(())
     }
 
@@ -75,7 +72,7 @@ impl Formula {
             → IsQuiet (up_to level self.old.trail.puts) step.clause }
         ensures trail { OnOk result (Adds self.old.trail step.clause self.new.trail) }
         ensures log { OnOk result (self.new.log.items ≡ self.old.log.items ++ step ∷ []) }
-        ensures base { self.new.base.items ≡ self.old.base.items }
+        ensures base { self.new.base ≡ self.old.base }
     {
         self.trail.add(&step.clause)?;
         self.log.push(step)?;
@@ -91,7 +88,7 @@ impl Formula {
     {
         let base = self.base.len() as u64;
         if number < base {
-            self.base[number as usize].by
+            self.base.name(number as usize)
         } else {
             Ref::Own(number - base)
         }

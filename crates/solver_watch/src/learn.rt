@@ -1,5 +1,5 @@
-ghost use Rattle.std.specs.Prelude.{◌≡◌, ◌<◌, ◌≤◌, ◌⊎◌, ◌∷◌, false, length, IfOk};
-ghost use Rattle.lits.specs.Clause.{firsts, has_pair};
+ghost use Rattle.std.specs.Prelude.{◌≡◌, ◌<◌, ◌≤◌, ◌⊎◌, ◌∷◌, length, IfOk};
+ghost use Rattle.lits.specs.Clause.{IsClause};
 ghost use Rattle.lits.specs.Same.{same_lit, opposite};
 ghost use Rattle.watch_lists.specs.Trail.{IsTrail, IsConflict, put_at, clause_at};
 ghost use Rattle.solver_watch.specs.Known.{IsKnown};
@@ -10,7 +10,7 @@ use crate::cut::Cut;
 use crate::formula::Formula;
 use crate::hints::hints;
 use crate::order::Order;
-use lits::{Clause, ClauseErr, Lit, Literal, Step};
+use lits::{Clause, Lit, Literal, Step};
 use std::alloc::{AllocError, Global};
 use watch_lists::{Put, Trail};
 
@@ -59,7 +59,7 @@ pub(crate) fn analyse(
     })
 }
 
-/// The clause that negates the literals at these places.
+/// The clause that negates the literals at these places, of which none stands twice.
 fn negated(
     alloc: Global,
     puts: &[Put],
@@ -68,19 +68,15 @@ fn negated(
 ) -> Result<Clause<Lit>, AllocError>
     requires point { point < length puts.now }
     requires within { AreWithin puts.now below.now }
-    requires apart { has_pair same_lit opposite (negations_at puts.now (point ∷ below.now)) ≡ false }
-    ensures { IfOk result (λ c. c ≡ firsts same_lit (negations_at puts.now (point ∷ below.now))) }
+    requires clause { IsClause same_lit opposite (negations_at puts.now (point ∷ below.now)) }
+    ensures { IfOk result (λ c. c ≡ negations_at puts.now (point ∷ below.now)) }
 {
-    let mut lits = Vec::new(alloc);
+    let mut lits = Vec::with_capacity(alloc, below.len() + 1)?;
     lits.push(put(puts, point).lit.not())?;
     for place in below {
         lits.push(put(puts, *place).lit.not())?;
     }
-    match Clause::of(alloc, lits.as_slice()) {
-        Ok(clause) => Ok(clause),
-        Err(ClauseErr::Tautology) => unreachable!(),
-        Err(ClauseErr::NoMemory) => Err(AllocError),
-    }
+    Clause::from_slice(alloc, lits.as_slice())
 }
 
 /// The highest level of these places.

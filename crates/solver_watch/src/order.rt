@@ -136,6 +136,7 @@ impl Order {
         self.step /= LARGE;
     }
 
+    #[inline(always)]
     fn place(&self, variable: u32) -> usize {
         match self.places.as_slice().get(variable as usize) {
             Some(place) => *place,
@@ -143,68 +144,91 @@ impl Order {
         }
     }
 
+    #[inline(always)]
     fn set_place(&mut self, variable: u32, place: usize) {
         if let Some(slot) = self.places.as_mut_slice().get_mut(variable as usize) {
             *slot = place;
         }
     }
 
-    fn activity_at(&self, place: usize) -> Option<f64> {
-        let variable = *self.heap.as_slice().get(place)?;
-        self.activity.as_slice().get(variable as usize).copied()
+    /// The variable at a place of the heap. No contract keeps the heap, so each look-up allows for a place
+    /// that isn't there.
+    #[inline(always)]
+    fn variable_at(&self, place: usize) -> Option<u32> {
+        self.heap.as_slice().get(place).copied()
     }
 
-    /// Whether both places are in the heap, and the first has the greater activity.
-    fn is_above(&self, first: usize, second: usize) -> bool {
-        match (self.activity_at(first), self.activity_at(second)) {
-            (Some(one), Some(two)) => one > two,
-            _ => false,
+    #[inline(always)]
+    fn activity_of(&self, variable: u32) -> f64 {
+        match self.activity.as_slice().get(variable as usize) {
+            Some(activity) => *activity,
+            None => 0.0,
         }
     }
 
-    /// Swaps two places of the heap. Nothing happens where one isn't there: no contract keeps the heap, so
-    /// each look-up allows for it.
-    fn swap(&mut self, first: usize, second: usize) {
-        if first >= self.heap.len() || second >= self.heap.len() {
-            return;
+    /// Writes a variable down at a place of the heap.
+    #[inline(always)]
+    fn set(&mut self, place: usize, variable: u32) {
+        if let Some(slot) = self.heap.as_mut_slice().get_mut(place) {
+            *slot = variable;
         }
-        let one = self.heap[first];
-        let two = self.heap[second];
-        self.heap[first] = two;
-        self.heap[second] = one;
-        self.set_place(two, first);
-        self.set_place(one, second);
+        self.set_place(variable, place);
     }
 
     /// Lets the variable at a place rise in the heap, until none above it has less activity.
+    ///
+    /// Those that it passes come down into the hole that it leaves, and it is written down once, at its last
+    /// place: with a swap at each step the heap took a tenth of all instructions on a Hamming decoder.
     fn sift_up(&mut self, place: usize) {
+        let Some(variable) = self.variable_at(place) else {
+            return;
+        };
+        let own = self.activity_of(variable);
         let mut at = place;
         while at > 0 {
             let parent = (at - 1) / 2;
-            if !self.is_above(at, parent) {
-                return;
+            let Some(above) = self.variable_at(parent) else {
+                break;
+            };
+            if own <= self.activity_of(above) {
+                break;
             }
-            self.swap(at, parent);
+            self.set(at, above);
             at = parent;
         }
+        self.set(at, variable);
     }
 
-    /// Lets the variable at the top sink to its place. A heap is never deeper than its length has bits.
+    /// Lets the variable at the top sink to its place, as `sift_up` lets one rise. A heap is never deeper than
+    /// its length has bits.
     fn sift_down(&mut self) {
+        let Some(variable) = self.variable_at(0) else {
+            return;
+        };
+        let own = self.activity_of(variable);
         let mut at: usize = 0;
         for _ in 0..usize::BITS {
-            let left = at.saturating_mul(2).saturating_add(1);
-            let right = left.saturating_add(1);
-            let child = if self.is_above(right, left) {
-                right
-            } else {
-                left
+            let Some((place, below)) = self.greater_child(at) else {
+                break;
             };
-            if !self.is_above(child, at) {
-                return;
+            if own >= self.activity_of(below) {
+                break;
             }
-            self.swap(at, child);
-            at = child;
+            self.set(at, below);
+            at = place;
+        }
+        self.set(at, variable);
+    }
+
+    /// The child of a place that has the greater activity, the left one where both have the same.
+    #[inline(always)]
+    fn greater_child(&self, at: usize) -> Option<(usize, u32)> {
+        let left = at.saturating_mul(2).saturating_add(1);
+        let right = left.saturating_add(1);
+        let one = self.variable_at(left)?;
+        match self.variable_at(right) {
+            Some(two) if self.activity_of(two) > self.activity_of(one) => Some((right, two)),
+            _ => Some((left, one)),
         }
     }
 }

@@ -31,7 +31,7 @@ impl Model for WatchSolver {
     ghost Value = { Solver };
 
     ghost view = { λ s. record {
-      base = s.engine.formula.base.items;
+      base = s.engine.formula.base;
       log = s.engine.formula.log.items;
       ready = s.ready;
     } };

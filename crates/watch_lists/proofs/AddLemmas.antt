@@ -27,7 +27,7 @@ engine-added old new clause engine like within room settled = record {
   watched = rw (like.clauses, like.work, like.lists, like.trail, like.levels, like.head) (record {
     most = let m = engine.watched.most in omega (arith, length_push old.clauses clause);
     linked = engine.watched.linked;
-    watches = λ l k d h. more_watch _ (engine.watched.watches l k d h);
+    watches = λ l k d h. more_watch l _ (engine.watched.watches l k d h);
     guards = λ i h. let m = engine.watched.most in rw (kept i (omega arith)) (engine.watched.guards i h);
     bounds = λ k d h i g. let m = engine.watched.most in rw (kept i (omega arith)) (engine.watched.bounds k d h i g);
   });
@@ -56,8 +56,12 @@ engine-added old new clause engine like within room settled = record {
       | inr past ↦ contrary _ (subst (λ (c : List ℕ). has nat_eq c l ≡ true) (get_or_past (old.clauses ++ clause ∷ []) i [] (omega (arith, length_push old.clauses clause))) h) refl
     ]
 
-    more_watch : (w : Watch) → IsWatch old.clauses (length (pairs_of old.work)) w → IsWatch (old.clauses ++ clause ∷ []) (length (pairs_of old.work)) w
-    more_watch w is = let m = engine.watched.most in let g = is.guarded in record { guarded = is.guarded; inside = rw (kept w.clause (omega arith)) is.inside }
+    more_watch : (l : ℕ) (w : Watch) → IsWatch old.clauses (length (pairs_of old.work)) l w → IsWatch (old.clauses ++ clause ∷ []) (length (pairs_of old.work)) l w
+    more_watch l w is = let m = engine.watched.most in let g = is.guarded in record {
+      guarded = is.guarded;
+      inside = rw (kept w.clause (omega arith)) is.inside;
+      only = λ e k h. is.only e k (subst (λ (c : List ℕ). has nat_eq c k ≡ true) (kept w.clause (omega arith)) h);
+    }
 
     more : (before : List ℕ) (lit : ℕ) (by : Option ℕ) → IsJustified old.clauses before lit by → IsJustified (old.clauses ++ clause ∷ []) before lit by
     more before lit None j = tt

@@ -1,7 +1,7 @@
 -- The pair of a new clause guards it.
-use Rattle.std.proofs.Common.{◌≡◌, ◌≢◌, ℕ, ◌<◌, ◌≤◌, true, false, ◌||◌, List, length, sym, subst, arith, take, nat_eq, ◌⊎◌, inl, inr}
+use Rattle.std.proofs.Common.{◌≡◌, ◌≢◌, ℕ, ◌<◌, ◌≤◌, true, false, ◌||◌, List, [], ◌∷◌, length, refl, sym, ◌∙◌, subst, arith, take, nat_eq, ◌⊎◌, inl, inr}
 use Rattle.std.proofs.lemmas.List.{take_all}
-use Rattle.std.proofs.lemmas.Bool.{or_left, or_right}
+use Rattle.std.proofs.lemmas.Bool.{or_cases, or_left, or_right}
 use Rattle.lits.specs.Clause.{has}
 use Rattle.unit_prop.specs.Closure.{forces, is_negated}
 use Rattle.unit_prop.proofs.Facts.{contrary, all-true}
@@ -75,3 +75,25 @@ guards-free past now clause pair a b f g apart = record {
   second_kept = λ h. contrary _ h g;
   alone = λ h. absurd (apart (same_exact pair.first pair.second h));
 }
+
+-- a list of two has no element but these
+in-two : (x y a : ℕ) → has nat_eq (x ∷ y ∷ []) a ≡ true → (x ≡ a) ⊎ (y ≡ a)
+in-two x y a h = elim (or_cases _ _ h) [
+  | inl e ↦ inl (same_exact x a e)
+  | inr r ↦ elim (or_cases _ _ r) [ inl e ↦ inr (same_exact y a e) | inr none ↦ contrary _ none refl ]
+]
+
+pub only-two : (clause : List ℕ) (a b : ℕ) → length clause ≡ 2 → a ≢ b → has nat_eq clause a ≡ true → has nat_eq clause b ≡ true
+    → (l : ℕ) → has nat_eq clause l ≡ true → (l ≡ a) ⊎ (l ≡ b)
+only-two [] a b size apart a_in b_in l l_in = absurd (omega arith)
+only-two (x ∷ []) a b size apart a_in b_in l l_in = absurd (omega arith)
+only-two (x ∷ y ∷ z ∷ zs) a b size apart a_in b_in l l_in = absurd (omega arith)
+only-two (x ∷ y ∷ []) a b size apart a_in b_in l l_in = go (in-two x y a a_in) (in-two x y b b_in) (in-two x y l l_in)
+  where
+    go : (x ≡ a) ⊎ (y ≡ a) → (x ≡ b) ⊎ (y ≡ b) → (x ≡ l) ⊎ (y ≡ l) → (l ≡ a) ⊎ (l ≡ b)
+    go (inl p) (inl q) r = absurd (apart (sym p ∙ q))
+    go (inr p) (inr q) r = absurd (apart (sym p ∙ q))
+    go (inl p) (inr q) (inl r) = inl (sym r ∙ p)
+    go (inl p) (inr q) (inr r) = inr (sym r ∙ q)
+    go (inr p) (inl q) (inl r) = inr (sym r ∙ q)
+    go (inr p) (inl q) (inr r) = inl (sym r ∙ p)

@@ -62,7 +62,7 @@ engine-grown old new engine grown room = record {
   watched = rw (grown.clauses, grown.work, grown.lists, grown.trail, grown.levels, grown.head) (record {
     most = engine.watched.most;
     linked = λ i h. let l = engine.watched.linked i h in record { first = subst (λ (z : List Watch). HasWatch z 0 i) (sym (kept _)) l.first; second = subst (λ (z : List Watch). HasWatch z 0 i) (sym (kept _)) l.second };
-    watches = λ l. subst (λ (z : List Watch). All (IsWatch old.clauses (length (pairs_of old.work))) z) (sym (kept l)) (engine.watched.watches l);
+    watches = λ l. subst (λ (z : List Watch). All (IsWatch old.clauses (length (pairs_of old.work)) l) z) (sym (kept l)) (engine.watched.watches l);
     guards = engine.watched.guards;
     bounds = engine.watched.bounds;
   });

@@ -2,6 +2,7 @@ pub mod Facts
 mod AddLemmas
 mod AttachLemmas
 mod BackLemmas
+mod BlockLemmas
 mod CopyLemmas
 mod FlatLemmas
 mod FlipLemmas

@@ -1,5 +1,5 @@
 -- The turn after a put, a dropped watch and a moved watch.
-use Rattle.std.proofs.Common.{◌≡◌, ◌≢◌, ℕ, ◌+◌, ◌<◌, ◌≤◌, true, false, List, [], ◌∷◌, ◌++◌, length, refl, sym, ap, ◌∙◌, subst, arith, get_or, take, nat_eq, Option, Some, None, ◌⊎◌, inl, inr}
+use Rattle.std.proofs.Common.{◌≡◌, ◌≢◌, ℕ, ◌+◌, ◌<◌, ◌≤◌, Bool, true, false, List, [], ◌∷◌, ◌++◌, length, refl, sym, ap, ◌∙◌, subst, arith, get_or, take, nat_eq, Option, Some, None, ◌⊎◌, inl, inr}
 use Rattle.std.specs.List.{swap_remove, All}
 use Rattle.std.specs.Prelude.{slice_index_or, slice_index, slice_set, is_none}
 use Rattle.std.proofs.lemmas.List.{get_or-set_same, get_or_append_left, get_or_read, get_or_push, get_or-take, length-set, length_push, length-take, take-take, take_all, take_more, take-append-le}
@@ -76,7 +76,7 @@ turn-drop old new lit at d turn like same_work same_lists within apart = (
 
 pub turn-move : (old new : Engine) (lit at j other x place : ℕ) (d : Watch) (lists1 : List (List Watch)) → IsTurn old lit at → IsLike old new
     → new.work ≡ slice_set old.work j (moved (codes_at old.work j) place lit other x)
-    → lists1 ≡ slice_set old.lists x (list_at old.lists x ++ record { clause = j; blocker = other } ∷ [])
+    → lists1 ≡ slice_set old.lists x (list_at old.lists x ++ record { clause = j; blocker = other; is_two = false } ∷ [])
     → new.lists ≡ slice_set lists1 lit (swap_remove (list_at lists1 lit) at d)
     → at < length (list_at old.lists lit) → (watch_at (list_at old.lists lit) at).clause ≡ j
     → 2 ≤ place → place < length (codes_at old.work j) → slice_index (codes_at old.work j) place ≡ x
@@ -113,8 +113,8 @@ turn-move old new lit at j other x place d lists1 turn like new_work first_lists
     lit_in : lit < length old.lists
     lit_in = subst (λ (n : ℕ). lit < n) (sym turn.engine.lists) turn.lit_in
 
-    there : list_at (slice_set (slice_set old.lists x (list_at old.lists x ++ record { clause = j; blocker = other } ∷ [])) lit (swap_remove (list_at (slice_set old.lists x (list_at old.lists x ++ record { clause = j; blocker = other } ∷ [])) lit) at d)) lit
-        ≡ swap_remove (list_at (slice_set old.lists x (list_at old.lists x ++ record { clause = j; blocker = other } ∷ [])) lit) at d
+    there : list_at (slice_set (slice_set old.lists x (list_at old.lists x ++ record { clause = j; blocker = other; is_two = false } ∷ [])) lit (swap_remove (list_at (slice_set old.lists x (list_at old.lists x ++ record { clause = j; blocker = other; is_two = false } ∷ [])) lit) at d)) lit
+        ≡ swap_remove (list_at (slice_set old.lists x (list_at old.lists x ++ record { clause = j; blocker = other; is_two = false } ∷ [])) lit) at d
     there = moved-list turn.engine.watched lit at j other x within here lit_in (subst (λ (n : ℕ). x < n) (sym turn.engine.lists) x_in) is_other apart inside free fresh (turn-false turn) d
 
 -- engines that keep what another keeps
@@ -286,13 +286,14 @@ engine-same old new engine same = record {
   trail = rw (same.clauses, same.truth, same.places, same.trail, same.reasons, same.levels, same.head) engine.trail;
 }
 
-pub engine-watched : (old new : Engine) (at : ℕ) (pair : Pair) → IsEngine old → at ≡ length old.work → at < length old.clauses
+pub engine-watched : (old new : Engine) (at : ℕ) (pair : Pair) (is_two : Bool) → IsEngine old → at ≡ length old.work → at < length old.clauses
     → Guards (take old.head old.trail.items) old.trail.items (codes_at old.clauses at) pair
     → All (λ v. Guards (take v.head old.trail.items) (take v.start old.trail.items) (codes_at old.clauses at) pair) old.levels.items
+    → (is_two ≡ true → (l : ℕ) → has nat_eq (codes_at old.clauses at) l ≡ true → (l ≡ pair.first) ⊎ (l ≡ pair.second))
     → new.work ≡ old.work ++ arranged pair (codes_at old.clauses at) ∷ []
-    → new.lists ≡ pushed (pushed old.lists pair.first (record { clause = at; blocker = pair.second })) pair.second (record { clause = at; blocker = pair.first })
+    → new.lists ≡ pushed (pushed old.lists pair.first (record { clause = at; blocker = pair.second; is_two = is_two })) pair.second (record { clause = at; blocker = pair.first; is_two = is_two })
     → IsLike old new → IsEngine new
-engine-watched old new at pair engine last room guard bounds new_work new_lists like = record {
+engine-watched old new at pair is_two engine last room guard bounds only new_work new_lists like = record {
   lists = rw (new_lists, like.truth) (length-set _ pair.second _ ∙ (length-set old.lists pair.first _ ∙ engine.lists));
   small = rw like.truth engine.small;
   few = rw like.clauses engine.few;
@@ -303,7 +304,8 @@ engine-watched old new at pair engine last room guard bounds new_work new_lists 
   watched = rw (like.clauses, new_pairs, new_lists, count, like.trail, like.levels, like.head)
       (watched-next engine.watched pair (omega (arith, count)) (in_lists pair.first guard.first_in) (in_lists pair.second guard.second_in)
       (subst (λ (n : ℕ). Guards (take old.head old.trail.items) old.trail.items (codes_at old.clauses n) pair) count guard)
-      (subst (λ (n : ℕ). All (λ v. Guards (take v.head old.trail.items) (take v.start old.trail.items) (codes_at old.clauses n) pair) old.levels.items) count bounds));
+      (subst (λ (n : ℕ). All (λ v. Guards (take v.head old.trail.items) (take v.start old.trail.items) (codes_at old.clauses n) pair) old.levels.items) count bounds)
+      is_two (subst (λ (n : ℕ). is_two ≡ true → (l : ℕ) → has nat_eq (codes_at old.clauses n) l ≡ true → (l ≡ pair.first) ⊎ (l ≡ pair.second)) count only));
   trail = rw (like.clauses, like.truth, like.places, like.trail, like.reasons, like.levels, like.head) engine.trail;
 }
   where

@@ -1,5 +1,5 @@
 -- What a visit does to the turn.
-use Rattle.std.proofs.Common.{◌≡◌, ◌≢◌, ℕ, ◌+◌, ◌<◌, ◌≤◌, Bool, true, false, ◌||◌, List, [], ◌∷◌, ◌++◌, length, sym, ap, ◌∙◌, subst, arith, get_or, nat_eq, ◌⊎◌, inl, inr, Option}
+use Rattle.std.proofs.Common.{◌≡◌, ◌≢◌, ℕ, ◌+◌, ◌<◌, ◌≤◌, Bool, true, false, ◌||◌, List, [], ◌∷◌, ◌++◌, length, refl, sym, ap, ◌∙◌, subst, arith, get_or, nat_eq, ◌⊎◌, inl, inr, Option}
 use Rattle.std.specs.List.{swap_remove}
 use Rattle.std.specs.Prelude.{slice_index_or, slice_index, slice_set}
 use Rattle.std.proofs.lemmas.List.{get_or-set_same, get_or-set_other, get_or_read, get_or_default, length-set}
@@ -49,7 +49,7 @@ module _ {clauses : List (List ℕ)} {pairs : List Pair} {lists : List (List Wat
   pub met-blocker : (lit at : ℕ) (w : Watch) → at < length (list_at lists lit) → watch_at (list_at lists lit) at ≡ w
       → has nat_eq trail w.blocker ≡ true → is_met trail (codes_at clauses w.clause) ≡ true
   met-blocker lit at w within read holds =
-      let is : IsWatch clauses (length pairs) w = subst (λ (x : Watch). IsWatch clauses (length pairs) x) read (watched.watches lit at no_watch within) in
+      let is : IsWatch clauses (length pairs) lit w = subst (λ (x : Watch). IsWatch clauses (length pairs) lit x) read (watched.watches lit at no_watch within) in
       met-by trail (codes_at clauses w.clause) w.blocker is.inside holds
 
   pub watch-within : (lit at : ℕ) → at < length (list_at lists lit) → (watch_at (list_at lists lit) at).clause < length pairs
@@ -111,7 +111,7 @@ module _ {clauses : List (List ℕ)} {pairs : List Pair} {lists : List (List Wat
     (is_other : IsOther (pair_at pairs j) lit other) (apart : nat_eq other lit ≡ false) (inside : has nat_eq (codes_at clauses j) new ≡ true)
     (free : has nat_eq trail (flip new) ≡ false) (fresh : nat_eq other new ≡ false) (false_lit : has nat_eq trail (flip lit) ≡ true) where
   abbrev pushed : Watch
-  pushed = record { clause = j; blocker = other }
+  pushed = record { clause = j; blocker = other; is_two = false }
 
   abbrev pair : Pair
   pair = record { first = other; second = new }
@@ -132,7 +132,7 @@ module _ {clauses : List (List ℕ)} {pairs : List Pair} {lists : List (List Wat
   other_apart same = contrary _ (subst (λ (z : ℕ). nat_eq other z ≡ true) same (is_literal-flip.equivalence.refl other)) apart
 
   watched1 : AreWatched clauses pairs lists1 trail levels head
-  watched1 = watched-push watched new pushed (record { guarded = j_in; inside = other-in watched j lit other j_in is_other })
+  watched1 = watched-push watched new pushed (record { guarded = j_in; inside = other-in watched j lit other j_in is_other; only = λ e. contrary _ e refl })
 
   lists1-lit : list_at lists1 lit ≡ list_at lists lit
   lists1-lit = get_or-set_other lists new lit (list_at lists new ++ pushed ∷ []) [] new_apart
@@ -228,7 +228,7 @@ turn-false {e} turn = subst (λ (z : ℕ). has nat_eq e.trail.items z ≡ true) 
 pub blocker-within : {e : Engine} {lit at : ℕ} → IsTurn e lit at → (w : Watch) → at < length (list_at e.lists lit) → watch_at (list_at e.lists lit) at ≡ w
     → w.blocker < length e.truth.items
 blocker-within {e} {lit} {at} turn w within read =
-    let is : IsWatch e.clauses (length (pairs_of e.work)) w = subst (λ (x : Watch). IsWatch e.clauses (length (pairs_of e.work)) x) read (turn.engine.watched.watches lit at no_watch within) in
+    let is : IsWatch e.clauses (length (pairs_of e.work)) lit w = subst (λ (x : Watch). IsWatch e.clauses (length (pairs_of e.work)) lit x) read (turn.engine.watched.watches lit at no_watch within) in
     turn.engine.trail.within w.clause w.blocker is.inside
 
 pub turn-clause : {e : Engine} {lit at : ℕ} → IsTurn e lit at → (j : ℕ) → at < length (list_at e.lists lit) → (watch_at (list_at e.lists lit) at).clause ≡ j
@@ -248,6 +248,22 @@ copy-in {e} engine j place within below = sym (engine.copies.same j (slice_index
 pub clause-in_copy : {e : Engine} → IsEngine e → (j q : ℕ) → j < length e.work → has nat_eq (codes_at e.clauses j) q ≡ true
     → ((first_two (codes_at e.work j)).first ≡ q) ⊎ (((first_two (codes_at e.work j)).second ≡ q) ⊎ ((k : ℕ) × (2 ≤ k) × (k < length (codes_at e.work j)) × (slice_index (codes_at e.work j) k ≡ q)))
 clause-in_copy {e} engine j q within inside = in_copy (codes_at e.work j) q (engine.copies.same j q within ∙ inside)
+
+-- every literal but the blocker is false where the watch says that its clause has two literals
+pub others-two : {e : Engine} {lit at : ℕ} → IsTurn e lit at → (w : Watch) → at < length (list_at e.lists lit) → watch_at (list_at e.lists lit) at ≡ w
+    → w.is_two ≡ true → (l : ℕ) → has nat_eq (codes_at e.clauses w.clause) l ≡ true → nat_eq w.blocker l ≡ false → has nat_eq e.trail.items (flip l) ≡ true
+others-two {e} {lit} {at} turn w within read two l inside apart = elim (is.only two l inside) [
+  | inl same ↦ subst (λ (z : ℕ). has nat_eq e.trail.items (flip z) ≡ true) (sym same) (turn-false turn)
+  | inr same ↦ contrary _ (subst (λ (z : ℕ). nat_eq w.blocker z ≡ true) (sym same) (is_literal-flip.equivalence.refl w.blocker)) apart
+]
+  where
+    is : IsWatch e.clauses (length (pairs_of e.work)) lit w
+    is = subst (λ (x : Watch). IsWatch e.clauses (length (pairs_of e.work)) lit x) read (turn.engine.watched.watches lit at no_watch within)
+
+pub blocker-in : {e : Engine} {lit at : ℕ} → IsTurn e lit at → (w : Watch) → at < length (list_at e.lists lit) → watch_at (list_at e.lists lit) at ≡ w
+    → has nat_eq (codes_at e.clauses w.clause) w.blocker ≡ true
+blocker-in {e} {lit} {at} turn w within read =
+    subst (λ (x : Watch). has nat_eq (codes_at e.clauses x.clause) x.blocker ≡ true) read (turn.engine.watched.watches lit at no_watch within).inside
 
 -- every literal but the other watched one is false
 pub others-false : {e : Engine} {lit at : ℕ} → IsTurn e lit at → (j other : ℕ) → j < length e.work → IsOther (pair_at (pairs_of e.work) j) lit other

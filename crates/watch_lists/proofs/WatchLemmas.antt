@@ -1,5 +1,5 @@
 -- How watches move between lists.
-use Rattle.std.proofs.Common.{◌≡◌, ◌≢◌, ℕ, ◌+◌, ◌-◌, ◌<◌, ◌≤◌, true, List, [], ◌∷◌, ◌++◌, length, refl, sym, ap, ◌∙◌, subst, arith, get_or, take, set, nat_eq, ◌⊎◌, inl, inr}
+use Rattle.std.proofs.Common.{◌≡◌, ◌≢◌, ℕ, ◌+◌, ◌-◌, ◌<◌, ◌≤◌, Bool, true, List, [], ◌∷◌, ◌++◌, length, refl, sym, ap, ◌∙◌, subst, arith, get_or, take, set, nat_eq, ◌⊎◌, inl, inr}
 use Rattle.std.specs.List.{swap_remove, All}
 use Rattle.std.specs.Prelude.{slice_set}
 use Rattle.std.proofs.lemmas.List.{get_or_append_left, get_or_push, length_push, get_or-take, get_or-set_same, get_or-set_other, length-set, length-take-le, set_past, get_or_default, take_at, set-set, set-get_or}
@@ -15,12 +15,12 @@ pub decide : (a b : ℕ) → (a ≡ b) ⊎ (a ≢ b)
 decide a b = grind arith
 
 -- a fact of each place stays where one place is written
-pub each-set : {X : Type 0} (P : X → Type 0) (xs : List X) (i : ℕ) (y d : X) → ((k : ℕ) → P (get_or xs k d)) → P y → (k : ℕ) → P (get_or (set xs i y) k d)
+pub each-set : {X : Type 0} (P : ℕ → X → Type 0) (xs : List X) (i : ℕ) (y d : X) → ((k : ℕ) → P k (get_or xs k d)) → P i y → (k : ℕ) → P k (get_or (set xs i y) k d)
 each-set {X} P xs i y d each here k = elim (decide k i) [
-  | inr apart ↦ subst (λ (z : X). P z) (sym (get_or-set_other xs i k y d apart)) (each k)
+  | inr apart ↦ subst (λ (z : X). P k z) (sym (get_or-set_other xs i k y d apart)) (each k)
   | inl same ↦ elim (cases_lt i (length xs)) [
-    | inl lt ↦ subst (λ (j : ℕ). P (get_or (set xs i y) j d)) (sym same) (subst (λ (z : X). P z) (sym (get_or-set_same xs i y d lt)) here)
-    | inr past ↦ subst (λ (z : List X). P (get_or z k d)) (sym (set_past xs i y past)) (each k)
+    | inl lt ↦ subst (λ (j : ℕ). P j (get_or (set xs i y) j d)) (sym same) (subst (λ (z : X). P i z) (sym (get_or-set_same xs i y d lt)) here)
+    | inr past ↦ subst (λ (z : List X). P k (get_or z k d)) (sym (set_past xs i y past)) (each k)
   ]
 ]
 
@@ -107,7 +107,7 @@ has_watch-pushed lists l k i w h = elim (decide k l) [
 module _ {clauses : List (List ℕ)} {pairs : List Pair} {lists : List (List Watch)} {trail : List ℕ} {levels : List Level} {head : ℕ}
     (watched : AreWatched clauses pairs lists trail levels head) where
   -- a watch is pushed
-  pub watched-push : (l : ℕ) (w : Watch) → IsWatch clauses (length pairs) w
+  pub watched-push : (l : ℕ) (w : Watch) → IsWatch clauses (length pairs) l w
       → AreWatched clauses pairs (slice_set lists l (list_at lists l ++ w ∷ [])) trail levels head
   watched-push l w is = record {
     most = watched.most;
@@ -115,8 +115,8 @@ module _ {clauses : List (List ℕ)} {pairs : List Pair} {lists : List (List Wat
       first = has_watch-pushed lists l (pair_at pairs i).first i w (watched.linked i h).first;
       second = has_watch-pushed lists l (pair_at pairs i).second i w (watched.linked i h).second;
     };
-    watches = each-set (λ (list : List Watch). All (IsWatch clauses (length pairs)) list) lists l (list_at lists l ++ w ∷ []) [] watched.watches
-        (All-push (IsWatch clauses (length pairs)) (list_at lists l) w (watched.watches l) is);
+    watches = each-set (λ (k : ℕ) (list : List Watch). All (IsWatch clauses (length pairs) k) list) lists l (list_at lists l ++ w ∷ []) [] watched.watches
+        (All-push (IsWatch clauses (length pairs) l) (list_at lists l) w (watched.watches l) is);
     guards = watched.guards;
     bounds = watched.bounds;
   }
@@ -166,8 +166,8 @@ module _ {clauses : List (List ℕ)} {pairs : List Pair} {lists : List (List Wat
       first = fewer (pair_at pairs i).first i (λ same e. (gone i h e).0 same) (watched.linked i h).first;
       second = fewer (pair_at pairs i).second i (λ same e. (gone i h e).1 same) (watched.linked i h).second;
     };
-    watches = each-set (λ (list : List Watch). All (IsWatch clauses (length pairs)) list) lists l (swap_remove (list_at lists l) at d) [] watched.watches
-        (All-take (IsWatch clauses (length pairs)) (length (list_at lists l) - 1) _ (All-set (IsWatch clauses (length pairs)) (list_at lists l) at _ (watched.watches l (length (list_at lists l) - 1) d (omega arith)) (watched.watches l)));
+    watches = each-set (λ (k : ℕ) (list : List Watch). All (IsWatch clauses (length pairs) k) list) lists l (swap_remove (list_at lists l) at d) [] watched.watches
+        (All-take (IsWatch clauses (length pairs) l) (length (list_at lists l) - 1) _ (All-set (IsWatch clauses (length pairs) l) (list_at lists l) at _ (watched.watches l (length (list_at lists l) - 1) d (omega arith)) (watched.watches l)));
     guards = watched.guards;
     bounds = watched.bounds;
   }
@@ -199,15 +199,16 @@ has_watch-new lists l w h = subst (λ (z : List Watch). HasWatch z 0 w.clause) (
 module _ {clauses : List (List ℕ)} {pairs : List Pair} {lists : List (List Watch)} {trail : List ℕ} {levels : List Level} {head : ℕ}
     (watched : AreWatched clauses pairs lists trail levels head) (pair : Pair) (room : length pairs < length clauses) (first_in : pair.first < length lists) (second_in : pair.second < length lists)
     (guard : Guards (take head trail) trail (codes_at clauses (length pairs)) pair)
-    (bounds : All (λ v. Guards (take v.head trail) (take v.start trail) (codes_at clauses (length pairs)) pair) levels) where
+    (bounds : All (λ v. Guards (take v.head trail) (take v.start trail) (codes_at clauses (length pairs)) pair) levels)
+    (is_two : Bool) (only : is_two ≡ true → (l : ℕ) → has nat_eq (codes_at clauses (length pairs)) l ≡ true → (l ≡ pair.first) ⊎ (l ≡ pair.second)) where
   abbrev n : ℕ
   n = length pairs
 
   abbrev one : Watch
-  one = record { clause = length pairs; blocker = pair.second }
+  one = record { clause = length pairs; blocker = pair.second; is_two = is_two }
 
   abbrev two : Watch
-  two = record { clause = length pairs; blocker = pair.first }
+  two = record { clause = length pairs; blocker = pair.first; is_two = is_two }
 
   abbrev lists1 : List (List Watch)
   lists1 = pushed lists pair.first one
@@ -221,22 +222,22 @@ module _ {clauses : List (List ℕ)} {pairs : List Pair} {lists : List (List Wat
   new : pair_at (pairs ++ pair ∷ []) (length pairs) ≡ pair
   new = get_or_push pairs pair no_pair (length pairs) refl
 
-  more : (w : Watch) → IsWatch clauses (length pairs) w → IsWatch clauses (length pairs + 1) w
-  more w is = record { guarded = let g = is.guarded in omega arith; inside = is.inside }
+  more : (l : ℕ) (w : Watch) → IsWatch clauses (length pairs) l w → IsWatch clauses (length pairs + 1) l w
+  more l w is = record { guarded = let g = is.guarded in omega arith; inside = is.inside; only = is.only }
 
-  one_is : IsWatch clauses (length pairs + 1) one
-  one_is = record { guarded = omega arith; inside = guard.second_in }
+  one_is : IsWatch clauses (length pairs + 1) pair.first one
+  one_is = record { guarded = omega arith; inside = guard.second_in; only = only }
 
-  two_is : IsWatch clauses (length pairs + 1) two
-  two_is = record { guarded = omega arith; inside = guard.first_in }
+  two_is : IsWatch clauses (length pairs + 1) pair.second two
+  two_is = record { guarded = omega arith; inside = guard.first_in; only = λ e l h. elim (only e l h) [ inl a ↦ inr a | inr a ↦ inl a ] }
 
   watches1 : AreWatches clauses (length pairs + 1) lists1
-  watches1 = each-set (λ (list : List Watch). All (IsWatch clauses (length pairs + 1)) list) lists pair.first (list_at lists pair.first ++ one ∷ []) []
-      (λ l k d h. more _ (watched.watches l k d h)) (All-push (IsWatch clauses (length pairs + 1)) (list_at lists pair.first) one (λ k d h. more _ (watched.watches pair.first k d h)) one_is)
+  watches1 = each-set (λ (k : ℕ) (list : List Watch). All (IsWatch clauses (length pairs + 1) k) list) lists pair.first (list_at lists pair.first ++ one ∷ []) []
+      (λ l k d h. more l _ (watched.watches l k d h)) (All-push (IsWatch clauses (length pairs + 1) pair.first) (list_at lists pair.first) one (λ k d h. more pair.first _ (watched.watches pair.first k d h)) one_is)
 
   watches2 : AreWatches clauses (length pairs + 1) lists2
-  watches2 = each-set (λ (list : List Watch). All (IsWatch clauses (length pairs + 1)) list) lists1 pair.second (list_at lists1 pair.second ++ two ∷ []) []
-      watches1 (All-push (IsWatch clauses (length pairs + 1)) (list_at lists1 pair.second) two (watches1 pair.second) two_is)
+  watches2 = each-set (λ (k : ℕ) (list : List Watch). All (IsWatch clauses (length pairs + 1) k) list) lists1 pair.second (list_at lists1 pair.second ++ two ∷ []) []
+      watches1 (All-push (IsWatch clauses (length pairs + 1) pair.second) (list_at lists1 pair.second) two (watches1 pair.second) two_is)
 
   all : (past now : List ℕ) → AreGuards clauses pairs past now → Guards past now (codes_at clauses (length pairs)) pair → AreGuards clauses (pairs ++ pair ∷ []) past now
   all past now each here i h = elim (decide i (length pairs)) [
@@ -244,7 +245,7 @@ module _ {clauses : List (List ℕ)} {pairs : List Pair} {lists : List (List Wat
     | inl last ↦ subst (λ (k : ℕ). Guards past now (codes_at clauses k) (pair_at (pairs ++ pair ∷ []) k)) (sym last) (subst (λ (p : Pair). Guards past now (codes_at clauses (length pairs)) p) (sym new) here)
   ]
 
-  pub watched-next : AreWatched clauses (pairs ++ pair ∷ []) (pushed (pushed lists pair.first (record { clause = length pairs; blocker = pair.second })) pair.second (record { clause = length pairs; blocker = pair.first })) trail levels head
+  pub watched-next : AreWatched clauses (pairs ++ pair ∷ []) (pushed (pushed lists pair.first (record { clause = length pairs; blocker = pair.second; is_two = is_two })) pair.second (record { clause = length pairs; blocker = pair.first; is_two = is_two })) trail levels head
   watched-next = record {
     most = omega (arith, length_push pairs pair);
     linked = λ i h. elim (decide i n) [

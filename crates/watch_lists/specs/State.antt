@@ -22,7 +22,7 @@ abbrev pub no_pair : Pair
 no_pair = record { first = 0; second = 0 }
 
 abbrev pub no_watch : Watch
-no_watch = record { clause = 0; blocker = 0 }
+no_watch = record { clause = 0; blocker = 0; is_two = false }
 
 abbrev pub no_level : Level
 no_level = record { start = 0; head = 0 }
@@ -61,6 +61,10 @@ moved codes place lit other new = slice_set (slice_set (slice_set codes 0 other)
 abbrev pub pushed : List (List Watch) → ℕ → Watch → List (List Watch)
 pushed lists l w = slice_set lists l (list_at lists l ++ w ∷ [])
 
+-- the list where the watch at that place has this blocker, and its clause is read again
+abbrev pub blocked : List Watch → ℕ → ℕ → List Watch
+blocked list at blocker = slice_set list at (record { clause = (watch_at list at).clause; blocker = blocker; is_two = false })
+
 -- from that place on the list has a watch of the clause
 pub record HasWatch (list : List Watch) (from clause : ℕ) : Type 0 where
   pub place : ℕ
@@ -88,13 +92,15 @@ pub record IsLinked (lists : List (List Watch)) (clause : ℕ) (pair : Pair) : T
 abbrev pub AreLinked : List Pair → List (List Watch) → Type 0
 AreLinked pairs lists = (i : ℕ) → i < length pairs → IsLinked lists i (pair_at pairs i)
 
--- the watch is of a guarded clause and its blocker a literal of it
-pub record IsWatch (clauses : List (List ℕ)) (count : ℕ) (watch : Watch) : Type 0 where
+-- the watch of the literal is of a guarded clause and its blocker a literal of it; where it says that the clause has two
+-- literals, these two are all
+pub record IsWatch (clauses : List (List ℕ)) (count lit : ℕ) (watch : Watch) : Type 0 where
   pub guarded : watch.clause < count
   pub inside : has nat_eq (codes_at clauses watch.clause) watch.blocker ≡ true
+  pub only : watch.is_two ≡ true → (l : ℕ) → has nat_eq (codes_at clauses watch.clause) l ≡ true → (l ≡ lit) ⊎ (l ≡ watch.blocker)
 
 abbrev pub AreWatches : List (List ℕ) → ℕ → List (List Watch) → Type 0
-AreWatches clauses count lists = (l : ℕ) → All (IsWatch clauses count) (list_at lists l)
+AreWatches clauses count lists = (l : ℕ) → All (IsWatch clauses count l) (list_at lists l)
 
 -- the literal is a decision, or the only one of its clause that the ones before don't negate
 abbrev pub IsJustified : List (List ℕ) → List ℕ → ℕ → Option ℕ → Type 0

@@ -1,4 +1,4 @@
-ghost use Rattle.std.specs.Prelude.{◌≡◌, ◌<◌, ◌+◌, ◌++◌, ◌∷◌, [], ℕ, true, false, List, take, nat_eq, length, OnOk, IfOk, IfSome, IfNone};
+ghost use Rattle.std.specs.Prelude.{◌≡◌, ◌<◌, ◌+◌, ◌⊎◌, ◌++◌, ◌∷◌, [], ℕ, true, false, List, take, nat_eq, length, OnOk, IfOk, IfSome, IfNone};
 ghost use Rattle.std.specs.List.{All};
 ghost use Rattle.unit_prop.specs.Closure.{is_negated, forces};
 ghost use Rattle.lits.specs.Clause.{has};
@@ -10,6 +10,14 @@ use crate::engine::Engine;
 use crate::flat::Pair;
 use crate::lists::Watch;
 use std::alloc::AllocError;
+
+/// Whether the clause, which has both literals of the pair, has no other.
+fn is_all(pair: Pair, clause: &[u32]) -> bool
+    ensures { result ≡ true → has nat_eq clause.now pair.first ≡ true → has nat_eq clause.now pair.second ≡ true
+        → (l : ℕ) → has nat_eq clause.now l ≡ true → (l ≡ pair.first) ⊎ (l ≡ pair.second) }
+{
+    pair.first != pair.second && clause.len() == 2
+}
 
 impl Engine {
     /// How long the literal isn't false.
@@ -136,13 +144,16 @@ impl Engine {
         ensures keeps { Holds self.old self.new }
     {
         self.work.push_arranged(pair, self.clauses.get(at))?;
+        let is_two = is_all(pair, self.clauses.get(at));
         let one = Watch {
             clause: at,
             blocker: pair.second,
+            is_two,
         };
         let two = Watch {
             clause: at,
             blocker: pair.first,
+            is_two,
         };
         match self.lists.push_two(pair.first, one, pair.second, two) {
             Ok(()) => Ok(true),

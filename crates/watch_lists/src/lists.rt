@@ -1,17 +1,18 @@
 ghost use Rattle.std.specs.Prelude.{◌≡◌, ◌<◌, ◌≤◌, ◌+◌, ℕ, map, ◌++◌, ◌∷◌, [], length, ◌-◌, take, slice_set, slice_index_or, OnOk, OnErr};
 ghost use Rattle.std.specs.List.{swap_remove};
 ghost use Rattle.watch_lists.specs.Lists.{AreSpare};
-ghost use Rattle.watch_lists.specs.State.{list_at, no_watch, pushed};
+ghost use Rattle.watch_lists.specs.State.{blocked, list_at, no_watch, pushed};
 
 use std::alloc::{AllocError, Global};
 use std::marker::Model;
 
 /// That a clause watches a literal. Where the blocker, another literal of the clause, is true, the
-/// clause isn't read.
+/// clause isn't read; nor is one of two literals, since the blocker is the other one.
 #[derive(Clone, Copy)]
 pub(crate) struct Watch {
     pub(crate) clause: u32,
     pub(crate) blocker: u32,
+    pub(crate) is_two: bool,
 }
 
 /// The watches of each literal.
@@ -69,6 +70,20 @@ impl Lists {
     {
         self.lists[lit as usize].push(watch)?;
         Ok(())
+    }
+
+    /// Gives a watch another blocker.
+    pub(crate) fn block(&mut self, lit: u32, at: usize, blocker: u32)
+        requires lit { lit < length self.old }
+        requires at { at < length (list_at self.old lit) }
+        ensures { self.new ≡ slice_set self.old lit (blocked (list_at self.old lit) at blocker) }
+    {
+        let clause = self.lists[lit as usize][at].clause;
+        self.lists[lit as usize][at] = Watch {
+            clause,
+            blocker,
+            is_two: false,
+        };
     }
 
     /// Takes a watch away, and the last one comes to its place: the order of watches is free.

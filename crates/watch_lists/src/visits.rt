@@ -55,6 +55,9 @@ impl Engine {
         if self.truth[watch.blocker as usize] {
             return Ok(Visit::Next);
         }
+        if watch.is_two {
+            return self.force(lit, at, watch.clause, watch.blocker);
+        }
         self.visit_clause(lit, at, watch.clause)
     }
 
@@ -77,7 +80,8 @@ impl Engine {
     }
 
     /// Visits a clause by its other watched literal: where that is true the clause is, and nothing is looked
-    /// for (Moskewicz, Madigan, Zhao, Zhang and Malik 2001).
+    /// for (Moskewicz, Madigan, Zhao, Zhang and Malik 2001). It becomes the watch's blocker then, as in MiniSat
+    /// (Eén and Sörensson 2003), so that the clause isn't read again while it stays true.
     fn visit_pair(
         &mut self,
         lit: u32,
@@ -93,7 +97,11 @@ impl Engine {
         ensures err { OnErr result (IsEngine self.new) }
         ensures keeps { Holds self.old self.new }
     {
-        if other == lit || self.truth[other as usize] {
+        if other == lit {
+            return Ok(Visit::Next);
+        }
+        if self.truth[other as usize] {
+            self.lists.block(lit, at, other);
             return Ok(Visit::Next);
         }
         match replacement(self.work.get(clause), self.truth.as_slice(), other) {
@@ -107,12 +115,10 @@ impl Engine {
         requires turn { IsTurn self.old lit at }
         requires at { at < length (list_at self.old.lists lit) }
         requires clause { (watch_at (list_at self.old.lists lit) at).clause ≡ clause }
-        requires other { IsOther (pair_at (pairs_of self.old.work) clause) lit other }
+        requires inside { has nat_eq (codes_at self.old.clauses clause) other ≡ true }
         requires missing { slice_index_or self.old.truth.items other false ≡ false }
-        requires negated { (k : ℕ) → 2 ≤ k → k < length (codes_at self.old.work clause)
-            → nat_eq other (slice_index (codes_at self.old.work clause) k) ≡ false
-            → slice_index_or self.old.truth.items
-            (flip (slice_index (codes_at self.old.work clause) k)) false ≡ true }
+        requires negated { (l : ℕ) → has nat_eq (codes_at self.old.clauses clause) l ≡ true
+            → nat_eq other l ≡ false → has nat_eq self.old.trail.items (flip l) ≡ true }
         ensures ok { IfOk result (λ v. IsVisited self.old self.new lit at v) }
         ensures err { OnErr result (IsEngine self.new) }
         ensures keeps { Holds self.old self.new }
@@ -152,6 +158,7 @@ impl Engine {
             Watch {
                 clause,
                 blocker: other,
+                is_two: false,
             },
         )?;
         self.work.turn(clause, place, lit, other, new);

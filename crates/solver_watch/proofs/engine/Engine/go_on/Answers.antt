@@ -15,7 +15,7 @@ use Rattle.solver_watch.proofs.engine.Engine.go_on.Goals.{then-level-self+in-All
 pub next_assumption-requires-clause-numbered : goal.next_assumption-requires-clause-numbered
 next_assumption-requires-clause-numbered c = λ l h.
     over-numbered c.args.self.now.formula c.requires.state.known c.level.ensures.trail l
-    (each-at lit_laws (λ (m : Lit). is_over c.args.self.now.formula.base.items m ≡ true) c.args.target.now l c.requires.state.over h)
+    (each-at lit_laws (λ (m : Lit). is_over c.args.self.now.formula.base m ≡ true) c.args.target.now l c.requires.state.over h)
 
 pub returns-in-Open-clause-state : goal.returns-in-Open-clause-state
 returns-in-Open-clause-state c = record {
@@ -50,7 +50,7 @@ returns-in_ok-decide-in-Some-clause-state c = record {
 
 pub returns-in_ok-model-in-None-clause-found : goal.returns-in_ok-model-in-None-clause-found
 returns-in_ok-model-in-None-clause-found c = (
-  subst (λ (m : List Lit). IsModel c.args.self.now.formula.base.items c.args.target.now m) (sym c.in_ok-model-in-None.ensures)
+  subst (λ (m : List Lit). IsModel c.args.self.now.formula.base c.args.target.now m) (sym c.in_ok-model-in-None.ensures)
       (model-is c.args.self.now.formula c.args.target.now c.requires.state.known c.level.ensures.trail c.requires.complete
       (taken-lits c.args.self.now.formula.trail c.in-None.ensures.none)
       (λ l h. elim c.if-level-self.branch [

@@ -18,7 +18,7 @@ returns c = record {
   step = c.in_ok-lesson.lesson.step;
   learned = λ target is. learned-for c.args.self.now.formula c.in_ok-lesson.lesson c.args.self.now.assumed c.requires.known
       c.in_ok-lesson.ensures c.requires.level target is;
-  is = clauses-both c.learn.new.self.base.items c.args.self.now.formula.base.items c.learn.new.self.log.items
+  is = clauses-both c.learn.new.self.base c.args.self.now.formula.base c.learn.new.self.log.items
       (c.args.self.now.formula.log.items ++ c.in_ok-lesson.lesson.step ∷ [])
       (c.learn.ensures.base ∙ ap (λ (k : Clauses). k.base) c.in_ok-back.ensures.clauses)
       (c.in_ok-learn.ensures.log ∙ ap (λ (k : Clauses). k.log ++ c.in_ok-lesson.lesson.step ∷ []) c.in_ok-back.ensures.clauses);

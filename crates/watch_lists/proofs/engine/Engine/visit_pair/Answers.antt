@@ -1,26 +1,41 @@
-use Rattle.std.proofs.Common.{◌≡◌, ℕ, ◌<◌, ◌≤◌, Bool, List, refl, true, false, sym, subst, ap, ◌∙◌, length, nat_eq, slice_index_or, arith}
+use Rattle.std.proofs.Common.{◌≡◌, ℕ, ◌+◌, ◌<◌, ◌≤◌, Bool, List, refl, true, false, sym, subst, ap, ◌∙◌, length, nat_eq, slice_index_or, arith}
 use Rattle.std.specs.Prelude.{slice_index}
 use Rattle.watch_lists.specs.Codes.{flip}
 use Rattle.lits.specs.Clause.{has}
 use Rattle.watch_lists.proofs.TrailLemmas.{flips}
-use Rattle.watch_lists.specs.State.{is_met, codes_at}
-use Rattle.watch_lists.proofs.VisitLemmas.{work-clause, turn-next, turn-clause, turn-other, met-alone, met-by, other-in, mark-true, mark-false}
-use Rattle.watch_lists.proofs.TurnLemmas.{holds_refl}
+use Rattle.watch_lists.specs.State.{codes_at}
+use Rattle.watch_lists.proofs.VisitLemmas.{work-clause, turn-next, turn-clause, turn-other, others-false, met-alone, met-by, other-in, mark-true, mark-false}
+use Rattle.watch_lists.proofs.TurnLemmas.{holds_refl, holds-like}
+use Rattle.watch_lists.proofs.BlockLemmas.{turn-block}
 use Rattle.watch_lists.proofs.engine.Engine.visit_pair.Goals as goal
-use Rattle.watch_lists.proofs.engine.Engine.visit_pair.Goals.{then-other-lit-via-then-other-lit, then-other-lit-via-else-other-lit+then-index}
 
 pub returns-then-other-lit-clause-ok : goal.returns-then-other-lit-clause-ok
 returns-then-other-lit-clause-ok c =
+    let turn = c.requires.turn in
+    let j_in = turn-clause turn c.args.clause c.requires.at c.requires.clause in (
+      turn-next turn c.args.clause c.requires.clause
+          (met-alone turn.engine.watched c.args.clause c.args.lit c.args.other j_in c.requires.other c.if-other-lit.true),
+      refl,
+    )
+
+pub returns-then-index-clause-ok : goal.returns-then-index-clause-ok
+returns-then-index-clause-ok c =
     let e = c.args.self.now in
     let turn = c.requires.turn in
     let j_in = turn-clause turn c.args.clause c.requires.at c.requires.clause in
-    let met : is_met e.trail.items (codes_at e.clauses c.args.clause) ≡ true = elim c.then-other-lit.branch [
-      | then-other-lit-via-then-other-lit w ↦ met-alone turn.engine.watched c.args.clause c.args.lit c.args.other j_in c.requires.other w.if-other-lit.true
-      | then-other-lit-via-else-other-lit+then-index w ↦ met-by e.trail.items (codes_at e.clauses c.args.clause) c.args.other
-          (other-in turn.engine.watched c.args.clause c.args.lit c.args.other j_in c.requires.other)
-          (mark-true turn.engine.trail c.args.other w.index.result.now (turn-other turn c.args.clause c.args.other j_in c.requires.other) w.index.ensures w.if-index.true)
-    ] in
-    (turn-next turn c.args.clause c.requires.clause met, refl)
+    let inside = other-in turn.engine.watched c.args.clause c.args.lit c.args.other j_in c.requires.other in
+    let holds = mark-true turn.engine.trail c.args.other c.index.result.now (turn-other turn c.args.clause c.args.other j_in c.requires.other) c.index.ensures c.if-index.true in
+    turn-block e _ c.args.lit c.args.at (c.args.at + 1) c.args.other
+    (turn-next turn c.args.clause c.requires.clause (met-by e.trail.items (codes_at e.clauses c.args.clause) c.args.other inside holds))
+    (record { clauses = refl; levels = refl; head = refl; trail = refl; reasons = refl; truth = refl; places = refl }) refl c.block.ensures c.requires.at
+    (subst (λ (k : ℕ). has nat_eq (codes_at e.clauses k) c.args.other ≡ true) (sym c.requires.clause) inside)
+
+pub returns-then-index-clause-keeps : goal.returns-then-index-clause-keeps
+returns-then-index-clause-keeps c =
+    holds-like c.args.self.now _ (record { clauses = refl; levels = refl; head = refl; trail = refl; reasons = refl; truth = refl; places = refl }) (omega arith)
+
+pub block-requires-clause-lit : goal.block-requires-clause-lit
+block-requires-clause-lit c = subst (λ (n : ℕ). c.args.lit < n) (sym c.requires.turn.engine.lists) c.requires.turn.lit_in
 
 pub replacement-requires : goal.replacement-requires
 replacement-requires c = λ l h.
@@ -48,8 +63,15 @@ NoneStands truth codes other =
 
 pub force-requires-clause-negated : goal.force-requires-clause-negated
 force-requires-clause-negated c =
-    subst (λ (codes : List ℕ). NoneStands c.args.self.now.truth.items codes c.args.other) c.get.ensures
-    (subst (λ (truth : List Bool). NoneStands truth c.get.result.now c.args.other) c.as_slice.ensures.value c.in-None.ensures.none)
+    let w_in = work-clause c.requires.turn c.args.clause c.requires.at c.requires.clause in
+    others-false c.requires.turn c.args.clause c.args.other w_in c.requires.other
+    (subst (λ (codes : List ℕ). NoneStands c.args.self.now.truth.items codes c.args.other) c.get.ensures
+    (subst (λ (truth : List Bool). NoneStands truth c.get.result.now c.args.other) c.as_slice.ensures.value c.in-None.ensures.none))
+
+pub force-requires-clause-inside : goal.force-requires-clause-inside
+force-requires-clause-inside c =
+    let turn = c.requires.turn in
+    other-in turn.engine.watched c.args.clause c.args.lit c.args.other (turn-clause turn c.args.clause c.requires.at c.requires.clause) c.requires.other
 
 -- the literal at that place behind the pair isn't false, and it isn't the other one
 abbrev Stands : List Bool → List ℕ → ℕ → ℕ → Type 0
