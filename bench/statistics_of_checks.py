@@ -1,85 +1,179 @@
-"""What a check by one worker does, pair by pair, as counted by a program whose copy of the crates is changed so that it counts.
+"""What a check by one worker does, pair by pair: how often, how long for what, and how long the steps of merges became.
 
-The program that is proved tells no numbers, since at a verdict nothing else is said. The changes below add counters to the search
-and to the session; the program that prints them is built by `rt try`, without proof and with checks, so it tells no times. Those by
-crate come from `perf` on the proved program.
+The program that is proved tells no numbers, since at a verdict nothing else is said. So a copy of the crates is changed until it counts
+and reads the thread's clock, and built at -O2 without proof: that takes minutes, once for all pairs, and its checks take about as long as
+those of the proved program. Where `perf` is there, the proved program's seconds are told by crate too.
 """
 import re
 import shutil
 import subprocess
 import sys
+import tempfile
 from collections import Counter
 from pathlib import Path
 
 sys.path.insert(0, str(Path(__file__).resolve().parents[1] / "tools"))
-from crates import replaced, unproved_answers
+from crates import built, replaced
 
 USES = ["lits", "desk_port", "netlist", "aiger_file", "lemma_book", "strash_pass", "check_session"]
-SECONDS = 1000
-NAMES = ["rounds", "merges by structure", "by search", "by cone", "aparts by sieve", "by search", "by cone", "spents", "conflicts",
-         "decisions", "entries dropped"]
+CAUSES = ["merge", "apart", "spent", "output"]
+PARTS = ["search", "judge", "cone"]
+COUNTS = ["rounds", "aparts by sieve", "merges by search", "aparts by search", "merges by cone", "aparts by cone", "spents",
+          "outputs by search", "outputs by cone", "entries dropped", "conflicts of the search", "decisions of the search"]
+STEPS = [2, 10, 30, 102]
+FIRST_TIME = len(COUNTS)
+FIRST_STEP = FIRST_TIME + len(CAUSES) * len(PARTS)
+SIZE = FIRST_STEP + len(STEPS) + 3
 
 SEARCH, SESSION, SWEEP = "circuit_search/src/search.rt", "check_session/src/session.rt", "check_session/src/sweep.rt"
 WORKER, ROUNDS = "sweep_workers/src/worker.rt", "sweep_workers/src/rounds.rt"
 
-# file, what stands there, what is put in its place. The counters: rounds, Aparts by the sieve, conflicts, decisions, merges and Aparts
-# that the search found (those by the sieve too), entries that were dropped.
+# Methods that count in the copy: a worker's times by the kind of entry that it came to, and the steps of what it found.
+COUNTING = f"""
+/// The thread's time in nanoseconds.
+pub fn now<T: CpuClock>(rt: &T) -> u64 {{
+    match rt.thread_cpu_time() {{
+        Ok(time) => time.as_nanos() as u64,
+        Err(_) => 0,
+    }}
+}}
+
+impl Search {{
+    fn count(&mut self, place: usize, many: u64) {{
+        self.tally[place] += many;
+    }}
+
+    /// Counts what was found for an entry of its kind, from when on, and up to when by the search.
+    pub fn told<T: CpuClock>(&mut self, rt: &T, entry: &Entry, by_search: bool, begun: u64, searched: u64) {{
+        let cone = if by_search {{ 0 }} else {{ 1 }};
+        let cause = match entry {{
+            Entry::Merge {{ .. }} => 0,
+            Entry::Apart {{ .. }} => 1,
+            Entry::Spent {{ .. }} => 2,
+            _ => 3,
+        }};
+        let judged = self.judging;
+        self.judging = 0;
+        let first = {FIRST_TIME} + cause * {len(PARTS)};
+        self.count(first, searched - begun - judged);
+        self.count(first + 1, judged);
+        self.count(first + 2, now(rt) - searched);
+        match entry {{
+            Entry::Merge {{ steps, .. }} => {{
+                self.count(2 + 2 * cone, 1);
+                self.steps(steps.as_slice().len());
+            }}
+            Entry::Apart {{ .. }} => self.count(3 + 2 * cone, 1),
+            Entry::Spent {{ .. }} => self.count(6, 1),
+            Entry::Out {{ steps, .. }} => {{
+                self.count(7 + cone, 1);
+                self.count({SIZE - 1}, steps.as_slice().len() as u64);
+            }}
+            _ => self.count(7 + cone, 1),
+        }}
+        self.tally[9] = self.dropped;
+    }}
+
+    fn steps(&mut self, many: usize) {{
+        let limits = {STEPS};
+        let mut place = 0;
+        while place < {len(STEPS)} && many > limits[place] {{
+            place += 1;
+        }}
+        self.count({FIRST_STEP} + place, 1);
+        self.count({SIZE - 2}, many as u64);
+    }}
+}}
+"""
+
+TIMED = """        let begun = now(rt);
+        let search = made(&mut self.search, alloc, net)?;
+        let found = search.{call}?;
+        let searched = now(rt);
+        let by_search = found.is_some();
+        let entry = match found {
+            Some(entry) => entry,
+            None => cone_query::{query}?,
+        };
+        search.told(rt, &entry, by_search, begun, searched);
+        Ok(entry)
+"""
+
+
+def asked(call, query):
+    """A search and then a query of the cone, as a worker asks them, and the same with its times taken."""
+    plain = f"""        let search = made(&mut self.search, alloc, net)?;
+        match search.{call}? {{
+            Some(entry) => Ok(entry),
+            None => cone_query::{query},
+        }}
+"""
+    timed = TIMED.replace("{call}", call.replace("(alloc", "(rt, alloc")).replace("{query}", query)
+    return WORKER, plain, timed
+
+
+# file, what stands there, what is put in its place
 CHANGES = [
-    (SEARCH, "    dropped: u64,\n}", "    dropped: u64,\n    pub tally: [u64; 7],\n}"),
-    (SEARCH, "            dropped: 0,\n", "            dropped: 0,\n            tally: [0; 7],\n"),
+    (SEARCH, "    dropped: u64,\n}", f"    dropped: u64,\n    pub tally: [u64; {SIZE}],\n    judging: u64,\n}}"),
+    (SEARCH, "            dropped: 0,\n", f"            dropped: 0,\n            tally: [0; {SIZE}],\n            judging: 0,\n"),
+    (SEARCH, "            dropped: _,\n", "            dropped: _,\n            tally: _,\n            judging: _,\n"),
+    (SEARCH, "        &mut self,\n        alloc: Global,\n", "        &mut self,\n        rt: &T,\n        alloc: Global,\n"),
+    (SEARCH, "    pub fn pair(", "    pub fn pair<T: CpuClock>("),
+    (SEARCH, "    pub fn output(", "    pub fn output<T: CpuClock>("),
+    (SEARCH, "    fn judged(", "    fn judged<T: CpuClock>("),
+    (SEARCH, "self.judged(alloc", "self.judged(rt, alloc"),
     (SEARCH, "        match self.engine.pair(alloc, net, task, caps)? {",
-     "        let found = self.engine.pair(alloc, net, task, caps)?;\n        self.spent(caps);\n        match found {"),
-    (SEARCH, "        match self.engine.output_by_equalities(alloc, net, output, caps)? {",
-     "        let found = self.engine.output_by_equalities(alloc, net, output, caps)?;\n        match found {"),
-    (SEARCH, "        let judged = judged(alloc, net, book, entry)?;",
-     "        let judged = judged(alloc, net, book, entry)?;\n"
-     "        if let Some(entry) = &judged {\n            self.found(entry);\n        }"),
-    (SEARCH, "    /// The entry, if it is good over the book; else it is counted.",
-     "    fn spent(&mut self, caps: Caps) {\n"
-     "        self.tally[2] += caps.conflicts.saturating_sub(self.engine.left.conflicts);\n"
-     "        self.tally[3] += caps.decisions.saturating_sub(self.engine.left.decisions);\n"
-     "        self.tally[6] = self.dropped;\n    }\n\n"
-     "    fn found(&mut self, entry: &Entry) {\n"
-     "        match entry {\n            Entry::Merge { .. } => self.tally[4] += 1,\n"
-     "            Entry::Apart { .. } => self.tally[5] += 1,\n            _ => {}\n        }\n    }\n\n"
-     "    /// The entry, if it is good over the book; else it is counted."),
-    (WORKER, "    search: Option<Search>,\n    refuter: R,\n}",
-     "    pub search: Option<Search>,\n    refuter: R,\n    pub rounds: u64,\n    pub sifted: u64,\n}"),
-    (WORKER, "            refuter: _,\n        } = self;",
-     "            refuter: _,\n            rounds: _,\n            sifted: _,\n        } = self;"),
-    (WORKER, "            search: _,\n            refuter,\n        } = self;",
-     "            search: _,\n            refuter,\n            rounds: _,\n            sifted: _,\n        } = self;"),
-    (WORKER, "            search: None,\n            refuter,\n",
-     "            search: None,\n            refuter,\n            rounds: 0,\n            sifted: 0,\n"),
+     "        let found = self.engine.pair(alloc, net, task, caps)?;\n"
+     "        self.count(10, caps.conflicts.saturating_sub(self.engine.left.conflicts));\n"
+     "        self.count(11, caps.decisions.saturating_sub(self.engine.left.decisions));\n"
+     "        match found {"),
+    (SEARCH, "        let judged = judged(alloc, net, book, &mut self.judge, entry)?;\n",
+     "        let begun = now(rt);\n        let judged = judged(alloc, net, book, &mut self.judge, entry)?;\n"
+     "        self.judging += now(rt) - begun;\n"),
+    ("circuit_search/src/lib.rt", "pub use search::Search;", "pub use search::{Search, now};"),
+    (WORKER, "use circuit_search::{Caps, Search, Sieve, apart};", "use circuit_search::{Caps, Search, Sieve, apart, now};"),
+    asked("pair(alloc, net, seen, task, caps)", "pair(alloc, net, seen, task, &mut self.refuter)"),
+    asked("output(alloc, net, seen, output, caps)", "output(alloc, net, seen, output, &mut self.refuter)"),
+    (WORKER, "    fn found(\n        &mut self,\n", "    fn found<T: CpuClock>(\n        &mut self,\n        rt: &T,\n"),
+    (WORKER, "    fn output(\n        &mut self,\n", "    fn output<T: CpuClock>(\n        &mut self,\n        rt: &T,\n"),
+    (WORKER, "self.found(alloc", "self.found(rt, alloc"),
+    (WORKER, "self.output(alloc", "self.output(rt, alloc"),
+    (WORKER, "    search: Option<Search>,\n", "    pub search: Option<Search>,\n    pub rounds: u64,\n    pub sifted: u64,\n"),
+    (WORKER, "            search: _,\n", "            search: _,\n            rounds: _,\n            sifted: _,\n"),
+    (WORKER, "            search: None,\n", "            search: None,\n            rounds: 0,\n            sifted: 0,\n"),
     (WORKER, "            Some(entry) => Ok(entry),\n            None => self.ask(",
      "            Some(entry) => {\n                self.sifted += 1;\n                Ok(entry)\n            }\n            None => self.ask("),
-    (ROUNDS, "    sieve.lock(rt).sift(net, due)?;", "    workers[0].rounds += 1;\n    sieve.lock(rt).sift(net, due)?;"),
-    (SWEEP, "    pub(crate) verdict: Verdict,\n}", "    pub(crate) verdict: Verdict,\n    pub(crate) tally: [u64; 7],\n}"),
+    (ROUNDS, "    let is_due = sieve", "    workers[0].rounds += 1;\n    let is_due = sieve"),
+    (SWEEP, "    pub(crate) verdict: Verdict,\n}", f"    pub(crate) verdict: Verdict,\n    pub(crate) tally: [u64; {SIZE}],\n}}"),
     (SWEEP, "        verdict,\n    })\n}\n\n/// The verdict of the sweep",
-     "        verdict,\n        tally: [0; 7],\n    })\n}\n\n/// The verdict of the sweep"),
+     f"        verdict,\n        tally: [0; {SIZE}],\n    }})\n}}\n\n/// The verdict of the sweep"),
     (SWEEP, "        verdict,\n    })\n}\n\n/// So many workers", "        verdict,\n        tally,\n    })\n}\n\n/// So many workers"),
     (SWEEP, "    is_swept(net);\n",
      "    is_swept(net);\n"
-     "    let mut tally = match &workers[0].search {\n        Some(search) => search.tally,\n        None => [0; 7],\n    };\n"
-     "    tally[0] = workers[0].rounds;\n    tally[1] = workers[0].sifted;\n    tally[5] += workers[0].sifted;\n"),
-    (SESSION, "    edits: Vec<Edit>,\n}", "    edits: Vec<Edit>,\n    pub tally: [u64; 7],\n}"),
+     f"    let mut tally = match &workers[0].search {{\n        Some(search) => search.tally,\n        None => [0; {SIZE}],\n    }};\n"
+     "    tally[0] = workers[0].rounds;\n    tally[1] = workers[0].sifted;\n"),
+    (SESSION, "    edits: Vec<Edit>,\n}", f"    edits: Vec<Edit>,\n    pub tally: [u64; {SIZE}],\n}}"),
     (SESSION, "            edits: _,\n        } = self;", "            edits: _,\n            tally: _,\n        } = self;"),
-    (SESSION, "            edits: Vec::new(alloc),\n        })", "            edits: Vec::new(alloc),\n            tally: [0; 7],\n        })"),
+    (SESSION, "            edits: Vec::new(alloc),\n        })", f"            edits: Vec::new(alloc),\n            tally: [0; {SIZE}],\n        }})"),
     (SESSION, "        self.book = checked.book;", "        self.tally = checked.tally;\n        self.book = checked.book;"),
 ]
 
-PROGRAM = """//! The counts of checks of the pairs in a file, one a line: the names of two files, parted by a tab.
+# What has a runtime in these crates may read the clock in the copy.
+CLOCKED = [("T: Threads + Wait + Sync", "T: Threads + Wait + Sync + CpuClock"), ("<T: Wait,", "<T: Wait + CpuClock,"),
+           ("<T: Wait>", "<T: Wait + CpuClock>")]
+
+PROGRAM = """//! The counts of a check of two files.
 #![tactic(auto)]
 
 use check_session::{Options, Session};
 use desk_port::OpenGate;
-use lemma_book::{Book, Entry};
 use std::alloc::Global;
 use std::env;
 use std::fs::{self, Files};
 use std::io::{self, Write};
 use std::sync::Wait;
 use std::thread::Threads;
+use std::time::CpuClock;
 
 const OPTIONS: Options = Options {
     workers: 1,
@@ -90,55 +184,31 @@ const OPTIONS: Options = Options {
     by_name: false,
 };
 
-/// How many merges, Aparts and Spents a book has.
-fn counts(book: &Book) -> [u64; 3] {
-    let mut found = [0; 3];
-    for place in 0..book.len() {
-        match book.entry(place) {
-            Some(Entry::Merge { .. }) => found[0] += 1,
-            Some(Entry::Apart { .. }) => found[1] += 1,
-            Some(Entry::Spent { .. }) => found[2] += 1,
-            _ => {}
-        }
-    }
-    found
-}
-
-fn answer<R: Files + Alloc + Threads + Wait + Sync>(rt: &R, alloc: Global, line: &str, text: &mut String) -> io::Result<()> {
-    let Some((first, second)) = line.split_once("\\t") else {
-        return Ok(());
-    };
-    let a = aiger_file::read(alloc, fs::read(rt, first)?.as_slice());
-    let b = aiger_file::read(alloc, fs::read(rt, second)?.as_slice());
+fn answer<R: Files + Alloc + Threads + Wait + Sync + CpuClock>(rt: &R, alloc: Global, words: &[String], text: &mut String) -> io::Result<()> {
+    let a = aiger_file::read(alloc, fs::read(rt, words[1].as_str())?.as_slice());
+    let b = aiger_file::read(alloc, fs::read(rt, words[2].as_str())?.as_slice());
     let (Ok(a), Ok(b)) = (a, b) else {
         return Ok(());
     };
     let Ok(mut session) = Session::open(alloc, a, b, OPTIONS) else {
         return Ok(());
     };
-    let mut book = Book::new(alloc, 1, 1);
-    let structural = strash_pass::run(alloc, session.net(), &mut book)?;
     let _verdict = session.check(rt, alloc, &OpenGate)?;
-    let [merges, aparts, spents] = counts(session.book());
-    let [rounds, sieve, conflicts, decisions, merged, apart, dropped] = session.tally;
-    let cone = merges.saturating_sub(structural).saturating_sub(merged);
-    let search = apart.saturating_sub(sieve);
-    let others = aparts.saturating_sub(apart);
-    write!(text, "{rounds} {structural} {merged} {cone} {sieve} {search} {others} {spents} {conflicts} {decisions} {dropped}")?;
+    for number in session.tally {
+        write!(text, "{number} ")?;
+    }
     Ok(())
 }
 
 fn main(rt: HostRuntime) -> io::Result<()> {
     let alloc = rt.alloc();
     let words: Vec<String> = env::args(&rt)?.collect(alloc)?;
-    let text = fs::read_to_string(&rt, words[1].as_str())?;
     let mut out = rt.stdout();
-    for line in text.lines() {
-        let mut told = String::new(alloc);
-        answer(&rt, alloc, line, &mut told)?;
-        told.push_str("\\n")?;
-        out.write_all(told.as_bytes())?;
+    let mut told = String::new(alloc);
+    if words.len() > 2 {
+        answer(&rt, alloc, words.as_slice(), &mut told)?;
     }
+    out.write_all(told.as_bytes())?;
     Ok(())
 }
 """
@@ -148,13 +218,39 @@ def changed(crates):
     """Has the copy of the crates count."""
     for file, old, new in CHANGES:
         replaced(crates / file, old, new)
+    search = crates / SEARCH
+    search.write_text(with_clock(search.read_text()) + COUNTING)
+    for file in [*crates.glob("sweep_workers/src/*.rt"), *crates.glob("check_session/src/*.rt")]:
+        plain = text = file.read_text()
+        for old, new in CLOCKED:
+            text = text.replace(old, new)
+        if text != plain or file == crates / WORKER:
+            file.write_text(with_clock(text))
+
+
+def with_clock(text):
+    """The text of a module that names the clock."""
+    return re.sub(r"^use ", "use std::time::CpuClock;\nuse ", text, count=1, flags=re.M)
+
+
+def shown(numbers):
+    """The lines that say what was counted."""
+    yield ", ".join(f"{name} {number}" for name, number in zip(COUNTS, numbers))
+    for k, cause in enumerate(CAUSES):
+        spent = numbers[FIRST_TIME + k * len(PARTS):][:len(PARTS)]
+        yield f"seconds for {cause}: " + ", ".join(f"{part} {time / 1e9:.3f}" for part, time in zip(PARTS, spent))
+    limits = [f"up to {limit}" for limit in STEPS] + ["more"]
+    merges = ", ".join(f"{name} {number}" for name, number in zip(limits, numbers[FIRST_STEP:]))
+    yield f"merges by their steps: {merges}; {numbers[-2]} steps in all, and {numbers[-1]} of outputs"
 
 
 def counted(pairs):
-    """The counts of each pair of files, as a line of text; of a pair that differs at once all but the first merges are 0."""
-    cases = ["\t".join(str(Path(file).resolve()) for file in pair) for pair in pairs]
-    lines = unproved_answers(PROGRAM, USES, cases, SECONDS, changed).splitlines()
-    return [", ".join(f"{name} {number}" for name, number in zip(NAMES, line.split())) for line in lines]
+    """What was counted of each pair of files, in lines; of a pair that a pattern tells apart at once all is 0."""
+    with tempfile.TemporaryDirectory() as made:
+        program = built(made, "counting", PROGRAM, USES, change=changed)
+        for pair in pairs:
+            said = subprocess.run([program, *pair], capture_output=True, text=True, check=True).stdout
+            yield list(shown([int(number) for number in said.split()] or [0] * SIZE))
 
 
 def by_crate(command, folder):

@@ -10,8 +10,9 @@ installed (Debian's packages `berkeley-abc` and `cadical`) is left out with one 
 refutation. The seconds are those of the processor, the least of the rounds; a run that takes more than the limit has none.
 
 With --statistics a second table says of each pair what the check did (rounds, merges, Aparts, Spents, conflicts, decisions, entries
-dropped), as a program tells that is changed so that it counts (`statistics_of_checks.py`), and, where `perf` is there, in which crates the
-seconds were spent.
+dropped), how long it searched, judged and asked whole cones for merges, Aparts, Spents and outputs, and how many steps merges took, as
+a program tells that is changed so that it counts (`statistics_of_checks.py`); and, where `perf` is there, in which crates the seconds
+were spent.
 
 Prints a line for each pair, then, for each class and peer, how many pairs the program decides and the geometric mean of its time
 over the peer's on the pairs that both decide; times below a hundredth of a second count as that. Status 1 where a verdict is wrong
@@ -72,8 +73,9 @@ def words_given():
 def print_statistics(words, mine, rows):
     """What the check of each pair did, and where its seconds went."""
     pairs = [[str(words.folder / f"{row['name']}.{side}.aig") for side in "ab"] for row in rows]
-    for row, pair, counts in zip(rows, pairs, statistics_of_checks.counted(pairs)):
-        print(f"{row['name']}: {counts}")
+    for row, pair, lines in zip(rows, pairs, statistics_of_checks.counted(pairs)):
+        for line in lines:
+            print(f"{row['name']}: {line}")
         with tempfile.TemporaryDirectory() as place:
             spent = statistics_of_checks.by_crate([mine, "check", *pair, "--out", str(Path(place) / "p")], place)
         if spent:

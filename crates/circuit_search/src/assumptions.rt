@@ -1,16 +1,19 @@
-use crate::table::NONE;
-use crate::trail::{FREE, Trail};
+use crate::reason::Reason;
+use crate::trail::{FALSE, FREE, Trail};
 use std::alloc::AllocError;
 
 impl Trail {
-    /// The clause that has made one of two codes false, and did so first; `NONE` where neither is false.
-    pub(crate) fn refuted(&self, first: u32, second: u32) -> u32 {
+    /// The clause that has made one of two codes false, and did so first; none where neither is false.
+    pub(crate) fn refuted(&self, first: u32, second: u32) -> Option<Reason> {
+        if self.value(first) != FALSE && self.value(second) != FALSE {
+            return None;
+        }
         for code in self.lits() {
             if *code == first ^ 1 || *code == second ^ 1 {
-                return self.cause(*code / 2).reason;
+                return Some(self.cause(*code / 2).reason);
             }
         }
-        NONE
+        None
     }
 
     /// Assumes two codes, neither of which is false, at a level of their own.
@@ -24,7 +27,7 @@ impl Trail {
     /// Makes a code true for no reason, if it is free.
     fn choose(&mut self, code: u32) {
         if self.value(code) == FREE {
-            self.assign(code, NONE);
+            self.assign(code, Reason::Choice);
         }
     }
 

@@ -1,17 +1,11 @@
+use crate::reason::Reason;
 use crate::table::{at, count, part};
-use crate::trail::Trail;
 use lits::Side;
 use std::alloc::{AllocError, Global};
 
-/// What a clause is called.
+/// What a clause is called that isn't a gate's.
 #[derive(Clone, Copy)]
 pub(crate) enum Name {
-    /// Clause k of those that define the node of a variable.
-    Axiom(u32, u8),
-    /// Clause k that the entry at a place shows.
-    Entry(u32, u8),
-    /// The clause of a step of the equalities.
-    Shown(u32),
     /// The lesson of this number.
     Lesson(u32),
     /// The unit of a constraint of one side.
@@ -20,13 +14,20 @@ pub(crate) enum Name {
 
 /// Where a clause's codes stand.
 #[derive(Clone, Copy)]
-struct Span {
-    start: u32,
-    len: u32,
-    name: Name,
+pub(crate) struct Span {
+    pub(crate) start: u32,
+    pub(crate) len: u32,
+    name: Option<Name>,
 }
 
-/// Clauses as codes, one after the other in one list. The two that are watched stand first in each.
+const NOWHERE: Span = Span {
+    start: 0,
+    len: 0,
+    name: None,
+};
+
+/// The clauses that aren't a gate's, lessons and the units of constraints, as codes, one after the other in
+/// one list. The two that are watched stand first in each.
 #[derive(Drop)]
 pub(crate) struct Clauses {
     lits: Vec<u32>,
@@ -48,71 +49,68 @@ impl Clauses {
         self.spans.clear();
     }
 
+    /// Whether there is none.
+    #[inline(always)]
+    pub(crate) fn is_empty(&self) -> bool {
+        self.spans.is_empty()
+    }
+
     /// Puts a clause last, and gives its number.
     pub(crate) fn push(&mut self, clause: &[u32], name: Name) -> Result<u32, AllocError> {
         let number = count(self.spans.len());
         let span = Span {
             start: count(self.lits.len()),
             len: count(clause.len()),
-            name,
+            name: Some(name),
         };
         self.lits.extend_from_slice(clause)?;
         self.spans.push(span)?;
         Ok(number)
     }
 
+    /// Where the codes of a clause stand.
+    #[inline(always)]
+    pub(crate) fn span(&self, clause: u32) -> Span {
+        match self.spans.get(clause as usize) {
+            Some(span) => *span,
+            None => NOWHERE,
+        }
+    }
+
     /// The codes of a clause.
+    #[inline(always)]
     pub(crate) fn get(&self, clause: u32) -> &[u32] {
-        match self.spans.get(clause as usize) {
-            Some(span) => part(&self.lits, span.start, span.len),
-            None => part(&self.lits, 0, 0),
-        }
+        let span = self.span(clause);
+        part(&self.lits, span.start, span.len)
     }
 
-    /// The code at a place of a clause.
+    /// The code at a place of the list.
     #[inline(always)]
-    pub(crate) fn lit(&self, clause: u32, place: u32) -> u32 {
-        match self.spans.get(clause as usize) {
-            Some(span) => at(&self.lits, span.start.wrapping_add(place)),
-            None => 0,
-        }
-    }
-
-    /// How many codes a clause has.
-    #[inline(always)]
-    pub(crate) fn len(&self, clause: u32) -> u32 {
-        match self.spans.get(clause as usize) {
-            Some(span) => span.len,
-            None => 0,
-        }
+    pub(crate) fn code(&self, place: u32) -> u32 {
+        at(&self.lits, place)
     }
 
     /// What a clause is called.
     pub(crate) fn name(&self, clause: u32) -> Option<Name> {
-        match self.spans.get(clause as usize) {
-            Some(span) => Some(span.name),
-            None => None,
-        }
+        self.span(clause).name
     }
 
-    /// Brings the code that isn't false for longest, of those from a place on, to that place.
-    pub(crate) fn bring(&mut self, trail: &Trail, clause: u32, place: u32) {
-        for other in place..self.len(clause) {
-            let here = trail.false_from(self.lit(clause, place));
-            if trail.false_from(self.lit(clause, other)) > here {
-                self.swap(clause, place, other);
-            }
-        }
-    }
-
-    /// Exchanges two places of a clause.
-    pub(crate) fn swap(&mut self, clause: u32, first: u32, second: u32) {
-        let start = match self.spans.get(clause as usize) {
-            Some(span) => span.start,
-            None => return,
+    /// The lesson that a reason is, if it is one.
+    pub(crate) fn lesson(&self, reason: Reason) -> Option<u32> {
+        let Reason::Listed(clause) = reason else {
+            return None;
         };
-        let first = start.wrapping_add(first) as usize;
-        let second = start.wrapping_add(second) as usize;
+        match self.name(clause) {
+            Some(Name::Lesson(number)) => Some(number),
+            _ => None,
+        }
+    }
+
+    /// Exchanges two places of the list.
+    #[inline(always)]
+    pub(crate) fn swap(&mut self, first: u32, second: u32) {
+        let first = first as usize;
+        let second = second as usize;
         if first < self.lits.len() && second < self.lits.len() {
             self.lits.swap(first, second);
         }

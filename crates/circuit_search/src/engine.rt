@@ -1,9 +1,9 @@
 use crate::caps::Caps;
-use crate::clauses::{Clauses, Name};
+use crate::clauses::Clauses;
 use crate::equalities::Equalities;
 use crate::lessons::Lessons;
 use crate::merges::Merges;
-use crate::table::NONE;
+use crate::reason::Reason;
 use crate::trail::Trail;
 use crate::variables::Variables;
 use crate::watches::Watches;
@@ -25,8 +25,8 @@ pub(crate) struct Engine {
     pub(crate) lessons: Lessons,
     /// The variables that the query assumes a value of.
     pub(crate) assumed: (u32, u32),
-    /// A clause that is false whatever is assumed, which is there only under constraints; else `NONE`.
-    pub(crate) denied: u32,
+    /// A clause that is false whatever is assumed; there is one only under constraints.
+    pub(crate) denied: Option<Reason>,
     /// What is left of the caps.
     pub(crate) left: Caps,
     /// Whether equalities were searched for.
@@ -46,7 +46,7 @@ impl Engine {
             trail: Trail::new(alloc),
             lessons: Lessons::new(alloc),
             assumed: (0, 0),
-            denied: NONE,
+            denied: None,
             left: Caps {
                 conflicts: 0,
                 decisions: 0,
@@ -71,28 +71,18 @@ impl Engine {
         self.trail.clear();
         self.lessons.clear();
         self.left = caps;
-        self.denied = NONE;
+        self.denied = None;
         let constant = self.code(0)?;
-        let _loaded = self.variables.is_loaded(0);
-        self.put(&[constant], Name::Axiom(0, 0))?;
+        self.variables.define_free(0);
+        self.trail.assign(constant, Reason::First(0));
         Ok(())
     }
 
     /// The code of a literal that is given by twice its position, and 1 where it is negated.
+    #[inline(always)]
     pub(crate) fn code(&mut self, placed: u32) -> Result<u32, AllocError> {
-        let (number, is_new) = self.variables.number(placed / 2)?;
-        if is_new {
-            self.trail.grow()?;
-            self.watches.grow()?;
-            self.lessons.grow()?;
-        }
+        let number = self.variables.number(placed / 2)?;
+        self.trail.grow(number)?;
         Ok(number.wrapping_mul(2) | (placed & 1))
-    }
-
-    /// Adds a clause and does what it asks for. Tells its number where it is a conflict.
-    pub(crate) fn put(&mut self, lits: &[u32], name: Name) -> Result<u32, AllocError> {
-        let clause = self.clauses.push(lits, name)?;
-        self.watches
-            .watch(&mut self.clauses, &mut self.trail, clause)
     }
 }

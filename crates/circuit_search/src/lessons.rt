@@ -1,5 +1,6 @@
-use crate::clauses::{Clauses, Name};
-use crate::table::{at, count, mark, part};
+use crate::clauses::Clauses;
+use crate::reason::Reason;
+use crate::table::{count, mark};
 use std::alloc::{AllocError, Global};
 
 /// Where hints stand.
@@ -25,13 +26,16 @@ pub(crate) struct Lesson {
 pub(crate) struct Lessons {
     lessons: Vec<Lesson>,
     /// The hints of all lessons, one after the other.
-    hints: Vec<u32>,
-    /// Which variables a conflict comes from.
+    hints: Vec<Reason>,
+    /// Which variables a conflict comes from, as far as these weren't passed.
     marked: Vec<bool>,
+    /// How many variables of the conflict's level are marked, and how many of level 0.
+    pub(crate) last: u32,
+    pub(crate) ground: u32,
     /// The codes of the clause that is learned.
     pub(crate) lits: Vec<u32>,
     /// Its hints, the last one first.
-    pub(crate) trace: Vec<u32>,
+    pub(crate) trace: Vec<Reason>,
 }
 
 impl Lessons {
@@ -41,6 +45,8 @@ impl Lessons {
             lessons: Vec::new(alloc),
             hints: Vec::new(alloc),
             marked: Vec::new(alloc),
+            last: 0,
+            ground: 0,
             lits: Vec::new(alloc),
             trace: Vec::new(alloc),
         }
@@ -50,39 +56,39 @@ impl Lessons {
     pub(crate) fn clear(&mut self) {
         self.lessons.clear();
         self.hints.clear();
-        self.marked.clear();
         self.lits.clear();
         self.trace.clear();
     }
 
-    /// Makes room for one more variable.
-    pub(crate) fn grow(&mut self) -> Result<(), AllocError> {
-        self.marked.push(false)?;
-        Ok(())
-    }
-
     /// Marks a variable; false where it was marked before.
+    #[inline(always)]
     pub(crate) fn mark(&mut self, var: u32) -> bool {
         !mark(&mut self.marked, var, true)
     }
 
     /// Takes the mark of a variable away; false where it had none.
+    #[inline(always)]
     pub(crate) fn unmark(&mut self, var: u32) -> bool {
         mark(&mut self.marked, var, false)
     }
 
-    /// Forgets the clause that was learned last, but not its lesson.
-    pub(crate) fn restart(&mut self) {
+    /// Forgets the clause that was learned last, but not its lesson, and makes room for the marks of so many
+    /// variables. None is marked: whatever marks one passes it.
+    pub(crate) fn restart(&mut self, variables: u32) -> Result<(), AllocError> {
         self.lits.clear();
         self.trace.clear();
+        self.last = 0;
+        self.ground = 0;
+        let room = self.marked.len().max(variables as usize);
+        self.marked.resize(room, false)
     }
 
     /// Keeps the trace as hints.
     pub(crate) fn keep_trace(&mut self) -> Result<Hints, AllocError> {
         let start = count(self.hints.len());
         let len = count(self.trace.len());
-        for place in (0..len).rev() {
-            self.hints.push(at(&self.trace, place))?;
+        for reason in self.trace.iter().rev() {
+            self.hints.push(*reason)?;
         }
         Ok(Hints { start, len })
     }
@@ -114,9 +120,12 @@ impl Lessons {
         }
     }
 
-    /// The clauses that these hints name.
-    pub(crate) fn hints(&self, hints: Hints) -> &[u32] {
-        part(&self.hints, hints.start, hints.len)
+    /// The hint at a place.
+    pub(crate) fn hint(&self, place: u32) -> Reason {
+        match self.hints.get(place as usize) {
+            Some(hint) => *hint,
+            None => Reason::Choice,
+        }
     }
 
     /// Numbers the lessons that two lists of hints lead to, in order. The others are left out: a merge may
@@ -135,9 +144,8 @@ impl Lessons {
 
     /// Marks the lessons among the hints.
     fn reach_from(&mut self, clauses: &Clauses, hints: Hints) {
-        for place in 0..hints.len {
-            let clause = at(self.hints(hints), place);
-            if let Some(Name::Lesson(number)) = clauses.name(clause) {
+        for place in hints.start..hints.start.saturating_add(hints.len) {
+            if let Some(number) = clauses.lesson(self.hint(place)) {
                 self.need(number as usize);
             }
         }

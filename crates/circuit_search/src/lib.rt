@@ -15,7 +15,8 @@
 //! the search, so that many searches share one. Its inputs are evaluated too, by `apart`.
 //!
 //! Definitions: `specs/Answer.antt`. Begin to read at `search.rt`, then `round.rt`; `equalities.rt`
-//! has what only the proofs of outputs use, `sieve.rt` the patterns.
+//! has what only the proofs of outputs use, `sieve.rt` the patterns, over `cone.rt`, `roots.rt` and
+//! `inputs.rt`.
 #![tactic(auto)]
 
 pub use caps::Caps;
@@ -27,16 +28,22 @@ mod analysis;
 mod assumptions;
 mod caps;
 mod clauses;
+mod cone;
+mod draws;
 mod engine;
 mod equalities;
 mod equating;
+mod inputs;
 mod judged;
 mod justify;
 mod lessons;
 mod loading;
+mod log;
 mod merges;
 mod propagation;
 mod proposal;
+mod reason;
+mod roots;
 mod round;
 mod search;
 mod sieve;
@@ -44,4 +51,5 @@ mod steps;
 mod table;
 mod trail;
 mod variables;
+mod visits;
 mod watches;

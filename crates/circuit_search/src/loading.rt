@@ -1,32 +1,63 @@
 use crate::clauses::Name;
 use crate::engine::Engine;
 use crate::merges::{Source, lit_code};
-use crate::table::{NONE, count};
+use crate::reason::Reason;
+use crate::table::count;
+use crate::trail::{FALSE, FREE};
+use crate::variables::Kind;
 use lits::{Lit, Side};
 use netlist::Net;
 use std::alloc::AllocError;
 
 impl Engine {
-    /// Loads the clauses of a variable, unless they are there: those of its merge, or else of its gate. Tells
-    /// a clause of which all codes are false; one that comes late may be.
-    pub(crate) fn load(&mut self, net: &Net, var: u32) -> Result<u32, AllocError> {
-        if self.variables.is_loaded(var) {
-            return Ok(NONE);
-        }
+    /// Loads what defines a variable: its merge, or else its gate.
+    pub(crate) fn load(&mut self, net: &Net, var: u32) -> Result<(), AllocError> {
         let position = self.variables.position(var);
-        if let Some((first, target)) = self.equalities.target(position) {
-            if first < self.shown {
-                let second = first.wrapping_add(1);
-                return self.load_equal(var, target, Name::Shown(first), Name::Shown(second));
-            }
+        if let Some((first, target)) = self.shown_equal(position) {
+            return self.load_equal(var, Kind::Shown(first), target);
         }
         match self.merges.source(net, position) {
-            Source::Free => Ok(NONE),
-            Source::Merged(entry, target) => {
-                self.load_equal(var, target, Name::Entry(entry, 0), Name::Entry(entry, 1))
+            Source::Free => {
+                self.variables.define_free(var);
+                Ok(())
             }
+            Source::Merged(entry, target) => self.load_equal(var, Kind::Merged(entry), target),
             Source::Gate(left, right) => self.load_gate(var, left, right),
         }
+    }
+
+    /// The place of the first of the two steps, of those that the query may use, that say what a node is
+    /// equal to, and the code that it is.
+    fn shown_equal(&self, position: u32) -> Option<(u32, u32)> {
+        if self.shown == 0 {
+            return None;
+        }
+        let (first, target) = self.equalities.target(position)?;
+        if first < self.shown {
+            Some((first, target))
+        } else {
+            None
+        }
+    }
+
+    /// Loads that a variable is equal to a code: it is a gate of which both fanins are that code.
+    fn load_equal(&mut self, var: u32, kind: Kind, target: u32) -> Result<(), AllocError> {
+        let target = self.code(target)?;
+        self.variables.define(var, kind, target, target);
+        Ok(())
+    }
+
+    /// Loads a gate. The fanin that lies lower is the first, since it is chosen first.
+    fn load_gate(&mut self, var: u32, left: u32, right: u32) -> Result<(), AllocError> {
+        let is_turned = self.merges.depth(left / 2) > self.merges.depth(right / 2);
+        let left = self.code(left)?;
+        let right = self.code(right)?;
+        if is_turned {
+            self.variables.define(var, Kind::Turned, right, left);
+        } else {
+            self.variables.define(var, Kind::Gate, left, right);
+        }
+        Ok(())
     }
 
     /// Loads the units of all constraints: the search is then for an admitted input, and what it refutes is so
@@ -52,50 +83,13 @@ impl Engine {
             return Ok(());
         };
         let code = self.code(placed)?;
-        let denied = self.put(&[code], name)?;
-        if denied != NONE {
-            self.denied = denied;
+        let unit = Reason::Listed(self.clauses.push(&[code], name)?);
+        let value = self.trail.value(code);
+        if value == FALSE {
+            self.denied = Some(unit);
+        } else if value == FREE {
+            self.trail.assign(code, unit);
         }
         Ok(())
-    }
-
-    /// Loads the two clauses, by these names, that say that a variable is equal to a code.
-    fn load_equal(
-        &mut self,
-        var: u32,
-        target: u32,
-        first: Name,
-        second: Name,
-    ) -> Result<u32, AllocError> {
-        let lit = var.wrapping_mul(2);
-        let target = self.code(target)?;
-        let below = self.put(&[lit | 1, target], first)?;
-        let above = self.put(&[lit, target ^ 1], second)?;
-        Ok(below.min(above))
-    }
-
-    /// Loads the clauses of a gate. Those that would have a literal beside its negation aren't there.
-    fn load_gate(&mut self, var: u32, left: u32, right: u32) -> Result<u32, AllocError> {
-        let lit = var.wrapping_mul(2);
-        let left = self.code(left)?;
-        let right = self.code(right)?;
-        self.variables.note_fanins(var, left, right);
-        let first = self.put(&[lit | 1, left], Name::Axiom(var, 0))?;
-        let second = self.put(&[lit | 1, right], Name::Axiom(var, 1))?;
-        let third = self.load_third(var, left, right)?;
-        Ok(first.min(second).min(third))
-    }
-
-    /// Loads the clause that makes a gate true.
-    fn load_third(&mut self, var: u32, left: u32, right: u32) -> Result<u32, AllocError> {
-        let lit = var.wrapping_mul(2);
-        let name = Name::Axiom(var, 2);
-        if left == right {
-            self.put(&[lit, left ^ 1], name)
-        } else if left == right ^ 1 {
-            Ok(NONE)
-        } else {
-            self.put(&[lit, left ^ 1, right ^ 1], name)
-        }
     }
 }

@@ -1,6 +1,7 @@
 use crate::engine::Engine;
 use crate::lessons::Hints;
-use crate::table::NONE;
+use crate::reason::Reason;
+use crate::trail::Levels;
 use netlist::Net;
 use std::alloc::AllocError;
 
@@ -39,15 +40,15 @@ impl Engine {
         if self.trail.level() == 0 {
             return self.assume(first, second, conflict);
         }
-        if conflict != NONE {
-            return self.meet(conflict);
+        match conflict {
+            Some(conflict) => self.meet(conflict),
+            None => self.go_on(),
         }
-        self.go_on()
     }
 
-    /// The number of a clause that is false; `NONE` where propagation finds none.
-    fn conflict(&mut self, net: &Net) -> Result<u32, AllocError> {
-        if self.denied != NONE {
+    /// A clause that is false, if propagation finds one.
+    fn conflict(&mut self, net: &Net) -> Result<Option<Reason>, AllocError> {
+        if self.denied.is_some() {
             return Ok(self.denied);
         }
         self.propagate(net)
@@ -59,14 +60,13 @@ impl Engine {
         &mut self,
         first: u32,
         second: u32,
-        conflict: u32,
+        conflict: Option<Reason>,
     ) -> Result<Option<Outcome>, AllocError> {
-        let refuted = self.trail.refuted(first, second);
-        if refuted != NONE {
+        if let Some(refuted) = self.trail.refuted(first, second) {
             return self.meet(refuted);
         }
-        if conflict != NONE {
-            self.denied = conflict;
+        if let Some(conflict) = conflict {
+            self.denied = Some(conflict);
             return self.meet(conflict);
         }
         self.trail.assume(first, second)?;
@@ -75,7 +75,7 @@ impl Engine {
 
     /// Makes the next choice, or ends where no gate is left to be justified.
     fn go_on(&mut self) -> Result<Option<Outcome>, AllocError> {
-        let Some(code) = self.open_fanin() else {
+        let Some(code) = self.trail.open_fanin(&self.variables) else {
             return Ok(Some(Outcome::Possible));
         };
         if self.left.decisions == 0 {
@@ -86,14 +86,13 @@ impl Engine {
         Ok(None)
     }
 
-    /// Answers a conflict of what is assumed, and learns from any other. A clause that came late may have one
-    /// code alone at its highest level: then it should have forced that code earlier, and does so now.
-    fn meet(&mut self, conflict: u32) -> Result<Option<Outcome>, AllocError> {
-        let levels = self.trail.levels(self.clauses.get(conflict));
+    /// Answers a conflict of what is assumed, and learns from any other. The clause of a gate that came late
+    /// may have one code alone at its highest level: then it should have forced that code earlier, and does so
+    /// now.
+    fn meet(&mut self, conflict: Reason) -> Result<Option<Outcome>, AllocError> {
+        let levels = self.levels(conflict);
         if levels.highest <= 1 {
-            let hints = self
-                .lessons
-                .refutation(&self.clauses, &self.trail, self.assumed, conflict)?;
+            let hints = self.refutation(conflict)?;
             return Ok(Some(Outcome::Refuted(hints)));
         }
         if levels.many == 1 {
@@ -107,11 +106,31 @@ impl Engine {
         }
         self.left.conflicts -= 1;
         self.lessons.learn(
+            &self.variables,
             &mut self.clauses,
             &mut self.trail,
             &mut self.watches,
             conflict,
         )?;
         Ok(None)
+    }
+
+    /// The levels of the codes of a false clause.
+    fn levels(&self, conflict: Reason) -> Levels {
+        match conflict {
+            Reason::Listed(number) => self.trail.levels(self.clauses.get(number)),
+            _ => self.trail.levels(&self.variables.codes(conflict)),
+        }
+    }
+
+    /// The clauses by which a false clause refutes what is assumed.
+    fn refutation(&mut self, conflict: Reason) -> Result<Hints, AllocError> {
+        self.lessons.refutation(
+            &self.variables,
+            &self.clauses,
+            &self.trail,
+            self.assumed,
+            conflict,
+        )
     }
 }

@@ -1,12 +1,12 @@
-ghost use Rattle.std.specs.Prelude.{◌≡◌, IfOk, IfSome};
+ghost use Rattle.std.specs.Prelude.{◌≡◌, IfOk, IfSome, OnErr};
 ghost use Rattle.lemma_book.specs.Book.{IsLegal};
 ghost use Rattle.lemma_book.specs.Good.{IsGood};
-ghost use Rattle.circuit_search.specs.Answer.{Finds, SettlesOutput, SettlesPair};
+ghost use Rattle.circuit_search.specs.Answer.{CountsDropped, CountsRefused, Finds, SettlesOutput, SettlesPair};
 
 use crate::caps::Caps;
 use crate::engine::Engine;
 use crate::judged::judged;
-use lemma_book::{Book, Entry, Task};
+use lemma_book::{Book, Entry, Judge, Task};
 use netlist::Net;
 use std::alloc::{AllocError, Global};
 
@@ -14,6 +14,7 @@ use std::alloc::{AllocError, Global};
 /// from query to query.
 pub struct Search {
     engine: Engine,
+    judge: Judge,
     dropped: u64,
 }
 
@@ -22,6 +23,7 @@ impl Drop for Search {
     fn drop(self) {
         let Search {
             engine: _,
+            judge: _,
             dropped: _,
         } = self;
     }
@@ -34,6 +36,7 @@ impl Search {
     {
         Ok(Search {
             engine: Engine::of(alloc, net)?,
+            judge: Judge::new(alloc),
             dropped: 0,
         })
     }
@@ -56,7 +59,9 @@ impl Search {
         caps: Caps,
     ) -> Result<Option<Entry>, AllocError>
         requires legal { IsLegal net.now book.now }
-        ensures { IfOk result (Finds (SettlesPair task.now) net.now book.now) }
+        ensures found { IfOk result (Finds (SettlesPair task.now) net.now book.now) }
+        ensures counted { IfOk result (CountsDropped self.old.dropped self.new.dropped) }
+        ensures err { OnErr result (self.new.dropped ≡ self.old.dropped) }
     {
         self.engine.catch_up(net, book);
         match self.engine.pair(alloc, net, task, caps)? {
@@ -76,7 +81,9 @@ impl Search {
         caps: Caps,
     ) -> Result<Option<Entry>, AllocError>
         requires legal { IsLegal net.now book.now }
-        ensures { IfOk result (Finds (SettlesOutput output) net.now book.now) }
+        ensures found { IfOk result (Finds (SettlesOutput output) net.now book.now) }
+        ensures counted { IfOk result (CountsDropped self.old.dropped self.new.dropped) }
+        ensures err { OnErr result (self.new.dropped ≡ self.old.dropped) }
     {
         self.engine.catch_up(net, book);
         match self.engine.output_by_equalities(alloc, net, output, caps)? {
@@ -94,9 +101,11 @@ impl Search {
         entry: Entry,
     ) -> Result<Option<Entry>, AllocError>
         requires legal { IsLegal net.now book.now }
-        ensures { IfOk result (λ o. IfSome o (λ e. (e ≡ entry) × IsGood net.now book.now e)) }
+        ensures good { IfOk result (λ o. IfSome o (λ e. (e ≡ entry) × IsGood net.now book.now e)) }
+        ensures counted { IfOk result (CountsRefused self.old.dropped self.new.dropped) }
+        ensures err { OnErr result (self.new.dropped ≡ self.old.dropped) }
     {
-        let judged = judged(alloc, net, book, entry)?;
+        let judged = judged(alloc, net, book, &mut self.judge, entry)?;
         if judged.is_none() {
             self.dropped = self.dropped.saturating_add(1);
         }

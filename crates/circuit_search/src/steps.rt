@@ -1,9 +1,14 @@
 use crate::clauses::Name;
 use crate::engine::Engine;
 use crate::lessons::{Hints, Lesson};
+use crate::reason::Reason;
+use crate::variables::Kind;
 use lits::{Clause, ClauseErr, Listed, Lit, Node, Ref, Step};
 use netlist::Net;
 use std::alloc::{AllocError, Global};
+
+/// Nothing has this name, so the book refuses an entry that cites it.
+const NAMELESS: Ref = Ref::Own(u64::MAX);
 
 impl Engine {
     /// The steps of the lessons that two lists of hints lead to.
@@ -68,25 +73,44 @@ impl Engine {
         hints: Hints,
     ) -> Result<Vec<Ref>, AllocError> {
         let mut refs = Vec::from_slice(alloc, names)?;
-        for clause in self.lessons.hints(hints) {
-            refs.push(self.name_of(net, *clause))?;
+        for place in hints.start..hints.start.saturating_add(hints.len) {
+            refs.push(self.name_of(net, self.lessons.hint(place)))?;
         }
         refs.shrink_to_fit();
         Ok(refs)
     }
 
     /// What a clause is called in the entry's steps.
-    fn name_of(&self, net: &Net, clause: u32) -> Ref {
+    fn name_of(&self, net: &Net, reason: Reason) -> Ref {
+        match reason {
+            Reason::First(var) => self.name_of_gate(net, var, 0),
+            Reason::Second(var) => self.name_of_gate(net, var, 1),
+            Reason::Both(var) => self.name_of_gate(net, var, 2),
+            Reason::Listed(clause) => self.name_of_listed(clause),
+            Reason::Choice => NAMELESS,
+        }
+    }
+
+    /// What clause k of a variable is called: that of its first fanin, of its second, or of both.
+    fn name_of_gate(&self, net: &Net, var: u32, k: u8) -> Ref {
+        let variable = self.variables.get(var);
+        let node = node_at(net, variable.position);
+        match variable.kind {
+            Kind::Merged(entry) => Ref::Entry(u64::from(entry), k / 2),
+            Kind::Shown(step) => Ref::Own(u64::from(step).saturating_add(u64::from(k / 2))),
+            Kind::Turned if k < 2 => Ref::Axiom(node, 1 - k),
+            _ => Ref::Axiom(node, k),
+        }
+    }
+
+    /// What a clause is called that isn't a gate's.
+    fn name_of_listed(&self, clause: u32) -> Ref {
         match self.clauses.name(clause) {
-            Some(Name::Axiom(var, k)) => Ref::Axiom(node_at(net, self.variables.position(var)), k),
-            Some(Name::Entry(place, k)) => Ref::Entry(u64::from(place), k),
-            Some(Name::Shown(place)) => Ref::Own(u64::from(place)),
             Some(Name::Lesson(number)) => self.own(
                 self.lessons.get(number).order.saturating_sub(1),
             ),
             Some(Name::Bound(side, k)) => Ref::Bound(side, k),
-            // Nothing has this name, so the book refuses the entry.
-            None => Ref::Own(u64::MAX),
+            None => NAMELESS,
         }
     }
 

@@ -1,5 +1,6 @@
-use crate::clauses::Clauses;
-use crate::table::{NONE, at, count, part, put};
+use crate::log::{Cause, Log};
+use crate::reason::Reason;
+use crate::table::{NONE, at, count, put};
 use std::alloc::{AllocError, Global};
 
 /// A literal's value.
@@ -9,18 +10,11 @@ pub(crate) const TRUE: u32 = 1;
 
 pub(crate) const FALSE: u32 = 2;
 
-/// Why a variable has its value.
-#[derive(Clone, Copy)]
-pub(crate) struct Cause {
-    pub(crate) level: u32,
-    /// The clause that forced it; `NONE` where it was chosen.
-    pub(crate) reason: u32,
-}
-
-/// Where a level began, and up to where all gates were justified then.
+/// Where a level began: how many codes were true, how many gates were open, and how many of these justified.
 #[derive(Clone, Copy)]
 struct Start {
     lits: u32,
+    open: u32,
     justified: u32,
 }
 
@@ -37,20 +31,20 @@ pub(crate) struct Levels {
 }
 
 /// The values that were assumed, chosen or forced, in order.
+///
+/// Its tables keep their size from query to query: what a query gave a value is taken back, and nothing else
+/// is written.
 #[derive(Drop)]
 pub(crate) struct Trail {
     /// For each code `FREE`, `TRUE` or `FALSE`.
-    values: Vec<u32>,
-    /// For each variable why it has its value, if it has one.
-    causes: Vec<Cause>,
-    /// The codes that are true, and behind them room for one of each other variable.
-    lits: Vec<u32>,
-    /// How many codes are true.
-    len: u32,
+    pub(crate) values: Vec<u32>,
+    pub(crate) log: Log,
+    /// The gates that were false without a false fanin when they were propagated.
+    pub(crate) open: Vec<u32>,
     starts: Vec<Start>,
     /// How many of the codes were propagated.
     head: u32,
-    /// So many of the codes belong to no gate that is still to be justified.
+    /// So many of the open gates are justified.
     pub(crate) justified: u32,
 }
 
@@ -59,9 +53,8 @@ impl Trail {
     pub(crate) fn new(alloc: Global) -> Trail {
         Trail {
             values: Vec::new(alloc),
-            causes: Vec::new(alloc),
-            lits: Vec::new(alloc),
-            len: 0,
+            log: Log::new(alloc),
+            open: Vec::new(alloc),
             starts: Vec::new(alloc),
             head: 0,
             justified: 0,
@@ -70,24 +63,23 @@ impl Trail {
 
     /// Forgets all.
     pub(crate) fn clear(&mut self) {
-        self.values.clear();
-        self.causes.clear();
-        self.lits.clear();
-        self.len = 0;
+        free(&mut self.values, self.log.since(0));
+        self.log.truncate(0, 0);
+        self.open.clear();
         self.starts.clear();
         self.head = 0;
         self.justified = 0;
     }
 
-    /// Makes room for one more variable.
-    pub(crate) fn grow(&mut self) -> Result<(), AllocError> {
+    /// Makes room for a variable, the next one for which there is none. All behind the codes that are true is
+    /// free.
+    #[inline(always)]
+    pub(crate) fn grow(&mut self, var: u32) -> Result<(), AllocError> {
+        if (var as usize) < self.log.room() {
+            return Ok(());
+        }
         self.values.extend_from_slice(&[FREE, FREE])?;
-        self.causes.push(Cause {
-            level: 0,
-            reason: NONE,
-        })?;
-        self.lits.push(0)?;
-        Ok(())
+        self.log.grow()
     }
 
     /// The value of a code.
@@ -97,26 +89,12 @@ impl Trail {
     }
 
     /// Why a variable has its value, if it has one.
+    #[inline(always)]
     pub(crate) fn cause(&self, var: u32) -> Cause {
-        match self.causes.get(var as usize) {
-            Some(cause) => *cause,
-            None => Cause {
-                level: 0,
-                reason: 0,
-            },
-        }
+        self.log.cause(var)
     }
 
-    /// The level from which on a code is false.
-    pub(crate) fn false_from(&self, code: u32) -> u32 {
-        if self.value(code) == FALSE {
-            self.cause(code / 2).level
-        } else {
-            NONE
-        }
-    }
-
-    /// The levels of a false clause's codes.
+    /// The levels of a false clause's codes. One that stands twice, one behind the other, counts once.
     pub(crate) fn levels(&self, clause: &[u32]) -> Levels {
         let mut highest = 0;
         let mut many: u32 = 0;
@@ -129,11 +107,11 @@ impl Trail {
                 highest = level;
                 many = 1;
                 last = *code;
-            } else if level == highest {
+            } else if level == highest && *code != last {
                 many = many.saturating_add(1);
                 last = *code;
-            } else if level > second {
-                second = level;
+            } else if level < highest {
+                second = second.max(level);
             }
         }
         Levels {
@@ -145,69 +123,50 @@ impl Trail {
     }
 
     /// The level that was begun last.
+    #[inline(always)]
     pub(crate) fn level(&self) -> u32 {
-        count(self.starts.len())
+        self.log.level
     }
 
     /// The codes that are true, in order.
     pub(crate) fn lits(&self) -> &[u32] {
-        part(&self.lits, 0, self.len)
+        self.log.since(0)
     }
 
-    /// The code at a place among those that are true.
-    pub(crate) fn lit(&self, place: u32) -> u32 {
-        at(&self.lits, place)
-    }
-
-    /// How many codes are true.
-    pub(crate) fn len(&self) -> u32 {
-        self.len
+    /// Where the codes of level 0 end.
+    pub(crate) fn ground(&self) -> u32 {
+        match self.starts.get(0) {
+            Some(start) => start.lits,
+            None => self.log.len(),
+        }
     }
 
     /// Makes a code true that is free.
-    pub(crate) fn assign(&mut self, code: u32, reason: u32) {
-        put(&mut self.lits, self.len, code);
-        self.len = self.len.saturating_add(1);
-        put(&mut self.values, code, TRUE);
-        put(&mut self.values, code ^ 1, FALSE);
-        let level = self.level();
-        let var = (code / 2) as usize;
-        if var < self.causes.len() {
-            self.causes[var] = Cause { level, reason };
-        }
-    }
-
-    /// What a clause that was added asks for: nothing, or a code that is to be true; its number where it is a
-    /// conflict.
-    pub(crate) fn settle(&mut self, clauses: &Clauses, clause: u32) -> u32 {
-        let first = clauses.lit(clause, 0);
-        if self.value(first) == FALSE {
-            return clause;
-        }
-        let is_unit = clauses.len(clause) < 2 || self.value(clauses.lit(clause, 1)) == FALSE;
-        if is_unit && self.value(first) == FREE {
-            self.assign(first, clause);
-        }
-        NONE
+    #[inline(always)]
+    pub(crate) fn assign(&mut self, code: u32, reason: Reason) {
+        assign(&mut self.values, &mut self.log, code, reason);
     }
 
     /// Begins a level.
     pub(crate) fn begin(&mut self) -> Result<(), AllocError> {
         let start = Start {
-            lits: self.len,
+            lits: self.log.len(),
+            open: count(self.open.len()),
             justified: self.justified,
         };
         self.starts.push(start)?;
+        self.log.level = count(self.starts.len());
         Ok(())
     }
 
     /// The next code that is to be propagated.
+    #[inline(always)]
     pub(crate) fn next(&mut self) -> Option<u32> {
-        if self.head >= self.len {
+        if self.head >= self.log.len() {
             return None;
         }
-        let code = at(&self.lits, self.head);
-        self.head = self.head.saturating_add(1);
+        let code = self.log.lit(self.head);
+        self.head = self.head.wrapping_add(1);
         Some(code)
     }
 
@@ -217,13 +176,21 @@ impl Trail {
             Some(start) => *start,
             None => return,
         };
-        let many = self.len.saturating_sub(start.lits);
-        free(&mut self.values, part(&self.lits, start.lits, many));
-        self.len = start.lits;
+        free(&mut self.values, self.log.since(start.lits));
+        self.log.truncate(start.lits, level);
         self.starts.truncate(level as usize);
+        self.open.truncate(start.open as usize);
         self.head = start.lits;
         self.justified = start.justified;
     }
+}
+
+/// Makes a code true that is free, in a trail's values and log.
+#[inline(always)]
+pub(crate) fn assign(values: &mut [u32], log: &mut Log, code: u32, reason: Reason) {
+    put(values, code, TRUE);
+    put(values, code ^ 1, FALSE);
+    log.note(code, reason);
 }
 
 /// Takes the values of these codes away.

@@ -1,9 +1,7 @@
-use crate::clauses::Clauses;
 use crate::table::{at, put};
-use crate::trail::Trail;
 use std::alloc::{AllocError, Global};
 
-/// Which clauses watch each code, as chains that run through the clauses themselves, so that a watch that
+/// Which lessons watch each code, as chains that run through the clauses themselves, so that a watch that
 /// moves takes no memory.
 ///
 /// A watch is twice its clause's number and 2, and 1 more where it is that of the clause's second code; 0
@@ -29,36 +27,21 @@ impl Watches {
         self.links.clear();
     }
 
-    /// Makes room for one more variable.
-    pub(crate) fn grow(&mut self) -> Result<(), AllocError> {
-        self.heads.extend_from_slice(&[0, 0])
-    }
-
-    /// Watches the clause that was put last by the two of its codes that aren't false for longest, and does
-    /// what it asks for. Tells its number where it is a conflict.
+    /// Watches the clause that was put last by these two of its codes. So many variables are known.
     pub(crate) fn watch(
         &mut self,
-        clauses: &mut Clauses,
-        trail: &mut Trail,
         clause: u32,
-    ) -> Result<u32, AllocError> {
-        self.grow_clauses()?;
-        clauses.bring(trail, clause, 0);
-        clauses.bring(trail, clause, 1);
-        if clauses.len(clause) > 1 {
-            let watch = clause.wrapping_add(1).wrapping_mul(2);
-            self.push(clauses.lit(clause, 0), watch);
-            self.push(clauses.lit(clause, 1), watch | 1);
-        }
-        Ok(trail.settle(clauses, clause))
-    }
-
-    /// Makes room for one more clause.
-    fn grow_clauses(&mut self) -> Result<(), AllocError> {
-        if self.links.is_empty() {
-            self.links.extend_from_slice(&[0, 0])?;
-        }
-        self.links.extend_from_slice(&[0, 0])
+        first: u32,
+        second: u32,
+        variables: u32,
+    ) -> Result<(), AllocError> {
+        let watch = clause.wrapping_add(1).wrapping_mul(2);
+        self.heads
+            .resize((variables as usize).saturating_mul(2), 0)?;
+        self.links.resize((watch as usize).saturating_add(2), 0)?;
+        self.push(first, watch);
+        self.push(second, watch | 1);
+        Ok(())
     }
 
     /// The first watch of a code.

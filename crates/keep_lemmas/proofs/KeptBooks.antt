@@ -1,7 +1,7 @@
 -- The kept book grows by one entry or none with each entry of the old one, and each is good.
-use Rattle.std.proofs.Common.{◌≡◌, ℕ, zero, suc, ◌+◌, ◌<◌, ◌≤◌, Bool, true, false, cond, Option, Some, None, List, [], ◌∷◌, ◌++◌, length, map, take, refl, sym, ap, ◌∙◌, subst, inl, inr, arith}
+use Rattle.std.proofs.Common.{◌≡◌, ℕ, zero, suc, ◌+◌, ◌<◌, ◌≤◌, Bool, true, false, cond, Result, Ok, OnOk, Option, Some, None, List, [], ◌∷◌, ◌++◌, length, map, take, refl, sym, ap, ◌∙◌, subst, inl, inr, arith}
 use Rattle.std.specs.Prelude.{◌||◌, slice_get, is_some, IfSome}
-use Rattle.std.specs.Option.{option_map, option_map_or}
+use Rattle.std.specs.Option.{option_map, option_map_or, option_and_then}
 use Rattle.std.specs.List.{list_any, list_all, flat_map}
 use Rattle.std.proofs.lemmas.List.{append-nil, append_assoc, length-map, length-take-le, map-append, length-append, take_all}
 use Rattle.std.proofs.Math.Seq.{take-length}
@@ -15,11 +15,12 @@ use Rattle.lits.specs.declared.step.Ref.{Ref}
 use Rattle.lits.specs.declared.step.Ref.TheVariants.{Axiom, Entry as Shown, Own, Bound}
 use Rattle.lits.specs.declared.step.Step.{Step}
 use Rattle.netlist.specs.Net.{AigPair, IsNet}
-use Rattle.netlist.proofs.Facts.{slice_get-left, slice_get-right}
+use Rattle.netlist.proofs.Facts.{equal-number, slice_get-left, slice_get-right}
 use Rattle.unit_prop.specs.Log.{InTurn}
 use Rattle.lemma_book.specs.declared.entry.Entry.{Entry}
 use Rattle.lemma_book.specs.declared.entry.Entry.TheVariants.{Merge, Apart, Spent, Out, OutApart, OutSpent}
 use Rattle.lemma_book.specs.declared.entry.Subject.{Subject}
+use Rattle.lemma_book.specs.declared.refused.Offered.{Offered}
 use Rattle.lemma_book.specs.Entry.{Entries, answer_of, is_on, first_entries, settled_at, with_last}
 use Rattle.lemma_book.specs.Book.{IsLegal, book_after}
 use Rattle.lemma_book.specs.Good.{IsGood, Already}
@@ -28,7 +29,7 @@ use Rattle.netlist_edits.specs.declared.edit.Edit.{Edit}
 use Rattle.netlist_edits.specs.declared.edit.Edit.TheVariants as edit
 use Rattle.netlist_edits.specs.Edited.{edited_all, touched, touched_by}
 use Rattle.keep_lemmas.specs.Kept.{is_clear, hint_stays, step_stays, entry_stays, stays_among, stays, count_before, at_places, renewed_hint, renewed_step, renewed, chosen, kept, input_in, handed_out}
-use Rattle.keep_lemmas.specs.Keeping.{touched_node, is_node, is_numbered, number_in, number_of, AreNumbers, kept_entry, kept_first, with_some}
+use Rattle.keep_lemmas.specs.Keeping.{touched_node, is_node, is_numbered, number_in, number_of, AreNumbers, kept_entry, kept_at, kept_first, with_some, is_current, is_current_hint, is_current_step}
 use Rattle.keep_lemmas.proofs.KeptPlaces.{among-below, stays-among, stays-at_place, at_places-get, at_places-length, at_places-last, at_places-none}
 use Rattle.keep_lemmas.proofs.KeptEntries.{on-renewed, good-stays}
 use Rattle.keep_lemmas.proofs.EditedNets.{edits-stay, NetStays}
@@ -41,6 +42,11 @@ in_turn-at P before (y ∷ ys) zero x all e =
     subst (λ (b : List _). P b x) (sym (append-nil before)) (subst (P before) same all.0)
 in_turn-at P before (y ∷ ys) (suc k) x all e =
     subst (λ (b : List _). P b x) (append_assoc before (y ∷ []) (take k ys)) (in_turn-at P (before ++ y ∷ []) ys k x all.1 e)
+
+element : {X : Type 0} (xs : List X) (k : ℕ) → k < length xs → (x : X) × (slice_get xs k ≡ Some x)
+element [] k below = absurd (omega arith)
+element (x ∷ xs) zero below = (x, refl)
+element (x ∷ xs) (suc k) below = element xs k (omega arith)
 
 -- ---- entries that stay are good
 
@@ -233,40 +239,97 @@ module _ (net : AigPair) (edits : List Edit) (book : Entries) where
   first-all n all = ap (λ (l : List Entry). record { sweep_budget = book.sweep_budget; out_budget = book.out_budget; entries = chosen set l }) (take_all n es all)
 
   -- what becomes of the entry at place n, as the code has it
-  pub more-next : (n : ℕ) (e : Entry) (numbers items : List (Option ℕ)) (o : Option Entry) → slice_get es n ≡ Some e → AreNumbers set n items
-      → numbers ≡ items → o ≡ kept_entry net t numbers e → o ≡ cond (set n) (Some (renewed (count_before set) e)) None
-  more-next n e numbers items o at are same is = is ∙ ap (λ (l : List (Option ℕ)). kept_entry net t l e) same ∙ entry-next n e items at are
+  more-next : (n : ℕ) (e : Entry) (numbers items : List (Option ℕ)) → slice_get es n ≡ Some e → AreNumbers set n items → numbers ≡ items
+      → kept_at net t numbers es n ≡ cond (set n) (Some (renewed (count_before set) e)) None
+  more-next n e numbers items at are same =
+      ap (option_and_then (kept_entry net t numbers)) at ∙ ap (λ (l : List (Option ℕ)). kept_entry net t l e) same ∙ entry-next n e items at are
 
   -- it is good
-  pub more-good : (new : AigPair) (n : ℕ) (e : Entry) (o : Option Entry) (so_far : Entries) → IsNet new → new ≡ edited_all net edits → IsLegal net book
-      → slice_get es n ≡ Some e → so_far ≡ kept_first net edits book n → o ≡ cond (set n) (Some (renewed (count_before set) e)) None
-      → IfSome o (λ x. IsGood new so_far x)
-  more-good new n e o so_far is edited legal at kept_is more =
-      subst (λ (p : Option Entry). IfSome p (λ x. IsGood new so_far x)) (sym more)
-      (subst (λ (b : Entries). IfSome (cond (set n) (Some (renewed (count_before set) e)) None) (λ x. IsGood new b x)) (sym kept_is) (go (set n) refl))
+  pub more-good : (new : AigPair) (n : ℕ) (numbers items : List (Option ℕ)) (so_far : Entries) → IsNet new → new ≡ edited_all net edits → IsLegal net book
+      → n < length es → AreNumbers set n items → numbers ≡ items → so_far ≡ kept_first net edits book n
+      → IfSome (kept_at net t numbers es n) (λ x. IsGood new so_far x)
+  more-good new n numbers items so_far is edited legal inside are same kept_is =
+      let (e, at) = element es n inside in
+      subst (λ (p : Option Entry). IfSome p (λ x. IsGood new so_far x)) (sym (more-next n e numbers items at are same))
+      (subst (λ (b : Entries). IfSome (cond (set n) (Some (renewed (count_before set) e)) None) (λ x. IsGood new b x)) (sym kept_is) (go e at (set n) refl))
     where
-      go : (b : Bool) → set n ≡ b → IfSome (cond b (Some (renewed (count_before set) e)) None) (λ x. IsGood new (kept_first net edits book n) x)
-      go true f = kept-good net new edits book n e is edited legal at f
-      go false f = tt
+      go : (e : Entry) → slice_get es n ≡ Some e → (b : Bool) → set n ≡ b
+          → IfSome (cond b (Some (renewed (count_before set) e)) None) (λ x. IsGood new (kept_first net edits book n) x)
+      go e at true f = kept-good net new edits book n e is edited legal at f
+      go e at false f = tt
 
   -- its number is noted
-  pub more-numbers : (n : ℕ) (e : Entry) (numbers items : List (Option ℕ)) (o : Option Entry) (so_far : Entries) → slice_get es n ≡ Some e
-      → AreNumbers set n items → so_far ≡ kept_first net edits book n → o ≡ cond (set n) (Some (renewed (count_before set) e)) None
-      → numbers ≡ items ++ option_map (λ x. length so_far.entries) o ∷ [] → AreNumbers set (n + 1) numbers
-  more-numbers n e numbers items o so_far at are kept_is more is =
-      let inside = slice_get_within es n e at in
+  pub more-numbers : (n : ℕ) (numbers items after : List (Option ℕ)) (so_far : Entries) (o : Option ℕ) → n < length es → AreNumbers set n items
+      → numbers ≡ items → so_far ≡ kept_first net edits book n → o ≡ option_map (λ x. length so_far.entries) (kept_at net t numbers es n)
+      → after ≡ items ++ o ∷ [] → AreNumbers set (n + 1) after
+  more-numbers n numbers items after so_far o inside are same kept_is number is =
+      let (e, at) = element es n inside in
       subst (λ (l : List (Option ℕ)). AreNumbers set (n + 1) l)
-      (ap (λ (p : Option Entry). items ++ option_map (λ (x : Entry). length so_far.entries) p ∷ []) (sym more) ∙ sym is)
+      (ap (λ (p : Option Entry). items ++ option_map (λ (x : Entry). length so_far.entries) p ∷ []) (sym (more-next n e numbers items at are same))
+      ∙ ap (λ (p : Option ℕ). items ++ p ∷ []) (sym number) ∙ sym is)
       (numbers-next n (length so_far.entries) (renewed (count_before set) e) items are
       (ap (λ (b : Entries). length b.entries) kept_is ∙ length-first n (omega (arith, inside))))
 
   -- and it is put last
-  pub more-kept : (n : ℕ) (e : Entry) (o : Option Entry) (so_far after : Entries) → slice_get es n ≡ Some e → so_far ≡ kept_first net edits book n
-      → o ≡ cond (set n) (Some (renewed (count_before set) e)) None → after ≡ with_some so_far o → after ≡ kept_first net edits book (n + 1)
-  more-kept n e o so_far after at kept_is more is =
-      is ∙ ap (with_some so_far) more
+  pub more-kept : (n : ℕ) (numbers items : List (Option ℕ)) (so_far after : Entries) → n < length es → AreNumbers set n items → numbers ≡ items
+      → so_far ≡ kept_first net edits book n → after ≡ with_some so_far (kept_at net t numbers es n) → after ≡ kept_first net edits book (n + 1)
+  more-kept n numbers items so_far after inside are same kept_is is =
+      let (e, at) = element es n inside in
+      is ∙ ap (with_some so_far) (more-next n e numbers items at are same)
       ∙ ap (λ (b : Entries). with_some b (cond (set n) (Some (renewed (count_before set) e)) None)) kept_is
       ∙ sym (first-next n e at)
+
+-- ---- an entry that is shared
+
+pub shared-after : {E : Type 0} (o : Option Entry) (e : Entry) (r : Result Offered E) (x : Offered) (P : Entry → Type 0) → o ≡ Some e → r ≡ Ok x
+    → IfSome o (λ y. OnOk r (P y)) → P e
+shared-after {E} o e r x P at is shared =
+    subst (λ (s : Result Offered E). OnOk s (P e)) is (subst (λ (p : Option Entry). IfSome p (λ y. OnOk r (P y))) at shared)
+
+-- ---- the entry at a place
+
+module _ (net : AigPair) (t : Node → Bool) (numbers : List (Option ℕ)) (es : List Entry) (n : ℕ) (e : Entry) (at : slice_get es n ≡ Some e) where
+  -- it stays, and is renewed; it goes
+  pub at-stays : entry_stays net t (is_numbered numbers) e ≡ true → kept_at net t numbers es n ≡ Some (renewed (number_in numbers) e)
+  at-stays stay =
+      ap (option_and_then (kept_entry net t numbers)) at
+      ∙ ap (λ (b : Bool). cond b (Some (renewed (number_in numbers) e)) None) stay
+
+  pub at-goes : entry_stays net t (is_numbered numbers) e ≡ false → kept_at net t numbers es n ≡ None
+  at-goes go =
+      ap (option_and_then (kept_entry net t numbers)) at
+      ∙ ap (λ (b : Bool). cond b (Some (renewed (number_in numbers) e)) None) go
+
+-- ---- what needs no new numbers
+
+module _ (numbers : List (Option ℕ)) where
+  current-hint : (h : Ref) → is_current_hint numbers h ≡ true → renewed_hint (number_in numbers) h ≡ h
+  current-hint (Axiom node k) same = refl
+  current-hint (Shown i k) same = ap (λ (m : ℕ). Shown m k) (equal-number (number_in numbers i) i same)
+  current-hint (Own k) same = refl
+  current-hint (Bound side k) same = refl
+
+  current-hints : (hs : List Ref) → list_all (is_current_hint numbers) hs ≡ true → map (renewed_hint (number_in numbers)) hs ≡ hs
+  current-hints [] same = refl
+  current-hints (h ∷ hs) same =
+      let both = and_parts (is_current_hint numbers h) (list_all (is_current_hint numbers) hs) same in
+      rw (current-hint h both.0, current-hints hs both.1) refl
+
+  current-steps : (ss : List Step) → list_all (is_current_step numbers) ss ≡ true → map (renewed_step (number_in numbers)) ss ≡ ss
+  current-steps [] same = refl
+  current-steps (s ∷ ss) same =
+      let both = and_parts (is_current_step numbers s) (list_all (is_current_step numbers) ss) same in
+      let hints : renewed_step (number_in numbers) s ≡ s = ap (λ (hs : List Ref). record { clause = s.clause; hints = hs }) (current-hints s.hints both.0) in
+      rw (hints, current-steps ss both.1) refl
+
+  -- renewing changes nothing
+  pub current-entry : (e : Entry) → is_current numbers e ≡ true → renewed (number_in numbers) e ≡ e
+  current-entry (Merge node lit steps) same = ap (Merge node lit) (current-steps steps same)
+  current-entry (Apart node lit input) same = refl
+  current-entry (Spent node lit seen log) same = refl
+  current-entry (Out j steps) same = ap (Out j) (current-steps steps same)
+  current-entry (OutApart j input) same = refl
+  current-entry (OutSpent j seen log) same = refl
 
 -- ---- what is handed out
 

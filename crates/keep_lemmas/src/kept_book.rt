@@ -1,18 +1,18 @@
-ghost use Rattle.std.specs.Prelude.{◌≡◌, ◌<◌, ◌∷◌, [], ◌++◌, length, slice_get, Some, IfOk, OnOk, IfSome};
+ghost use Rattle.std.specs.Prelude.{◌≡◌, ◌<◌, length, slice_get, Some, IfOk, OnOk, IfSome};
 ghost use Rattle.std.specs.Option.{option_map};
 ghost use Rattle.netlist_edits.specs.Edited.{edited_all, touched_by};
 ghost use Rattle.lemma_book.specs.Entry.{with_last};
 ghost use Rattle.lemma_book.specs.Book.{IsLegal};
 ghost use Rattle.lemma_book.specs.Good.{IsGood};
-ghost use Rattle.keep_lemmas.specs.Kept.{kept, handed_out};
-ghost use Rattle.keep_lemmas.specs.Keeping.{kept_steps, kept_entry, with_some};
+ghost use Rattle.keep_lemmas.specs.Kept.{kept, handed_out, renewed};
+ghost use Rattle.keep_lemmas.specs.Keeping.{kept_at, number_in, with_some};
 
 use crate::inputs::handed_out;
-use crate::renewed::renewed_steps;
-use crate::staying::steps_stay;
+use crate::renewed::{is_current, renewed};
+use crate::staying::entry_stays;
 use crate::touched::Touched;
 use lemma_book::{Book, Entry};
-use lits::{Listed, Step};
+use lits::Listed;
 use netlist::Net;
 use netlist_edits::Edit;
 use std::alloc::{AllocError, Global};
@@ -57,9 +57,9 @@ fn kept_book(
     let mut numbers = Vec::new(alloc);
     let mut kept = Book::new(alloc, book.sweep_budget(), book.out_budget());
     for place in 0..book.len() {
-        let entry = entry_at(book, place);
-        let more = kept_entry(alloc, old, touched, numbers.as_slice(), entry)?;
-        put(alloc, new, &mut numbers, &mut kept, more)?;
+        let known = numbers.as_slice();
+        let number = keep_entry(alloc, old, touched, new, known, book, place, &mut kept)?;
+        numbers.push(number)?;
     }
     Ok(kept)
 }
@@ -75,85 +75,81 @@ pub(crate) fn entry_at(book: &Book, place: u64) -> &Entry
     }
 }
 
-/// The entry with new numbers, where it stays.
-fn kept_entry(
+/// Puts the entry at a place last, where it stays, and gives its new number.
+fn keep_entry(
     alloc: Global,
-    net: &Net,
+    old: &Net,
     touched: &Touched,
+    new: &Net,
     numbers: &[Option<u64>],
-    entry: &Entry,
-) -> Result<Option<Entry>, AllocError>
-    ensures { IfOk result (λ o. o ≡ kept_entry net.now (touched_by touched.now) numbers.now entry.now) }
+    book: &Book,
+    place: u64,
+    kept: &mut Book,
+) -> Result<Option<u64>, AllocError>
+    requires there { place < length book.now.entries }
+    requires legal { IsLegal new.now kept.old }
+    requires good { IfSome (kept_at old.now (touched_by touched.now) numbers.now book.now.entries place)
+        (λ e. IsGood new.now kept.old e) }
+    ensures number { IfOk result (λ o. o ≡ option_map (λ e. length kept.old.entries)
+        (kept_at old.now (touched_by touched.now) numbers.now book.now.entries place)) }
+    ensures kept { OnOk result (kept.new ≡ with_some kept.old
+        (kept_at old.now (touched_by touched.now) numbers.now book.now.entries place)) }
+    ensures legal { IsLegal new.now kept.new }
 {
-    match entry {
-        Entry::Merge { node, lit, steps } => {
-            match kept_steps(alloc, net, touched, numbers, steps.as_slice())? {
-                Some(steps) => Ok(Some(Entry::Merge {
-                    node: *node,
-                    lit: *lit,
-                    steps,
-                })),
-                None => Ok(None),
-            }
-        }
-        Entry::Out { output, steps } => {
-            match kept_steps(alloc, net, touched, numbers, steps.as_slice())? {
-                Some(steps) => Ok(Some(Entry::Out {
-                    output: *output,
-                    steps,
-                })),
-                None => Ok(None),
-            }
-        }
-        Entry::Apart { .. }
-        | Entry::Spent { .. }
-        | Entry::OutApart { .. }
-        | Entry::OutSpent { .. } => Ok(None),
-    }
-}
-
-/// The steps with new numbers, where they stay.
-fn kept_steps(
-    alloc: Global,
-    net: &Net,
-    touched: &Touched,
-    numbers: &[Option<u64>],
-    steps: &[Step],
-) -> Result<Option<Listed<Step>>, AllocError>
-    ensures { IfOk result (λ o. o ≡ kept_steps net.now (touched_by touched.now) numbers.now steps.now) }
-{
-    if steps_stay(net, touched, numbers, steps) {
-        Ok(Some(Listed::of(renewed_steps(alloc, numbers, steps)?)))
+    let entry = entry_at(book, place);
+    if entry_stays(old, touched, numbers, entry) {
+        let number = kept.len();
+        put(alloc, new, numbers, book, place, entry, kept)?;
+        Ok(Some(number))
     } else {
         Ok(None)
     }
 }
 
-/// Puts the entry last, if there is one, and notes its number.
+/// Puts the entry at a place last, with new numbers. Where its hints have them already, it is shared with the
+/// old book, so that its steps aren't copied.
 fn put(
     alloc: Global,
     net: &Net,
-    numbers: &mut Vec<Option<u64>>,
+    numbers: &[Option<u64>],
+    book: &Book,
+    place: u64,
+    entry: &Entry,
     kept: &mut Book,
-    entry: Option<Entry>,
 ) -> Result<(), AllocError>
+    requires at { slice_get book.now.entries place ≡ Some entry.now }
     requires legal { IsLegal net.now kept.old }
-    requires good { IfSome entry (λ e. IsGood net.now kept.old e) }
-    ensures numbers { OnOk result (numbers.new.items
-        ≡ numbers.old.items ++ option_map (λ e. length kept.old.entries) entry ∷ []) }
-    ensures kept { OnOk result (kept.new ≡ with_some kept.old entry) }
+    requires good { IsGood net.now kept.old (renewed (number_in numbers.now) entry.now) }
+    ensures ok { OnOk result (kept.new ≡ with_last kept.old (renewed (number_in numbers.now) entry.now)) }
     ensures legal { IsLegal net.now kept.new }
 {
-    let number = kept.len();
-    match entry {
-        Some(entry) => {
-            numbers.push(Some(number))?;
-            put_last(alloc, net, kept, entry)
-        }
-        None => {
-            numbers.push(None)?;
-            Ok(())
-        }
+    if is_current(numbers, entry) {
+        share_last(net, book, place, entry, kept)
+    } else {
+        let entry = renewed(alloc, numbers, entry)?;
+        put_last(alloc, net, kept, entry)
+    }
+}
+
+/// Puts an entry of the old book last, shared with it.
+fn share_last(
+    net: &Net,
+    book: &Book,
+    place: u64,
+    entry: &Entry,
+    kept: &mut Book,
+) -> Result<(), AllocError>
+    requires at { slice_get book.now.entries place ≡ Some entry.now }
+    requires legal { IsLegal net.now kept.old }
+    requires good { IsGood net.now kept.old entry.now }
+    ensures ok { OnOk result (kept.new ≡ with_last kept.old entry.now) }
+    ensures legal { IsLegal net.now kept.new }
+{
+    let _shared = entry;
+    let known = kept.len();
+    match kept.append_shared(net, known, book, place) {
+        Ok(_) => Ok(()),
+        Err(error) => Err(error),
     }
 }
 

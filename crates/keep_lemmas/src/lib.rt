@@ -3,8 +3,9 @@
 //! Edits change a few gates and outputs, and most of what a book knows of the others is still so. `keep`
 //! makes the book of what is: each `Merge` and `Out` whose steps speak of no gate that was set or dropped
 //! and of no output that was changed, cite no axiom and no constraint's unit that does, and stand on no entry
-//! that goes. Entries that stay get new numbers, and so do the hints that name them. The inputs on which nodes
-//! or outputs differed are handed out, since they tell apart much in the new net too.
+//! that goes. Entries that stay get new numbers, and so do the hints that name them; an entry whose hints have
+//! theirs already is shared with the old book. The inputs on which nodes or outputs differed are handed out,
+//! since they tell apart much in the new net too.
 //!
 //! A book that was legal over the net before the edits gives one that is legal over the net after them.
 //! The work is that of the book's steps and of the edits, whatever the size of the net.

@@ -1,12 +1,79 @@
-ghost use Rattle.std.specs.Prelude.{◌≡◌, map, IfOk};
-ghost use Rattle.keep_lemmas.specs.Kept.{renewed_hint, renewed_step};
-ghost use Rattle.keep_lemmas.specs.Keeping.{number_in};
+ghost use Rattle.std.specs.Prelude.{◌≡◌, false, map, IfOk};
+ghost use Rattle.std.specs.List.{list_all};
+ghost use Rattle.keep_lemmas.specs.Kept.{renewed_hint, renewed_step, renewed};
+ghost use Rattle.keep_lemmas.specs.Keeping.{number_in, is_current, is_current_step, is_current_hint};
 
+use lemma_book::Entry;
 use lits::{Listed, Ref, Step};
 use std::alloc::{AllocError, Global};
 
+/// Whether the entry's hints name entries by their new numbers as they are.
+pub(crate) fn is_current(numbers: &[Option<u64>], entry: &Entry) -> bool
+    ensures { result ≡ is_current numbers.now entry.now }
+{
+    match entry {
+        Entry::Merge { steps, .. } | Entry::Out { steps, .. } => {
+            are_current(numbers, steps.as_slice())
+        }
+        Entry::Apart { .. }
+        | Entry::Spent { .. }
+        | Entry::OutApart { .. }
+        | Entry::OutSpent { .. } => true,
+    }
+}
+
+fn are_current(numbers: &[Option<u64>], steps: &[Step]) -> bool
+    ensures { result ≡ list_all (is_current_step numbers.now) steps.now }
+{
+    steps.iter().all(|step| is_current_step(numbers, step))
+}
+
+fn is_current_step(numbers: &[Option<u64>], step: &Step) -> bool
+    ensures { result ≡ is_current_step numbers.now step.now }
+{
+    step.hints
+        .as_slice()
+        .iter()
+        .all(|hint| is_current_hint(numbers, *hint))
+}
+
+fn is_current_hint(numbers: &[Option<u64>], hint: Ref) -> bool
+    ensures { result ≡ is_current_hint numbers.now hint }
+{
+    match hint {
+        Ref::Entry(place, _) => number_in(numbers, place) == place,
+        Ref::Axiom(_, _) | Ref::Own(_) | Ref::Bound(_, _) => true,
+    }
+}
+
+/// A copy of the entry, whose hints name entries by their new numbers.
+pub(crate) fn renewed(
+    alloc: Global,
+    numbers: &[Option<u64>],
+    entry: &Entry,
+) -> Result<Entry, AllocError>
+    requires { is_current numbers.now entry.now ≡ false }
+    ensures { IfOk result (λ e. e ≡ renewed (number_in numbers.now) entry.now) }
+{
+    match entry {
+        Entry::Merge { node, lit, steps } => Ok(Entry::Merge {
+            node: *node,
+            lit: *lit,
+            steps: Listed::of(renewed_steps(alloc, numbers, steps.as_slice())?),
+        }),
+        Entry::Out { output, steps } => Ok(Entry::Out {
+            output: *output,
+            steps: Listed::of(renewed_steps(alloc, numbers, steps.as_slice())?),
+        }),
+        Entry::Apart { .. }
+        | Entry::Spent { .. }
+        | Entry::OutApart { .. }
+        | Entry::OutSpent { .. } => unreachable!(),
+    }
+}
+
 /// Copies of the steps, whose hints name entries by their new numbers.
-pub(crate) fn renewed_steps(
+fn renewed_steps(
     alloc: Global,
     numbers: &[Option<u64>],
     steps: &[Step],

@@ -1,21 +1,38 @@
 ghost use Rattle.std.specs.Prelude.{◌≡◌};
 ghost use Rattle.std.specs.List.{list_all, list_any};
 ghost use Rattle.netlist_edits.specs.Edited.{touched_by};
-ghost use Rattle.keep_lemmas.specs.Kept.{is_clear, hint_stays, step_stays};
+ghost use Rattle.keep_lemmas.specs.Kept.{is_clear, hint_stays, step_stays, entry_stays};
 ghost use Rattle.keep_lemmas.specs.Keeping.{is_numbered};
 
 use crate::touched::Touched;
+use lemma_book::Entry;
 use lits::{Lit, Ref, Step};
 use netlist::Net;
 
-/// Whether the steps stay: their clauses and the axioms and constraints' units that they cite have no literal
-/// of a touched node, and the entries that they cite have new numbers.
-pub(crate) fn steps_stay(
+/// Whether the entry stays: it says that values are equal, and its steps stay.
+pub(crate) fn entry_stays(
     net: &Net,
     touched: &Touched,
     numbers: &[Option<u64>],
-    steps: &[Step],
+    entry: &Entry,
 ) -> bool
+    ensures { result
+        ≡ entry_stays net.now (touched_by touched.now) (is_numbered numbers.now) entry.now }
+{
+    match entry {
+        Entry::Merge { steps, .. } | Entry::Out { steps, .. } => {
+            steps_stay(net, touched, numbers, steps.as_slice())
+        }
+        Entry::Apart { .. }
+        | Entry::Spent { .. }
+        | Entry::OutApart { .. }
+        | Entry::OutSpent { .. } => false,
+    }
+}
+
+/// Whether the steps stay: their clauses and the axioms and constraints' units that they cite have no literal
+/// of a touched node, and the entries that they cite have new numbers.
+fn steps_stay(net: &Net, touched: &Touched, numbers: &[Option<u64>], steps: &[Step]) -> bool
     ensures { result
         ≡ list_all (step_stays net.now (touched_by touched.now) (is_numbered numbers.now)) steps.now }
 {

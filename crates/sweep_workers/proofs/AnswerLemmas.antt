@@ -360,6 +360,6 @@ known-within net asked old new known done is =
     let l = ap (λ (es : List Entry). length es) done.begins in
     omega (arith, l, length-append old.entries done.added)
 
-pub none-items : (ts : List Task) → (length ts == 0) ≡ true → ts ≡ []
+pub none-items : {T : Type 0} (ts : List T) → (length ts == 0) ≡ true → ts ≡ []
 none-items [] is = refl
 none-items (t ∷ ts) is = absurd (grind (arith, nat_tests))

@@ -4,6 +4,8 @@ use Rattle.std.specs.List.{list_all, AllByRecursion}
 use Rattle.std.specs.Option.{option_map_or}
 use Rattle.std.proofs.lemmas.Option.{none-some, slice_get_within}
 use Rattle.std.proofs.lemmas.Bool.Decides.{nat_tests}
+use Rattle.std.proofs.lemmas.List.{append-nil}
+use Rattle.netlist.specs.Net.{AigPair}
 use Rattle.netlist.proofs.Facts.{at_place as at-found}
 use Rattle.lemma_book.specs.declared.entry.Entry.{Entry}
 use Rattle.lemma_book.specs.declared.entry.Entry.TheVariants.{Merge, Apart, Spent, Out, OutApart, OutSpent}
@@ -11,6 +13,7 @@ use Rattle.lemma_book.specs.declared.entry.Subject.{Subject}
 use Rattle.lemma_book.specs.declared.entry.Subject.TheVariants.{Merged, Output}
 use Rattle.lemma_book.specs.declared.turn.Turn.{Turn}
 use Rattle.lemma_book.specs.Entry.{Entries, Question, OfPair, OfOutput, question_of, subject_of, is_on, place_on, settled_at}
+use Rattle.lemma_book.specs.Book.{IsLegal}
 use Rattle.lemma_book.proofs.Facts.{exact-subject}
 use Rattle.board_lock.specs.declared.view.Said.{Said}
 use Rattle.board_lock.specs.declared.view.Said.TheVariants.{At, Already, Known}
@@ -169,3 +172,16 @@ module _ (board : Post) (asked : List Question) (pass : Held) (book : Entries) (
     settled = settled;
     seen = seen;
   }
+
+-- where nothing is asked, the book answers it as it is
+pub answered-none : (net : AigPair) (asked : List Question) (book : Entries) → asked ≡ [] → IsLegal net book → AreAnswered net asked book book
+answered-none net asked book none legal = subst (λ (qs : List Question). AreAnswered net qs book book) (sym none) (record {
+  sweep_budget = refl;
+  out_budget = refl;
+  added = [];
+  begins = sym (append-nil book.entries);
+  legal = legal;
+  few = λ test. omega arith;
+  settled = tt;
+  seen = refl;
+})

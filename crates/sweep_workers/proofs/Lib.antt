@@ -5,3 +5,4 @@ mod WorkLemmas
 mod ClosedLemmas
 mod OnceLemmas
 mod AnswerLemmas
+mod PartLemmas

@@ -2,14 +2,20 @@
 use Rattle.std.proofs.Common.{◌≡◌, ℕ, zero, suc, ◌+◌, ◌<◌, ◌≤◌, Bool, true, false, cond, nat_le, List, [], ◌∷◌, ◌++◌, length, map, Option, None, Some, slice_get, refl, sym, ap, ◌∙◌, subst, arith, append_assoc, length-append, get_or}
 use Rattle.std.specs.Prelude.{nat_lt, if◌then◌else◌}
 use Rattle.std.specs.List.{list_all, AllByRecursion}
+use Rattle.std.specs.Option.{option_and_then, option_map_or}
 use Rattle.std.proofs.lemmas.Option.{none-some, same_Some}
 use Rattle.std.proofs.lemmas.List.{append-nil, map-append}
 use Rattle.std.proofs.lemmas.Bool.Decides.{nat_tests}
+use Rattle.lits.specs.declared.node.Node.{Node}
 use Rattle.netlist.specs.Net.{AigPair}
+use Rattle.netlist.proofs.Facts.{find-place}
 use Rattle.lemma_book.specs.declared.entry.Entry.{Entry}
 use Rattle.lemma_book.specs.declared.refused.Offered.{Offered}
 use Rattle.lemma_book.specs.declared.refused.Offered.TheVariants as offered
-use Rattle.lemma_book.specs.Entry.{Entries, Question, Answer, Equal, Differ, Open, question_of, answer_of}
+use Rattle.lemma_book.specs.declared.entry.Subject.{Subject}
+use Rattle.lemma_book.specs.declared.entry.Subject.TheVariants.{Merged, Output}
+use Rattle.lemma_book.specs.Entry.{Entries, Question, Answer, Equal, Differ, Open, about, is_on, place_on, question_of, answer_of, settled_at, subject_of}
+use Rattle.lemma_book.specs.Root.{IsRoot, merge_in}
 use Rattle.lemma_book.specs.Book.{IsLegal, StartsWith}
 use Rattle.sweep_core.proofs.Facts.{starts-self}
 use Rattle.cone_query.specs.Query.{SeesAll, SeesAllOf}
@@ -21,7 +27,7 @@ use Rattle.board_lock.specs.Pass.{Held, IsWholePass, Post, DrewOne, OfferedOne, 
 use Rattle.sweep_workers.specs.declared.asked.Asked.{Asked}
 use Rattle.sweep_workers.specs.Asked.{IsAskable, question_in, questions}
 use Rattle.sweep_workers.specs.Answered.{sees, sees_first}
-use Rattle.sweep_workers.specs.Working.{drawn_of, offers, with_question, IsAtEnd, IsRound, Owes, Works}
+use Rattle.sweep_workers.specs.Working.{drawn_of, offers, with_question, IsAtEnd, IsRound, Owes, Told, Works}
 use Rattle.sweep_workers.proofs.OfferLemmas.{offers-append, drawn-append, all-pass_append}
 
 times-append : (p : ℕ) (xs ys : List ℕ) → times p (xs ++ ys) ≡ times p xs + times p ys
@@ -141,6 +147,30 @@ works-settled board asked q old mid new e o n owes first second about sees offer
           ∙ all-pass_append (sees_first (length opening.entries)) (offers old.notes) (e ∷ []) owes.seen
           (let s = sees-more (length opening.entries) old.known (answer_of e) (starts-length old.known opening owes.begins) sees in rw s refl);
     }
+
+-- the same of what was told of a task
+pub works-told : (board : Post) (asked : List Question) (q : Question) (old mid new : Held) (n : ℕ) → Owes board asked q old → mid.table ≡ old.table
+    → new.table ≡ mid.table → Told q old mid → Refreshed board.root.net mid new n → Works board asked new
+works-told board asked q old mid new n owes first second told look =
+    works-settled board asked q old mid new told.entry told.answer n owes first second told.about told.seen told.offered look
+
+-- ---- a task that a book settles, or doesn't
+
+pub told-of : (q : Question) (old new : Held) (e : Entry) (o : Offered) → question_of e ≡ q → SeesAll old.known e → OfferedOne e old new o → Told q old new
+told-of q old new e o about seen offered = record { entry = e; answer = o; about = about; seen = seen; offered = offered }
+
+pub claim-settled : (es : List Entry) (e : Entry) (s : Subject) (place : ℕ) → subject_of e ≡ Some s → Some place ≡ place_on es s
+    → settled_at es e ≡ Some place
+claim-settled es e s place on at = ap (λ (o : Option Subject). option_map_or (place_on es) o None) on ∙ sym at
+
+pub claim-sees : (book : Entries) (e : Entry) → answer_of e ≡ Equal [] → SeesAll book e
+claim-sees book e equal = subst (SeesAllOf book) (sym equal) tt
+
+pub open-root : (es : List Entry) (n : Node) → place_on es (Merged n) ≡ None → IsRoot es n
+open-root es n none = ap (option_and_then (λ k. option_and_then (merge_in k) (slice_get es k))) none
+
+pub open-about : (es : List Entry) (j : ℕ) → place_on es (Output j) ≡ None → about es j ≡ None
+open-about es j none = find-place (is_on (Output j)) es ∙ ap (option_and_then (slice_get es)) none
 
 -- ---- the first pass, one that was cut off, and one that was taken over
 

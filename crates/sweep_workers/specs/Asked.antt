@@ -1,7 +1,10 @@
 -- What workers are asked, by number.
-use Rattle.std.specs.Prelude.{◌≡◌, ◌⊎◌, ℕ, zero, suc, ◌<◌, Option, None, Some, List, [], ◌∷◌, ◌++◌, length, map}
+use Rattle.std.specs.Prelude.{◌≡◌, ◌⊎◌, ⊤, ℕ, zero, suc, ◌<◌, Option, None, Some, List, [], ◌∷◌, ◌++◌, length, map}
 use Rattle.netlist.specs.Net.{AigPair}
 use Rattle.lemma_book.specs.declared.entry.Entry.{Entry}
+use Rattle.lemma_book.specs.declared.entry.Subject.{Subject}
+use Rattle.lemma_book.specs.declared.entry.Subject.TheVariants.{Merged, Output as OnOutput}
+use Rattle.lemma_book.specs.declared.entry.Task.{Task}
 use Rattle.lemma_book.specs.Entry.{Question, OfPair, OfOutput, about}
 use Rattle.lemma_book.specs.Good.{IsEarlier}
 use Rattle.cone_query.specs.Query.{IsGate}
@@ -13,6 +16,11 @@ abbrev pub question_in : Asked → Question
 question_in (Pair task) = OfPair task.node task.lit
 question_in (Output j) = OfOutput j
 
+-- the subject of the entry that settles a task, if a book has it
+abbrev pub subject_in : Asked → Subject
+subject_in (Pair task) = Merged task.node
+subject_in (Output j) = OnOutput j
+
 -- the questions, in the order of their numbers
 abbrev pub questions : List Asked → List Question
 questions tasks = map question_in tasks
@@ -21,6 +29,12 @@ questions tasks = map question_in tasks
 abbrev pub IsAskable : AigPair → Asked → Type 0
 IsAskable net (Pair task) = IsGate task.node × IsEarlier net task.node task.lit
 IsAskable net (Output j) = j < length net.a.outputs
+
+-- the tasks of a round are some of those that were due, in the same order
+abbrev pub IsPart : List Task → List Task → Type 0
+IsPart xs [] = xs ≡ []
+IsPart [] (t ∷ ts) = ⊤
+IsPart (x ∷ xs) (t ∷ ts) = ((x ≡ t) × IsPart xs ts) ⊎ IsPart (x ∷ xs) ts
 
 -- the question is one of them
 abbrev pub IsAmong : Question → List Question → Type 0

@@ -3,13 +3,15 @@ use Rattle.std.specs.Prelude.{◌≡◌, ℕ, ◌≤◌, true, Option, None, Som
 use Rattle.std.specs.List.{AllByRecursion, list_all}
 use Rattle.netlist.specs.Net.{AigPair}
 use Rattle.lemma_book.specs.declared.entry.Entry.{Entry}
+use Rattle.lemma_book.specs.declared.refused.Offered.{Offered}
 use Rattle.lemma_book.specs.Entry.{Question, question_of}
 use Rattle.lemma_book.specs.Book.{IsLegal, StartsWith}
+use Rattle.cone_query.specs.Query.{SeesAll}
 use Rattle.board_lock.specs.declared.view.Said.{Said}
 use Rattle.board_lock.specs.declared.view.Said.TheVariants.{At, Already, Known}
 use Rattle.board_lock.specs.declared.view.Note.{Note}
 use Rattle.board_lock.specs.Totals.{times}
-use Rattle.board_lock.specs.Pass.{Held, Post, share_of}
+use Rattle.board_lock.specs.Pass.{Held, OfferedOne, Post, share_of}
 use Rattle.sweep_workers.specs.declared.asked.Asked.{Asked}
 use Rattle.sweep_workers.specs.Asked.{IsAskable}
 use Rattle.sweep_workers.specs.Answered.{sees_first}
@@ -69,3 +71,11 @@ pub record Owes (board : Post) (asked : List Question) (q : Question) (h : Held)
   pub begins : StartsWith h.known board.root.opening
   pub offered : map question_of (offers h.notes) ++ q ∷ [] ≡ drawn_of asked h.draws
   pub seen : list_all (sees_first (length board.root.opening.entries)) (offers h.notes) ≡ true
+
+-- an entry about the question was offered, or told to be settled in what the pass knows; what spent a budget saw all of that
+pub record Told (q : Question) (old new : Held) : Type 0 where
+  pub entry : Entry
+  pub answer : Offered
+  pub about : question_of entry ≡ q
+  pub seen : SeesAll old.known entry
+  pub offered : OfferedOne entry old new answer

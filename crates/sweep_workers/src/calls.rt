@@ -38,7 +38,7 @@ pub fn sweep<T: Threads + Wait + Sync, R: Refuter + Send, G: Gate + Sync>(
     ensures reduced { IfOk result (λ r. IsReduced net.now r.0.entries r.1.patterns) }
     ensures refuters { IfOk result (λ r. length r.2.items ≡ length refuters.items) }
 {
-    let sieve = Mutex::new(Sieve::new(alloc, net, SEED, 0)?);
+    let sieve = Mutex::new(Sieve::new(alloc, SEED, 0));
     let mut workers = workers_of(alloc, refuters)?;
     let swept = Swept { book, pool, sieve };
     let Swept {
@@ -64,7 +64,7 @@ pub fn outputs<T: Threads + Wait + Sync, R: Refuter + Send, G: Gate + Sync>(
     ensures settles { IfOk result (λ r. SettlesOutputs net.now book r.0) }
     ensures refuters { IfOk result (λ r. length r.1.items ≡ length refuters.items) }
 {
-    let sieve = Mutex::new(Sieve::new(alloc, net, SEED, 0)?);
+    let sieve = Mutex::new(Sieve::new(alloc, SEED, 0));
     let mut workers = workers_of(alloc, refuters)?;
     let (book, _sieve) = outputs_by(rt, alloc, net, book, sieve, gate, workers.as_mut_slice())?;
     Ok((book, refuters_of(alloc, workers)?))
@@ -80,7 +80,7 @@ fn workers_of<R: Refuter + Send>(
     let mut workers = Vec::with_capacity(alloc, refuters.len())?;
     let mut number = 0_u32;
     for refuter in refuters {
-        workers.push(Worker::new(number, refuter))?;
+        workers.push(Worker::new(alloc, number, refuter))?;
         number = number.saturating_add(1);
     }
     Ok(workers)

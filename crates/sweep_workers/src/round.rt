@@ -20,7 +20,8 @@ use std::sync::{Mutex, Wait};
 use std::thread::Threads;
 use unit_prop::Refuter;
 
-/// Lets workers answer what is asked, no more of them than there are questions, and one at least.
+/// Lets workers answer what is asked, no more of them than there are questions. Where nothing is asked the book is
+/// given back: a board would take copies of it.
 pub(crate) fn round<T: Threads + Wait + Sync, R: Refuter + Send, G: Gate + Sync>(
     rt: &T,
     alloc: Global,
@@ -36,9 +37,12 @@ pub(crate) fn round<T: Threads + Wait + Sync, R: Refuter + Send, G: Gate + Sync>
     requires some { 1 ≤ length workers.old }
     ensures { IfOk result (λ r. AreAnswered net.now (questions tasks.items) book r.0) }
 {
+    if tasks.is_empty() {
+        return Ok((book, sieve));
+    }
     match Board::open(alloc, net, book, tasks.len() as u64) {
         Ok((board, pass)) => {
-            let many = workers.len().min(tasks.len().max(1));
+            let many = workers.len().min(tasks.len());
             let round = Round {
                 board,
                 tasks,

@@ -1,7 +1,7 @@
-ghost use Rattle.std.specs.Prelude.{◌≡◌, ◌≤◌, length, map, IfOk};
+ghost use Rattle.std.specs.Prelude.{◌≡◌, ◌⊎◌, ◌≤◌, [], ◌∷◌, ◌++◌, length, map, IfOk, OnOk};
 ghost use Rattle.lemma_book.specs.Book.{IsLegal};
 ghost use Rattle.sig_classes.specs.Leader.{AreTasks, IsReduced};
-ghost use Rattle.sweep_workers.specs.Asked.{IsAskable};
+ghost use Rattle.sweep_workers.specs.Asked.{IsAskable, IsPart};
 ghost use Rattle.sweep_workers.specs.Swept.{IsPoolFor, Sweeps, SweepsRound};
 ghost use Rattle.sweep_workers.specs.declared.asked.Asked.TheVariants.{Pair};
 
@@ -31,8 +31,9 @@ pub struct Swept {
 /// Settles the pairs of nodes that no pattern tells apart, round after round, until simulation has no
 /// candidates left.
 ///
-/// In a round each pair that is due is a task, which the workers draw. Counterexamples join the pool behind
-/// the round, so the next one has other candidates; a pair whose budget was spent is no candidate again.
+/// In a round pairs that are due are tasks, which the workers draw: those that the sieve's patterns tell
+/// apart, where there are any, and else all. Counterexamples join the pool behind the round, so the next one
+/// has other candidates; a pair whose budget was spent is no candidate again.
 pub fn sweep_by<T: Threads + Wait + Sync, R: Refuter + Send, G: Gate + Sync>(
     rt: &T,
     alloc: Global,
@@ -63,7 +64,7 @@ pub fn sweep_by<T: Threads + Wait + Sync, R: Refuter + Send, G: Gate + Sync>(
     Err(AllocError)
 }
 
-/// A round: settles the pairs that are due, and lets the inputs of its counterexamples join the patterns.
+/// A round: settles pairs that are due, and lets the inputs of its counterexamples join the patterns.
 fn settle_due<T: Threads + Wait + Sync, R: Refuter + Send, G: Gate + Sync>(
     rt: &T,
     alloc: Global,
@@ -80,13 +81,42 @@ fn settle_due<T: Threads + Wait + Sync, R: Refuter + Send, G: Gate + Sync>(
     ensures { IfOk result (λ s. SweepsRound net.now due.now swept.book s.book swept.pool s.pool) }
 {
     let Swept { book, pool, sieve } = swept;
-    sieve.lock(rt).sift(net, due)?;
-    let tasks = pairs(alloc, due)?;
+    let is_due = sieve.lock(rt).sift(alloc, net, &book, due)?;
+    let now = chosen(alloc, due, is_due.as_slice())?;
+    let part = now.as_slice();
+    let tasks = pairs(alloc, part)?;
     let known = book.len();
     let (book, sieve) = round(rt, alloc, net, book, tasks, sieve, gate, workers)?;
     let mut pool = pool;
     join_inputs(net, &book, known, &mut pool)?;
     Ok(Swept { book, pool, sieve })
+}
+
+/// Those of the pairs that are marked, in order.
+fn chosen(alloc: Global, due: &[Task], is_due: &[bool]) -> Result<Vec<Task>, AllocError>
+    ensures { IfOk result (λ v. IsPart v.items due.now) }
+{
+    let mut now = Vec::new(alloc);
+    for (k, task) in due.iter().enumerate() {
+        push_marked(&mut now, *task, is_due, k)?;
+    }
+    Ok(now)
+}
+
+/// Puts a pair last, if it is marked at this place.
+fn push_marked(
+    now: &mut Vec<Task>,
+    task: Task,
+    is_due: &[bool],
+    place: usize,
+) -> Result<(), AllocError>
+    ensures { OnOk result
+        ((now.new.items ≡ now.old.items) ⊎ (now.new.items ≡ now.old.items ++ task ∷ [])) }
+{
+    if let Some(true) = is_due.get(place) {
+        now.push(task)?;
+    }
+    Ok(())
 }
 
 /// The tasks that ask about pairs.

@@ -1,9 +1,10 @@
 ghost use Rattle.std.specs.Prelude.{◌≡◌, ◌≤◌, false, length, IfOk, OnOk};
-ghost use Rattle.board_lock.specs.Pass.{share_of};
+ghost use Rattle.lemma_book.specs.Book.{IsLegal};
+ghost use Rattle.board_lock.specs.Pass.{share_of, Spends};
 ghost use Rattle.sweep_workers.specs.Asked.{IsAskable, question_in, questions};
-ghost use Rattle.sweep_workers.specs.Working.{HasWorked, IsAtEnd, IsRound, Owes, Works};
+ghost use Rattle.sweep_workers.specs.Working.{HasWorked, IsAtEnd, IsRound, Owes, Told, Works};
 
-use crate::asked::Asked;
+use crate::asked::{Asked, claim_of, subject_in};
 use crate::worker::Worker;
 use board_lock::{Board, Pass};
 use circuit_search::Sieve;
@@ -22,6 +23,10 @@ pub(crate) struct Round {
 }
 
 /// Draws tasks and settles them, until there are no more.
+///
+/// It isn't made a part of `fan_out`, which stands six times on the caller's stack where there are 64 workers: with it
+/// each of these took 3 KB, and a stack of 64 KB was too small.
+#[inline(never)]
 pub(crate) fn work<T: Wait, R: Refuter + Send, G: Gate>(
     rt: &T,
     alloc: Global,
@@ -75,7 +80,7 @@ fn settle_next<T: Wait, R: Refuter + Send, G: Gate>(
     }
 }
 
-/// Settles the task that was drawn last over what the pass has seen, offers the entry, and looks at the book.
+/// Settles the task that was drawn last, and looks at the book.
 fn settle<T: Wait, R: Refuter + Send>(
     rt: &T,
     alloc: Global,
@@ -92,12 +97,43 @@ fn settle<T: Wait, R: Refuter + Send>(
     ensures works { OnOk result (Works round.now.board (questions round.now.tasks.items) pass.new) }
     ensures share { OnOk result (share_of pass.new ≡ share_of pass.old) }
 {
-    let entry = worker.answer(rt, alloc, net, &round.sieve, pass.seen(), asked)?;
-    match pass.offer(rt, alloc, net, &round.board, entry) {
-        Ok(_offered) => {
-            let _known = pass.refresh(rt, alloc, &round.board)?;
-            Ok(())
+    tell(rt, alloc, net, round, pass, worker, asked)?;
+    match pass.refresh(rt, alloc, &round.board) {
+        Ok(_known) => Ok(()),
+        Err(error) => Err(error),
+    }
+}
+
+/// Offers an entry about the task that is good over what the pass has seen. Where an entry is there already that
+/// settles the task, the board is told which one.
+fn tell<T: Wait, R: Refuter + Send>(
+    rt: &T,
+    alloc: Global,
+    net: &Net,
+    round: &Round,
+    pass: &mut Pass,
+    worker: &mut Worker<R>,
+    asked: Asked,
+) -> Result<(), AllocError>
+    requires round { IsRound net.now round.now.board round.now.tasks.items }
+    requires askable { IsAskable net.now asked }
+    requires own { pass.old.table ≡ round.now.board.table }
+    requires legal { IsLegal net.now pass.old.known }
+    requires left { 1 ≤ pass.old.left }
+    ensures told { OnOk result (Told (question_in asked) pass.old pass.new) }
+    ensures spent { OnOk result (Spends pass.old pass.new) }
+{
+    match pass.seen().place_on(subject_in(asked)) {
+        Some(place) => {
+            let claim = claim_of(alloc, asked);
+            pass.note_settled(rt, alloc, &round.board, &claim, place)
         }
-        Err((_entry, error)) => Err(error),
+        None => {
+            let entry = worker.answer(rt, alloc, net, &round.sieve, pass.seen(), asked)?;
+            match pass.offer(rt, alloc, net, &round.board, entry) {
+                Ok(_offered) => Ok(()),
+                Err((_entry, error)) => Err(error),
+            }
+        }
     }
 }

@@ -1,29 +1,31 @@
 ghost use Rattle.std.specs.Prelude.{◌≡◌, ◌<◌, None, Some, length, IfOk};
 ghost use Rattle.lemma_book.specs.Book.{IsLegal};
-ghost use Rattle.lemma_book.specs.Entry.{about, question_of, subject_of};
+ghost use Rattle.lemma_book.specs.Entry.{about, place_on, question_of, subject_of};
 ghost use Rattle.lemma_book.specs.Good.{IsEarlier, IsGood};
 ghost use Rattle.lemma_book.specs.Root.{IsRoot};
 ghost use Rattle.lemma_book.specs.declared.entry.Subject.TheVariants.{Output};
 ghost use Rattle.circuit_search.specs.Answer.{Finds, SettlesPair};
 ghost use Rattle.cone_query.specs.Query.{IsGate, SeesAll, task_of};
-ghost use Rattle.sweep_workers.specs.Asked.{IsAskable, question_in};
+ghost use Rattle.sweep_workers.specs.Asked.{IsAskable, question_in, subject_in};
 
 use crate::asked::Asked;
 use circuit_search::{Caps, Search, Sieve, apart};
 use equal_outputs::equal_output;
-use lemma_book::{Book, Entry, Task};
+use lemma_book::{Book, Entry, Judge, Task};
 use netlist::Net;
 use std::alloc::{AllocError, Global};
 use std::sync::{Mutex, Wait};
 use unit_prop::Refuter;
 
-/// One worker's memory, kept from round to round: its search, and its solver for queries of whole cones.
+/// One worker's memory, kept from round to round: its search, its solver for queries of whole cones, and the
+/// judge of what patterns tell apart.
 ///
 /// The search has tables of the net's size. It is made at the worker's first question, so that who gets
 /// none pays for none.
 pub struct Worker<R: Refuter> {
     number: u32,
     search: Option<Search>,
+    judge: Judge,
     refuter: R,
 }
 
@@ -33,6 +35,7 @@ impl<R: Refuter> Drop for Worker<R> {
         let Worker {
             number: _,
             search: _,
+            judge: _,
             refuter: _,
         } = self;
     }
@@ -40,10 +43,11 @@ impl<R: Refuter> Drop for Worker<R> {
 
 impl<R: Refuter + Send> Worker<R> {
     /// A worker on one net, with this number, by which gates know it, and this solver.
-    pub fn new(number: u32, refuter: R) -> Worker<R> {
+    pub fn new(alloc: Global, number: u32, refuter: R) -> Worker<R> {
         Worker {
             number,
             search: None,
+            judge: Judge::new(alloc),
             refuter,
         }
     }
@@ -53,6 +57,7 @@ impl<R: Refuter + Send> Worker<R> {
         let Worker {
             number: _,
             search: _,
+            judge: _,
             refuter,
         } = self;
         refuter
@@ -63,10 +68,7 @@ impl<R: Refuter + Send> Worker<R> {
         self.number
     }
 
-    /// A good entry about what is asked.
-    ///
-    /// Each number is drawn once, so nobody else has settled it; where a book says otherwise, nothing is
-    /// answered.
+    /// A good entry about what is asked, which the book doesn't settle.
     pub(crate) fn answer<T: Wait>(
         &mut self,
         rt: &T,
@@ -78,6 +80,7 @@ impl<R: Refuter + Send> Worker<R> {
     ) -> Result<Entry, AllocError>
         requires legal { IsLegal net.now seen.now }
         requires askable { IsAskable net.now asked }
+        requires open { place_on seen.now.entries (subject_in asked) ≡ None }
         ensures about { IfOk result (λ e. question_of e ≡ question_in asked) }
         ensures good { IfOk result (λ e. IsGood net.now seen.now e) }
         ensures seen { IfOk result (SeesAll seen.now) }
@@ -88,7 +91,7 @@ impl<R: Refuter + Send> Worker<R> {
         }
     }
 
-    /// A good entry about a pair, if its node isn't merged.
+    /// A good entry about a pair whose node isn't merged.
     fn pair<T: Wait>(
         &mut self,
         rt: &T,
@@ -100,15 +103,13 @@ impl<R: Refuter + Send> Worker<R> {
     ) -> Result<Entry, AllocError>
         requires legal { IsLegal net.now seen.now }
         requires gate { IsGate task.now.node }
+        requires root { IsRoot seen.now.entries task.now.node }
         requires earlier { IsEarlier net.now task.now.node task.now.lit }
         ensures about { IfOk result (λ e. task_of e ≡ Some task.now) }
         ensures good { IfOk result (λ e. IsGood net.now seen.now e) }
         ensures seen { IfOk result (SeesAll seen.now) }
     {
-        if seen.is_merged(task.node) {
-            return Err(AllocError);
-        }
-        match told_apart(rt, alloc, net, sieve, seen, task)? {
+        match told_apart(rt, alloc, net, sieve, seen, &mut self.judge, task)? {
             Some(entry) => Ok(entry),
             None => self.ask(rt, alloc, net, sieve, seen, task),
         }
@@ -134,7 +135,7 @@ impl<R: Refuter + Send> Worker<R> {
         ensures seen { IfOk result (SeesAll seen.now) }
     {
         let entry = self.found(alloc, net, seen, task)?;
-        note(rt, net, sieve, &entry)?;
+        note(rt, sieve, &entry)?;
         Ok(entry)
     }
 
@@ -173,13 +174,11 @@ impl<R: Refuter + Send> Worker<R> {
     ) -> Result<Entry, AllocError>
         requires legal { IsLegal net.now seen.now }
         requires output { output < length net.now.a.outputs }
+        requires unsettled { about seen.now.entries output ≡ None }
         ensures about { IfOk result (λ e. subject_of e ≡ Some (Output output)) }
         ensures good { IfOk result (λ e. IsGood net.now seen.now e) }
         ensures seen { IfOk result (SeesAll seen.now) }
     {
-        if seen.about(output).is_some() {
-            return Err(AllocError);
-        }
         if let Some(entry) = equal_output(alloc, net, seen, output)? {
             return Ok(entry);
         }
@@ -214,6 +213,7 @@ fn told_apart<T: Wait>(
     net: &Net,
     sieve: &Mutex<Sieve>,
     seen: &Book,
+    judge: &mut Judge,
     task: &Task,
 ) -> Result<Option<Entry>, AllocError>
     requires legal { IsLegal net.now seen.now }
@@ -221,15 +221,15 @@ fn told_apart<T: Wait>(
 {
     let telling = sieve.lock(rt).telling(alloc, net, task)?;
     match telling {
-        Some(input) => apart(alloc, net, seen, task, input),
+        Some(input) => apart(alloc, net, seen, judge, task, input),
         None => Ok(None),
     }
 }
 
 /// Lets the sieve take the input of a counterexample.
-fn note<T: Wait>(rt: &T, net: &Net, sieve: &Mutex<Sieve>, entry: &Entry) -> Result<(), AllocError> {
+fn note<T: Wait>(rt: &T, sieve: &Mutex<Sieve>, entry: &Entry) -> Result<(), AllocError> {
     match entry {
-        Entry::Apart { input, .. } => sieve.lock(rt).note(net, input.as_slice()),
+        Entry::Apart { input, .. } => sieve.lock(rt).note(input.as_slice()),
         _ => Ok(()),
     }
 }

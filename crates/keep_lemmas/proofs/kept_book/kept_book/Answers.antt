@@ -1,32 +1,23 @@
 -- An entry that stays is good over those that stayed before it, and gets the next number.
-use Rattle.keep_lemmas.proofs.KeptBooks.{more-next, more-good, more-numbers, more-kept}
+use Rattle.std.proofs.Common.{◌<◌, length, arith}
+use Rattle.keep_lemmas.proofs.KeptBooks.{more-good, more-numbers, more-kept}
 use Rattle.keep_lemmas.proofs.kept_book.kept_book.Goals as goal
 
-pub put-requires-clause-good : goal.put-requires-clause-good
-put-requires-clause-good c =
-    let old = c.args.old.now in
-    let edits = c.args.touched.now in
-    let book = c.args.book.now in
-    let place = c.loop-place.place in
-    let entry = c.entry_at-entry.result.now in
-    let at = c.entry_at-entry.ensures in
-    let more = more-next old edits book place entry c.as_slice.result.now c.loop-place.numbers.items c.in_ok-more.more at c.loop-place.invariant.0
-    c.as_slice.ensures.value c.in_ok-more.ensures in
-    more-good old edits book c.args.new.now place entry c.in_ok-more.more c.loop-place.kept c.is_net.ensures c.requires.edited c.requires.legal at
-    c.loop-place.invariant.1 more
+pub keep_entry-requires-clause-good : goal.keep_entry-requires-clause-good
+keep_entry-requires-clause-good c =
+    let at = c.loop-place in
+    let inside : c.loop-place.place < length c.args.book.now.entries = omega (arith, c.loop-place-test.true, c.len-place-end.ensures) in
+    more-good c.args.old.now c.args.touched.now c.args.book.now c.args.new.now at.place c.as_slice-known.result.now at.numbers.items at.kept
+    c.is_net.ensures c.requires.edited c.requires.legal inside at.invariant.0 c.as_slice-known.ensures.value at.invariant.1
 
 pub loop-place-preserved : goal.loop-place-preserved
 loop-place-preserved c =
-    let old = c.args.old.now in
-    let edits = c.args.touched.now in
-    let book = c.args.book.now in
-    let place = c.loop-place.place in
-    let entry = c.entry_at-entry.result.now in
-    let at = c.entry_at-entry.ensures in
-    let more = more-next old edits book place entry c.as_slice.result.now c.loop-place.numbers.items c.in_ok-more.more at c.loop-place.invariant.0
-    c.as_slice.ensures.value c.in_ok-more.ensures in (
-      more-numbers old edits book place entry c.put.new.numbers.items c.loop-place.numbers.items c.in_ok-more.more c.loop-place.kept at
-          c.loop-place.invariant.0 c.loop-place.invariant.1 more c.in_ok-put.ensures.numbers,
-      more-kept old edits book place entry c.in_ok-more.more c.loop-place.kept c.put.new.kept at c.loop-place.invariant.1 more c.in_ok-put.ensures.kept,
-      c.put.ensures.legal,
+    let at = c.loop-place in
+    let inside : c.loop-place.place < length c.args.book.now.entries = omega (arith, c.loop-place-test.true, c.len-place-end.ensures) in
+    let known = c.as_slice-known.result.now in (
+      more-numbers c.args.old.now c.args.touched.now c.args.book.now at.place known at.numbers.items c.push.new.self.items at.kept _ inside
+          at.invariant.0 c.as_slice-known.ensures.value at.invariant.1 c.in_ok-number.ensures.number c.in_ok-push.ensures.items,
+      more-kept c.args.old.now c.args.touched.now c.args.book.now at.place known at.numbers.items at.kept c.keep_entry.new.kept inside
+          at.invariant.0 c.as_slice-known.ensures.value at.invariant.1 c.in_ok-number.ensures.kept,
+      c.keep_entry.ensures.legal,
     )

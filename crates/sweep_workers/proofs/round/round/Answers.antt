@@ -1,8 +1,10 @@
-use Rattle.std.proofs.Common.{subst, IfOk, arith}
+use Rattle.std.proofs.Common.{◌≡◌, ◌==◌, ℕ, length, ap, sym, subst, IfOk, arith, ◌∙◌}
 use Rattle.board_lock.specs.Story.{Root}
 use Rattle.sweep_workers.specs.Asked.{questions}
 use Rattle.sweep_workers.specs.Answered.{AreAnswered}
 use Rattle.sweep_workers.proofs.WorkLemmas.{round-begun, works-begun, whole-begun}
+use Rattle.sweep_workers.proofs.AnswerLemmas.{none-items}
+use Rattle.sweep_workers.proofs.ClosedLemmas.{answered-none}
 use Rattle.sweep_workers.proofs.round.round.Goals as goal
 
 pub settle_round-requires-clause-round : goal.settle_round-requires-clause-round
@@ -23,3 +25,9 @@ pub returns-in-Ok : goal.returns-in-Ok
 returns-in-Ok g c =
     subst (λ (root : Root). IfOk c.settle_round.result (λ r. AreAnswered root.net (questions c.args.tasks.items) root.opening r.0))
     c.in-Ok.ensures.root c.settle_round.ensures
+
+pub returns-then-is_empty : goal.returns-then-is_empty
+returns-then-is_empty g c =
+    let count : length c.args.tasks.items ≡ c.args.tasks.len = omega (arith, c.args.tasks.ok.0) in
+    answered-none c.args.net.now (questions c.args.tasks.items) c.args.book
+    (ap questions (none-items c.args.tasks.items (ap (λ (n : ℕ). n == 0) count ∙ sym c.is_empty.ensures ∙ c.if-is_empty.true))) c.requires.legal
