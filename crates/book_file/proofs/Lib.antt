@@ -1,0 +1,10 @@
+mod CutLemmas
+mod FirstsLemmas
+mod SaidLemmas
+mod LineLemmas
+mod LoadLemmas
+mod WordLemmas
+mod TextLemmas
+mod WrittenLemmas
+mod PlaceLemmas
+mod TakenLemmas
