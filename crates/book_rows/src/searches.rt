@@ -77,8 +77,9 @@ fn found_of_output(rt: &impl Abort, alloc: Global, net: &Net, search: &mut Searc
 
 /// Whether a pattern shows the outputs to differ, and on what.
 fn found_of_patterns(rt: &impl Abort, alloc: Global, net: &Net) -> &'static str {
-    let mut sieve = Sieve::new(alloc, net, 1, 1).expect(rt, "memory");
-    match sieve.difference(alloc, net).expect(rt, "memory") {
+    let mut sieve = Sieve::new(alloc, 1, 1);
+    let book = Book::new(alloc, 1, 1);
+    match sieve.difference(alloc, net, &book).expect(rt, "memory") {
         Some(input) => which_is_true(input.as_slice()),
         None => "none",
     }

@@ -7,7 +7,7 @@ use std::sync::Wait;
 use std::thread::Threads;
 
 /// The commands of the page, in its order.
-pub(crate) const EXAMPLES: [&[&str]; 14] = [
+pub(crate) const EXAMPLES: [&[&str]; 19] = [
     &[
         "check",
         "adder_ripple.aag",
@@ -54,6 +54,29 @@ pub(crate) const EXAMPLES: [&[&str]; 14] = [
     &["check", "adder_ripple.aag", "adder_cut.aag"],
     &["lrat", "and.cnf", "and.lrat"],
     &["lrat", "and.cnf", "and_refused.lrat"],
+    &[
+        "check",
+        "and.aag",
+        "and_swapped.aag",
+        "--save",
+        "and.lemmas",
+    ],
+    &[
+        "check",
+        "and.aag",
+        "and_swapped.aag",
+        "--load",
+        "and.lemmas",
+    ],
+    &[
+        "fraig",
+        "and_twice.aag",
+        "and_once.aig",
+        "--out",
+        "and_once",
+    ],
+    &["lrat", "and_once.0.cnf", "and_once.0.lrat"],
+    &["check", "and.aag", "and_once.aig"],
 ];
 
 /// The arguments of an example, the program's name before them.

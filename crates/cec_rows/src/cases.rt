@@ -22,12 +22,17 @@ const AGAINST_FALSE_CNF: &[u8] =
 
 const CONSTANTS_CNF: &[u8] = b"p cnf 2 4\n1 0\n2 1 0\n2 -1 0\n2 0\n";
 
+/// The merge of B's gate, what shows the output equal, and the empty clause. Each step is deleted behind the
+/// last one that cites it, but for the output's unit, which the empty clause cites.
+const SWAPPED_PROOF: &[u8] = b"13 -5 4 0 5 4 6 0\n14 5 -4 0 2 3 7 0\n15 -6 4 0 13 8 0\n15 d 13 0\n\
+    16 -6 0 15 14 9 0\n16 d 14 15 0\n17 0 16 12 0\n";
+
 static SWAPPED_AND: Case<'_> = Case {
     files: &[("A", SWAPPED_A), ("B", SWAPPED_B), ("other", b"stays")],
     fails: &[9],
     left: &[
         ("p.0.cnf", Bytes(SWAPPED_CNF)),
-        ("p.0.lrat", Ends(b" 0\n")),
+        ("p.0.lrat", Bytes(SWAPPED_PROOF)),
         ("other", Bytes(b"stays")),
     ],
     ..EQUIVALENT

@@ -169,14 +169,14 @@ pub(crate) fn expect(rt: &impl Abort, what: &str, is_so: bool) {
     assert!(rt; is_so, "{what}");
 }
 
-/// The words of a case with so many workers, if they ask for a check; else the words alone.
+/// The words of a case with so many workers, if they ask for a check or a reduced circuit; else the words alone.
 fn words_by<'a>(
     alloc: Global,
     words: &[&'a str],
     many: &'a str,
 ) -> Result<Vec<&'a str>, AllocError> {
     let mut all = Vec::from_slice(alloc, words)?;
-    if words.first() == Some(&"check") {
+    if words.first() == Some(&"check") || words.first() == Some(&"fraig") {
         all.push("--workers")?;
         all.push(many)?;
     }

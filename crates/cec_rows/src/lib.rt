@@ -5,9 +5,9 @@
 //! `cases.rt` has checks of two files, `constraints.rt` those of circuits with constraints, `names.rt` those
 //! whose circuits are matched by name, `books.rt` what stands in the books that they hand back, `own.rt`
 //! checks of circuits that the program makes, `shapes.rt` answers whose shape a small case doesn't reach,
-//! `faults.rt` checks in which each call of the desk fails in turn, `scripts.rt` checks with an edit script
+//! `lemmas.rt` those that load lemmas and save them, `faults.rt` checks in which each call of the desk fails in turn, `scripts.rt` checks with an edit script
 //! between, `script_faults.rt` those in which a call fails, `script_cuts.rt` those whose script is cut at
-//! each byte, `meeting.rt` a gate at which two workers of a check have to meet, `proofs.rt` the check of
+//! each byte, `reduced.rt` circuits that are reduced, `meeting.rt` a gate at which two workers of a check have to meet, `proofs.rt` the check of
 //! proofs, forged ones among them, `readers.rt` files that are refused, and those that are cut at each byte.
 //! `files.rt` has the circuits that most of them use, and `desk.rt` runs the program on a table of files and
 //! words. Begin to read at `cases.rt`.
@@ -26,6 +26,8 @@ mod faults;
 #[cfg(test)]
 mod files;
 #[cfg(test)]
+mod lemmas;
+#[cfg(test)]
 mod meeting;
 #[cfg(test)]
 mod names;
@@ -35,6 +37,8 @@ mod own;
 mod proofs;
 #[cfg(test)]
 mod readers;
+#[cfg(test)]
+mod reduced;
 #[cfg(test)]
 mod script_cuts;
 #[cfg(test)]

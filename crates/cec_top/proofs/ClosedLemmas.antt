@@ -1,5 +1,5 @@
 -- No file is left started by a run that neither failed to write nor ran out of memory.
-use Rattle.std.proofs.Common.{◌≡◌, ℕ, ◌+◌, ◌<◌, ◌≤◌, inl, inr, List, [], ◌∷◌, None, Err, refl, ap, ◌∙◌, subst, arith}
+use Rattle.std.proofs.Common.{◌≡◌, ℕ, ◌+◌, ◌<◌, ◌≤◌, inl, inr, List, [], ◌∷◌, ◌++◌, None, Err, refl, ap, ◌∙◌, subst, arith}
 use Rattle.std.specs.Prelude.{string_bytes}
 use Rattle.std.proofs.lemmas.Option.{none-some}
 use Rattle.desk_port.specs.Desk.{DeskState, after_read}
@@ -10,7 +10,7 @@ use Rattle.endings.specs.Status.{code_of}
 use Rattle.endings.specs.declared.stop.Stop.{Stop}
 use Rattle.endings.specs.declared.stop.Stop.TheVariants.{CannotRead, TooLong, BadFile, NotAlike, CannotWrite, OutOfMemory}
 use Rattle.endings.specs.Reading.{Input, ReadsUpTo, after_reads}
-use Rattle.endings.specs.Writing.{Output, Leaves, after_file, after_files}
+use Rattle.endings.specs.Writing.{Output, Leaves, StopsAmong, after_file, after_files}
 use Rattle.endings.specs.Stops.{EndsBy, IsWarned, Warns, status_of, stop_line}
 use Rattle.lrat_run.specs.Files.{inputs_of}
 use Rattle.lrat_run.specs.Texts.{verdict_line}
@@ -20,12 +20,13 @@ use Rattle.command_line.specs.declared.reading.Refusal.{Refusal}
 use Rattle.command_line.specs.declared.reading.Refusal.TheVariants.{Help, Usage, NoMemory}
 use Rattle.cec_top.specs.declared.kept.Kept.{Kept}
 use Rattle.cec_top.specs.Script.{Plan, plan_of}
-use Rattle.cec_top.specs.Check.{How, Made, AreTold, StopsChecks, outputs_of, text_of_check}
-use Rattle.cec_top.specs.Answers.{AnswersCheck, Stops, SaysHelp, pair_of, script_of, after_pair, at_start, how_of}
-use Rattle.cec_top.specs.SelfCheck.{AnswersSelf, StopsSelf, after_workload, only, own_how}
+use Rattle.cec_top.specs.Check.{How, Made, Opening, AreTold, StopsChecks, outputs_of, saved_of, text_of_check}
+use Rattle.cec_top.specs.Answers.{AnswersCheck, OpensNot, Stops, StopsLater, SaysHelp, lemmas_of, pair_of, script_of, after_lemmas, after_pair, at_start, how_of}
+use Rattle.cec_top.specs.SelfCheck.{AnswersSelf, StopsSelf, after_workload, only, own_how, own_opening}
 use Rattle.cec_top.specs.Texts.{workload_text}
 use Rattle.cec_top.specs.Steps.{AnswersRefusal}
-use Rattle.cec_top.proofs.HeadlineLemmas.{start-keeps}
+use Rattle.cec_top.proofs.SavingLemmas.{start-keeps}
+use Rattle.cec_top.proofs.TellLemmas.{stops-among}
 use Rattle.cec_top.proofs.ToldLemmas.{left-whole}
 
 -- no file is started
@@ -38,15 +39,15 @@ IsOther stop = code_of (status_of stop) < 6
 
 -- ---- what is read, left, said and warned
 
-after-reads-closed : (is : List Input) (s : DeskState) → IsClosed s → IsClosed (after_reads s is)
+pub after-reads-closed : (is : List Input) (s : DeskState) → IsClosed s → IsClosed (after_reads s is)
 after-reads-closed [] s none = none
 after-reads-closed (i ∷ is) s none = after-reads-closed is (after_read s i.name) none
 
-after-files-closed : (os : List Output) (s : DeskState) → IsClosed s → IsClosed (after_files s os)
+pub after-files-closed : (os : List Output) (s : DeskState) → IsClosed s → IsClosed (after_files s os)
 after-files-closed [] s none = none
 after-files-closed (o ∷ os) s none = after-files-closed os (after_file s o) refl
 
-told-closed : (how : How) (number : ℕ) (made : List Made) (old new : DeskState) → AreTold how number made old new → IsClosed old → IsClosed new
+pub told-closed : (how : How) (number : ℕ) (made : List Made) (old new : DeskState) → AreTold how number made old new → IsClosed old → IsClosed new
 told-closed how number [] old new told none = ap (λ (s : DeskState). s.started) told ∙ none
 told-closed how number (m ∷ ms) old new told none =
     let os = outputs_of how.out number m in
@@ -96,7 +97,7 @@ ends-closed names Cause new status p closed below = go p.warns
         (closed p.mid p.stop p.cause (subst (λ (s : Status). code_of s < 6) w.0 below))
     go (inr w) = absurd (omega (arith, below, ap code_of w.0))
 
-reads-closed : (k : ℕ) (earlier : List (List ℕ)) (is : List Input) (old new : DeskState) (stop : Stop) → ReadsUpTo k earlier is old new stop
+pub reads-closed : (k : ℕ) (earlier : List (List ℕ)) (is : List Input) (old new : DeskState) (stop : Stop) → ReadsUpTo k earlier is old new stop
     → IsOther stop → IsClosed old → IsClosed new
 reads-closed k earlier [] old new stop p other none = absurd p
 reads-closed k earlier (i ∷ is) old new stop (inr p) other none = reads-closed (k + 1) _ is (after_read old i.name) new stop p.3 other none
@@ -107,33 +108,53 @@ reads-closed k earlier (i ∷ is) old new OutOfMemory (inl p) other none = absur
 reads-closed k earlier (i ∷ is) old new (NotAlike text) (inl p) other none = absurd p
 reads-closed k earlier (i ∷ is) old new CannotWrite (inl p) other none = absurd p
 
-checks-closed : (how : How) (plan : Plan) (old new : DeskState) (kept : List Kept) (stop : Stop) → StopsChecks how plan old kept new stop
+checks-closed : (how : How) (from : Opening) (plan : Plan) (old new : DeskState) (kept : List Kept) (stop : Stop) → StopsChecks how from plan old kept new stop
     → IsOther stop → IsClosed old → IsClosed new
-checks-closed how plan old new kept stop (inl p) other none = absurd (omega (arith, other, leaves-code _ _ p.mid new stop p.breaks))
-checks-closed how plan old new kept stop (inr (inl p)) other none = absurd (omega (arith, other, memory-code stop p.out))
-checks-closed how plan old new kept stop (inr (inr p)) other none = told-closed how 0 p.made old new p.whole.told none
+checks-closed how from plan old new kept stop (inl p) other none = absurd (omega (arith, other, leaves-code _ _ p.mid new stop p.breaks))
+checks-closed how from plan old new kept stop (inr (inl p)) other none = absurd (omega (arith, other, memory-code stop p.out))
+checks-closed how from plan old new kept stop (inr (inr p)) other none = told-closed how 0 p.made old new p.whole.told none
 
 -- where no line is refused, checks stop for those causes alone
-pub checks-code : (how : How) (net : AigPair) (old new : DeskState) (kept : List Kept) (stop : Stop)
-    → StopsChecks how (plan_of net []) old kept new stop → 6 ≤ code_of (status_of stop)
-checks-code how net old new kept stop (inl p) = leaves-code _ _ p.mid new stop p.breaks
-checks-code how net old new kept stop (inr (inl p)) = memory-code stop p.out
-checks-code how net old new kept stop (inr (inr p)) = absurd (none-some p.line p.refused)
+pub checks-code : (how : How) (from : Opening) (net : AigPair) (old new : DeskState) (kept : List Kept) (stop : Stop)
+    → StopsChecks how from (plan_of net []) old kept new stop → 6 ≤ code_of (status_of stop)
+checks-code how from net old new kept stop (inl p) = leaves-code _ _ p.mid new stop p.breaks
+checks-code how from net old new kept stop (inr (inl p)) = memory-code stop p.out
+checks-code how from net old new kept stop (inr (inr p)) = absurd (none-some p.line p.refused)
 
 -- ---- each command
+
+-- writing files stops for a failed write or for want of memory
+pub among-code : (os : List Output) (s t : DeskState) (stop : Stop) → StopsAmong os s t stop → 6 ≤ code_of (status_of stop)
+among-code os s t stop p = leaves-code os [] s t stop (stops-among os s t stop p [])
 
 pub check-closed : (c : CheckCommand) (old new : DeskState) (status : Status) (kept : List Kept) → AnswersCheck c old new status kept
     → code_of status < 6 → IsClosed old → IsClosed new
 check-closed c old new status kept (inl p) below none =
-    told-closed (how_of c) 0 p.ends.made (at_start c old) new p.ends.whole.told ((start-keeps c old).started ∙ none)
+    let mid = told-closed (how_of c) 0 p.ends.made (at_start c old p.lemmas p.from) p.mid p.ends.whole.told
+    ((start-keeps c old p.lemmas p.from).started ∙ none) in
+    ap (λ (s : DeskState). s.started) p.saved ∙ after-files-closed (saved_of c.save kept) p.mid mid
 check-closed c old new status kept (inr p) below none = ends-closed _ _ new status p causes below
   where
+    opens-not : (mid : DeskState) (stop : Stop) → OpensNot c old mid stop → 6 ≤ code_of (status_of stop)
+    opens-not mid stop q = elim q.stops [
+      | inl r ↦ memory-code stop r.0
+      | inr r ↦ leaves-code [] _ (after_lemmas c old) mid stop r.2
+    ]
+
+    later : (mid : DeskState) (stop : Stop) → StopsLater c old kept mid stop → IsOther stop → IsClosed mid
+    later mid stop q other = elim q.stops [
+      | inl r ↦ checks-closed (how_of c) q.from (plan_of q.net q.lines) (at_start c old q.lemmas q.from) mid kept stop r other
+          ((start-keeps c old q.lemmas q.from).started ∙ none)
+      | inr r ↦ absurd (omega (arith, other, among-code (saved_of c.save kept) r.mid mid stop r.stops))
+    ]
+
     causes : (mid : DeskState) (stop : Stop) → Stops c old kept mid stop → IsOther stop → IsClosed mid
     causes mid stop (inl q) other = reads-closed 0 [] (pair_of c) old mid stop q.1 other none
     causes mid stop (inr (inl q)) other = ap (λ (s : DeskState). s.started) q.1.new_is ∙ none
-    causes mid stop (inr (inr (inl q))) other = reads-closed 2 _ (script_of c) (after_pair c old) mid stop q.1.stops other none
-    causes mid stop (inr (inr (inr q))) other =
-        checks-closed (how_of c) (plan_of q.net q.lines) (at_start c old) mid kept stop q.stops other ((start-keeps c old).started ∙ none)
+    causes mid stop (inr (inr (inl q))) other =
+        reads-closed 2 _ (script_of c ++ lemmas_of c.load) (after_pair c old) mid stop q.1.stops other none
+    causes mid stop (inr (inr (inr (inl q)))) other = absurd (omega (arith, other, opens-not mid stop q.1))
+    causes mid stop (inr (inr (inr (inr q)))) other = later mid stop q other
 
 pub self-closed : (c : SelfCommand) (old new : DeskState) (status : Status) (kept : List Kept) → AnswersSelf c old new status kept
     → code_of status < 6 → IsClosed old → IsClosed new
@@ -143,7 +164,7 @@ self-closed c old new status kept (inr p) below none = ends-closed _ _ new statu
   where
     causes : (mid : DeskState) (stop : Stop) → StopsSelf c old kept mid stop → IsOther stop → IsClosed mid
     causes mid stop (inl q) other = absurd (omega (arith, other, leaves-code [] (workload_text c q.net) old mid stop q.breaks))
-    causes mid stop (inr (inl q)) other = checks-closed own_how (only q.net) (after_workload c q.net old) mid kept stop q.stops other none
+    causes mid stop (inr (inl q)) other = checks-closed own_how (own_opening q.net) (only q.net) (after_workload c q.net old) mid kept stop q.stops other none
     causes mid stop (inr (inr q)) other = absurd (omega (arith, other, memory-code stop q.out))
 
 lrat-ends-closed : (cnf proof : List ℕ) (old new : DeskState) (status : Status)

@@ -21,18 +21,23 @@ use Rattle.endings.specs.declared.stop.Stop.TheVariants.{CannotRead, TooLong, Ba
 use Rattle.endings.specs.Reading.{FileIs, StopsAt, ReadsUpTo, limit}
 use Rattle.endings.specs.Writing.{Output, Leaves, after_file}
 use Rattle.endings.specs.Stops.{IsWarned, Warns, status_of, stop_line}
-use Rattle.command_line.specs.Words.{CheckCommand, Request, CheckIt, LratIt, SelfIt, Asks, WantInfo, AreRefused}
+use Rattle.command_line.specs.Words.{CheckCommand, Request, CheckIt, FraigIt, LratIt, SelfIt, Asks, WantInfo, AreRefused}
 use Rattle.cec_top.specs.declared.kept.Kept.{Kept}
+use Rattle.book_file.specs.Reading.{SpellsBook}
+use Rattle.lemma_book.specs.declared.entry.Entry.{Entry}
 use Rattle.netlist_edits.specs.Script.{script_lines}
-use Rattle.cec_top.specs.Headline.{SpellPair, IsScript}
+use Rattle.cec_top.specs.Headline.{AreLemmas, SpellPair, IsScript}
 use Rattle.cec_top.specs.Script.{Due, Plan, plan_of}
 use Rattle.check_session.specs.Finding.{Finding, Equivalent, Different, Undecided}
 use Rattle.check_session.specs.Check.{IsWithinFor}
-use Rattle.cec_top.specs.Check.{How, status_of_finding, BreaksOff, due_of, StopsChecks, outputs_of as files_of, text_of_check}
-use Rattle.cec_top.specs.Answers.{fault_in, Answers, AnswersCheck, AreUnlike, AsksFor, Stops, IsAtOnce, circuit_file, pair_of, script_file, how_of, after_pair, at_start}
+use Rattle.cec_top.specs.Check.{How, Opening, status_of_finding, BreaksOff, due_of, saved_of, StopsChecks, outputs_of as files_of, text_of_check}
+use Rattle.cec_top.specs.Answers.{Answers, AnswersCheck, AreUnlike, AsksFor, OpensNot, Stops, StopsLater, IsAtOnce, pair_of, lemmas_of, how_of, after_lemmas, after_pair, at_start, opening_text}
+use Rattle.cec_top.specs.Inputs.{fault_in, lemma_fault_in, circuit_file, script_file}
 use Rattle.cec_top.specs.Complete.{NoFault, IsWithinLimit, CanCheck, IsAmple, HasVerdict}
 use Rattle.cec_top.proofs.VerdictLemmas.{all-last, is-last, made-last}
-use Rattle.cec_top.proofs.HeadlineLemmas.{FileSpells, ends-code, spells-pair, spells-script, start-keeps}
+use Rattle.cec_top.proofs.HeadlineLemmas.{FileSpells, ends-code, spells-pair, spells-script}
+use Rattle.cec_top.proofs.SavingLemmas.{lemmas-keep, start-keeps}
+use Rattle.cec_top.proofs.TellLemmas.{stops-among}
 use Rattle.cec_top.proofs.ToldLemmas.{all-left}
 use Rattle.cec_top.proofs.WordsLemmas.{check_or, same_request}
 
@@ -66,15 +71,15 @@ leaves-stops (o ∷ os) text s t (BadFile file why) (inl p) = absurd p
 leaves-stops (o ∷ os) text s t (NotAlike why) (inl p) = absurd p
 
 -- what stops the checks that are asked for, where no line is refused
-module _ (how : How) (plan : Plan) (accepted : plan.refused ≡ None) (old new : DeskState) (kept : List Kept) (stop : Stop) where
-  breaks-stop : BreaksOff how plan old new kept stop → (stop ≡ OutOfMemory) ⊎ Rose old.write_faults new.write_faults
+module _ (how : How) (from : Opening) (plan : Plan) (accepted : plan.refused ≡ None) (old new : DeskState) (kept : List Kept) (stop : Stop) where
+  breaks-stop : BreaksOff how from plan old new kept stop → (stop ≡ OutOfMemory) ⊎ Rose old.write_faults new.write_faults
   breaks-stop p = go (leaves-stops (files_of how.out (length p.made) p.half) (text_of_check how.out p.half) p.mid new stop p.breaks)
     where
       go : (stop ≡ OutOfMemory) ⊎ Rose p.mid.write_faults new.write_faults → (stop ≡ OutOfMemory) ⊎ Rose old.write_faults new.write_faults
       go (inl e) = inl e
       go (inr r) = inr (subst (λ (n : ℕ). Rose n new.write_faults) (all-left how 0 p.made old p.mid p.before.told).writes r)
 
-  pub checks-stop : StopsChecks how plan old kept new stop → (stop ≡ OutOfMemory) ⊎ Rose old.write_faults new.write_faults
+  pub checks-stop : StopsChecks how from plan old kept new stop → (stop ≡ OutOfMemory) ⊎ Rose old.write_faults new.write_faults
   checks-stop (inl p) = breaks-stop p
   checks-stop (inr (inl p)) = inl p.out
   checks-stop (inr (inr p)) = absurd (none-some p.line (sym accepted ∙ p.refused))
@@ -94,7 +99,7 @@ module _ (s : DeskState) (files : Files) (told : s.files ≡ Some files) (name :
   spelt : (bytes : List ℕ) → FileIs s name bytes → SpellsAiger bytes c
   spelt bytes is = spelt-at (files name) spells bytes (subst (λ (o : Option Files). IfSome o (λ f. f name ≡ Some bytes)) told is.0)
 
-  stops-file : (k : ℕ) (earlier : List (List ℕ)) (t : DeskState) (stop : Stop) → StopsAt k (circuit_file name) earlier s t stop
+  pub stops-file : (k : ℕ) (earlier : List (List ℕ)) (t : DeskState) (stop : Stop) → StopsAt k (circuit_file name) earlier s t stop
       → (stop ≡ OutOfMemory) ⊎ Rose s.read_faults t.read_faults
   stops-file k earlier t (CannotRead j) p = inr p.1.rose
   stops-file k earlier t (TooLong j) p =
@@ -168,12 +173,31 @@ module _ (c : CheckCommand) (old : DeskState) (can : CanCheck c old) (kept : Lis
       (alike-from can.net.a can.net.b can.pair.inputs can.pair.outputs) in
       absurd (none-some p.unlike (sym alike ∙ p.differ))
 
-  -- the script is read
-  not-long : (name : Option (List ℕ)) → IfSome name (IsWithinLimit can.files) → (earlier : List (List ℕ)) (s new : DeskState) (stop : Stop)
-      → s.files ≡ Some can.files → ReadsUpTo 2 earlier (option_to_list (option_map script_file name)) s new stop
+  -- the lemmas are read
+  not-bad : (k : ℕ) (load : Option (List ℕ)) → AreLemmas load can.files can.lemmas → IfSome load (IsWithinLimit can.files)
+      → (earlier : List (List ℕ)) (s new : DeskState) (stop : Stop) → s.files ≡ Some can.files → ReadsUpTo k earlier (lemmas_of load) s new stop
       → (stop ≡ OutOfMemory) ⊎ Rose s.read_faults new.read_faults
-  not-long None within earlier s new stop told p = absurd p
-  not-long (Some name) within earlier s new stop told (inr p) = absurd p.3
+  not-bad k None spelled within earlier s new stop told p = absurd p
+  not-bad k (Some name) spelled within earlier s new stop told (inr p) = absurd p.3
+  not-bad k (Some name) spelled within earlier s new (CannotRead j) told (inl p) = inr p.1.rose
+  not-bad k (Some name) spelled within earlier s new (TooLong j) told (inl p) =
+      absurd (too-long (can.files name) (subst (λ (o : Option Files). IfSome o (λ f. HasMore f name limit)) told p.1) within)
+  not-bad k (Some name) spelled within earlier s new (BadFile j text) told (inl p) =
+      let there : can.files name ≡ Some p.1.0 = subst (λ (o : Option Files). IfSome o (λ f. f name ≡ Some p.1.0)) told p.1.1.0 in
+      let read = subst (λ (o : Option (List ℕ)). IsSomeAnd o (λ b. (entries : List Entry) × SpellsBook b entries × (can.lemmas ≡ Some entries)))
+      there spelled in
+      absurd (none-some _ (sym (ap lemma_fault_in read.1) ∙ p.1.2))
+  not-bad k (Some name) spelled within earlier s new OutOfMemory told (inl p) = inl refl
+  not-bad k (Some name) spelled within earlier s new (NotAlike text) told (inl p) = absurd p
+  not-bad k (Some name) spelled within earlier s new CannotWrite told (inl p) = absurd p
+
+  -- and so is the script before them
+  not-long : (name : Option (List ℕ)) → IfSome name (IsWithinLimit can.files) → (earlier : List (List ℕ)) (s new : DeskState) (stop : Stop)
+      → s.files ≡ Some can.files → ReadsUpTo 2 earlier (option_to_list (option_map script_file name) ++ lemmas_of c.load) s new stop
+      → (stop ≡ OutOfMemory) ⊎ Rose s.read_faults new.read_faults
+  not-long None within earlier s new stop told p = not-bad 2 c.load can.spelled can.load earlier s new stop told p
+  not-long (Some name) within earlier s new stop told (inr p) =
+      not-bad 3 c.load can.spelled can.load _ (after_read s name) new stop told p.3
   not-long (Some name) within earlier s new (CannotRead j) told (inl p) = inr p.1.rose
   not-long (Some name) within earlier s new (TooLong j) told (inl p) =
       absurd (too-long (can.files name) (subst (λ (o : Option Files). IfSome o (λ f. HasMore f name limit)) told p.1) within)
@@ -183,24 +207,45 @@ module _ (c : CheckCommand) (old : DeskState) (can : CanCheck c old) (kept : Lis
   not-long (Some name) within earlier s new CannotWrite told (inl p) = absurd p
 
   -- and no line of it is refused
-  line-accepted : (net : AigPair) (lines : List (List ℕ)) → AsksFor c old net lines → (plan_of net lines).refused ≡ None
-  line-accepted net lines asks =
+  line-accepted : (net : AigPair) (lines : List (List ℕ)) (lemmas : Option (List Entry)) → AsksFor c old net lines lemmas
+      → (plan_of net lines).refused ≡ None
+  line-accepted net lines lemmas asks =
       let same : net ≡ can.net = pair-one c can.files net can.net (spells-pair c old can.files can.told net asks.pair) can.pair in
       let lines_same : lines ≡ can.lines =
-      script-one c.edits can.files lines can.lines (spells-script c old can.files can.told net lines asks).0 can.script in
+      script-one c.edits can.files lines can.lines (spells-script c old can.files can.told net lines lemmas asks).0 can.script in
       ap₂ (λ (n : AigPair) (ls : List (List ℕ)). (plan_of n ls).refused) same lines_same ∙ can.accepted
+
+  -- what stops behind that, where the count of failed writes was as at first
+  excused-write : (mid new : DeskState) (stop : Stop) → mid.write_faults ≡ old.write_faults
+      → (stop ≡ OutOfMemory) ⊎ Rose mid.write_faults new.write_faults → IsExcused old new stop
+  excused-write mid new stop same (inl e) = inl e
+  excused-write mid new stop same (inr r) = inr (inr (subst (λ (n : ℕ). Rose n new.write_faults) same r))
+
+  opens-excused : (new : DeskState) (stop : Stop) → OpensNot c old new stop → IsExcused old new stop
+  opens-excused new stop p = elim p.stops [
+    | inl q ↦ inl q.0
+    | inr q ↦ excused-write (after_lemmas c old) new stop (lemmas-keep c old).writes
+        (leaves-stops [] (opening_text (Some p.entries) q.0) (after_lemmas c old) new stop q.2)
+  ]
+
+  later-excused : (new : DeskState) (stop : Stop) → StopsLater c old kept new stop → IsExcused old new stop
+  later-excused new stop p =
+      let start : DeskState = at_start c old p.lemmas p.from in
+      let same : start.write_faults ≡ old.write_faults = (start-keeps c old p.lemmas p.from).writes in
+      elim p.stops [
+        | inl q ↦ excused-write start new stop same
+            (checks-stop (how_of c) p.from (plan_of p.net p.lines) (line-accepted p.net p.lines p.lemmas p.asks) start new kept stop q)
+        | inr q ↦ excused-write q.mid new stop ((all-left (how_of c) 0 q.ends.made start q.mid q.ends.whole.told).writes ∙ same)
+            (leaves-stops (saved_of c.save kept) [] q.mid new stop (stops-among (saved_of c.save kept) q.mid new stop q.stops []))
+      ]
 
   pub stops-excused : (new : DeskState) (stop : Stop) → Stops c old kept new stop → IsExcused old new stop
   stops-excused new stop (inl p) = reads-stop new stop p.1
   stops-excused new stop (inr (inl p)) = not-unlike new stop p.1
   stops-excused new stop (inr (inr (inl p))) =
       excused-read old new stop (not-long c.edits can.edits _ (after_pair c old) new stop can.told p.1.stops)
-  stops-excused new stop (inr (inr (inr p))) =
-      go (checks-stop (how_of c) (plan_of p.net p.lines) (line-accepted p.net p.lines p.asks) (at_start c old) new kept stop p.stops)
-    where
-      go : (stop ≡ OutOfMemory) ⊎ Rose (at_start c old).write_faults new.write_faults → IsExcused old new stop
-      go (inl e) = inl e
-      go (inr r) = inr (inr (subst (λ (n : ℕ). Rose n new.write_faults) (start-keeps c old).writes r))
+  stops-excused new stop (inr (inr (inr (inl p)))) = opens-excused new stop p.1
+  stops-excused new stop (inr (inr (inr (inr p)))) = later-excused new stop p
 
 -- the warning changes no count of reads or writes
 pub warned-counts : (mid new : DeskState) (line : List ℕ) → IsWarned mid new line
@@ -227,7 +272,7 @@ excused-verdict line old mid new stop status none (inl w) (inr (inr writes)) =
 pub check-complete : (c : CheckCommand) (old new : DeskState) (status : Status) (kept : List Kept) → CanCheck c old → NoFault old new
     → AnswersCheck c old new status kept → HasVerdict status
 check-complete c old new status kept can none (inl p) =
-    let l = is-last (how_of c) p.net p.lines (at_start c old) new status kept p.ends in
+    let l = is-last (how_of c) p.from p.net p.lines (at_start c old p.lemmas p.from) p.mid status kept p.ends in
     inl (subst (λ (s : Status). code_of s ≤ 2) l.status_is (finding-code l.last.finding))
 check-complete c old new status kept can none (inr p) =
     excused-verdict _ old p.mid new p.stop status none p.warns (stops-excused c old can kept p.mid p.stop p.cause)
@@ -243,9 +288,10 @@ within-code net budget (Different j input) within code = cc
 check-decided : (c : CheckCommand) (old new : DeskState) (status : Status) (kept : List Kept) → IsAmple c old
     → AnswersCheck c old new status kept → code_of status ≢ 2
 check-decided c old new status kept ample (inl p) = λ code.
-    let l = is-last (how_of c) p.net p.lines (at_start c old) new status kept p.ends in
-    let script = spells-script c old ample.files ample.told p.net p.lines p.asks in
-    let settled = (made-last c kept p.net p.lines script.1 (at_start c old) new l.earlier l.last l.whole l.keeps).settled in
+    let start : DeskState = at_start c old p.lemmas p.from in
+    let l = is-last (how_of c) p.from p.net p.lines start p.mid status kept p.ends in
+    let script = spells-script c old ample.files ample.told p.net p.lines p.lemmas p.asks in
+    let settled = (made-last c kept p.from p.net p.lines script.1 start p.mid l.earlier l.last l.whole l.keeps).settled in
     let within : l.last.book.out_budget ≤ 3 ^ length (variables_of l.last.net) =
     within-code l.last.net l.last.book.out_budget l.last.finding settled.within (ap code_of l.status_is ∙ code) in
     let same : p.net ≡ ample.net = pair-one c ample.files p.net ample.net (spells-pair c old ample.files ample.told p.net p.asks.pair) ample.pair in
@@ -275,9 +321,10 @@ module _ (words : List (List ℕ)) (old new : DeskState) (status : Status) (kept
         check-complete c old new status kept can none (subst (λ (d : CheckCommand). AnswersCheck d old new status kept) same p.answers)
     | inr (inl p) ↦ let t : LratIt p.command ≡ CheckIt c = same_request words (LratIt p.command) (CheckIt c) p.asked asks in cc
     | inr (inr (inl p)) ↦ let t : SelfIt p.command ≡ CheckIt c = same_request words (SelfIt p.command) (CheckIt c) p.asked asks in cc
-    | inr (inr (inr (inl p))) ↦ absurd (asked words (CheckIt c) asks (inl p.wanted))
-    | inr (inr (inr (inr (inl p)))) ↦ absurd (asked words (CheckIt c) asks (inr p.refused))
-    | inr (inr (inr (inr (inr p)))) ↦ at-once old new status p.ends.stop p.ends.mid p.ends.cause p.ends.warns
+    | inr (inr (inr (inl p))) ↦ let t : FraigIt p.command ≡ CheckIt c = same_request words (FraigIt p.command) (CheckIt c) p.asked asks in cc
+    | inr (inr (inr (inr (inl p)))) ↦ absurd (asked words (CheckIt c) asks (inl p.wanted))
+    | inr (inr (inr (inr (inr (inl p))))) ↦ absurd (asked words (CheckIt c) asks (inr p.refused))
+    | inr (inr (inr (inr (inr (inr p))))) ↦ at-once old new status p.ends.stop p.ends.mid p.ends.cause p.ends.warns
   ]
 
   pub decided : (c : CheckCommand) → Asks words (CheckIt c) → IsAmple c old → code_of status ≢ 2
@@ -287,7 +334,8 @@ module _ (words : List (List ℕ)) (old new : DeskState) (status : Status) (kept
         check-decided c old new status kept ample (subst (λ (d : CheckCommand). AnswersCheck d old new status kept) same p.answers) code
     | inr (inl p) ↦ let t : LratIt p.command ≡ CheckIt c = same_request words (LratIt p.command) (CheckIt c) p.asked asks in cc
     | inr (inr (inl p)) ↦ let t : SelfIt p.command ≡ CheckIt c = same_request words (SelfIt p.command) (CheckIt c) p.asked asks in cc
-    | inr (inr (inr (inl p))) ↦ absurd (asked words (CheckIt c) asks (inl p.wanted))
-    | inr (inr (inr (inr (inl p)))) ↦ absurd (asked words (CheckIt c) asks (inr p.refused))
-    | inr (inr (inr (inr (inr p)))) ↦ absurd (omega (arith, code, ends-code _ _ new status p.ends))
+    | inr (inr (inr (inl p))) ↦ let t : FraigIt p.command ≡ CheckIt c = same_request words (FraigIt p.command) (CheckIt c) p.asked asks in cc
+    | inr (inr (inr (inr (inl p)))) ↦ absurd (asked words (CheckIt c) asks (inl p.wanted))
+    | inr (inr (inr (inr (inr (inl p))))) ↦ absurd (asked words (CheckIt c) asks (inr p.refused))
+    | inr (inr (inr (inr (inr (inr p))))) ↦ absurd (omega (arith, code, ends-code _ _ new status p.ends))
   ]

@@ -23,7 +23,8 @@ use Rattle.endings.specs.Reading.{Input, AreRead, FileIs, after_reads, limit}
 use Rattle.cec_top.specs.declared.kept.Kept.{Kept}
 use Rattle.cec_top.specs.Headline.{SpellPair, IsScript, HasBook, HandsBack}
 use Rattle.cec_top.specs.Check.{How, Made, IsMade, kept_from, kept_of}
-use Rattle.cec_top.specs.Answers.{AreAlike, AsksFor, after_pair, at_start, script_file, script_of}
+use Rattle.cec_top.specs.Answers.{AreAlike, AsksFor, after_pair}
+use Rattle.cec_top.specs.Inputs.{script_file}
 use Rattle.cec_top.proofs.PlanLemmas.{script-count}
 use Rattle.cec_top.proofs.ToldLemmas.{told_of, tolds}
 use Rattle.cec_top.proofs.KeptLemmas.{has-last, kept-numbers}
@@ -112,19 +113,14 @@ reads-keep (i ∷ is) s =
     let k = reads-keep is (after_read s i.name) in
     record { files = k.files; said = k.said; warned = k.warned; started = k.started; reads = k.reads; writes = k.writes; warns = k.warns }
 
-pub start-keeps : (c : CheckCommand) (old : DeskState) → IsRead old (at_start c old)
-start-keeps c old =
-    let k = reads-keep (script_of c) (after_pair c old) in
-    record { files = k.files; said = k.said; warned = k.warned; started = k.started; reads = k.reads; writes = k.writes; warns = k.warns }
-
 pub spells-script : (c : CheckCommand) (s : DeskState) (files : Files) → s.files ≡ Some files → (net : AigPair) (lines : List (List ℕ))
-    → AsksFor c s net lines → IsScript c.edits files lines × (length lines ≤ limit)
-spells-script c s files told net lines asks =
+    (lemmas : Option (List Entry)) → AsksFor c s net lines lemmas → IsScript c.edits files lines × (length lines ≤ limit)
+spells-script c s files told net lines lemmas asks =
     script-spells (after_pair c s) files told _ c.edits asks.script.scripts lines asks.script.read asks.script.lines_are
 
 pub within-script : (c : CheckCommand) (s : DeskState) (files : Files) → s.files ≡ Some files → (net : AigPair) (lines : List (List ℕ))
-    → AsksFor c s net lines → (name : List ℕ) → c.edits ≡ Some name → IsSomeAnd (files name) (λ bytes. length bytes ≤ limit)
-within-script c s files told net lines asks name is =
+    (lemmas : Option (List Entry)) → AsksFor c s net lines lemmas → (name : List ℕ) → c.edits ≡ Some name → IsSomeAnd (files name) (λ bytes. length bytes ≤ limit)
+within-script c s files told net lines lemmas asks name is =
     let earlier : List (List ℕ) = asks.pair.reads.a ∷ asks.pair.reads.b ∷ [] in
     script-within (after_pair c s) files told earlier name asks.script.scripts
     (subst (λ (e : Option (List ℕ)). AreRead (after_pair c s) earlier (option_to_list (option_map script_file e)) asks.script.scripts) is

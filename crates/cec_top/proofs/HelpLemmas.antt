@@ -29,8 +29,8 @@ ran-out bytes old mid not_put.Failed is p = cc
 pub refusal-answers : (words : List (List ℕ)) (old new : DeskState) (status : Status) (kept : List Kept) (r : Refusal)
     → MayRefuse words r → kept ≡ [] → AnswersRefusal r old new status → Answers words old new status kept
 refusal-answers words old new status kept (Help text) may none says =
-    inr (inr (inr (inl (record { wanted = may.wanted; none = none; text = string_bytes text; version = may.version; says = says }))))
+    inr (inr (inr (inr (inl (record { wanted = may.wanted; none = none; text = string_bytes text; version = may.version; says = says })))))
 refusal-answers words old new status kept (Usage text) may none warns =
-    inr (inr (inr (inr (inl (record { refused = may.0; none = none; text = string_bytes text; named = may.1; warns = warns })))))
+    inr (inr (inr (inr (inr (inl (record { refused = may.0; none = none; text = string_bytes text; named = may.1; warns = warns }))))))
 refusal-answers words old new status kept NoMemory may none ends =
-    inr (inr (inr (inr (inr (record { none = none; ends = ends })))))
+    inr (inr (inr (inr (inr (inr (record { none = none; ends = ends }))))))

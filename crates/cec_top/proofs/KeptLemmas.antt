@@ -1,5 +1,5 @@
 -- The books that are handed back for checks, and what is promised of each.
-use Rattle.std.proofs.Common.{◌≡◌, ℕ, suc, zero, ◌+◌, ◌≤◌, inl, inr, Bool, true, false, List, [], ◌∷◌, ◌++◌, length, map, filter, Option, refl, sym, ap, ◌∙◌, subst, arith}
+use Rattle.std.proofs.Common.{◌≡◌, ℕ, suc, zero, ◌+◌, ◌≤◌, inl, inr, Bool, true, false, List, [], ◌∷◌, ◌++◌, length, map, filter, Option, Some, refl, sym, ap, ◌∙◌, subst, arith}
 use Rattle.std.specs.Prelude.{◌⊎◌, Contains, if◌then◌else◌}
 use Rattle.std.proofs.lemmas.List.{map-append}
 use Rattle.std.proofs.lemmas.List.Elements.{Contains-append_left, Contains-append_right, Contains-append_cases}
@@ -8,8 +8,10 @@ use Rattle.lemma_book.specs.Entry.{Entries}
 use Rattle.lemma_book.specs.Book.{StartsWith}
 use Rattle.keep_lemmas.specs.Kept.{kept as kept_lemmas}
 use Rattle.cec_top.specs.declared.kept.Kept.{Kept}
-use Rattle.cec_top.specs.Headline.{Told, AreInRow}
-use Rattle.cec_top.specs.Check.{Made, AreNeighbours, due_of, is_undecided, kept_from, kept_of}
+use Rattle.netlist_edits.specs.declared.edit.Edit.{Edit}
+use Rattle.cec_top.specs.Script.{Due, due_behind}
+use Rattle.cec_top.specs.Headline.{Told, AreInRow, BeginsOn}
+use Rattle.cec_top.specs.Check.{Made, Opening, AreInTurn, behind, due_of, is_undecided, kept_from, kept_of, last_book}
 use Rattle.cec_top.proofs.PlanLemmas.{AreChained}
 use Rattle.cec_top.proofs.RunLemmas.{kept_open, kept-last}
 use Rattle.cec_top.proofs.ToldLemmas.{told_of, tolds}
@@ -121,13 +123,27 @@ of-later : (number : ℕ) (m : Made) (ms : List Made) (k : Kept) → number + 1 
 of-later number m ms k later (inl e) = absurd (omega (arith, later, ap (λ (x : Kept). x.check) e))
 of-later number m ms k later (inr p) = p
 
+-- check 0 goes on from the opening
+pub begins-on : (kept : List Kept) (ms : List Made) → ((k : Kept) → 0 ≤ k.check → Contains kept k → IsOf 0 ms k) → (from : Opening) → AreInTurn from ms
+    → (dues : List Due) (last : AigPair) → map due_of ms ≡ due_behind last ∷ dues → BeginsOn kept from
+begins-on kept [] of from are dues last checks n has = absurd (of (record { check = 0; book = n }) (omega arith) has)
+begins-on kept (m ∷ ms) of from are dues last checks n has =
+    let first : m.book ≡ n = of-first 0 m ms n (of (record { check = 0; book = n }) (omega arith) has) in
+    let edits : m.edits ≡ [] = ap (first_edits m.edits) checks in
+    subst (λ (b : Entries). StartsWith b (kept_lemmas from.net [] from.book)) first
+    (subst (λ (es : List Edit). StartsWith m.book (kept_lemmas from.net es from.book)) edits are.0)
+  where
+    first_edits : List Edit → List Due → List Edit
+    first_edits es [] = es
+    first_edits es (d ∷ ds) = d.edits
+
 -- each check goes on from the one before it
 pub in-row : (out : Option (List ℕ)) (kept : List Kept) (number : ℕ) (ms : List Made)
     → ((k : Kept) → number ≤ k.check → Contains kept k → IsOf number ms k)
-    → AreNeighbours ms → (last : AigPair) → AreChained last (map due_of ms) → AreInRow kept (tolds out number ms)
-in-row out kept number [] of are last chained = tt
-in-row out kept number (m ∷ []) of are last chained = tt
-in-row out kept number (m ∷ n ∷ ms) of are last chained =
+    → (from : Opening) → AreInTurn from ms → (last : AigPair) → AreChained last (map due_of ms) → AreInRow kept (tolds out number ms)
+in-row out kept number [] of from are last chained = tt
+in-row out kept number (m ∷ []) of from are last chained = tt
+in-row out kept number (m ∷ n ∷ ms) of from are last chained =
     let later : (k : Kept) → number + 1 ≤ k.check → Contains kept k → IsOf (number + 1) (n ∷ ms) k =
     λ k above has. of-later number m (n ∷ ms) k above (of k (omega (arith, above)) has) in (
       record {
@@ -136,7 +152,19 @@ in-row out kept number (m ∷ n ∷ ms) of are last chained =
             let first : m.book ≡ x = of-first number m (n ∷ ms) x (of (record { check = number; book = x }) (omega arith) x_has) in
             let second : n.book ≡ y = of-first (number + 1) n ms y (later (record { check = number + 1; book = y }) (omega arith) y_has) in
             subst (λ (b : Entries). StartsWith b (kept_lemmas m.net n.edits x)) second
-            (subst (λ (b : Entries). StartsWith n.book (kept_lemmas m.net n.edits b)) first are.0);
+            (subst (λ (b : Entries). StartsWith n.book (kept_lemmas m.net n.edits b)) first are.1.0);
       },
-      in-row out kept (number + 1) (n ∷ ms) later are.1 m.net chained.1,
+      in-row out kept (number + 1) (n ∷ ms) later (behind m) are.1 m.net chained.1,
     )
+
+-- ---- the last of them
+
+pub last-of : (ks : List Kept) (k : Kept) → last_book (ks ++ k ∷ []) ≡ Some k.book
+last-of [] k = refl
+last-of (j ∷ []) k = refl
+last-of (j ∷ l ∷ ls) k = last-of (l ∷ ls) k
+
+-- is that of the last check
+pub last-kept : (ms : List Made) (last : Made) → last_book (kept_from 0 (ms ++ last ∷ [])) ≡ Some last.book
+last-kept ms last =
+    ap last_book (kept-last ms last) ∙ last-of (kept_open 0 ms) (kept_of (length ms) last)

@@ -10,11 +10,15 @@ mod ToldLemmas
 mod PlanLemmas
 mod KeptLemmas
 mod HeadlineLemmas
+mod SavingLemmas
 mod VerdictLemmas
+mod FilesLemmas
 mod WordsLemmas
 mod CompleteLemmas
 mod ProvenLemmas
 mod OwnLemmas
 mod OwnVerdictLemmas
+mod FraigLemmas
 mod RefusedLemmas
 mod StoppedLemmas
+mod ReducedLemmas

@@ -13,7 +13,7 @@ use Rattle.cec_top.specs.declared.kept.Kept.{Kept}
 use Rattle.cec_top.specs.Headline.{Told, AreEquivalent, AreDifferent, AreUndecided, HandsBack, OfWorkload, Shows}
 use Rattle.cec_top.specs.Check.{Made, IsMade, status_of_finding, text_of_check, kept_of}
 use Rattle.cec_top.specs.Answers.{IsAtOnce}
-use Rattle.cec_top.specs.SelfCheck.{AreWorkload, AnswersSelf, EndsSelf, StopsSelf, after_workload, only, own_how}
+use Rattle.cec_top.specs.SelfCheck.{AreWorkload, AnswersSelf, EndsSelf, StopsSelf, after_workload, only, own_how, own_opening}
 use Rattle.cec_top.specs.Complete.{NoFault, HasVerdict}
 use Rattle.cec_top.specs.Texts.{workload_text}
 use Rattle.cec_top.proofs.HeadlineLemmas.{ends-code, hands-back}
@@ -66,7 +66,7 @@ module _ (c : SelfCommand) (old new : DeskState) (status : Status) (kept : List 
         → Shows (OfWorkload c kept Holds) old new
     shows Holds code is below holds =
         let p = ends-whole (omega (arith, is, below)) in
-        let o = only-check own_how p.net (after_workload c p.net old) new status kept p.ends in
+        let o = only-check own_how (own_opening p.net) p.net (after_workload c p.net old) new status kept p.ends in
         promised Holds o.check (subst (λ (n : AigPair). AreWorkload c n) (sym o.same) p.circuits)
         (subst (λ (n : AigPair). new ≡ after_say (after_workload c n old) (text_of_check None o.check)) (sym o.same) o.whole)
         (holds o.check o.is_made (subst (λ (ks : List Kept). Contains ks (kept_of 0 o.check)) (sym o.keeps) (has-last [] o.check))
@@ -97,12 +97,12 @@ module _ (c : SelfCommand) (old new : DeskState) (status : Status) (kept : List 
       excused-said old mid stop refl (leaves-stops [] (workload_text c p.net) old mid stop p.breaks)
   excused mid stop (inr (inl p)) =
       let s = after_workload c p.net old in
-      excused-said s mid stop refl (checks-stop own_how (only p.net) refl s mid kept stop p.stops)
+      excused-said s mid stop refl (checks-stop own_how (own_opening p.net) (only p.net) refl s mid kept stop p.stops)
   excused mid stop (inr (inr p)) = inl p.out
 
   pub own-complete : NoFault old new → AnswersSelf c old new status kept ⊎ EndsBy [] (IsAtOnce old) new status → HasVerdict status
   own-complete none (inl (inl p)) =
-      let o = only-check own_how p.net (after_workload c p.net old) new status kept p.ends in
+      let o = only-check own_how (own_opening p.net) p.net (after_workload c p.net old) new status kept p.ends in
       inl (subst (λ (s : Status). code_of s ≤ 2) o.status_is (finding-code o.check.finding))
   own-complete none (inl (inr p)) = excused-verdict _ old p.mid new p.stop status none p.warns (excused p.mid p.stop p.cause)
   own-complete none (inr p) = go p.warns
@@ -115,7 +115,7 @@ module _ (c : SelfCommand) (old new : DeskState) (status : Status) (kept : List 
 
   stops-code : (mid : DeskState) (stop : Stop) → StopsSelf c old kept mid stop → 6 ≤ code_of (status_of stop)
   stops-code mid stop (inl p) = leaves-code [] (workload_text c p.net) old mid stop p.breaks
-  stops-code mid stop (inr (inl p)) = checks-code own_how p.net (after_workload c p.net old) mid kept stop p.stops
+  stops-code mid stop (inr (inl p)) = checks-code own_how (own_opening p.net) p.net (after_workload c p.net old) mid kept stop p.stops
   stops-code mid stop (inr (inr p)) = memory-code stop p.out
 
   warned-code : (names : List (List ℕ)) (stop : Stop) (mid : DeskState) → Warns (stop_line names stop) (status_of stop) mid new status
@@ -125,7 +125,7 @@ module _ (c : SelfCommand) (old new : DeskState) (status : Status) (kept : List 
 
   pub own-codes : AnswersSelf c old new status kept ⊎ EndsBy [] (IsAtOnce old) new status → (code_of status ≤ 2) ⊎ (6 ≤ code_of status)
   own-codes (inl (inl p)) =
-      let o = only-check own_how p.net (after_workload c p.net old) new status kept p.ends in
+      let o = only-check own_how (own_opening p.net) p.net (after_workload c p.net old) new status kept p.ends in
       inl (subst (λ (s : Status). code_of s ≤ 2) o.status_is (finding-code o.check.finding))
   own-codes (inl (inr p)) = inr (warned-code [] p.stop p.mid p.warns (stops-code p.mid p.stop p.cause))
   own-codes (inr p) = inr (warned-code [] p.stop p.mid p.warns (memory-code p.stop p.cause.0))

@@ -14,7 +14,7 @@ use Rattle.endings.specs.Stops.{EndsBy}
 use Rattle.lrat_run.specs.Files.{cnf_fault, proof_fault, clauses_of, clauses_in, cnf_input, proof_input, inputs_of}
 use Rattle.lrat_run.specs.Texts.{verdict_line}
 use Rattle.lrat_run.specs.Answers.{AnswersLrat, Stops}
-use Rattle.command_line.specs.Words.{LratCommand, Request, CheckIt, LratIt, SelfIt, Asks, WantInfo, AreRefused}
+use Rattle.command_line.specs.Words.{LratCommand, Request, CheckIt, FraigIt, LratIt, SelfIt, Asks, WantInfo, AreRefused}
 use Rattle.cec_top.specs.declared.kept.Kept.{Kept}
 use Rattle.cec_top.specs.Answers.{Answers}
 use Rattle.cec_top.specs.Complete.{NoFault, IsWithinLimit, CanVerify, HasVerdict}
@@ -92,7 +92,8 @@ module _ (words : List (List ℕ)) (old new : DeskState) (status : Status) (kept
         let same : p.command ≡ c = ap (lrat_or c) (same_request words (LratIt p.command) (LratIt c) p.asked asks) in
         lrat-complete c old can new status none (subst (λ (d : LratCommand). AnswersLrat d.cnf d.proof old new status) same p.answers)
     | inr (inr (inl p)) ↦ let t : SelfIt p.command ≡ LratIt c = same_request words (SelfIt p.command) (LratIt c) p.asked asks in cc
-    | inr (inr (inr (inl p))) ↦ absurd (asked words (LratIt c) asks (inl p.wanted))
-    | inr (inr (inr (inr (inl p)))) ↦ absurd (asked words (LratIt c) asks (inr p.refused))
-    | inr (inr (inr (inr (inr p)))) ↦ at-once old new status p.ends.stop p.ends.mid p.ends.cause p.ends.warns
+    | inr (inr (inr (inl p))) ↦ let t : FraigIt p.command ≡ LratIt c = same_request words (FraigIt p.command) (LratIt c) p.asked asks in cc
+    | inr (inr (inr (inr (inl p)))) ↦ absurd (asked words (LratIt c) asks (inl p.wanted))
+    | inr (inr (inr (inr (inr (inl p))))) ↦ absurd (asked words (LratIt c) asks (inr p.refused))
+    | inr (inr (inr (inr (inr (inr p))))) ↦ at-once old new status p.ends.stop p.ends.mid p.ends.cause p.ends.warns
   ]

@@ -12,8 +12,10 @@ use Rattle.endings.specs.declared.stop.Stop.{Stop}
 use Rattle.endings.specs.declared.stop.Stop.TheVariants.{OutOfMemory}
 use Rattle.endings.specs.Reading.{ReadsAs, StopsAt, FileIs, after_reads}
 use Rattle.command_line.specs.Words.{CheckCommand}
-use Rattle.check_session.specs.Check.{State}
-use Rattle.cec_top.specs.Answers.{ReadsCircuits, circuit_file, pair_of}
+use Rattle.check_session.specs.Check.{State, opened}
+use Rattle.check_session.specs.declared.options.Options.{Options}
+use Rattle.cec_top.specs.Answers.{ReadsCircuits, pair_of}
+use Rattle.cec_top.specs.Inputs.{circuit_file}
 use Rattle.cec_top.specs.Steps.{ReadsPair, StopsUnlike}
 
 abbrev pub err_is : Unlike → Unlike → Type 0
@@ -105,3 +107,8 @@ pub pair-there : (o : Option Unlike) (s t : State) → IfSome o (λ u. ok_is s u
 pair-there None s t some none = (refl, none)
 pair-there (Some u) s t (inl told) none = cc
 pair-there (Some u) s t (inr memory) none = cc
+
+-- a session that was just opened with a pair is one of its own
+pub opened-by : (s : State) (net : AigPair) (o p : Options) → s ≡ opened net o → o ≡ p → s ≡ opened s.net p
+opened-by s net o p is same =
+    is ∙ ap (opened net) same ∙ ap (λ (n : AigPair). opened n p) (sym (ap (λ (t : State). t.net) is))

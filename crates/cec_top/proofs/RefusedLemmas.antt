@@ -1,5 +1,5 @@
 -- Status 4 tells of the file that is at fault, or of the line of a script.
-use Rattle.std.proofs.Common.{◌≡◌, ℕ, ◌≤◌, inl, inr, List, [], ◌∷◌, ◌++◌, length, Option, None, Some, refl, sym, ap, ap₂, ◌∙◌, subst, arith}
+use Rattle.std.proofs.Common.{◌≡◌, ℕ, ◌≤◌, inl, inr, List, [], ◌∷◌, ◌++◌, length, Option, None, Some, refl, sym, ap, ap₂, ◌∙◌, subst, arith, append_assoc}
 use Rattle.std.specs.Prelude.{◌⊎◌, IfSome, IsSomeAnd, codes, option_map, string_bytes}
 use Rattle.std.specs.List.{flat_map}
 use Rattle.std.specs.Option.{option_to_list}
@@ -12,20 +12,24 @@ use Rattle.endings.specs.Status.{code_of}
 use Rattle.endings.specs.declared.stop.Stop.{Stop}
 use Rattle.endings.specs.declared.stop.Stop.TheVariants.{CannotRead, TooLong, BadFile, NotAlike, CannotWrite, OutOfMemory}
 use Rattle.aiger_file.specs.File.{aiger_in}
+use Rattle.book_file.specs.Reading.{entries_in}
+use Rattle.lemma_book.specs.declared.entry.Entry.{Entry}
 use Rattle.endings.specs.Reading.{FileIs, StopsAt, ReadsUpTo, limit}
 use Rattle.endings.specs.Stops.{IsWarned, Warns, fault_line, file_line, name_at, status_of, stop_line}
 use Rattle.command_line.specs.Words.{CheckCommand}
 use Rattle.cec_top.specs.declared.kept.Kept.{Kept}
 use Rattle.netlist.specs.Net.{AigPair}
 use Rattle.cec_top.specs.Script.{due_behind, asked_from, plan_of}
-use Rattle.cec_top.specs.Check.{Made, GoesOn, SaysFault, StopsChecks, RefusesLine as RefusesChecks, kept_from}
-use Rattle.cec_top.specs.Answers.{AnswersCheck, AreUnlike, AsksFor, NamesUnlike, ReadsCircuits, Stops, circuit_file, fault_in, how_of, names_of, pair_of, script_file, script_of, after_pair, at_start}
+use Rattle.cec_top.specs.Check.{Made, Opening, GoesOn, NotSaved, SaysFault, StopsChecks, RefusesLine as RefusesChecks, kept_from, saved_of}
+use Rattle.cec_top.specs.Answers.{AnswersCheck, AreUnlike, AsksFor, IsOpening, NamesUnlike, ReadsCircuits, Stops, how_of, lemmas_of, names_of, opening_text, pair_of, script_of, after_lemmas, after_pair, at_start}
+use Rattle.cec_top.specs.Inputs.{circuit_file, fault_in, lemma_fault_in, lemma_file, script_file}
 use Rattle.cec_top.specs.Headline.{Told, SpellPair, IsScript, KeepsPromise}
 use Rattle.cec_top.specs.Lines.{unlike_text, refused_text}
-use Rattle.cec_top.specs.Refused.{HasFault, HasNone, HaveNone, IsDue, Refuses, RefusesLine}
-use Rattle.cec_top.proofs.ClosedLemmas.{leaves-code, memory-code}
+use Rattle.cec_top.specs.Refused.{HasFault, HasLemmaFault, HasNone, HaveNone, IsDue, IsScriptWithin, Refuses, RefusesLine}
+use Rattle.cec_top.proofs.ClosedLemmas.{among-code, leaves-code, memory-code}
 use Rattle.cec_top.proofs.CompleteLemmas.{finding-code}
-use Rattle.cec_top.proofs.HeadlineLemmas.{IsRead, file-spells, spells-pair, spells-script, start-keeps, within-script}
+use Rattle.cec_top.proofs.HeadlineLemmas.{file-spells, spells-pair, spells-script, within-script}
+use Rattle.cec_top.proofs.SavingLemmas.{IsStarted, loads-are, start-keeps}
 use Rattle.cec_top.proofs.ToldLemmas.{IsLeft, left_all, tolds}
 use Rattle.cec_top.proofs.VerdictLemmas.{HasParts, some-parts, is-last, is-left, promise-last, tells-checks}
 
@@ -45,7 +49,7 @@ module _ (before : Files) (s : DeskState) (told : s.files ≡ Some before) (name
     pub line : stop_line names stop ≡ file_line (name_at names k) text
     pub at : mid ≡ after_read s name
 
-  fault-at : (names : List (List ℕ)) (k : ℕ) (earlier : List (List ℕ)) (mid : DeskState) (stop : Stop)
+  pub fault-at : (names : List (List ℕ)) (k : ℕ) (earlier : List (List ℕ)) (mid : DeskState) (stop : Stop)
       → StopsAt k (circuit_file name) earlier s mid stop → code_of (status_of stop) ≡ 4 → IsAtFault names k mid stop
   unfolding stop_line
   fault-at names k earlier mid (TooLong j) p code = record {
@@ -148,11 +152,75 @@ module _ (c : CheckCommand) (old : DeskState) (before : Files) (told : old.files
 
   -- the script is named third
   third : (name : List ℕ) → c.edits ≡ Some name → name_at (names_of c) 2 ≡ name
-  third name is = ap (λ (e : Option (List ℕ)). name_at (c.a ∷ c.b ∷ option_to_list e) 2) is
+  third name is = ap (λ (e : Option (List ℕ)). name_at (c.a ∷ c.b ∷ (option_to_list e ++ option_to_list c.load)) 2) is
+
+  -- a file that was read isn't too long
+  abbrev IsWithin : List ℕ → Type 0
+  IsWithin name = IsSomeAnd (before name) (λ bytes. length bytes ≤ limit)
+
+  within-at : (s : DeskState) → s.files ≡ Some before → (name bytes : List ℕ) → FileIs s name bytes → IsWithin name
+  within-at s at name bytes is =
+      subst (λ (o : Option (List ℕ)). IsSomeAnd o (λ b. length b ≤ limit)) (sym (file-at before s at name bytes is)) is.1
+
+  -- the lemma file is at fault
+  lemmas-told : (net : AigPair) → SpellPair c before net → HaveNone c before → IsScriptWithin c before → (k : ℕ)
+      → ((name : List ℕ) → c.load ≡ Some name → name_at (names_of c) k ≡ name)
+      → (s : DeskState) → s.files ≡ old.files → s.said ≡ old.said → s.warned ≡ old.warned → s.warn_faults ≡ old.warn_faults
+      → (mid : DeskState) (stop : Stop) → kept ≡ [] → (earlier : List (List ℕ)) → ReadsUpTo k earlier (lemmas_of c.load) s mid stop
+      → code_of (status_of stop) ≡ 4 → IsTold mid stop
+  unfolding stop_line
+  lemmas-told net pair fit script k place s files said warned faults mid stop none earlier p code = go c.load refl p
+    where
+      there : s.files ≡ Some before
+      there = files ∙ told
+
+      made : (name : List ℕ) → c.load ≡ Some name → (text : List ℕ) → HasLemmaFault before name text
+          → stop_line (names_of c) stop ≡ file_line name text → mid ≡ after_read s name → IsTold mid stop
+      made name is text fault line at = record {
+        none = none;
+        due = inr (inr (inr (inr (record {
+          no_fault = fit;
+          net = net;
+          pair = pair;
+          script = script;
+          name = name;
+          named = is;
+          text = text;
+          fault = fault;
+          line_is = line;
+        }))));
+        files = ap (λ (s : DeskState). s.files) at ∙ there;
+        said = ap (λ (s : DeskState). s.said) at ∙ said;
+        warned = ap (λ (s : DeskState). s.warned) at ∙ warned;
+        faults = ap (λ (s : DeskState). s.warn_faults) at ∙ faults;
+      }
+
+      at : (name : List ℕ) → c.load ≡ Some name → (cause : Stop) → stop ≡ cause → code_of (status_of cause) ≡ 4
+          → StopsAt k (lemma_file name) earlier s mid cause → IsTold mid stop
+      at name is (TooLong j) same code q =
+          made name is (codes "longer than 1073741824 bytes")
+          (inl (subst (λ (o : Option Files). IfSome o (λ f. HasMore f name limit)) there q.1, refl))
+          (ap (stop_line (names_of c)) same
+          ∙ ap (λ (n : List ℕ). file_line n (codes "longer than 1073741824 bytes")) (ap (name_at (names_of c)) q.0 ∙ place name is)) q.2
+      at name is (BadFile j text) same code q =
+          made name is (string_bytes text)
+          (inr (subst (λ (o : Option (List ℕ)). IsSomeAnd o (λ b. (length b ≤ limit) × (lemma_fault_in (entries_in b) ≡ Some (string_bytes text))))
+          (sym (file-at before s there name q.1.0 q.1.1)) (q.1.1.1, q.1.2)))
+          (ap (stop_line (names_of c)) same
+          ∙ ap (λ (n : List ℕ). file_line n (string_bytes text)) (ap (name_at (names_of c)) q.0 ∙ place name is)) q.2
+      at name is (CannotRead j) same code q = cc
+      at name is OutOfMemory same code q = cc
+      at name is (NotAlike text) same code q = absurd q
+      at name is CannotWrite same code q = absurd q
+
+      go : (l : Option (List ℕ)) → c.load ≡ l → ReadsUpTo k earlier (lemmas_of l) s mid stop → IsTold mid stop
+      go None is q = absurd q
+      go (Some name) is (inl q) = at name is stop refl code q
+      go (Some name) is (inr q) = absurd q.3
 
   -- it is too long
   script-told : (net : AigPair) → SpellPair c before net → HaveNone c before → (mid : DeskState) (stop : Stop) → kept ≡ [] → (earlier : List (List ℕ))
-      → ReadsUpTo 2 earlier (script_of c) (after_pair c old) mid stop → code_of (status_of stop) ≡ 4 → IsTold mid stop
+      → ReadsUpTo 2 earlier (script_of c ++ lemmas_of c.load) (after_pair c old) mid stop → code_of (status_of stop) ≡ 4 → IsTold mid stop
   unfolding stop_line
   script-told net pair fit mid stop none earlier p code = go c.edits refl p
     where
@@ -160,7 +228,7 @@ module _ (c : CheckCommand) (old : DeskState) (before : Files) (told : old.files
           → StopsAt 2 (script_file name) earlier (after_pair c old) mid stop → IsTold mid stop
       at name is (TooLong j) code q = record {
         none = none;
-        due = inr (inr (inr (record {
+        due = inr (inr (inr (inl (record {
           no_fault = fit;
           net = net;
           pair = pair;
@@ -168,7 +236,7 @@ module _ (c : CheckCommand) (old : DeskState) (before : Files) (told : old.files
           named = is;
           more = subst (λ (o : Option Files). IfSome o (λ f. HasMore f name limit)) told q.1;
           line_is = ap (λ (n : List ℕ). file_line n (codes "longer than 1073741824 bytes")) (ap (name_at (names_of c)) q.0 ∙ third name is);
-        })));
+        }))));
         files = ap (λ (s : DeskState). s.files) q.2 ∙ told;
         said = ap (λ (s : DeskState). s.said) q.2;
         warned = ap (λ (s : DeskState). s.warned) q.2;
@@ -180,20 +248,31 @@ module _ (c : CheckCommand) (old : DeskState) (before : Files) (told : old.files
       at name is (NotAlike text) code q = absurd q
       at name is CannotWrite code q = absurd q
 
-      go : (e : Option (List ℕ)) → c.edits ≡ e → ReadsUpTo 2 earlier (option_to_list (option_map script_file e)) (after_pair c old) mid stop
-          → IsTold mid stop
-      go None is q = absurd q
+      go : (e : Option (List ℕ)) → c.edits ≡ e
+          → ReadsUpTo 2 earlier (option_to_list (option_map script_file e) ++ lemmas_of c.load) (after_pair c old) mid stop → IsTold mid stop
+      go None is q =
+          lemmas-told net pair fit (subst (λ (e : Option (List ℕ)). IfSome e IsWithin) (sym is) tt) 2
+          (λ name load. ap₂ (λ (e l : Option (List ℕ)). name_at (c.a ∷ c.b ∷ (option_to_list e ++ option_to_list l)) 2) is load)
+          (after_pair c old) refl refl refl refl mid stop none earlier q code
       go (Some name) is (inl q) = at name is stop code q
-      go (Some name) is (inr q) = absurd q.3
+      go (Some name) is (inr q) =
+          lemmas-told net pair fit
+          (subst (λ (e : Option (List ℕ)). IfSome e IsWithin) (sym is) (within-at (after_pair c old) told name q.0 q.1)) 3
+          (λ other load. ap₂ (λ (e l : Option (List ℕ)). name_at (c.a ∷ c.b ∷ (option_to_list e ++ option_to_list l)) 3) is load)
+          (after_read (after_pair c old) name) refl refl refl refl mid stop none (earlier ++ q.0 ∷ []) q.3 code
 
   -- one of its lines is refused
-  line-told : (net : AigPair) (lines : List (List ℕ)) → AsksFor c old net lines → (mid : DeskState) (stop : Stop)
-      → RefusesChecks (how_of c) (plan_of net lines) (at_start c old) mid kept stop → IsLineTold mid stop
+  line-told : (net : AigPair) (lines : List (List ℕ)) (lemmas : Option (List Entry)) → AsksFor c old net lines lemmas → (from : Opening)
+      → IsOpening (how_of c).options net lemmas from → (mid : DeskState) (stop : Stop)
+      → RefusesChecks (how_of c) from (plan_of net lines) (at_start c old lemmas from) mid kept stop → IsLineTold mid stop
   unfolding stop_line
-  line-told net lines asks mid stop p = go c.edits refl
+  line-told net lines lemmas asks from opens mid stop p = go c.edits refl
     where
       script : IsScript c.edits before lines × (length lines ≤ limit)
-      script = spells-script c old before told net lines asks
+      script = spells-script c old before told net lines lemmas asks
+
+      start : DeskState
+      start = at_start c old lemmas from
 
       named : (name : List ℕ) → c.edits ≡ Some name → (s : Stop) → SaysFault p.line s → stop_line (names_of c) s ≡ file_line name (refused_text p.line)
       named name is (BadFile file why) says =
@@ -204,20 +283,20 @@ module _ (c : CheckCommand) (old : DeskState) (before : Files) (told : old.files
       named name is CannotWrite says = absurd says
       named name is OutOfMemory says = absurd says
 
-      k : IsRead old (at_start c old)
-      k = start-keeps c old
+      k : IsStarted old start (opening_text lemmas from)
+      k = start-keeps c old lemmas from
 
       parts : HasParts p.made
       parts = some-parts p.made (due_behind net) (asked_from 1 (due_behind net) lines).checks p.whole.checks
 
-      whole : GoesOn (how_of c) (plan_of net lines) (at_start c old) (parts.earlier ++ parts.last ∷ []) [] mid
-      whole = subst (λ (made : List Made). GoesOn (how_of c) (plan_of net lines) (at_start c old) made [] mid) parts.made_is p.whole
+      whole : GoesOn (how_of c) from (plan_of net lines) start (parts.earlier ++ parts.last ∷ []) [] mid
+      whole = subst (λ (made : List Made). GoesOn (how_of c) from (plan_of net lines) start made [] mid) parts.made_is p.whole
 
       keeps : kept ≡ kept_from 0 (parts.earlier ++ parts.last ∷ [])
       keeps = p.keeps ∙ ap (kept_from 0) parts.made_is
 
-      left : IsLeft c.out (tolds c.out 0 (parts.earlier ++ parts.last ∷ [])) (at_start c old) mid
-      left = is-left c kept net lines script.1 (at_start c old) mid parts.earlier parts.last whole keeps
+      left : IsLeft c.out (tolds c.out 0 (parts.earlier ++ parts.last ∷ [])) start mid
+      left = is-left c kept from net lines script.1 start mid parts.earlier parts.last whole keeps
 
       at : (name : List ℕ) → c.edits ≡ Some name → IsLineTold mid stop
       at name is = record {
@@ -229,18 +308,25 @@ module _ (c : CheckCommand) (old : DeskState) (before : Files) (told : old.files
           pair = spells-pair c old before told net asks.pair;
           name = name;
           named = is;
-          within = within-script c old before told net lines asks name is;
+          within = within-script c old before told net lines lemmas asks name is;
           lines = lines;
           script = script.0;
+          lemmas = lemmas;
+          from = from;
+          loads = loads-are c old before told net lines lemmas asks from opens;
           refused = p.line;
           refused_is = p.refused;
           line_is = named name is stop p.stop_is;
           after = left_all c.out (tolds c.out 0 (parts.earlier ++ parts.last ∷ [])) before;
-          said = flat_map (λ (t : Told). t.said) (tolds c.out 0 (parts.earlier ++ parts.last ∷ []));
+          said = opening_text lemmas from ++ flat_map (λ (t : Told). t.said) (tolds c.out 0 (parts.earlier ++ parts.last ∷ []));
           files = left.files before (k.files ∙ told);
-          heard = λ earlier heard. left.said earlier (k.said ∙ heard);
-          told = tells-checks c kept net lines script.1 (at_start c old) mid parts.earlier parts.last whole keeps (KeepsPromise (how_of c) kept)
-              before (promise-last c kept net lines script.1 (at_start c old) mid parts.earlier parts.last whole keeps);
+          heard = λ earlier heard.
+              left.said (earlier ++ opening_text lemmas from) (k.said earlier heard)
+              ∙ ap (λ (x : List ℕ). Some x)
+              (append_assoc earlier (opening_text lemmas from)
+              (flat_map (λ (t : Told). t.said) (tolds c.out 0 (parts.earlier ++ parts.last ∷ []))));
+          told = tells-checks c kept from net lines script.1 start mid parts.earlier parts.last whole keeps (KeepsPromise (how_of c) kept)
+              (opening_text lemmas from) before (promise-last c kept from net lines script.1 start mid parts.earlier parts.last whole keeps);
         };
       }
 
@@ -257,12 +343,19 @@ module _ (c : CheckCommand) (old : DeskState) (before : Files) (told : old.files
   stops-told mid stop (inr (inr (inl p))) code =
       inl (script-told p.1.net (spells-pair c old before told p.1.net p.1.pair)
       (have-none p.1.net.a p.1.pair.second p.1.pair.reads) mid stop p.0 _ p.1.stops code)
-  stops-told mid stop (inr (inr (inr p))) code = go p.stops
+  stops-told mid stop (inr (inr (inr (inl p)))) code = elim p.1.stops [
+    | inl q ↦ absurd (omega (arith, code, memory-code stop q.0))
+    | inr q ↦ absurd (omega (arith, code, leaves-code [] _ (after_lemmas c old) mid stop q.2))
+  ]
+  stops-told mid stop (inr (inr (inr (inr p)))) code = go p.stops
     where
-      go : StopsChecks (how_of c) (plan_of p.net p.lines) (at_start c old) kept mid stop → IsTold mid stop ⊎ IsLineTold mid stop
-      go (inl q) = absurd (omega (arith, code, leaves-code _ _ q.mid mid stop q.breaks))
-      go (inr (inl q)) = absurd (omega (arith, code, memory-code stop q.out))
-      go (inr (inr q)) = inr (line-told p.net p.lines p.asks mid stop q)
+      go : StopsChecks (how_of c) p.from (plan_of p.net p.lines) (at_start c old p.lemmas p.from) kept mid stop
+          ⊎ NotSaved (how_of c) p.from (plan_of p.net p.lines) c.save (at_start c old p.lemmas p.from) mid kept stop
+          → IsTold mid stop ⊎ IsLineTold mid stop
+      go (inl (inl q)) = absurd (omega (arith, code, leaves-code _ _ q.mid mid stop q.breaks))
+      go (inl (inr (inl q))) = absurd (omega (arith, code, memory-code stop q.out))
+      go (inl (inr (inr q))) = inr (line-told p.net p.lines p.lemmas p.asks p.from p.opens mid stop q)
+      go (inr q) = absurd (omega (arith, code, among-code (saved_of c.save kept) q.mid mid stop q.stops))
 
   warned-files : (mid new : DeskState) (line : List ℕ) → IsWarned mid new line → (new.files ≡ mid.files) × (new.said ≡ mid.said)
   warned-files mid new line (inl p) = (ap (λ (s : DeskState). s.files) p, ap (λ (s : DeskState). s.said) p)
@@ -270,7 +363,7 @@ module _ (c : CheckCommand) (old : DeskState) (before : Files) (told : old.files
 
   pub refuses : (new : DeskState) (status : Status) → AnswersCheck c old new status kept → code_of status ≡ 4 → Refuses c old new kept before
   refuses new status (inl p) code =
-      let l = is-last (how_of c) p.net p.lines (at_start c old) new status kept p.ends in
+      let l = is-last (how_of c) p.from p.net p.lines (at_start c old p.lemmas p.from) p.mid status kept p.ends in
       absurd (omega (arith, code, subst (λ (s : Status). code_of s ≤ 2) l.status_is (finding-code l.last.finding)))
   refuses new status (inr p) code = go p.warns
     where
@@ -302,6 +395,9 @@ module _ (c : CheckCommand) (old : DeskState) (before : Files) (told : old.files
               within = t.line.within;
               lines = t.line.lines;
               script = t.line.script;
+              lemmas = t.line.lemmas;
+              from = t.line.from;
+              loads = t.line.loads;
               refused = t.line.refused;
               refused_is = t.line.refused_is;
               line_is = t.line.line_is;

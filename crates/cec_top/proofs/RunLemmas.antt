@@ -17,8 +17,8 @@ use Rattle.lemma_book.specs.Book.{StartsWith}
 use Rattle.keep_lemmas.specs.Kept.{kept as kept_lemmas}
 use Rattle.cec_top.specs.declared.kept.Kept.{Kept}
 use Rattle.cec_top.specs.Script.{Due, Plan, Refused, Turn, Passes, Makes, AsksCheck, Fails, asked_by, asked_from, due_behind, plan_of, turn_of}
-use Rattle.cec_top.specs.Check.{How, Made, Tells, AreTold, TakesOver, AreNeighbours, AreSome, KeepsOn, SaysFault, Ends, StopsChecks, due_of, is_undecided, kept_from, kept_of, last_finding, status_of_finding}
-use Rattle.cec_top.specs.Steps.{DoesTurn, Holds, NotMade, StopsAtLine, ToldInPart, ToldWhole, due_in, is_open}
+use Rattle.cec_top.specs.Check.{How, Made, Opening, Tells, AreTold, TakesOver, AreInTurn, AreSome, KeepsOn, SaysFault, Ends, StopsChecks, behind, due_of, is_undecided, kept_from, kept_of, last_finding, status_of_finding}
+use Rattle.cec_top.specs.Steps.{DoesTurn, Holds, NotMade, StopsAtLine, ToldInPart, ToldWhole, due_in, is_open, opening_in}
 use Rattle.cec_top.proofs.ToldLemmas.{all-left}
 
 -- ---- checks before the last one, and the last one
@@ -85,11 +85,16 @@ finding-last (m ∷ []) last = refl
 finding-last (m ∷ k ∷ ks) last = finding-last (k ∷ ks) last
 
 -- one check more goes on from the last one
-pub neighbours-next : (ms : List Made) (last next : Made) → AreNeighbours (ms ++ last ∷ []) → TakesOver last next
-    → AreNeighbours ((ms ++ last ∷ []) ++ next ∷ [])
-neighbours-next [] last next are takes = (takes, tt)
-neighbours-next (m ∷ []) last next are takes = (are.0, (takes, tt))
-neighbours-next (m ∷ k ∷ ks) last next are takes = (are.0, neighbours-next (k ∷ ks) last next are.1 takes)
+pub turn-next : (from : Opening) (ms : List Made) (last next : Made) → AreInTurn from (ms ++ last ∷ []) → TakesOver (behind last) next
+    → AreInTurn from ((ms ++ last ∷ []) ++ next ∷ [])
+turn-next from [] last next are takes = (are.0, (takes, tt))
+turn-next from (m ∷ ms) last next are takes = (are.0, turn-next (behind m) ms last next are.1 takes)
+
+-- check 0 goes on from what the session has
+turn-first : (s : State) (m : Made) → due_of m ≡ due_in s → StartsWith m.book (kept_lemmas s.last s.edits s.book) → AreInTurn (opening_in s) (m ∷ [])
+turn-first s m due_is begins =
+    let edits : s.edits ≡ m.edits = sym (ap (λ (d : Due). d.edits) due_is) in
+    (subst (λ (es : List Edit). StartsWith m.book (kept_lemmas s.last es s.book)) edits begins, tt)
 
 -- checks that were told, and then others
 pub told-append : (how : How) (number : ℕ) (ms ns : List Made) (old mid new : DeskState) → AreTold how number ms old mid
@@ -159,13 +164,13 @@ with_checks ds p = record { checks = ds ++ p.checks; refused = p.refused }
 
 -- Before the line with this number, these lines being left: checks were made and told, whose books are kept where outputs were
 -- left open, and a last one, whose book the session has.
-pub record Stands (how : How) (plan : Plan) (start now : DeskState) (kept : List Kept) (number : ℕ) (status : Status) (s : State)
+pub record Stands (how : How) (from : Opening) (plan : Plan) (start now : DeskState) (kept : List Kept) (number : ℕ) (status : Status) (s : State)
     (line : ℕ) (lines : List (List ℕ)) : Type 0 where
   pub made : List Made
   pub last : Made
   pub plan_is : plan ≡ with_checks (map due_of (made ++ last ∷ [])) (asked_from line (due_in s) lines)
   pub told : AreTold how 0 (made ++ last ∷ []) start now
-  pub neighbours : AreNeighbours (made ++ last ∷ [])
+  pub in_turn : AreInTurn from (made ++ last ∷ [])
   pub count : number ≡ length made
   pub holds : Holds s last
   pub status_is : status ≡ status_of_finding last.finding
@@ -175,7 +180,7 @@ pub record Stands (how : How) (plan : Plan) (start now : DeskState) (kept : List
 -- check 0 was told
 pub stands-first : (how : How) (s t : State) (old new : DeskState) (before after : List Kept) (status : Status) (lines : List (List ℕ))
     → s.edits ≡ [] → s.options ≡ how.options → before ≡ [] → ToldWhole how 0 s t old new before after status
-    → Stands how (plan_of s.net lines) old new after 0 status t 1 lines
+    → Stands how (opening_in s) (plan_of s.net lines) old new after 0 status t 1 lines
 stands-first how s t old new before after status lines none options empty w =
     let due : due_of w.made ≡ due_behind s.net = w.due_is ∙ ap (λ (es : List Edit). record { net = s.net; edits = es }) none in
     let net : w.made.net ≡ s.net = ap (λ (d : Due). d.net) due in
@@ -185,7 +190,7 @@ stands-first how s t old new before after status lines none options empty w =
       last = w.made;
       plan_is = ap₂ (λ (d e : Due). with_checks (d ∷ []) (asked_from 1 e lines)) (sym due) (sym now);
       told = w.told;
-      neighbours = tt;
+      in_turn = turn-first s w.made w.due_is w.begins;
       count = refl;
       holds = w.holds;
       status_is = w.status_is;
@@ -197,7 +202,7 @@ stands-first how s t old new before after status lines none options empty w =
 pub first-stops : (how : How) (s : State) (old new : DeskState) (before after : List Kept) (stop : Stop) (lines : List (List ℕ))
     → s.edits ≡ [] → before ≡ []
     → ToldInPart how 0 s old new before after stop ⊎ NotMade old new before after stop
-    → StopsChecks how (plan_of s.net lines) old after new stop
+    → StopsChecks how (opening_in s) (plan_of s.net lines) old after new stop
 first-stops how s old new before after stop lines none empty (inl w) =
     let due : due_of w.half ≡ due_behind s.net = w.due_is ∙ ap (λ (es : List Edit). record { net = s.net; edits = es }) none in
     let others : List Due = (asked_from 1 (due_behind s.net) lines).checks in
@@ -206,9 +211,9 @@ first-stops how s old new before after stop lines none empty (inl w) =
       half = w.half;
       others = others;
       mid = old;
-      before = record { checks = ap (λ (d : Due). d ∷ others) due; told = refl; neighbours = tt };
+      before = record { checks = ap (λ (d : Due). d ∷ others) due; told = refl; in_turn = tt };
       is_made = w.is_made;
-      neighbours = tt;
+      in_turn = turn-first s w.half w.due_is w.begins;
       breaks = w.breaks;
       keeps = keeps-all after (kept_of 0 w.half ∷ []) (w.keeps ∙ ap (λ (ks : List Kept). ks ++ kept_of 0 w.half ∷ []) empty) stop;
     })
@@ -217,19 +222,19 @@ first-stops how s old new before after stop lines none empty (inr w) =
       out = w.out;
       made = [];
       others = (plan_of s.net lines).checks;
-      before = record { checks = refl; told = w.at; neighbours = tt };
+      before = record { checks = refl; told = w.at; in_turn = tt };
       keeps = subst (λ (ks : List Kept). AreSome ks []) (sym (w.keeps ∙ empty)) tt;
     }))
 
 -- no file is left started
-pub stands-closed : (how : How) (plan : Plan) (start now : DeskState) (kept : List Kept) (number : ℕ) (status : Status) (s : State) (line : ℕ)
-    (lines : List (List ℕ)) → Stands how plan start now kept number status s line lines → start.started ≡ None → now.started ≡ None
-stands-closed how plan start now kept number status s line lines at none =
+pub stands-closed : (how : How) (from : Opening) (plan : Plan) (start now : DeskState) (kept : List Kept) (number : ℕ) (status : Status) (s : State) (line : ℕ)
+    (lines : List (List ℕ)) → Stands how from plan start now kept number status s line lines → start.started ≡ None → now.started ≡ None
+stands-closed how from plan start now kept number status s line lines at none =
     (all-left how 0 (at.made ++ at.last ∷ []) start now at.told).closed none
 
 -- at a line
-module _ (how : How) (plan : Plan) (start now : DeskState) (kept : List Kept) (number : ℕ) (status : Status) (s : State) (line : ℕ)
-    (text : List ℕ) (lines : List (List ℕ)) (at : Stands how plan start now kept number status s line (text ∷ lines)) where
+module _ (how : How) (from : Opening) (plan : Plan) (start now : DeskState) (kept : List Kept) (number : ℕ) (status : Status) (s : State) (line : ℕ)
+    (text : List ℕ) (lines : List (List ℕ)) (at : Stands how from plan start now kept number status s line (text ∷ lines)) where
   abbrev due : List Due
   due = map due_of (at.made ++ at.last ∷ [])
 
@@ -239,13 +244,13 @@ module _ (how : How) (plan : Plan) (start now : DeskState) (kept : List Kept) (n
   turned turn is =
       at.plan_is ∙ ap (λ (t : Turn). with_checks due (asked_by line (due_in s) t (λ next. asked_from (line + 1) next lines))) is
 
-  pub stands-passed : turn_of s.net text ≡ Passes → Stands how plan start now kept number status s (line + 1) lines
+  pub stands-passed : turn_of s.net text ≡ Passes → Stands how from plan start now kept number status s (line + 1) lines
   stands-passed is = record {
     made = at.made;
     last = at.last;
     plan_is = turned Passes is;
     told = at.told;
-    neighbours = at.neighbours;
+    in_turn = at.in_turn;
     count = at.count;
     holds = at.holds;
     status_is = at.status_is;
@@ -254,13 +259,13 @@ module _ (how : How) (plan : Plan) (start now : DeskState) (kept : List Kept) (n
   }
 
   pub stands-edited : (edit : Edit) → turn_of s.net text ≡ Makes edit
-      → Stands how plan start now kept number status (with_edit s edit) (line + 1) lines
+      → Stands how from plan start now kept number status (with_edit s edit) (line + 1) lines
   stands-edited edit is = record {
     made = at.made;
     last = at.last;
     plan_is = turned (Makes edit) is;
     told = at.told;
-    neighbours = at.neighbours;
+    in_turn = at.in_turn;
     count = at.count;
     holds = record { last_is = at.holds.last_is; book_is = at.holds.book_is };
     status_is = at.status_is;
@@ -294,7 +299,7 @@ module _ (how : How) (plan : Plan) (start now : DeskState) (kept : List Kept) (n
     })
     asked = turned AsksCheck asks
 
-    takes : (m : Made) → due_of m ≡ due_in s → StartsWith m.book (kept_lemmas s.last s.edits s.book) → TakesOver at.last m
+    takes : (m : Made) → due_of m ≡ due_in s → StartsWith m.book (kept_lemmas s.last s.edits s.book) → TakesOver (behind at.last) m
     takes m due_is begins =
         let edits : s.edits ≡ m.edits = sym (ap (λ (d : Due). d.edits) due_is) in
         subst (λ (n : AigPair). StartsWith m.book (kept_lemmas n m.edits at.last.book)) at.holds.last_is
@@ -304,7 +309,7 @@ module _ (how : How) (plan : Plan) (start now : DeskState) (kept : List Kept) (n
     -- which is told whole
     pub stands-checked : (t : State) (new : DeskState) (after : List Kept) (next : Status)
         → ToldWhole how (number + 1) s t now new mid after next
-        → Stands how plan start new after (number + 1) next t (line + 1) lines
+        → Stands how from plan start new after (number + 1) next t (line + 1) lines
     stands-checked t new after next w =
         let net : w.made.net ≡ s.net = ap (λ (d : Due). d.net) w.due_is in
         let behind : due_in t ≡ due_behind s.net = w.behind ∙ ap due_behind net in
@@ -325,7 +330,7 @@ module _ (how : How) (plan : Plan) (start now : DeskState) (kept : List Kept) (n
               (sym (map-append due_of (at.made ++ at.last ∷ []) (w.made ∷ []))));
           told = told-next how (at.made ++ at.last ∷ []) w.made start now new at.told
               (subst (λ (n : ℕ). AreTold how n (w.made ∷ []) now new) count w.told);
-          neighbours = neighbours-next at.made at.last w.made at.neighbours (takes w.made w.due_is w.begins);
+          in_turn = turn-next from at.made at.last w.made at.in_turn (takes w.made w.due_is w.begins);
           count = count;
           holds = w.holds;
           status_is = w.status_is;
@@ -336,7 +341,7 @@ module _ (how : How) (plan : Plan) (start now : DeskState) (kept : List Kept) (n
     -- or isn't
     pub checked-stops : (new : DeskState) (after : List Kept) (stop : Stop)
         → ToldInPart how (number + 1) s now new mid after stop ⊎ NotMade now new mid after stop
-        → StopsChecks how plan start after new stop
+        → StopsChecks how from plan start after new stop
     checked-stops new after stop (inl w) =
         let count : number + 1 ≡ length (at.made ++ at.last ∷ []) =
         omega (arith, at.count, length-append at.made (at.last ∷ [])) in
@@ -350,10 +355,10 @@ module _ (how : How) (plan : Plan) (start now : DeskState) (kept : List Kept) (n
                 ap (λ (d : Due). due ++ d ∷ (asked_from (line + 1) (due_behind s.net) lines).checks) w.due_is
                 ∙ sym (ap (λ (p : Plan). p.checks) asked);
             told = at.told;
-            neighbours = at.neighbours;
+            in_turn = at.in_turn;
           };
           is_made = w.is_made;
-          neighbours = neighbours-next at.made at.last w.half at.neighbours (takes w.half w.due_is w.begins);
+          in_turn = turn-next from at.made at.last w.half at.in_turn (takes w.half w.due_is w.begins);
           breaks = subst (λ (n : ℕ). Tells how n w.half now new (Err stop)) count w.breaks;
           keeps = keeps-all after (kept_from 0 ((at.made ++ at.last ∷ []) ++ w.half ∷ []))
               (w.keeps ∙ ap₂ (λ (ks : List Kept) (n : ℕ). ks ++ kept_of n w.half ∷ []) (mid_is ∙ kept-open) count
@@ -367,15 +372,15 @@ module _ (how : How) (plan : Plan) (start now : DeskState) (kept : List Kept) (n
           before = record {
             checks = sym (ap (λ (p : Plan). p.checks) asked);
             told = subst (λ (d : DeskState). AreTold how 0 (at.made ++ at.last ∷ []) start d) (sym w.at) at.told;
-            neighbours = at.neighbours;
+            in_turn = at.in_turn;
           };
           keeps = subst (λ (ks : List Kept). AreSome ks (kept_from 0 (at.made ++ at.last ∷ [])))
               (sym (w.keeps ∙ mid_is ∙ kept-open)) (some-open at.made at.last);
         }))
 
 -- the last check was told, and nothing more is done
-module _ (how : How) (plan : Plan) (start now : DeskState) (kept : List Kept) (number : ℕ) (status : Status) (s : State) (line : ℕ)
-    (lines : List (List ℕ)) (at : Stands how plan start now kept number status s line lines) where
+module _ (how : How) (from : Opening) (plan : Plan) (start now : DeskState) (kept : List Kept) (number : ℕ) (status : Status) (s : State) (line : ℕ)
+    (lines : List (List ℕ)) (at : Stands how from plan start now kept number status s line lines) where
   abbrev all_made : List Made
   all_made = at.made ++ at.last ∷ []
 
@@ -390,29 +395,29 @@ module _ (how : How) (plan : Plan) (start now : DeskState) (kept : List Kept) (n
 
   -- memory runs out
   pub stands-out : (after : List Kept) → AreSome after (kept_from 0 all_made) → (stop : Stop) → stop ≡ OutOfMemory
-      → StopsChecks how plan start after now stop
+      → StopsChecks how from plan start after now stop
   stands-out after some stop is = inr (inl (record {
     out = is;
     made = all_made;
     others = (asked_from line (due_in s) lines).checks;
-    before = record { checks = sym (ap (λ (p : Plan). p.checks) at.plan_is); told = at.told; neighbours = at.neighbours };
+    before = record { checks = sym (ap (λ (p : Plan). p.checks) at.plan_is); told = at.told; in_turn = at.in_turn };
     keeps = some;
   }))
 
   -- before the last check's book is kept
-  pub stands-out-before : (stop : Stop) → stop ≡ OutOfMemory → StopsChecks how plan start kept now stop
+  pub stands-out-before : (stop : Stop) → stop ≡ OutOfMemory → StopsChecks how from plan start kept now stop
   stands-out-before stop is =
       stands-out kept (subst (λ (ks : List Kept). AreSome ks (kept_from 0 all_made)) (sym at.keeps) (some-earlier at.made at.last)) stop is
 
   -- no line is left
   pub stands-end : lines ≡ [] → (after : List Kept) → after ≡ kept ++ record { check = number; book = s.book } ∷ []
-      → Ends how plan start now status after
+      → Ends how from plan start now status after
   stands-end none after is =
       let whole : plan ≡ with_checks (map due_of all_made) (record { checks = []; refused = None }) =
       at.plan_is ∙ ap (λ (ls : List (List ℕ)). with_checks (map due_of all_made) (asked_from line (due_in s) ls)) none in
       record {
         made = all_made;
-        whole = record { checks = sym (ap (λ (p : Plan). p.checks) whole); told = at.told; neighbours = at.neighbours };
+        whole = record { checks = sym (ap (λ (p : Plan). p.checks) whole); told = at.told; in_turn = at.in_turn };
         accepted = ap (λ (p : Plan). p.refused) whole;
         status_is =
             ap (option_map status_of_finding) (finding-last at.made at.last) ∙ ap (λ (x : Status). Some x) (sym at.status_is);
@@ -420,96 +425,96 @@ module _ (how : How) (plan : Plan) (start now : DeskState) (kept : List Kept) (n
       }
 
 -- the line is refused
-pub stands-refused : (how : How) (plan : Plan) (start now : DeskState) (kept : List Kept) (number : ℕ) (status : Status) (s : State) (line : ℕ)
-    (text : List ℕ) (lines : List (List ℕ)) → (at : Stands how plan start now kept number status s line (text ∷ lines))
+pub stands-refused : (how : How) (from : Opening) (plan : Plan) (start now : DeskState) (kept : List Kept) (number : ℕ) (status : Status) (s : State) (line : ℕ)
+    (text : List ℕ) (lines : List (List ℕ)) → (at : Stands how from plan start now kept number status s line (text ∷ lines))
     → (fault : EditErr) → turn_of s.net text ≡ Fails fault
     → (after : List Kept) → after ≡ kept ++ record { check = number; book = s.book } ∷ []
     → (stop : Stop) → SaysFault (record { line = line; fault = fault }) stop
-    → StopsChecks how plan start after now stop
-stands-refused how plan start now kept number status s line text lines at fault fails after is stop says =
+    → StopsChecks how from plan start after now stop
+stands-refused how from plan start now kept number status s line text lines at fault fails after is stop says =
     let refused : Refused = record { line = line; fault = fault } in
     let whole : plan ≡ with_checks (map due_of (at.made ++ at.last ∷ [])) (record { checks = []; refused = Some refused }) =
-    turned how plan start now kept number status s line text lines at (Fails fault) fails in
+    turned how from plan start now kept number status s line text lines at (Fails fault) fails in
     inr (inr (record {
       made = at.made ++ at.last ∷ [];
-      whole = record { checks = sym (ap (λ (p : Plan). p.checks) whole); told = at.told; neighbours = at.neighbours };
+      whole = record { checks = sym (ap (λ (p : Plan). p.checks) whole); told = at.told; in_turn = at.in_turn };
       line = refused;
       refused = ap (λ (p : Plan). p.refused) whole;
       stop_is = says;
-      keeps = kept-all how plan start now kept number status s line (text ∷ lines) at after is;
+      keeps = kept-all how from plan start now kept number status s line (text ∷ lines) at after is;
     }))
 
 -- ---- what is done at a line
 
 -- an edit was made, or nothing
-pub stands-goes : (how : How) (plan : Plan) (start now : DeskState) (kept : List Kept) (number : ℕ) (status : Status) (s t : State) (line : ℕ)
-    (text : List ℕ) (lines : List (List ℕ)) → Stands how plan start now kept number status s line (text ∷ lines)
-    → DoesTurn (turn_of s.net text) s t (Ok false) → Stands how plan start now kept number status t (line + 1) lines
-stands-goes how plan start now kept number status s t line text lines at does = go (turn_of s.net text) refl does
+pub stands-goes : (how : How) (from : Opening) (plan : Plan) (start now : DeskState) (kept : List Kept) (number : ℕ) (status : Status) (s t : State) (line : ℕ)
+    (text : List ℕ) (lines : List (List ℕ)) → Stands how from plan start now kept number status s line (text ∷ lines)
+    → DoesTurn (turn_of s.net text) s t (Ok false) → Stands how from plan start now kept number status t (line + 1) lines
+stands-goes how from plan start now kept number status s t line text lines at does = go (turn_of s.net text) refl does
   where
-    go : (turn : Turn) → turn_of s.net text ≡ turn → DoesTurn turn s t (Ok false) → Stands how plan start now kept number status t (line + 1) lines
+    go : (turn : Turn) → turn_of s.net text ≡ turn → DoesTurn turn s t (Ok false) → Stands how from plan start now kept number status t (line + 1) lines
     go Passes is d =
-        subst (λ (x : State). Stands how plan start now kept number status x (line + 1) lines) (sym d.1)
-        (stands-passed how plan start now kept number status s line text lines at is)
+        subst (λ (x : State). Stands how from plan start now kept number status x (line + 1) lines) (sym d.1)
+        (stands-passed how from plan start now kept number status s line text lines at is)
     go (Makes edit) is d =
-        subst (λ (x : State). Stands how plan start now kept number status x (line + 1) lines) (sym d.1)
-        (stands-edited how plan start now kept number status s line text lines at edit is)
+        subst (λ (x : State). Stands how from plan start now kept number status x (line + 1) lines) (sym d.1)
+        (stands-edited how from plan start now kept number status s line text lines at edit is)
     go AsksCheck is d = cc
     go (Fails fault) is d = cc
 
 -- a check is asked for, of the session as it was
-pub record Asked (how : How) (plan : Plan) (start now : DeskState) (kept : List Kept) (number : ℕ) (status : Status) (t : State) (line : ℕ)
+pub record Asked (how : How) (from : Opening) (plan : Plan) (start now : DeskState) (kept : List Kept) (number : ℕ) (status : Status) (t : State) (line : ℕ)
     (text : List ℕ) (lines : List (List ℕ)) : Type 0 where
-  pub at : Stands how plan start now kept number status t line (text ∷ lines)
+  pub at : Stands how from plan start now kept number status t line (text ∷ lines)
   pub asks : turn_of t.net text ≡ AsksCheck
 
-pub stands-asked : (how : How) (plan : Plan) (start now : DeskState) (kept : List Kept) (number : ℕ) (status : Status) (s t : State) (line : ℕ)
-    (text : List ℕ) (lines : List (List ℕ)) → Stands how plan start now kept number status s line (text ∷ lines)
-    → DoesTurn (turn_of s.net text) s t (Ok true) → Asked how plan start now kept number status t line text lines
-stands-asked how plan start now kept number status s t line text lines at does = go (turn_of s.net text) refl does
+pub stands-asked : (how : How) (from : Opening) (plan : Plan) (start now : DeskState) (kept : List Kept) (number : ℕ) (status : Status) (s t : State) (line : ℕ)
+    (text : List ℕ) (lines : List (List ℕ)) → Stands how from plan start now kept number status s line (text ∷ lines)
+    → DoesTurn (turn_of s.net text) s t (Ok true) → Asked how from plan start now kept number status t line text lines
+stands-asked how from plan start now kept number status s t line text lines at does = go (turn_of s.net text) refl does
   where
-    go : (turn : Turn) → turn_of s.net text ≡ turn → DoesTurn turn s t (Ok true) → Asked how plan start now kept number status t line text lines
+    go : (turn : Turn) → turn_of s.net text ≡ turn → DoesTurn turn s t (Ok true) → Asked how from plan start now kept number status t line text lines
     go AsksCheck is d =
-        subst (λ (x : State). Asked how plan start now kept number status x line text lines) (sym d.1) (record { at = at; asks = is })
+        subst (λ (x : State). Asked how from plan start now kept number status x line text lines) (sym d.1) (record { at = at; asks = is })
     go Passes is d = cc
     go (Makes edit) is d = cc
     go (Fails fault) is d = cc
 
 -- the line is refused, or memory ran out
-pub record Refuses (how : How) (plan : Plan) (start now : DeskState) (kept : List Kept) (number : ℕ) (status : Status) (t : State) (line : ℕ)
+pub record Refuses (how : How) (from : Opening) (plan : Plan) (start now : DeskState) (kept : List Kept) (number : ℕ) (status : Status) (t : State) (line : ℕ)
     (text : List ℕ) (lines : List (List ℕ)) (fault : EditErr) : Type 0 where
-  pub at : Stands how plan start now kept number status t line (text ∷ lines)
+  pub at : Stands how from plan start now kept number status t line (text ∷ lines)
   pub why : (fault ≡ NoMemory) ⊎ (turn_of t.net text ≡ Fails fault)
 
-pub stands-faulty : (how : How) (plan : Plan) (start now : DeskState) (kept : List Kept) (number : ℕ) (status : Status) (s t : State) (line : ℕ)
-    (text : List ℕ) (lines : List (List ℕ)) (fault : EditErr) → Stands how plan start now kept number status s line (text ∷ lines)
-    → DoesTurn (turn_of s.net text) s t (Err fault) → Refuses how plan start now kept number status t line text lines fault
-stands-faulty how plan start now kept number status s t line text lines fault at does = go (turn_of s.net text) refl does
+pub stands-faulty : (how : How) (from : Opening) (plan : Plan) (start now : DeskState) (kept : List Kept) (number : ℕ) (status : Status) (s t : State) (line : ℕ)
+    (text : List ℕ) (lines : List (List ℕ)) (fault : EditErr) → Stands how from plan start now kept number status s line (text ∷ lines)
+    → DoesTurn (turn_of s.net text) s t (Err fault) → Refuses how from plan start now kept number status t line text lines fault
+stands-faulty how from plan start now kept number status s t line text lines fault at does = go (turn_of s.net text) refl does
   where
     same : (x y : EditErr) → (let r : Result Bool EditErr = Err x in r ≡ Err y) → y ≡ x
     same x y e = cc
 
-    go : (turn : Turn) → turn_of s.net text ≡ turn → DoesTurn turn s t (Err fault) → Refuses how plan start now kept number status t line text lines fault
+    go : (turn : Turn) → turn_of s.net text ≡ turn → DoesTurn turn s t (Err fault) → Refuses how from plan start now kept number status t line text lines fault
     go (Makes edit) is d =
-        subst (λ (x : State). Refuses how plan start now kept number status x line text lines fault) (sym d.1) (record { at = at; why = inl d.0 })
+        subst (λ (x : State). Refuses how from plan start now kept number status x line text lines fault) (sym d.1) (record { at = at; why = inl d.0 })
     go (Fails cause) is d =
-        subst (λ (x : State). Refuses how plan start now kept number status x line text lines fault) (sym d.1)
+        subst (λ (x : State). Refuses how from plan start now kept number status x line text lines fault) (sym d.1)
         (record { at = at; why = inr (is ∙ ap (λ (e : EditErr). Fails e) (same fault cause d.0)) })
     go Passes is d = cc
     go AsksCheck is d = cc
 
 -- the program ends at the line
-pub line-stops : (how : How) (plan : Plan) (start now : DeskState) (kept : List Kept) (number : ℕ) (status : Status) (t : State) (line : ℕ)
-    (text : List ℕ) (lines : List (List ℕ)) (fault : EditErr) → Refuses how plan start now kept number status t line text lines fault
+pub line-stops : (how : How) (from : Opening) (plan : Plan) (start now : DeskState) (kept : List Kept) (number : ℕ) (status : Status) (t : State) (line : ℕ)
+    (text : List ℕ) (lines : List (List ℕ)) (fault : EditErr) → Refuses how from plan start now kept number status t line text lines fault
     → (after : List Kept) → after ≡ kept ++ record { check = number; book = t.book } ∷ []
-    → (stop : Stop) → StopsAtLine (record { line = line; fault = fault }) stop → StopsChecks how plan start after now stop
-line-stops how plan start now kept number status t line text lines fault r after is stop (inl out) =
-    let all : after ≡ kept_from 0 (r.at.made ++ r.at.last ∷ []) = kept-all how plan start now kept number status t line (text ∷ lines) r.at after is in
-    stands-out how plan start now kept number status t line (text ∷ lines) r.at after
+    → (stop : Stop) → StopsAtLine (record { line = line; fault = fault }) stop → StopsChecks how from plan start after now stop
+line-stops how from plan start now kept number status t line text lines fault r after is stop (inl out) =
+    let all : after ≡ kept_from 0 (r.at.made ++ r.at.last ∷ []) = kept-all how from plan start now kept number status t line (text ∷ lines) r.at after is in
+    stands-out how from plan start now kept number status t line (text ∷ lines) r.at after
     (subst (λ (ks : List Kept). AreSome ks (kept_from 0 (r.at.made ++ r.at.last ∷ []))) (sym all) (some-all (kept_from 0 (r.at.made ++ r.at.last ∷ []))))
     stop out
-line-stops how plan start now kept number status t line text lines fault r after is stop (inr says) = go r.why
+line-stops how from plan start now kept number status t line text lines fault r after is stop (inr says) = go r.why
   where
-    go : (fault ≡ NoMemory) ⊎ (turn_of t.net text ≡ Fails fault) → StopsChecks how plan start after now stop
+    go : (fault ≡ NoMemory) ⊎ (turn_of t.net text ≡ Fails fault) → StopsChecks how from plan start after now stop
     go (inl memory) = absurd (says.0 memory)
-    go (inr fails) = stands-refused how plan start now kept number status t line text lines r.at fault fails after is stop says.1
+    go (inr fails) = stands-refused how from plan start now kept number status t line text lines r.at fault fails after is stop says.1

@@ -2,6 +2,8 @@
 use Rattle.std.proofs.Common.{◌≡◌, ◌≢◌, ℕ, ◌+◌, ◌<◌, ◌≤◌, ◌^◌, lit<, inl, inr, List, [], ◌∷◌, ◌++◌, length, map, option_map, Option, Some, None, Err, refl, sym, ap, ◌∙◌, subst, arith, append-nil, length-append}
 use Rattle.std.specs.Prelude.{◌⊎◌}
 use Rattle.std.specs.List.{AllByRecursion, flat_map}
+use Rattle.std.specs.Option.{option_to_list}
+use Rattle.lemma_book.specs.declared.entry.Entry.{Entry}
 use Rattle.std.proofs.lemmas.List.{length-map}
 use Rattle.desk_port.specs.Desk.{DeskState, Files, after_read, put}
 use Rattle.netlist.specs.Net.{AigPair}
@@ -11,34 +13,33 @@ use Rattle.endings.specs.Status.{code_of}
 use Rattle.endings.specs.declared.stop.Stop.{Stop}
 use Rattle.endings.specs.declared.stop.Stop.TheVariants.{CannotRead, TooLong, BadFile, NotAlike, CannotWrite, OutOfMemory}
 use Rattle.endings.specs.Reading.{Input, StopsAt, ReadsUpTo, limit}
-use Rattle.endings.specs.Writing.{Output, Leaves, StopsIn, after_file}
-use Rattle.endings.specs.Stops.{EndsBy, IsWarned, Warns, status_of, stop_line}
-use Rattle.command_line.specs.Words.{CheckCommand, LratCommand, SelfCommand, Request, CheckIt, LratIt, SelfIt, Asks, WantInfo, AreRefused}
+use Rattle.endings.specs.Writing.{Output, Leaves, StopsAmong, StopsIn, after_file}
+use Rattle.endings.specs.Stops.{EndsBy, Warns, status_of, stop_line}
+use Rattle.command_line.specs.Words.{CheckCommand, Request, CheckIt, FraigIt, LratIt, SelfIt, Asks, WantInfo, AreRefused}
 use Rattle.cec_top.specs.declared.kept.Kept.{Kept}
-use Rattle.cec_top.specs.Answers.{Answers, AnswersCheck, AsksFor, IsAtOnce, Stops, how_of, names_of, pair_of, script_of, after_pair, at_start}
-use Rattle.cec_top.specs.Check.{How, Made, IsMade, GoesOn, Tells, AreSome, KeepsOn, BreaksOff, RunsOut, StopsChecks, due_of, kept_from, kept_of, outputs_of, text_of_check}
-use Rattle.cec_top.specs.Headline.{Told, IsScript, KeepsPromise, HasFiles, LeavesUnder, due_of_told}
-use Rattle.cec_top.specs.Script.{Due, Plan, plan_of}
-use Rattle.cec_top.specs.Stopped.{IsNoFile, SaysPart, StandUnder, Stopped, TellsNothing, TellsSome}
+use Rattle.cec_top.specs.Answers.{Answers, AnswersCheck, AsksFor, IsAtOnce, IsOpening, OpensNot, Stops, how_of, lemmas_of, names_of, opening_text, pair_of, script_of, after_lemmas, after_pair, at_start}
+use Rattle.cec_top.specs.Check.{How, Made, Opening, IsMade, GoesOn, AreSome, KeepsOn, BreaksOff, NotSaved, StopsChecks, due_of, kept_from, outputs_of, saved_file, saved_of, text_of_check}
+use Rattle.cec_top.specs.Headline.{Told, IsScript, Loads, KeepsPromise, HasFiles, LeavesUnder}
+use Rattle.cec_top.specs.Script.{Due, Refused, plan_of}
+use Rattle.cec_top.specs.Stopped.{IsNoFile, StandUnder, Stopped, saved_behind}
 use Rattle.cec_top.proofs.CompleteLemmas.{finding-code}
-use Rattle.cec_top.proofs.HeadlineLemmas.{ends-code, spells-pair, spells-script, start-keeps}
+use Rattle.cec_top.proofs.HeadlineLemmas.{spells-pair, spells-script}
+use Rattle.cec_top.proofs.SavingLemmas.{IsApart, lemmas-keep, loads-are, put-other, saved-is, start-keeps, still}
+use Rattle.cec_top.proofs.TellLemmas.{stops-among}
 use Rattle.cec_top.proofs.KeptLemmas.{has-last, has-open}
 use Rattle.cec_top.proofs.PlanLemmas.{plan-count}
 use Rattle.cec_top.proofs.RunLemmas.{some-all}
-use Rattle.cec_top.proofs.ToldLemmas.{IsLeft, all-left, cnf-no-proof, cnf-number, eq-other, leaves-under, left_all, proof-number, told_of, tolds, tolds-due, tolds-last, tolds-numbered}
-use Rattle.cec_top.proofs.VerdictLemmas.{HasParts, all-front, all-last, is-last, promise-all, promise-one, some-parts, told-made}
+use Rattle.cec_top.proofs.ToldLemmas.{all-left, cnf-no-proof, cnf-number, leaves-under, left_all, proof-number, told_of, tolds, tolds-due, tolds-last, tolds-numbered}
+use Rattle.cec_top.proofs.VerdictLemmas.{HasParts, all-front, all-last, book-last, few-told, is-last, is-left, promise-all, promise-one, some-parts, told-made}
 use Rattle.cec_top.proofs.WordsLemmas.{check_or, same_request}
 
 -- ---- what is left and said in part
 
-put-other : (name bytes q : List ℕ) (files : Files) → q ≢ name → put name bytes files q ≡ files q
-put-other name bytes q files other = rw (eq-other name q other) refl
-
 -- the files where some of these were written, or a first part of one
-record HalfFiles (os : List Output) (before : Files) (now : Option Files) : Type 0 where
-  after : Files
-  are : now ≡ Some after
-  others : (q : List ℕ) → AllByRecursion (λ o. q ≢ o.name) os → after q ≡ before q
+pub record HalfFiles (os : List Output) (before : Files) (now : Option Files) : Type 0 where
+  pub after : Files
+  pub are : now ≡ Some after
+  pub others : (q : List ℕ) → AllByRecursion (λ o. q ≢ o.name) os → after q ≡ before q
 
 same-files : (os : List Output) (before : Files) (now : Option Files) → now ≡ Some before → HalfFiles os before now
 same-files os before now are = record { after = before; are = are; others = λ q none. refl }
@@ -52,12 +53,12 @@ put-files o os part before now are = record {
 }
 
 -- of the text a first part is said, and of the files some stand, or a first part of one
-record HalfLeft (os : List Output) (text : List ℕ) (old new : DeskState) : Type 0 where
-  part : List ℕ
-  rest : List ℕ
-  is_part : text ≡ part ++ rest
-  said : (earlier : List ℕ) → old.said ≡ Some earlier → new.said ≡ Some (earlier ++ part)
-  files : (before : Files) → old.files ≡ Some before → HalfFiles os before new.files
+pub record HalfLeft (os : List Output) (text : List ℕ) (old new : DeskState) : Type 0 where
+  pub part : List ℕ
+  pub rest : List ℕ
+  pub is_part : text ≡ part ++ rest
+  pub said : (earlier : List ℕ) → old.said ≡ Some earlier → new.said ≡ Some (earlier ++ part)
+  pub files : (before : Files) → old.files ≡ Some before → HalfFiles os before new.files
 
 -- nothing of it is said
 unsaid : (os : List Output) (text : List ℕ) (old new : DeskState) → new.said ≡ old.said
@@ -96,7 +97,7 @@ stops-in o os text old new (TooLong file) p = absurd p
 stops-in o os text old new (BadFile file why) p = absurd p
 stops-in o os text old new (NotAlike why) p = absurd p
 
-half-left : (os : List Output) (text : List ℕ) (old new : DeskState) (stop : Stop) → Leaves os text old new (Err stop) → HalfLeft os text old new
+pub half-left : (os : List Output) (text : List ℕ) (old new : DeskState) (stop : Stop) → Leaves os text old new (Err stop) → HalfLeft os text old new
 half-left [] text old new CannotWrite p = record {
   part = p.0;
   rest = p.1.0;
@@ -129,7 +130,7 @@ half-left (o ∷ os) text old new stop (inr p) =
     }
 
 -- where it leaves no file none is another
-none-left : (text : List ℕ) (old new : DeskState) (stop : Stop) → Leaves [] text old new (Err stop) → new.files ≡ old.files
+pub none-left : (text : List ℕ) (old new : DeskState) (stop : Stop) → Leaves [] text old new (Err stop) → new.files ≡ old.files
 none-left text old new CannotWrite p = ap (λ (s : DeskState). s.files) p.2.stays
 none-left text old new OutOfMemory p = ap (λ (s : DeskState). s.files) p
 none-left text old new (CannotRead file) p = absurd p
@@ -159,7 +160,7 @@ stops-silent k i earlier old new OutOfMemory (inr e) = same-silent old new (afte
 stops-silent k i earlier old new (NotAlike text) p = absurd p
 stops-silent k i earlier old new CannotWrite p = absurd p
 
-reads-silent : (k : ℕ) (earlier : List (List ℕ)) (is : List Input) (old new : DeskState) (stop : Stop) → ReadsUpTo k earlier is old new stop
+pub reads-silent : (k : ℕ) (earlier : List (List ℕ)) (is : List Input) (old new : DeskState) (stop : Stop) → ReadsUpTo k earlier is old new stop
     → IsSilent old new
 reads-silent k earlier [] old new stop p = absurd p
 reads-silent k earlier (i ∷ is) old new stop (inl p) = stops-silent k i earlier old new stop p
@@ -242,20 +243,21 @@ few-made net lines ms others few checks =
     )
 
 -- where nothing more was written
-stand-all : (out : Option (List ℕ)) (ms : List Made) (before : Files) → length ms < 2 ^ 64
-    → StandUnder out (tolds out 0 ms) before (left_all out (tolds out 0 ms) before)
-stand-all out ms before small = go out (leaves-under out ms before small)
+stand-all : (out : Option (List ℕ)) (ms : List Made) (names : List (List ℕ)) (before : Files) → length ms < 2 ^ 64
+    → StandUnder out (tolds out 0 ms) names before (left_all out (tolds out 0 ms) before)
+stand-all out ms names before small = go out names (leaves-under out ms before small)
   where
-    go : (o : Option (List ℕ)) → LeavesUnder o (tolds o 0 ms) before (left_all o (tolds o 0 ms) before)
-        → StandUnder o (tolds o 0 ms) before (left_all o (tolds o 0 ms) before)
-    go None same = same
-    go (Some prefix) l = record { each = l.each; others = λ q none next. l.others q none }
+    go : (o : Option (List ℕ)) (names : List (List ℕ)) → LeavesUnder o (tolds o 0 ms) before (left_all o (tolds o 0 ms) before)
+        → StandUnder o (tolds o 0 ms) names before (left_all o (tolds o 0 ms) before)
+    go None [] same = same
+    go None (name ∷ names) same = λ q others. ap (λ (f : Files). f q) same
+    go (Some prefix) names l = record { each = l.each; others = λ q none next others. l.others q none }
 
 -- where the next check was told in part
 record HalfStands (out : Option (List ℕ)) (ts : List Told) (before : Files) (now : Option Files) : Type 0 where
   after : Files
   are : now ≡ Some after
-  stand : StandUnder out ts before after
+  stand : StandUnder out ts [] before after
 
 stand-half : (out : Option (List ℕ)) (ms : List Made) (half : Made) (before : Files) (mid new : DeskState) (stop : Stop) → length ms < 2 ^ 64
     → mid.files ≡ Some (left_all out (tolds out 0 ms) before)
@@ -278,15 +280,45 @@ stand-half (Some prefix) ms half before mid new stop small told p =
       are = f.are;
       stand = record {
         each = still-each prefix 0 (length ms) ms there f.after (omega arith) small (λ q none. f.others q (none.0, (none.1, tt))) l.each;
-        others = λ q none next.
+        others = λ q none next others.
             let behind : IsNoFile prefix (length ms) q = subst (λ (n : ℕ). IsNoFile prefix n q) count next in
             f.others q (behind.0, (behind.1, tt)) ∙ l.others q none;
       };
     }
 
+-- no lemmas are saved before the last check was told
+none-saved : (save : Option (List ℕ)) (refused : Option Refused) (due : Due) (dues : List Due) → saved_behind save refused (due ∷ dues) ≡ []
+none-saved save None due dues = refl
+none-saved save (Some line) due dues = refl
+
+-- behind it they were saved in part
+stand-saved : (c : CheckCommand) → IsApart c → (name : List ℕ) → c.save ≡ Some name → (ms : List Made) (before after : Files) → length ms < 2 ^ 64
+    → ((q : List ℕ) → q ≢ name → after q ≡ left_all c.out (tolds c.out 0 ms) before q)
+    → StandUnder c.out (tolds c.out 0 ms) (name ∷ []) before after
+stand-saved c apart name save ms before after small same = go c.out refl same (leaves-under c.out ms before small)
+  where
+    go : (o : Option (List ℕ)) → c.out ≡ o → ((q : List ℕ) → q ≢ name → after q ≡ left_all o (tolds o 0 ms) before q)
+        → LeavesUnder o (tolds o 0 ms) before (left_all o (tolds o 0 ms) before) → StandUnder o (tolds o 0 ms) (name ∷ []) before after
+    go None out same l = λ q others. same q others.0 ∙ ap (λ (f : Files). f q) l
+    go (Some prefix) out same l = record {
+      each = still c apart prefix out (left_all (Some prefix) (tolds (Some prefix) 0 ms) before) after (λ q other. same q (other name save))
+          0 ms (omega (arith, small)) l.each;
+      others = λ q none next others. same q others.0 ∙ l.others q none;
+    }
+
+-- in the file that is named
+save-named : (save : Option (List ℕ)) (kept : List Kept) (s t : DeskState) (stop : Stop) → StopsAmong (saved_of save kept) s t stop
+    → (name : List ℕ) × (save ≡ Some name)
+save-named None kept s t stop p = absurd p
+save-named (Some name) kept s t stop p = (name, refl)
+
+nil-front : (xs ys : List ℕ) → [] ≡ xs ++ ys → xs ≡ []
+nil-front [] ys is = refl
+nil-front (x ∷ xs) ys is = cc
+
 -- ---- a run that stops
 
-module _ (c : CheckCommand) (old new : DeskState) (before : Files) (told : old.files ≡ Some before) (status : Status) (kept : List Kept) where
+module _ (c : CheckCommand) (apart : IsApart c) (old new : DeskState) (before : Files) (told : old.files ≡ Some before) (status : Status) (kept : List Kept) where
   -- the desk when the cause came, and the line that was warned of it
   same-warned : (mid : DeskState) (line : List ℕ) (named : Status) → Warns line named mid new status → IsSilent mid new
   same-warned mid line named (inl (is, inl p)) = same-silent mid new _ p refl refl
@@ -299,20 +331,59 @@ module _ (c : CheckCommand) (old new : DeskState) (before : Files) (told : old.f
   cause-code mid line named (inr p) code = absurd (omega (arith, code, ap code_of p.0))
 
   nothing : (mid : DeskState) → kept ≡ [] → IsSilent old mid → IsSilent mid new → Stopped c old new status kept before
-  nothing mid none at line = inl (record { files = line.files ∙ at.files ∙ told; said = line.said ∙ at.said; none = none })
+  nothing mid none at line = inl (record {
+    files = line.files ∙ at.files ∙ told;
+    none = none;
+    part = [];
+    said = inl refl;
+    heard = λ earlier heard. line.said ∙ at.said ∙ heard ∙ ap (λ (x : List ℕ). Some x) (sym (append-nil earlier));
+  })
 
-  module _ (net : AigPair) (lines : List (List ℕ)) (asks : AsksFor c old net lines) (mid : DeskState) (line : IsSilent mid new) where
+  -- how many lemmas are taken is said in part
+  opening-told : (mid : DeskState) (stop : Stop) → kept ≡ [] → OpensNot c old mid stop → IsSilent mid new → Stopped c old new status kept before
+  opening-told mid stop none p line = elim p.stops [
+    | inl q ↦
+        nothing mid none (same-silent old mid (after_lemmas c old) q.1 (lemmas-keep c old).files (lemmas-keep c old).said) line
+    | inr q ↦
+        let k = lemmas-keep c old in
+        let text : List ℕ = opening_text (Some p.entries) q.0 in
+        let half = half-left [] text (after_lemmas c old) mid stop q.2 in
+        inl (record {
+          files = line.files ∙ none-left text (after_lemmas c old) mid stop q.2 ∙ k.files ∙ told;
+          none = none;
+          part = half.part;
+          said = inr (record {
+            net = p.net;
+            pair = spells-pair c old before told p.net p.asks.pair;
+            lemmas = Some p.entries;
+            from = q.0;
+            loads = loads-are c old before told p.net p.lines (Some p.entries) p.asks q.0 q.1;
+            rest = half.rest;
+            is_part = half.is_part;
+          });
+          heard = λ earlier heard. line.said ∙ half.said earlier (k.said ∙ heard);
+        })
+  ]
+
+  module _ (net : AigPair) (lines : List (List ℕ)) (lemmas : Option (List Entry)) (asks : AsksFor c old net lines lemmas) (from : Opening)
+      (opens : IsOpening (how_of c).options net lemmas from) (mid : DeskState) (line : IsSilent mid new) where
     script : IsScript c.edits before lines × (length lines ≤ limit)
-    script = spells-script c old before told net lines asks
+    script = spells-script c old before told net lines lemmas asks
+
+    loads : Loads c before net lemmas from
+    loads = loads-are c old before told net lines lemmas asks from opens
 
     abbrev start : DeskState
-    start = at_start c old
+    start = at_start c old lemmas from
+
+    abbrev text : List ℕ
+    text = opening_text lemmas from
 
     -- some checks were told whole, and no other in part
-    whole-told : (ms : List Made) (others : List Due) → GoesOn (how_of c) (plan_of net lines) start ms others mid
+    whole-told : (ms : List Made) (others : List Due) → GoesOn (how_of c) from (plan_of net lines) start ms others mid
         → AreSome kept (kept_from 0 ms) → (code_of status ≡ 6 → kept ≡ kept_from 0 ms) → Stopped c old new status kept before
     whole-told ms others p some all =
-        let k = start-keeps c old in
+        let k = start-keeps c old lemmas from in
         let left = all-left (how_of c) 0 ms start mid p.told in
         let small = few-made net lines ms others script.1 p.checks in
         inr (record {
@@ -320,6 +391,9 @@ module _ (c : CheckCommand) (old new : DeskState) (before : Files) (told : old.f
           pair = spells-pair c old before told net asks.pair;
           lines = lines;
           script = script.0;
+          lemmas = lemmas;
+          from = from;
+          loads = loads;
           told = tolds c.out 0 ms;
           others = others;
           checks = ap (λ (ds : List Due). ds ++ others) (tolds-due c.out 0 ms) ∙ p.checks;
@@ -331,18 +405,19 @@ module _ (c : CheckCommand) (old new : DeskState) (before : Files) (told : old.f
           part = [];
           next = inl refl;
           heard = λ earlier heard.
-              line.said ∙ left.said earlier (k.said ∙ heard)
-              ∙ ap (λ (x : List ℕ). Some x) (sym (append-nil (earlier ++ flat_map (λ (t : Told). t.said) (tolds c.out 0 ms))));
+              let texts : List ℕ = flat_map (λ (t : Told). t.said) (tolds c.out 0 ms) in
+              line.said ∙ left.said (earlier ++ text) (k.said earlier heard)
+              ∙ ap (λ (x : List ℕ). Some x) (sym (append-nil ((earlier ++ text) ++ texts)));
           after = left_all c.out (tolds c.out 0 ms) before;
           files = line.files ∙ left.files before (k.files ∙ told);
-          stand = stand-all c.out ms before small;
+          stand = stand-all c.out ms (saved_behind c.save (plan_of net lines).refused others) before small;
         })
 
     -- and the next one in part
-    half-told : (stop : Stop) → BreaksOff (how_of c) (plan_of net lines) start mid kept stop → (code_of status ≡ 6 → code_of (status_of stop) ≡ 6)
+    half-told : (stop : Stop) → BreaksOff (how_of c) from (plan_of net lines) start mid kept stop → (code_of status ≡ 6 → code_of (status_of stop) ≡ 6)
         → Stopped c old new status kept before
     half-told stop p code =
-        let k = start-keeps c old in
+        let k = start-keeps c old lemmas from in
         let ms : List Made = p.made in
         let left = all-left (how_of c) 0 ms start p.mid p.before.told in
         let small = few-made net lines ms (due_of p.half ∷ p.others) script.1 p.before.checks in
@@ -356,6 +431,9 @@ module _ (c : CheckCommand) (old new : DeskState) (before : Files) (told : old.f
           pair = spells-pair c old before told net asks.pair;
           lines = lines;
           script = script.0;
+          lemmas = lemmas;
+          from = from;
+          loads = loads;
           told = tolds c.out 0 ms;
           others = due_of p.half ∷ p.others;
           checks = ap (λ (ds : List Due). ds ++ due_of p.half ∷ p.others) (tolds-due c.out 0 ms) ∙ p.before.checks;
@@ -375,13 +453,63 @@ module _ (c : CheckCommand) (old new : DeskState) (before : Files) (told : old.f
             is_part = half.is_part;
           });
           heard = λ earlier heard.
-              line.said ∙ half.said (earlier ++ flat_map (λ (t : Told). t.said) (tolds c.out 0 ms)) (left.said earlier (k.said ∙ heard));
+              let texts : List ℕ = flat_map (λ (t : Told). t.said) (tolds c.out 0 ms) in
+              line.said ∙ half.said ((earlier ++ text) ++ texts) (left.said (earlier ++ text) (k.said earlier heard));
           after = stands.after;
           files = line.files ∙ stands.are;
-          stand = stands.stand;
+          stand = subst (λ (names : List (List ℕ)). StandUnder c.out (tolds c.out 0 ms) names before stands.after)
+              (sym (none-saved c.save (plan_of net lines).refused (due_of p.half) p.others)) stands.stand;
         })
 
-    checks-told : (stop : Stop) → StopsChecks (how_of c) (plan_of net lines) start kept mid stop → (code_of status ≡ 6 → code_of (status_of stop) ≡ 6)
+    -- all were told, and their lemmas aren't saved whole
+    not-saved : (stop : Stop) → NotSaved (how_of c) from (plan_of net lines) c.save start mid kept stop → Stopped c old new status kept before
+    not-saved stop p =
+        let k = start-keeps c old lemmas from in
+        let l = is-last (how_of c) from net lines start p.mid p.status kept p.ends in
+        let ms : List Made = l.earlier ++ l.last ∷ [] in
+        let left = is-left c kept from net lines script.1 start p.mid l.earlier l.last l.whole l.keeps in
+        let small = few-told c kept from net lines script.1 start p.mid l.earlier l.last l.whole l.keeps in
+        let book = book-last c kept from net lines script.1 start p.mid l.earlier l.last l.whole l.keeps in
+        let there : p.mid.files ≡ Some (left_all c.out (tolds c.out 0 ms) before) = left.files before (k.files ∙ told) in
+        let os : List Output = saved_of c.save kept in
+        let half = half-left os [] p.mid mid stop (stops-among os p.mid mid stop p.stops []) in
+        let none : half.part ≡ [] = nil-front half.part half.rest half.is_part in
+        let f = half.files (left_all c.out (tolds c.out 0 ms) before) there in
+        let named = save-named c.save kept p.mid mid stop p.stops in
+        let file : os ≡ saved_file named.0 l.last.book ∷ [] =
+        ap (λ (o : Option (List ℕ)). saved_of o kept) named.1 ∙ saved-is named.0 kept l.last.book book in
+        let names : saved_behind c.save (plan_of net lines).refused [] ≡ named.0 ∷ [] =
+        ap (λ (r : Option Refused). saved_behind c.save r []) p.ends.accepted ∙ ap option_to_list named.1 in
+        inr (record {
+          net = net;
+          pair = spells-pair c old before told net asks.pair;
+          lines = lines;
+          script = script.0;
+          lemmas = lemmas;
+          from = from;
+          loads = loads;
+          told = tolds c.out 0 ms;
+          others = [];
+          checks = ap (λ (ds : List Due). ds ++ []) (tolds-due c.out 0 ms) ∙ l.whole.checks;
+          numbers = tolds-numbered c.out 0 ms;
+          books = kept_from 0 ms;
+          some = subst (AreSome kept) l.keeps (some-all kept);
+          all = λ is. l.keeps;
+          promises = promises (how_of c) ms (told-made (how_of c) 0 ms start p.mid l.whole.told);
+          part = [];
+          next = inl refl;
+          heard = λ earlier heard.
+              let texts : List ℕ = flat_map (λ (t : Told). t.said) (tolds c.out 0 ms) in
+              line.said ∙ half.said ((earlier ++ text) ++ texts) (left.said (earlier ++ text) (k.said earlier heard))
+              ∙ ap (λ (x : List ℕ). Some (((earlier ++ text) ++ texts) ++ x)) none;
+          after = f.after;
+          files = line.files ∙ f.are;
+          stand = subst (λ (ns : List (List ℕ)). StandUnder c.out (tolds c.out 0 ms) ns before f.after) (sym names)
+              (stand-saved c apart named.0 named.1 ms before f.after small
+              (λ q other. f.others q (subst (λ (xs : List Output). AllByRecursion (λ o. q ≢ o.name) xs) (sym file) (other, tt))));
+        })
+
+    checks-told : (stop : Stop) → StopsChecks (how_of c) from (plan_of net lines) start kept mid stop → (code_of status ≡ 6 → code_of (status_of stop) ≡ 6)
         → Stopped c old new status kept before
     checks-told stop (inl p) code = half-told stop p code
     checks-told stop (inr (inl p)) code =
@@ -395,36 +523,41 @@ module _ (c : CheckCommand) (old new : DeskState) (before : Files) (told : old.f
   stops-told mid stop (inl p) line code = nothing mid p.0 (reads-silent 0 [] (pair_of c) old mid stop p.1) line
   stops-told mid stop (inr (inl p)) line code = nothing mid p.0 (same-silent old mid (after_pair c old) p.1.new_is refl refl) line
   stops-told mid stop (inr (inr (inl p))) line code =
-      let s = reads-silent 2 _ (script_of c) (after_pair c old) mid stop p.1.stops in
+      let s = reads-silent 2 _ (script_of c ++ lemmas_of c.load) (after_pair c old) mid stop p.1.stops in
       nothing mid p.0 (record { files = s.files; said = s.said }) line
-  stops-told mid stop (inr (inr (inr p))) line code = checks-told p.net p.lines p.asks mid line stop p.stops code
+  stops-told mid stop (inr (inr (inr (inl p)))) line code = opening-told mid stop p.0 p.1 line
+  stops-told mid stop (inr (inr (inr (inr p)))) line code = elim p.stops [
+    | inl q ↦ checks-told p.net p.lines p.lemmas p.asks p.from p.opens mid line stop q code
+    | inr q ↦ not-saved p.net p.lines p.lemmas p.asks p.from p.opens mid line stop q
+  ]
 
   pub check-stopped : AnswersCheck c old new status kept → 6 ≤ code_of status → Stopped c old new status kept before
   check-stopped (inl p) above =
-      let l = is-last (how_of c) p.net p.lines (at_start c old) new status kept p.ends in
+      let l = is-last (how_of c) p.from p.net p.lines (at_start c old p.lemmas p.from) p.mid status kept p.ends in
       absurd (omega (arith, above, subst (λ (s : Status). code_of s ≤ 2) l.status_is (finding-code l.last.finding)))
   check-stopped (inr p) above =
       stops-told p.mid p.stop p.cause (same-warned p.mid (stop_line (names_of c) p.stop) (status_of p.stop) p.warns)
       (cause-code p.mid (stop_line (names_of c) p.stop) (status_of p.stop) p.warns)
 
 -- memory ran out before it was known what the words ask for
-at-once : (c : CheckCommand) (old new : DeskState) (status : Status) (kept : List Kept) (before : Files) → old.files ≡ Some before → kept ≡ []
+at-once : (c : CheckCommand) → IsApart c → (old new : DeskState) (status : Status) (kept : List Kept) (before : Files) → old.files ≡ Some before → kept ≡ []
     → EndsBy [] (IsAtOnce old) new status → Stopped c old new status kept before
-at-once c old new status kept before told none p =
-    nothing c old new before told status kept p.mid none (same-silent old p.mid old p.cause.1 refl refl)
-    (same-warned c old new before told status kept p.mid (stop_line [] p.stop) (status_of p.stop) p.warns)
+at-once c apart old new status kept before told none p =
+    nothing c apart old new before told status kept p.mid none (same-silent old p.mid old p.cause.1 refl refl)
+    (same-warned c apart old new before told status kept p.mid (stop_line [] p.stop) (status_of p.stop) p.warns)
 
 pub stopped : (words : List (List ℕ)) (old new : DeskState) (status : Status) (kept : List Kept)
     → ((words : List (List ℕ)) (r : Request) → Asks words r → ¬ (WantInfo words ⊎ AreRefused words))
-    → Answers words old new status kept → (c : CheckCommand) → Asks words (CheckIt c) → (before : Files) → old.files ≡ Some before
+    → Answers words old new status kept → (c : CheckCommand) → Asks words (CheckIt c) → IsApart c → (before : Files) → old.files ≡ Some before
     → 6 ≤ code_of status → Stopped c old new status kept before
-stopped words old new status kept asked answers c asks before told above = elim answers [
+stopped words old new status kept asked answers c asks apart before told above = elim answers [
   | inl p ↦
       let same : p.command ≡ c = ap (check_or c) (same_request words (CheckIt p.command) (CheckIt c) p.asked asks) in
-      check-stopped c old new before told status kept (subst (λ (d : CheckCommand). AnswersCheck d old new status kept) same p.answers) above
+      check-stopped c apart old new before told status kept (subst (λ (d : CheckCommand). AnswersCheck d old new status kept) same p.answers) above
   | inr (inl p) ↦ let t : LratIt p.command ≡ CheckIt c = same_request words (LratIt p.command) (CheckIt c) p.asked asks in cc
   | inr (inr (inl p)) ↦ let t : SelfIt p.command ≡ CheckIt c = same_request words (SelfIt p.command) (CheckIt c) p.asked asks in cc
-  | inr (inr (inr (inl p))) ↦ absurd (asked words (CheckIt c) asks (inl p.wanted))
-  | inr (inr (inr (inr (inl p)))) ↦ absurd (asked words (CheckIt c) asks (inr p.refused))
-  | inr (inr (inr (inr (inr p)))) ↦ at-once c old new status kept before told p.none p.ends
+  | inr (inr (inr (inl p))) ↦ let t : FraigIt p.command ≡ CheckIt c = same_request words (FraigIt p.command) (CheckIt c) p.asked asks in cc
+  | inr (inr (inr (inr (inl p)))) ↦ absurd (asked words (CheckIt c) asks (inl p.wanted))
+  | inr (inr (inr (inr (inr (inl p))))) ↦ absurd (asked words (CheckIt c) asks (inr p.refused))
+  | inr (inr (inr (inr (inr (inr p))))) ↦ at-once c apart old new status kept before told p.none p.ends
 ]

@@ -18,20 +18,20 @@ use Rattle.cec_top.specs.Check.{Made, outputs_of, text_of, text_of_check}
 use Rattle.cec_top.specs.Steps.{opens_in}
 
 -- memory runs out behind all files
-runs-out : (os : List Output) (old new : DeskState) → new ≡ after_files old os
+pub runs-out : (os : List Output) (old new : DeskState) → new ≡ after_files old os
     → (any : List ℕ) → Leaves os any old new (Err OutOfMemory)
 runs-out [] old new at any = at
 runs-out (o ∷ os) old new at any = inr (runs-out os (after_file old o) new at any)
 
 -- one of them isn't written whole, whatever was to be said
-stops-among : (os : List Output) (old new : DeskState) (stop : Stop) → StopsAmong os old new stop
+pub stops-among : (os : List Output) (old new : DeskState) (stop : Stop) → StopsAmong os old new stop
     → (any : List ℕ) → Leaves os any old new (Err stop)
 stops-among [] old new stop p any = absurd p
 stops-among (o ∷ os) old new stop (inl p) any = inl p
 stops-among (o ∷ os) old new stop (inr p) any = inr (stops-among os (after_file old o) new stop p any)
 
 -- what is said behind the files
-says-behind : (os : List Output) (text : List ℕ) (old mid new : DeskState) (result : Result (Unit {0}) Stop) → mid ≡ after_files old os
+pub says-behind : (os : List Output) (text : List ℕ) (old mid new : DeskState) (result : Result (Unit {0}) Stop) → mid ≡ after_files old os
     → Says text mid new result → Leaves os text old new result
 says-behind [] text old mid new result at p = subst (λ (s : DeskState). Says text s new result) at p
 says-behind (o ∷ os) text old mid new (Ok u) at p = says-behind os text (after_file old o) mid new (Ok u) at p

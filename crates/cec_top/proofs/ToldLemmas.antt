@@ -54,7 +54,7 @@ pub proof-number : (prefix : List ℕ) (i j : ℕ) → i < 2 ^ 64 → j < 2 ^ 64
 proof-number prefix i j small little same =
     stem-number prefix i j small little (append_cancel_right (stem prefix i) (stem prefix j) (codes ".lrat") same)
 
-eq-same : (q : List ℕ) → bytes_eq q q ≡ true
+pub eq-same : (q : List ℕ) → bytes_eq q q ≡ true
 eq-same q = (bytes_eq-Decides q q).1 refl
 
 pub eq-other : (n q : List ℕ) → q ≢ n → bytes_eq n q ≡ false

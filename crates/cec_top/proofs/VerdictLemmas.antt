@@ -27,15 +27,16 @@ use Rattle.endings.specs.declared.status.Status.{Status}
 use Rattle.endings.specs.Status.{code_of}
 use Rattle.endings.specs.Writing.{after_files}
 use Rattle.cec_top.specs.declared.kept.Kept.{Kept}
-use Rattle.cec_top.specs.Headline.{Told, OfFiles, IsEquivalent, IsDifferent, IsUndecided, AreEquivalent, AreDifferent, AreUndecided, RefutesMiter, SaysOpen, SpendsBudget, HasLog, KeepsPromise, LeavesUnder, AreNumbered, AreInRow, TellsChecks, Shows, due_of_told}
+use Rattle.cec_top.specs.Headline.{Told, StillStand, OfFiles, IsEquivalent, IsDifferent, IsUndecided, AreEquivalent, AreDifferent, AreUndecided, RefutesMiter, SaysOpen, SpendsBudget, HasLog, KeepsPromise, LeavesUnder, AreNumbered, AreInRow, TellsChecks, Shows, due_of_told}
 use Rattle.check_session.specs.Finding.{Finding, Equivalent, Different, Undecided, open_outputs}
 use Rattle.check_session.specs.Files.{proof_bytes}
 use Rattle.cec_top.specs.Script.{Due, Plan, asked_from, due_behind, plan_of}
-use Rattle.cec_top.specs.Check.{How, Made, IsMade, AreTold, Ends, GoesOn, due_of, is_undecided, status_of_finding, outputs_of as files_of, text_of_check, last_finding, kept_of, kept_from}
-use Rattle.cec_top.specs.Answers.{EndsCheck, AnswersCheck, how_of, at_start}
-use Rattle.cec_top.proofs.HeadlineLemmas.{ends-code, spells-pair, spells-script, start-keeps, has-book, hands-back}
+use Rattle.cec_top.specs.Check.{How, Made, Opening, IsMade, AreTold, Ends, GoesOn, due_of, is_undecided, status_of_finding, outputs_of as files_of, text_of_check, last_book, last_finding, kept_of, kept_from, saved_of}
+use Rattle.cec_top.specs.Answers.{EndsCheck, AnswersCheck, how_of, at_start, opening_text}
+use Rattle.cec_top.proofs.HeadlineLemmas.{ends-code, spells-pair, spells-script, has-book, hands-back}
+use Rattle.cec_top.proofs.SavingLemmas.{IsApart, files-saved, loads-are, saves-under, start-keeps, still-saved, with_saved}
 use Rattle.cec_top.proofs.ToldLemmas.{IsLeft, all-left, leaves-under, left_all, left-whole, told_of, tolds, tolds-due, tolds-last, tolds-numbered}
-use Rattle.cec_top.proofs.KeptLemmas.{HasOpen, has-last, has-open, in-row, kept-of}
+use Rattle.cec_top.proofs.KeptLemmas.{HasOpen, IsOf, begins-on, has-last, has-open, in-row, kept-of, last-kept}
 use Rattle.cec_top.proofs.PlanLemmas.{AreChained, plan-chained, plan-count}
 use Rattle.cec_top.proofs.RunLemmas.{finding-last}
 
@@ -265,8 +266,8 @@ some-parts [] due dues checks = cc
 some-parts (m ∷ ms) due dues checks = has-one m ms
 
 -- the checks that a script asks for were told, and of the last one this holds
-module _ (c : CheckCommand) (kept : List Kept) (net : AigPair) (lines : List (List ℕ)) (few : length lines ≤ limit) (old new : DeskState)
-    (ms : List Made) (last : Made) (whole : GoesOn (how_of c) (plan_of net lines) old (ms ++ last ∷ []) [] new)
+module _ (c : CheckCommand) (kept : List Kept) (from : Opening) (net : AigPair) (lines : List (List ℕ)) (few : length lines ≤ limit)
+    (old new : DeskState) (ms : List Made) (last : Made) (whole : GoesOn (how_of c) from (plan_of net lines) old (ms ++ last ∷ []) [] new)
     (keeps : kept ≡ kept_from 0 (ms ++ last ∷ [])) where
   abbrev all : List Told
   all = tolds c.out 0 (ms ++ last ∷ [])
@@ -283,8 +284,8 @@ module _ (c : CheckCommand) (kept : List Kept) (net : AigPair) (lines : List (Li
   pub made-last : IsMade (how_of c) last
   made-last = all-last (IsMade (how_of c)) ms last all-made
 
-  small : length (ms ++ last ∷ []) < 2 ^ 64
-  small =
+  pub few-told : length (ms ++ last ∷ []) < 2 ^ 64
+  few-told =
       let count : length (ms ++ last ∷ []) ≡ length (plan_of net lines).checks =
       sym (length-map (ms ++ last ∷ []) due_of) ∙ ap (λ (ds : List Due). length ds) dues in
       omega (arith, count, plan-count net lines, few, lit< {m = 1073741826} {n = 2 ^ 64} tt)
@@ -298,20 +299,37 @@ module _ (c : CheckCommand) (kept : List Kept) (net : AigPair) (lines : List (Li
   pub promise-last : KeepsPromise (how_of c) kept (told_of c.out (length ms) last)
   promise-last = promise-one (how_of c) (length ms) last kept made-last (λ opens. has-the-last)
 
-  pub tells-checks : (Holds : Told → Type 0) (before : Files) → Holds (told_of c.out (length ms) last)
-      → TellsChecks c kept Holds (plan_of net lines) before (left_all c.out all before) (flat_map (λ (t : Told). t.said) all)
-  tells-checks Holds before holds = record {
+  -- a book that is there is its check's
+  of-check : (k : Kept) → Contains kept k → IsOf 0 (ms ++ last ∷ []) k
+  of-check k has = kept-of 0 (ms ++ last ∷ []) k (subst (λ (ks : List Kept). Contains ks k) keeps has)
+
+  -- the last one's is the last
+  pub book-last : last_book kept ≡ Some last.book
+  book-last = ap last_book keeps ∙ last-kept ms last
+
+  -- their files stand
+  pub stand-all : (before : Files) → StillStand c.out all (left_all c.out all before)
+  stand-all before = go c.out (leaves-under c.out (ms ++ last ∷ []) before few-told)
+    where
+      go : (o : Option (List ℕ)) → LeavesUnder o (tolds o 0 (ms ++ last ∷ [])) before (left_all o (tolds o 0 (ms ++ last ∷ [])) before)
+          → StillStand o (tolds o 0 (ms ++ last ∷ [])) (left_all o (tolds o 0 (ms ++ last ∷ [])) before)
+      go None l = tt
+      go (Some prefix) l = l.each
+
+  pub tells-checks : (Holds : Told → Type 0) (text : List ℕ) (before : Files) → Holds (told_of c.out (length ms) last)
+      → TellsChecks c kept Holds from (plan_of net lines) text before (left_all c.out all before) (text ++ flat_map (λ (t : Told). t.said) all)
+  tells-checks Holds text before holds = record {
     earlier = tolds c.out 0 ms;
     last = told_of c.out (length ms) last;
     checks = ap (map due_of_told) (sym parts) ∙ tolds-due c.out 0 (ms ++ last ∷ []) ∙ dues;
     numbers = subst (AreNumbered 0) parts (tolds-numbered c.out 0 (ms ++ last ∷ []));
-    says = ap (flat_map (λ (t : Told). t.said)) parts;
+    says = ap (λ (ts : List Told). text ++ flat_map (λ (t : Told). t.said) ts) parts;
+    begins = begins-on kept (ms ++ last ∷ []) (λ k above has. of-check k has) from whole.in_turn (asked_from 1 (due_behind net) lines).checks net dues;
     files = subst (λ (ts : List Told). LeavesUnder c.out ts before (left_all c.out all before)) parts
-        (leaves-under c.out (ms ++ last ∷ []) before small);
+        (leaves-under c.out (ms ++ last ∷ []) before few-told);
     in_row = subst (AreInRow kept) parts
         (in-row c.out kept 0 (ms ++ last ∷ [])
-        (λ k above has. kept-of 0 (ms ++ last ∷ []) k (subst (λ (ks : List Kept). Contains ks k) keeps has))
-        whole.neighbours net
+        (λ k above has. of-check k has) from whole.in_turn net
         (subst (AreChained net) (sym dues) (refl, plan-chained net lines)));
     promises = promise-all (how_of c) 0 ms kept (all-front (IsMade (how_of c)) ms (last ∷ []) all-made)
         (subst (λ (ks : List Kept). HasOpen ks 0 ms) (sym keeps) (has-open ms last));
@@ -321,7 +339,7 @@ module _ (c : CheckCommand) (kept : List Kept) (net : AigPair) (lines : List (Li
 
 -- ---- the one check of circuits that the program makes
 
-module _ (how : How) (net : AigPair) (old new : DeskState) (status : Status) (kept : List Kept) where
+module _ (how : How) (from : Opening) (net : AigPair) (old new : DeskState) (status : Status) (kept : List Kept) where
   -- of checks that end with a verdict: this one is the only one, and it is told whole
   pub record IsOnly : Type 0 where
     pub check : Made
@@ -331,7 +349,7 @@ module _ (how : How) (net : AigPair) (old new : DeskState) (status : Status) (ke
     pub status_is : status_of_finding check.finding ≡ status
     pub keeps : kept ≡ kept_of 0 check ∷ []
 
-  pub only-check : Ends how (plan_of net []) old new status kept → IsOnly
+  pub only-check : Ends how from (plan_of net []) old new status kept → IsOnly
   only-check p = go p.made p.whole.checks p.whole.told p.status_is p.keeps
     where
       go : (made : List Made) → map due_of made ++ [] ≡ due_behind net ∷ [] → AreTold how 0 made old new
@@ -350,22 +368,22 @@ module _ (how : How) (net : AigPair) (old new : DeskState) (status : Status) (ke
 -- ---- a run that comes to a verdict
 
 -- whose status goes with what the last check found
-pub record IsLast (how : How) (plan : Plan) (old new : DeskState) (status : Status) (kept : List Kept) : Type 0 where
+pub record IsLast (how : How) (from : Opening) (plan : Plan) (old new : DeskState) (status : Status) (kept : List Kept) : Type 0 where
   pub earlier : List Made
   pub last : Made
-  pub whole : GoesOn how plan old (earlier ++ last ∷ []) [] new
+  pub whole : GoesOn how from plan old (earlier ++ last ∷ []) [] new
   pub keeps : kept ≡ kept_from 0 (earlier ++ last ∷ [])
   pub status_is : status_of_finding last.finding ≡ status
 
-pub is-last : (how : How) (net : AigPair) (lines : List (List ℕ)) (old new : DeskState) (status : Status) (kept : List Kept)
-    → Ends how (plan_of net lines) old new status kept → IsLast how (plan_of net lines) old new status kept
-is-last how net lines old new status kept p =
+pub is-last : (how : How) (from : Opening) (net : AigPair) (lines : List (List ℕ)) (old new : DeskState) (status : Status) (kept : List Kept)
+    → Ends how from (plan_of net lines) old new status kept → IsLast how from (plan_of net lines) old new status kept
+is-last how from net lines old new status kept p =
     let l = some-parts p.made (due_behind net) (asked_from 1 (due_behind net) lines).checks p.whole.checks in
     let finding : last_finding p.made ≡ Some l.last.finding = ap last_finding l.made_is ∙ finding-last l.earlier l.last in
     record {
       earlier = l.earlier;
       last = l.last;
-      whole = subst (λ (made : List Made). GoesOn how (plan_of net lines) old made [] new) l.made_is p.whole;
+      whole = subst (λ (made : List Made). GoesOn how from (plan_of net lines) old made [] new) l.made_is p.whole;
       keeps = p.keeps ∙ ap (kept_from 0) l.made_is;
       status_is = same_Some (status_of_finding l.last.finding) status
           (sym (ap (option_map status_of_finding) finding) ∙ p.status_is);
@@ -380,45 +398,63 @@ module _ (c : CheckCommand) (old new : DeskState) (status : Status) (kept : List
     | inr p ↦ absurd (omega (arith, below, ends-code _ _ new status p))
   ]
 
-  shows : (Holds : Told → Type 0) (code : ℕ) → code_of status ≡ code → code < 4
+  shows : IsApart c → (Holds : Told → Type 0) (code : ℕ) → code_of status ≡ code → code < 4
       → ((number : ℕ) (m : Made) → IsMade (how_of c) m → Contains kept (kept_of number m) → code_of (status_of_finding m.finding) ≡ code
       → Holds (told_of c.out number m))
       → Shows (OfFiles c kept Holds) old new
-  shows Holds code is below holds before earlier told heard =
+  unfolding tells-checks
+  shows apart Holds code is below holds before earlier told heard =
       let p = verdict-ends (omega (arith, is, below)) in
-      let l = is-last (how_of c) p.net p.lines (at_start c old) new status kept p.ends in
-      let k = start-keeps c old in
-      let script = spells-script c old before told p.net p.lines p.asks in
+      let start : DeskState = at_start c old p.lemmas p.from in
+      let text : List ℕ = opening_text p.lemmas p.from in
+      let l = is-last (how_of c) p.from p.net p.lines start p.mid status kept p.ends in
+      let k = start-keeps c old p.lemmas p.from in
+      let script = spells-script c old before told p.net p.lines p.lemmas p.asks in
       let ts : List Told = tolds c.out 0 (l.earlier ++ l.last ∷ []) in
-      let left = is-left c kept p.net p.lines script.1 (at_start c old) new l.earlier l.last l.whole l.keeps in
-      let made = made-last c kept p.net p.lines script.1 (at_start c old) new l.earlier l.last l.whole l.keeps in
-      let has = has-the-last c kept p.net p.lines script.1 (at_start c old) new l.earlier l.last l.whole l.keeps in
+      let left = is-left c kept p.from p.net p.lines script.1 start p.mid l.earlier l.last l.whole l.keeps in
+      let made = made-last c kept p.from p.net p.lines script.1 start p.mid l.earlier l.last l.whole l.keeps in
+      let has = has-the-last c kept p.from p.net p.lines script.1 start p.mid l.earlier l.last l.whole l.keeps in
+      let book = book-last c kept p.from p.net p.lines script.1 start p.mid l.earlier l.last l.whole l.keeps in
+      let small = few-told c kept p.from p.net p.lines script.1 start p.mid l.earlier l.last l.whole l.keeps in
+      let stand = stand-all c kept p.from p.net p.lines script.1 start p.mid l.earlier l.last l.whole l.keeps before in
+      let saved = files-saved (saved_of c.save kept) p.mid in
+      let mid : Files = left_all c.out ts before in
       record {
-        after = left_all c.out ts before;
-        said = flat_map (λ (t : Told). t.said) ts;
-        left = left.files before (k.files ∙ told);
-        heard = left.said earlier (k.said ∙ heard);
-        quiet = left.quiet ∙ k.warned;
-        closed = λ none. left.closed (k.started ∙ none);
+        after = with_saved (saved_of c.save kept) mid;
+        said = text ++ flat_map (λ (t : Told). t.said) ts;
+        left = ap (λ (s : DeskState). s.files) p.saved ∙ saved.files mid (left.files before (k.files ∙ told));
+        heard =
+            ap (λ (s : DeskState). s.said) p.saved ∙ saved.said ∙ left.said (earlier ++ text) (k.said earlier heard)
+            ∙ ap (λ (x : List ℕ). Some x) (append_assoc earlier text (flat_map (λ (t : Told). t.said) ts));
+        quiet = ap (λ (s : DeskState). s.warned) p.saved ∙ saved.warned ∙ left.quiet ∙ k.warned;
+        closed = λ none. ap (λ (s : DeskState). s.started) p.saved ∙ saved.closed (left.closed (k.started ∙ none));
         promise = record {
           net = p.net;
           pair = spells-pair c old before told p.net p.asks.pair;
           lines = p.lines;
           script = script.0;
           accepted = p.ends.accepted;
-          told = tells-checks c kept p.net p.lines script.1 (at_start c old) new l.earlier l.last l.whole l.keeps Holds before
+          lemmas = p.lemmas;
+          from = p.from;
+          loads = loads-are c old before told p.net p.lines p.lemmas p.asks p.from p.opens;
+          mid = mid;
+          told = tells-checks c kept p.from p.net p.lines script.1 start p.mid l.earlier l.last l.whole l.keeps Holds text before
               (holds (length l.earlier) l.last made has (ap code_of l.status_is ∙ is));
+          saved = saves-under c.save kept l.last.book book mid;
+          stand = subst (λ (ms : List Told). StillStand c.out ms (with_saved (saved_of c.save kept) mid))
+              (tolds-last c.out l.earlier l.last)
+              (still-saved c apart kept l.last.book book (l.earlier ++ l.last ∷ []) mid small stand);
         };
       }
 
-  pub equivalent : code_of status ≡ 0 → Shows (IsEquivalent c kept) old new
-  equivalent is = shows (AreEquivalent c.out) 0 is (omega arith)
+  pub equivalent : IsApart c → code_of status ≡ 0 → Shows (IsEquivalent c kept) old new
+  equivalent apart is = shows apart (AreEquivalent c.out) 0 is (omega arith)
       (λ number m made has code. are-equivalent (how_of c) number m.net m.edits m.book m.finding made code)
 
-  pub different : code_of status ≡ 1 → Shows (IsDifferent c kept) old new
-  different is = shows (AreDifferent c.out) 1 is (omega arith)
+  pub different : IsApart c → code_of status ≡ 1 → Shows (IsDifferent c kept) old new
+  different apart is = shows apart (AreDifferent c.out) 1 is (omega arith)
       (λ number m made has code. are-different (how_of c) number m.net m.edits m.book m.finding made code)
 
-  pub undecided : code_of status ≡ 2 → Shows (IsUndecided c kept) old new
-  undecided is = shows (AreUndecided (how_of c) kept) 2 is (omega arith)
+  pub undecided : IsApart c → code_of status ≡ 2 → Shows (IsUndecided c kept) old new
+  undecided apart is = shows apart (AreUndecided (how_of c) kept) 2 is (omega arith)
       (λ number m made has code. are-undecided (how_of c) number m.net m.edits m.book kept m.finding has made code)

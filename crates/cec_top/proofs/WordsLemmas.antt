@@ -10,16 +10,17 @@ use Rattle.endings.specs.declared.stop.Stop.{Stop}
 use Rattle.endings.specs.Stops.{EndsBy, Warns, status_of, stop_line}
 use Rattle.lrat_run.specs.Answers.{AnswersLrat}
 use Rattle.endings.specs.Reading.{FileIs}
-use Rattle.command_line.specs.Words.{CheckCommand, LratCommand, SelfCommand, Request, CheckIt, LratIt, SelfIt, Asks, WantInfo, AreRefused, Outcome, Requested, Misnames}
+use Rattle.command_line.specs.Words.{CheckCommand, FraigCommand, LratCommand, SelfCommand, Request, CheckIt, FraigIt, LratIt, SelfIt, Asks, WantInfo, AreRefused, Outcome, Requested, Misuses}
 use Rattle.cec_top.specs.declared.kept.Kept.{Kept}
 use Rattle.cec_top.specs.Headline.{IsVerified, Shows}
-use Rattle.cec_top.specs.Answers.{Answers, AnswersCheck, IsAtOnce}
+use Rattle.cec_top.specs.Answers.{Answers, AnswersCheck, IsAtOnce, KnowsNothing}
 use Rattle.cec_top.specs.SelfCheck.{AnswersSelf}
+use Rattle.cec_top.specs.Fraig.{AnswersFraig}
 use Rattle.cec_top.proofs.HeadlineLemmas.{ends-code}
 
 abbrev request_or : Request → Outcome → Request
 request_or d (Requested r) = r
-request_or d (Misnames word) = d
+request_or d (Misuses misuse) = d
 
 -- words ask for one thing at most
 pub same_request : (words : List (List ℕ)) (x y : Request) → Asks words x → Asks words y → x ≡ y
@@ -28,21 +29,30 @@ same_request words x y p q = ap (request_or x) (same_Some (Requested x) (Request
 -- the command of a request, where it asks for a check
 abbrev pub check_or : CheckCommand → Request → CheckCommand
 check_or d (CheckIt c) = c
+check_or d (FraigIt c) = d
 check_or d (LratIt c) = d
 check_or d (SelfIt c) = d
 
 abbrev pub lrat_or : LratCommand → Request → LratCommand
 lrat_or d (CheckIt c) = d
+lrat_or d (FraigIt c) = d
 lrat_or d (LratIt c) = c
 lrat_or d (SelfIt c) = d
 
 abbrev pub self_or : SelfCommand → Request → SelfCommand
 self_or d (CheckIt c) = d
+self_or d (FraigIt c) = d
 self_or d (LratIt c) = d
 self_or d (SelfIt c) = c
 
+abbrev pub fraig_or : FraigCommand → Request → FraigCommand
+fraig_or d (CheckIt c) = d
+fraig_or d (FraigIt c) = c
+fraig_or d (LratIt c) = d
+fraig_or d (SelfIt c) = d
+
 -- what ends before it is known what the words ask for ends for want of memory
-once-code : (old new : DeskState) (status : Status) → EndsBy [] (IsAtOnce old) new status → code_of status ≡ 7
+pub once-code : (old new : DeskState) (status : Status) → EndsBy [] (IsAtOnce old) new status → code_of status ≡ 7
 once-code old new status p = go p.warns
   where
     go : Warns (stop_line [] p.stop) (status_of p.stop) p.mid new status → code_of status ≡ 7
@@ -59,9 +69,10 @@ module _ (words : List (List ℕ)) (old new : DeskState) (status : Status) (kept
         subst (λ (d : CheckCommand). AnswersCheck d old new status kept) same p.answers
     | inr (inl p) ↦ let t : LratIt p.command ≡ CheckIt c = same_request words (LratIt p.command) (CheckIt c) p.asked asks in cc
     | inr (inr (inl p)) ↦ let t : SelfIt p.command ≡ CheckIt c = same_request words (SelfIt p.command) (CheckIt c) p.asked asks in cc
-    | inr (inr (inr (inl p))) ↦ absurd (asked words (CheckIt c) asks (inl p.wanted))
-    | inr (inr (inr (inr (inl p)))) ↦ absurd (asked words (CheckIt c) asks (inr p.refused))
-    | inr (inr (inr (inr (inr p)))) ↦ absurd (omega (arith, below, once-code old new status p.ends))
+    | inr (inr (inr (inl p))) ↦ let t : FraigIt p.command ≡ CheckIt c = same_request words (FraigIt p.command) (CheckIt c) p.asked asks in cc
+    | inr (inr (inr (inr (inl p)))) ↦ absurd (asked words (CheckIt c) asks (inl p.wanted))
+    | inr (inr (inr (inr (inr (inl p))))) ↦ absurd (asked words (CheckIt c) asks (inr p.refused))
+    | inr (inr (inr (inr (inr (inr p))))) ↦ absurd (omega (arith, below, once-code old new status p.ends))
   ]
 
   pub answers-lrat : (c : LratCommand) → Asks words (LratIt c) → code_of status < 4 → AnswersLrat c.cnf c.proof old new status
@@ -71,9 +82,10 @@ module _ (words : List (List ℕ)) (old new : DeskState) (status : Status) (kept
         let same : p.command ≡ c = ap (lrat_or c) (same_request words (LratIt p.command) (LratIt c) p.asked asks) in
         subst (λ (d : LratCommand). AnswersLrat d.cnf d.proof old new status) same p.answers
     | inr (inr (inl p)) ↦ let t : SelfIt p.command ≡ LratIt c = same_request words (SelfIt p.command) (LratIt c) p.asked asks in cc
-    | inr (inr (inr (inl p))) ↦ absurd (asked words (LratIt c) asks (inl p.wanted))
-    | inr (inr (inr (inr (inl p)))) ↦ absurd (asked words (LratIt c) asks (inr p.refused))
-    | inr (inr (inr (inr (inr p)))) ↦ absurd (omega (arith, below, ends-code _ _ new status p.ends))
+    | inr (inr (inr (inl p))) ↦ let t : FraigIt p.command ≡ LratIt c = same_request words (FraigIt p.command) (LratIt c) p.asked asks in cc
+    | inr (inr (inr (inr (inl p)))) ↦ absurd (asked words (LratIt c) asks (inl p.wanted))
+    | inr (inr (inr (inr (inr (inl p))))) ↦ absurd (asked words (LratIt c) asks (inr p.refused))
+    | inr (inr (inr (inr (inr (inr p))))) ↦ absurd (omega (arith, below, ends-code _ _ new status p.ends))
   ]
 
 -- the same of arguments that ask for a check of circuits that the program makes, whatever the status
@@ -87,9 +99,27 @@ answers-self words old new status kept asked answers c asks = elim answers [
   | inr (inr (inl p)) ↦
       let same : p.command ≡ c = ap (self_or c) (same_request words (SelfIt p.command) (SelfIt c) p.asked asks) in
       inl (subst (λ (d : SelfCommand). AnswersSelf d old new status kept) same p.answers)
-  | inr (inr (inr (inl p))) ↦ absurd (asked words (SelfIt c) asks (inl p.wanted))
-  | inr (inr (inr (inr (inl p)))) ↦ absurd (asked words (SelfIt c) asks (inr p.refused))
-  | inr (inr (inr (inr (inr p)))) ↦ inr p.ends
+  | inr (inr (inr (inl p))) ↦ let t : FraigIt p.command ≡ SelfIt c = same_request words (FraigIt p.command) (SelfIt c) p.asked asks in cc
+  | inr (inr (inr (inr (inl p)))) ↦ absurd (asked words (SelfIt c) asks (inl p.wanted))
+  | inr (inr (inr (inr (inr (inl p))))) ↦ absurd (asked words (SelfIt c) asks (inr p.refused))
+  | inr (inr (inr (inr (inr (inr p))))) ↦ inr p.ends
+]
+
+-- and of arguments that ask for a reduced circuit
+pub answers-fraig : (words : List (List ℕ)) (old new : DeskState) (status : Status) (kept : List Kept)
+    → ((words : List (List ℕ)) (r : Request) → Asks words r → ¬ (WantInfo words ⊎ AreRefused words))
+    → Answers words old new status kept → (c : FraigCommand) → Asks words (FraigIt c)
+    → AnswersFraig c old new status kept ⊎ KnowsNothing old new status kept
+answers-fraig words old new status kept asked answers c asks = elim answers [
+  | inl p ↦ let t : CheckIt p.command ≡ FraigIt c = same_request words (CheckIt p.command) (FraigIt c) p.asked asks in cc
+  | inr (inl p) ↦ let t : LratIt p.command ≡ FraigIt c = same_request words (LratIt p.command) (FraigIt c) p.asked asks in cc
+  | inr (inr (inl p)) ↦ let t : SelfIt p.command ≡ FraigIt c = same_request words (SelfIt p.command) (FraigIt c) p.asked asks in cc
+  | inr (inr (inr (inl p))) ↦
+      let same : p.command ≡ c = ap (fraig_or c) (same_request words (FraigIt p.command) (FraigIt c) p.asked asks) in
+      inl (subst (λ (d : FraigCommand). AnswersFraig d old new status kept) same p.answers)
+  | inr (inr (inr (inr (inl p)))) ↦ absurd (asked words (FraigIt c) asks (inl p.wanted))
+  | inr (inr (inr (inr (inr (inl p))))) ↦ absurd (asked words (FraigIt c) asks (inr p.refused))
+  | inr (inr (inr (inr (inr (inr p))))) ↦ inr p
 ]
 
 -- the named file holds bytes of which the fact holds

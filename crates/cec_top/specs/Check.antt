@@ -1,7 +1,9 @@
--- One check: what it found, the files that it leaves under its number, and what it says; and checks one after another.
+-- One check: what it found, the files that it leaves under its number, and what it says; and checks one after another, and the file
+-- that is left behind them.
 use Rattle.std.specs.Prelude.{◌≡◌, ◌⊎◌, ℕ, ◌+◌, Bool, true, false, List, [], ◌∷◌, ◌++◌, length, map, option_map, codes, Option, None, Some, Result, Ok, Err, if◌then◌else◌, string_bytes}
+use Rattle.std.specs.Option.{option_to_list}
 use Rattle.desk_port.specs.Desk.{DeskState}
-use Rattle.endings.specs.Writing.{Output, Leaves}
+use Rattle.endings.specs.Writing.{Output, Leaves, StopsAmong}
 use Rattle.endings.specs.declared.status.Status.{Status}
 use Rattle.endings.specs.declared.stop.Stop.{Stop}
 use Rattle.endings.specs.declared.stop.Stop.TheVariants.{BadFile, OutOfMemory}
@@ -10,6 +12,7 @@ use Rattle.netlist.specs.Net.{AigPair}
 use Rattle.lemma_book.specs.declared.entry.Entry.{Entry}
 use Rattle.lemma_book.specs.Entry.{Entries}
 use Rattle.lemma_book.specs.Book.{StartsWith}
+use Rattle.book_file.specs.Writing.{book_text}
 use Rattle.netlist_edits.specs.declared.edit.Edit.{Edit}
 use Rattle.keep_lemmas.specs.Kept.{kept}
 use Rattle.proof_stitch.specs.Stitch.{IsRefutation, refutation_of}
@@ -87,16 +90,23 @@ AreTold how number [] old new = new ≡ old
 AreTold how number (m ∷ ms) old new =
     (mid : DeskState) × IsMade how m × Tells how number m old mid (Ok tt) × AreTold how (number + 1) ms mid new
 
--- what a check takes over from the one before it: its book begins with what is kept of that one's over the edits between, the
--- entries that stand on nothing that was edited
-abbrev pub TakesOver : Made → Made → Type 0
-TakesOver m n = StartsWith n.book (kept m.net n.edits m.book)
+-- what a check goes on from: circuits, and a book about them. Before check 0 that is the pair with the lemmas that were loaded.
+pub record Opening : Type 0 where
+  pub net : AigPair
+  pub book : Entries
 
--- each check takes that over from its neighbour
-abbrev pub AreNeighbours : List Made → Type 0
-AreNeighbours [] = Unit {0}
-AreNeighbours (m ∷ []) = Unit {0}
-AreNeighbours (m ∷ n ∷ ms) = TakesOver m n × AreNeighbours (n ∷ ms)
+abbrev pub behind : Made → Opening
+behind m = record { net = m.net; book = m.book }
+
+-- what a check takes over from there: its book begins with what is kept of that one over the edits between, the entries that
+-- stand on nothing that was edited
+abbrev pub TakesOver : Opening → Made → Type 0
+TakesOver from m = StartsWith m.book (kept from.net m.edits from.book)
+
+-- the first of these checks takes that over from there, and each other one from its neighbour
+abbrev pub AreInTurn : Opening → List Made → Type 0
+AreInTurn from [] = Unit {0}
+AreInTurn from (m ∷ ms) = TakesOver from m × AreInTurn (behind m) ms
 
 -- the last verdict, with whose status the program ends where all checks were told
 abbrev pub last_finding : List Made → Option Finding
@@ -138,38 +148,39 @@ KeepsOn stop kept all = kept ≡ all
 abbrev pub due_of : Made → Due
 due_of m = record { net = m.net; edits = m.edits }
 
--- of the checks that are asked for these are made and told, each whole before the next, and the others aren't begun
-pub record GoesOn (how : How) (plan : Plan) (old : DeskState) (made : List Made) (others : List Due) (new : DeskState) : Type 0 where
+-- of the checks that are asked for these are made and told, each whole before the next, the first going on from there, and the
+-- others aren't begun
+pub record GoesOn (how : How) (from : Opening) (plan : Plan) (old : DeskState) (made : List Made) (others : List Due) (new : DeskState) : Type 0 where
   pub checks : map due_of made ++ others ≡ plan.checks
   pub told : AreTold how 0 made old new
-  pub neighbours : AreNeighbours made
+  pub in_turn : AreInTurn from made
 
 -- all checks are made and told, no line is refused, and the status goes with the last one's verdict
-pub record Ends (how : How) (plan : Plan) (old new : DeskState) (status : Status) (kept : List Kept) : Type 0 where
+pub record Ends (how : How) (from : Opening) (plan : Plan) (old new : DeskState) (status : Status) (kept : List Kept) : Type 0 where
   pub made : List Made
-  pub whole : GoesOn how plan old made [] new
+  pub whole : GoesOn how from plan old made [] new
   pub accepted : plan.refused ≡ None
   pub status_is : option_map status_of_finding (last_finding made) ≡ Some status
   pub keeps : kept ≡ kept_from 0 made
 
 -- some checks are told whole, and the next one has its verdict and is told in part
-pub record BreaksOff (how : How) (plan : Plan) (old new : DeskState) (kept : List Kept) (stop : Stop) : Type 0 where
+pub record BreaksOff (how : How) (from : Opening) (plan : Plan) (old new : DeskState) (kept : List Kept) (stop : Stop) : Type 0 where
   pub made : List Made
   pub half : Made
   pub others : List Due
   pub mid : DeskState
-  pub before : GoesOn how plan old made (due_of half ∷ others) mid
+  pub before : GoesOn how from plan old made (due_of half ∷ others) mid
   pub is_made : IsMade how half
-  pub neighbours : AreNeighbours (made ++ half ∷ [])
+  pub in_turn : AreInTurn from (made ++ half ∷ [])
   pub breaks : Tells how (length made) half mid new (Err stop)
   pub keeps : KeepsOn stop kept (kept_from 0 (made ++ half ∷ []))
 
 -- memory runs out behind checks that were told, and no other has a verdict
-pub record RunsOut (how : How) (plan : Plan) (old new : DeskState) (kept : List Kept) (stop : Stop) : Type 0 where
+pub record RunsOut (how : How) (from : Opening) (plan : Plan) (old new : DeskState) (kept : List Kept) (stop : Stop) : Type 0 where
   pub out : stop ≡ OutOfMemory
   pub made : List Made
   pub others : List Due
-  pub before : GoesOn how plan old made others new
+  pub before : GoesOn how from plan old made others new
   pub keeps : AreSome kept (kept_from 0 made)
 
 -- the place of the script among the files that are read
@@ -182,15 +193,38 @@ SaysFault line (BadFile file why) = (file ≡ script_place) × (string_bytes why
 SaysFault line stop = ⊥
 
 -- all checks are made and told, and the line behind them is refused
-pub record RefusesLine (how : How) (plan : Plan) (old new : DeskState) (kept : List Kept) (stop : Stop) : Type 0 where
+pub record RefusesLine (how : How) (from : Opening) (plan : Plan) (old new : DeskState) (kept : List Kept) (stop : Stop) : Type 0 where
   pub made : List Made
-  pub whole : GoesOn how plan old made [] new
+  pub whole : GoesOn how from plan old made [] new
   pub line : Refused
   pub refused : plan.refused ≡ Some line
   pub stop_is : SaysFault line stop
   pub keeps : kept ≡ kept_from 0 made
 
 -- why the checks end without the last verdict, or with more than it
-abbrev pub StopsChecks : How → Plan → DeskState → List Kept → DeskState → Stop → Type 0
-StopsChecks how plan old kept new stop =
-    BreaksOff how plan old new kept stop ⊎ RunsOut how plan old new kept stop ⊎ RefusesLine how plan old new kept stop
+abbrev pub StopsChecks : How → Opening → Plan → DeskState → List Kept → DeskState → Stop → Type 0
+StopsChecks how from plan old kept new stop =
+    BreaksOff how from plan old new kept stop ⊎ RunsOut how from plan old new kept stop ⊎ RefusesLine how from plan old new kept stop
+
+-- ---- what is left behind them
+
+-- the book of the last check, of those that are handed back
+abbrev pub last_book : List Kept → Option Entries
+last_book [] = None
+last_book (k ∷ []) = Some k.book
+last_book (k ∷ l ∷ ks) = last_book (l ∷ ks)
+
+-- the file that is saved, if one is to be: the lemmas of that book
+abbrev pub saved_file : List ℕ → Entries → Output
+saved_file name book = record { name = name; bytes = book_text book.entries }
+
+abbrev pub saved_of : Option (List ℕ) → List Kept → List Output
+saved_of None kept = []
+saved_of (Some name) kept = option_to_list (option_map (saved_file name) (last_book kept))
+
+-- all checks are made and told, and no line is refused, but the lemmas aren't saved whole
+pub record NotSaved (how : How) (from : Opening) (plan : Plan) (save : Option (List ℕ)) (old new : DeskState) (kept : List Kept) (stop : Stop) : Type 0 where
+  pub status : Status
+  pub mid : DeskState
+  pub ends : Ends how from plan old mid status kept
+  pub stops : StopsAmong (saved_of save kept) mid new stop

@@ -1,5 +1,5 @@
 -- When the program has to come to a verdict: nothing that it was given stands in its way.
-use Rattle.std.specs.Prelude.{◌≡◌, ◌⊎◌, ℕ, ◌<◌, ◌≤◌, ◌^◌, List, length, None, Some, IfSome, IsSomeAnd}
+use Rattle.std.specs.Prelude.{◌≡◌, ◌⊎◌, ℕ, ◌<◌, ◌≤◌, ◌^◌, List, length, Option, None, Some, IfSome, IsSomeAnd}
 use Rattle.std.specs.List.{AllByRecursion}
 use Rattle.desk_port.specs.Desk.{DeskState, Files, Rose}
 use Rattle.endings.specs.Reading.{limit}
@@ -12,7 +12,8 @@ use Rattle.dimacs_text.specs.Reading.{SpellsCnf}
 use Rattle.lrat_text.specs.declared.step.Line.{Line}
 use Rattle.lrat_text.specs.Reading.{SpellsLrat}
 use Rattle.command_line.specs.Words.{CheckCommand, LratCommand}
-use Rattle.cec_top.specs.Headline.{SpellPair, IsScript}
+use Rattle.lemma_book.specs.declared.entry.Entry.{Entry}
+use Rattle.cec_top.specs.Headline.{AreLemmas, SpellPair, IsScript}
 use Rattle.cec_top.specs.Script.{plan_of}
 
 -- the desk counted no fault of a read, and none of a write
@@ -24,8 +25,8 @@ pub record NoFault (old new : DeskState) : Type 0 where
 abbrev pub IsWithinLimit : Files → List ℕ → Type 0
 IsWithinLimit files name = IfSome (files name) (λ bytes. length bytes ≤ limit)
 
--- the named files spell two circuits that can be compared, no line of the script is refused, if there is one, and no file is
--- too long
+-- the named files spell two circuits that can be compared, no line of the script is refused, if there is one, the lemma file
+-- spells entries, if there is one, and no file is too long
 pub record CanCheck (c : CheckCommand) (old : DeskState) : Type 0 where
   pub files : Files
   pub told : old.files ≡ Some files
@@ -37,6 +38,9 @@ pub record CanCheck (c : CheckCommand) (old : DeskState) : Type 0 where
   pub script : IsScript c.edits files lines
   pub accepted : (plan_of net lines).refused ≡ None
   pub edits : IfSome c.edits (IsWithinLimit files)
+  pub lemmas : Option (List Entry)
+  pub spelled : AreLemmas c.load files lemmas
+  pub load : IfSome c.load (IsWithinLimit files)
 
 -- the named files spell a formula and the lines of a proof about it, and neither is too long
 pub record CanVerify (c : LratCommand) (old : DeskState) : Type 0 where

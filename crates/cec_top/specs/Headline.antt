@@ -36,8 +36,10 @@ use Rattle.command_line.specs.Words.{CheckCommand, LratCommand, SelfCommand}
 use Rattle.workload_gen.specs.Workload.{first_bytes, second_bytes}
 use Rattle.cec_top.specs.declared.kept.Kept.{Kept}
 use Rattle.cec_top.specs.Script.{Due, Plan, plan_of}
-use Rattle.cec_top.specs.Check.{How, is_undecided}
-use Rattle.cec_top.specs.Answers.{how_of}
+use Rattle.book_file.specs.Reading.{SpellsBook}
+use Rattle.book_file.specs.Writing.{book_text}
+use Rattle.cec_top.specs.Check.{How, Opening, is_undecided, last_book}
+use Rattle.cec_top.specs.Answers.{IsOpening, how_of, opening_text}
 use Rattle.cec_top.specs.SelfCheck.{own_how}
 use Rattle.cec_top.specs.Texts.{different_text, open_text, open_text_with, workload_text}
 
@@ -68,6 +70,24 @@ pub record LeavesFiles (prefix : List ℕ) (told : List Told) (before after : Fi
 abbrev pub LeavesUnder : Option (List ℕ) → List Told → Files → Files → Type 0
 LeavesUnder None told before after = after ≡ before
 LeavesUnder (Some prefix) told before after = LeavesFiles prefix told before after
+
+-- ---- lemmas that are saved
+
+-- the file holds the lemmas of the last book that is handed back, and every other file is as it was behind that check's verdict
+pub record SavesTo (name : List ℕ) (kept : List Kept) (before after : Files) : Type 0 where
+  pub book : Entries
+  pub book_is : last_book kept ≡ Some book
+  pub there : after name ≡ Some (book_text book.entries)
+  pub others : (q : List ℕ) → q ≢ name → after q ≡ before q
+
+-- without a name no file is another
+abbrev pub SavesUnder : Option (List ℕ) → List Kept → Files → Files → Type 0
+SavesUnder None kept before after = after ≡ before
+SavesUnder (Some name) kept before after = SavesTo name kept before after
+
+-- the files of these checks stand, if they left any: the lemmas aren't saved over one of them
+abbrev pub StillStand : Option (List ℕ) → List Told → Files → Type 0
+StillStand out told after = IfSome out (λ prefix. AllByRecursion (HasFiles prefix after) told)
 
 -- The book of a told check is handed back, under its number. It is legal over the check's circuits, under the budgets that
 -- were asked for, and shows what was found; where no output was found to differ it is swept.
@@ -187,6 +207,21 @@ abbrev pub IsScript : Option (List ℕ) → Files → List (List ℕ) → Type 0
 IsScript None before lines = lines ≡ []
 IsScript (Some name) before lines = IsSomeAnd (before name) (λ bytes. lines ≡ script_lines bytes)
 
+-- the entries of the lemma file that the command names; without one there are none
+abbrev pub AreLemmas : Option (List ℕ) → Files → Option (List Entry) → Type 0
+AreLemmas None before lemmas = lemmas ≡ None
+AreLemmas (Some name) before lemmas =
+    IsSomeAnd (before name) (λ bytes. (entries : List Entry) × SpellsBook bytes entries × (lemmas ≡ Some entries))
+
+-- what check 0 goes on from: the pair, and those of the entries that are good over it
+pub record Loads (c : CheckCommand) (before : Files) (net : AigPair) (lemmas : Option (List Entry)) (from : Opening) : Type 0 where
+  pub spelled : AreLemmas c.load before lemmas
+  pub opens : IsOpening (how_of c).options net lemmas from
+
+-- where the book of check 0 is handed back, it begins with what is kept of that one
+abbrev pub BeginsOn : List Kept → Opening → Type 0
+BeginsOn kept from = (n : Entries) → Contains kept (record { check = 0; book = n }) → StartsWith n (kept_lemmas from.net [] from.book)
+
 -- the checks have the numbers from this one on
 abbrev pub AreNumbered : ℕ → List Told → Type 0
 AreNumbered number [] = Unit {0}
@@ -210,16 +245,18 @@ AreInRow kept (t ∷ u ∷ ts) = FollowsOn kept t u × AreInRow kept (u ∷ ts)
 abbrev pub due_of_told : Told → Due
 due_of_told t = record { net = t.net; edits = t.edits }
 
--- The checks that were asked for were told, one after another. What was said is what was said of each, the files that are left
--- are theirs, each check goes on from the one before it, each earlier one keeps the promise of what was said of it, and of the
--- last one this holds.
-pub record TellsChecks (c : CheckCommand) (kept : List Kept) (Holds : Told → Type 0) (plan : Plan) (before after : Files) (said : List ℕ) : Type 0 where
+-- The checks that were asked for were told, one after another, behind this text. What was said is that and what was said of each,
+-- the files that are left are theirs, check 0 goes on from this opening and each other from the one before it, each earlier one
+-- keeps the promise of what was said of it, and of the last one this holds.
+pub record TellsChecks (c : CheckCommand) (kept : List Kept) (Holds : Told → Type 0) (from : Opening) (plan : Plan) (text : List ℕ)
+    (before after : Files) (said : List ℕ) : Type 0 where
   pub earlier : List Told
   pub last : Told
   pub checks : map due_of_told (earlier ++ last ∷ []) ≡ plan.checks
   pub numbers : AreNumbered 0 (earlier ++ last ∷ [])
-  pub says : said ≡ flat_map (λ t. t.said) (earlier ++ last ∷ [])
+  pub says : said ≡ text ++ flat_map (λ t. t.said) (earlier ++ last ∷ [])
   pub files : LeavesUnder c.out (earlier ++ last ∷ []) before after
+  pub begins : BeginsOn kept from
   pub in_row : AreInRow kept (earlier ++ last ∷ [])
   pub promises : AllByRecursion (KeepsPromise (how_of c) kept) earlier
   pub holds : Holds last
@@ -227,14 +264,21 @@ pub record TellsChecks (c : CheckCommand) (kept : List Kept) (Holds : Told → T
 
 -- The named files spell circuits that can be compared, and no line of the script is refused. Check 0 was told of these
 -- circuits, and for each line `check` another one, of the circuits as all edits before that line leave them; and of the last
--- one this holds.
+-- one this holds. Where a lemma file is named, check 0 goes on from those of its lemmas that are good, of which it was said before
+-- how many there are; and where one is to be saved, it has those of the last check.
 pub record OfFiles (c : CheckCommand) (kept : List Kept) (Holds : Told → Type 0) (before after : Files) (said : List ℕ) : Type 0 where
   pub net : AigPair
   pub pair : SpellPair c before net
   pub lines : List (List ℕ)
   pub script : IsScript c.edits before lines
   pub accepted : (plan_of net lines).refused ≡ None
-  pub told : TellsChecks c kept Holds (plan_of net lines) before after said
+  pub lemmas : Option (List Entry)
+  pub from : Opening
+  pub loads : Loads c before net lemmas from
+  pub mid : Files
+  pub told : TellsChecks c kept Holds from (plan_of net lines) (opening_text lemmas from) before mid said
+  pub saved : SavesUnder c.save kept mid after
+  pub stand : StillStand c.out (told.earlier ++ told.last ∷ []) after
 
 -- EQUIVALENT, DIFFERENT, UNDECIDED: the last check is of circuits of which that is so
 abbrev pub IsEquivalent : CheckCommand → List Kept → Files → Files → List ℕ → Type 0

@@ -4,8 +4,12 @@ pub mod Headline
 pub mod Texts
 pub mod Check
 pub mod SelfCheck
+pub mod Inputs
+pub mod Fraig
 pub mod Answers
 pub mod Steps
+pub mod FraigSteps
 pub mod Complete
 pub mod Refused
+pub mod Reduced
 pub mod Stopped

@@ -1,4 +1,5 @@
--- The texts by which the program names a fault of a circuit's file, of two circuits, or of a script's line, on standard error.
+-- The texts by which the program names a fault of a circuit's file, of two circuits, of a lemma file or of a script's line, on
+-- standard error.
 use Rattle.std.specs.Prelude.{ℕ, List, ◌++◌, codes, decimal, encode_utf8}
 use Rattle.byte_scan.specs.declared.errors.AigerErr.{AigerErr}
 use Rattle.byte_scan.specs.declared.errors.AigerErr.TheVariants as aiger
@@ -9,6 +10,8 @@ use Rattle.netlist.specs.declared.unlike.Unlike.{Unlike}
 use Rattle.netlist.specs.declared.unlike.Unlike.TheVariants as unlike
 use Rattle.netlist_edits.specs.declared.error.EditErr.{EditErr}
 use Rattle.netlist_edits.specs.declared.error.EditErr.TheVariants as edit
+use Rattle.book_file.specs.declared.error.BookErr.{BookErr}
+use Rattle.book_file.specs.declared.error.BookErr.TheVariants as lemmas
 use Rattle.cec_top.specs.Script.{Refused}
 
 -- a fault of a file that isn't an AIGER file of the kind that the program takes
@@ -42,6 +45,12 @@ unlike_text (unlike.Doubled A port k) = port_text port ++ decimal k ++ codes " o
 unlike_text (unlike.Doubled B port k) = port_text port ++ decimal k ++ codes " of b has the name of an earlier one"
 unlike_text (unlike.Missing port k) = port_text port ++ decimal k ++ codes " of a is missing in b"
 unlike_text unlike.NoMemory = codes "out of memory"
+
+-- a fault of bytes that are no lemma file
+unfoldable pub lemma_text : BookErr → List ℕ
+lemma_text (lemmas.BadLine line) = codes "line " ++ decimal line ++ codes ": bad line"
+lemma_text (lemmas.Truncated line) = codes "line " ++ decimal line ++ codes ": ends too early"
+lemma_text lemmas.NoMemory = codes "out of memory"
 
 -- an edit that isn't made, or a line that spells none
 unfoldable pub edit_text : EditErr → List ℕ

@@ -12,7 +12,8 @@ use Rattle.endings.specs.declared.stop.Stop.{Stop}
 use Rattle.endings.specs.declared.stop.Stop.TheVariants.{OutOfMemory}
 use Rattle.cec_top.specs.declared.kept.Kept.{Kept}
 use Rattle.cec_top.specs.Script.{Plan, plan_of}
-use Rattle.cec_top.specs.Check.{How, Ends, StopsChecks}
+use Rattle.check_session.specs.Check.{empty_book}
+use Rattle.cec_top.specs.Check.{How, Opening, Ends, StopsChecks}
 use Rattle.cec_top.specs.Texts.{workload_text}
 
 -- how it is made: under the numbers of a check without an option, inputs and outputs matched by position; no file is left
@@ -31,6 +32,10 @@ pub record AreWorkload (c : SelfCommand) (net : AigPair) : Type 0 where
 abbrev pub only : AigPair → Plan
 only net = plan_of net []
 
+-- it goes on from an empty book
+abbrev pub own_opening : AigPair → Opening
+own_opening net = record { net = net; book = empty_book own_how.options }
+
 -- the desk after it was said which circuits they are
 abbrev pub after_workload : SelfCommand → AigPair → DeskState → DeskState
 after_workload c net s = after_say s (workload_text c net)
@@ -39,7 +44,7 @@ after_workload c net s = after_say s (workload_text c net)
 pub record EndsSelf (c : SelfCommand) (old new : DeskState) (status : Status) (kept : List Kept) : Type 0 where
   pub net : AigPair
   pub circuits : AreWorkload c net
-  pub ends : Ends own_how (only net) (after_workload c net old) new status kept
+  pub ends : Ends own_how (own_opening net) (only net) (after_workload c net old) new status kept
 
 -- it isn't said whole which circuits they are
 pub record BreaksBefore (c : SelfCommand) (old new : DeskState) (kept : List Kept) (stop : Stop) : Type 0 where
@@ -52,7 +57,7 @@ pub record BreaksBefore (c : SelfCommand) (old new : DeskState) (kept : List Kep
 pub record StopsAfter (c : SelfCommand) (old new : DeskState) (kept : List Kept) (stop : Stop) : Type 0 where
   pub net : AigPair
   pub circuits : AreWorkload c net
-  pub stops : StopsChecks own_how (only net) (after_workload c net old) kept new stop
+  pub stops : StopsChecks own_how (own_opening net) (only net) (after_workload c net old) kept new stop
 
 -- memory runs out before the circuits are there
 pub record RunsOutBefore (old new : DeskState) (kept : List Kept) (stop : Stop) : Type 0 where

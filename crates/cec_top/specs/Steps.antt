@@ -1,5 +1,5 @@
 -- How the program goes about a check, for the crate's own functions.
-use Rattle.std.specs.Prelude.{◌≡◌, ◌≢◌, ◌⊎◌, ℕ, Bool, true, false, List, [], ◌∷◌, ◌++◌, Option, None, Some, Result, Ok, Err, string_bytes, if◌then◌else◌}
+use Rattle.std.specs.Prelude.{◌≡◌, ◌≢◌, ◌⊎◌, ℕ, Bool, true, false, List, [], ◌∷◌, ◌++◌, ◌+◌, Option, None, Some, Result, Ok, Err, string_bytes, if◌then◌else◌}
 use Rattle.std.specs.Global.{Vec}
 use Rattle.desk_port.specs.Desk.{DeskState}
 use Rattle.netlist.specs.Circuit.{Aig}
@@ -7,7 +7,8 @@ use Rattle.netlist.specs.Net.{AigPair}
 use Rattle.netlist.specs.declared.unlike.Unlike.{Unlike}
 use Rattle.netlist.specs.declared.unlike.Unlike.TheVariants.{NoMemory as Memory}
 use Rattle.aiger_file.specs.File.{SpellsAiger}
-use Rattle.endings.specs.Reading.{ReadsBytes, ReadsUpTo}
+use Rattle.endings.specs.Reading.{ReadsBytes, ReadsUpTo, after_reads}
+use Rattle.endings.specs.Writing.{Says, StopsAmong, after_files}
 use Rattle.endings.specs.declared.stop.Stop.{Stop}
 use Rattle.endings.specs.declared.stop.Stop.TheVariants.{OutOfMemory}
 use Rattle.endings.specs.Stops.{EndsBy, Warns}
@@ -19,17 +20,18 @@ use Rattle.command_line.specs.Words.{CheckCommand, SelfCommand}
 use Rattle.check_session.specs.declared.verdict.Verdict.{Verdict}
 use Rattle.check_session.specs.declared.verdict.Verdict.TheVariants as verdict
 use Rattle.check_session.specs.Outputs.{ListsOpen, finding_of}
-use Rattle.check_session.specs.Check.{State, with_edit}
+use Rattle.check_session.specs.Check.{State, opened, with_edit}
 use Rattle.lemma_book.specs.Book.{StartsWith}
 use Rattle.netlist_edits.specs.declared.error.EditErr.{EditErr}
 use Rattle.netlist_edits.specs.declared.error.EditErr.TheVariants as refused
 use Rattle.keep_lemmas.specs.Kept.{kept}
+use Rattle.lemma_book.specs.declared.entry.Entry.{Entry}
 use Rattle.lemma_book.specs.Entry.{Entries}
 use Rattle.cec_top.specs.declared.kept.Kept.{Kept}
 use Rattle.cec_top.specs.Script.{Due, Plan, Refused, Turn, Passes, Makes, AsksCheck, Fails, due_behind}
-use Rattle.cec_top.specs.Check.{How, Made, IsMade, Tells, AreTold, Ends, StopsChecks, SaysFault, status_of_finding, kept_of, due_of, script_place}
+use Rattle.cec_top.specs.Check.{How, Made, Opening, IsMade, Tells, AreTold, Ends, StopsChecks, SaysFault, status_of_finding, kept_of, due_of, saved_of, script_place}
 use Rattle.cec_top.specs.SelfCheck.{AreWorkload, own_how}
-use Rattle.cec_top.specs.Answers.{AreAlike, AreUnlike, NamesUnlike, SaysHelp, IsAtOnce, pair_of, after_pair, how_of}
+use Rattle.cec_top.specs.Answers.{IsOpening, ReadsLemmas, after_opening, lemmas_of, opening_text, AreAlike, AreUnlike, NamesUnlike, SaysHelp, IsAtOnce, pair_of, after_pair, how_of}
 
 -- ---- the pair is read
 
@@ -41,9 +43,9 @@ ReadsPair c old new (Err stop) = ReadsUpTo 0 [] (pair_of c) old new stop ⊎ Are
 abbrev pub StopsUnlike : Unlike → Stop → Type 0
 StopsUnlike unlike stop = (stop ≡ OutOfMemory) ⊎ ((unlike ≢ Memory) × NamesUnlike unlike stop)
 
--- a session for the pair, under the command's numbers, of which nothing is edited
+-- a session for the pair, under the command's numbers, that was just opened
 abbrev pub ReadsSession : CheckCommand → DeskState → DeskState → Result State Stop → Type 0
-ReadsSession c old new (Ok s) = ReadsPair c old new (Ok s.net) × (s.options ≡ (how_of c).options) × (s.edits ≡ [])
+ReadsSession c old new (Ok s) = ReadsPair c old new (Ok s.net) × (s ≡ opened s.net (how_of c).options)
 ReadsSession c old new (Err stop) = ReadsPair c old new (Err stop)
 
 -- the script of this name is read; without one there are no bytes, and nothing is read
@@ -51,6 +53,41 @@ abbrev pub ReadsScript : Option (List ℕ) → DeskState → DeskState → Resul
 ReadsScript None old new (Ok script) = (script.items ≡ []) × (new ≡ old)
 ReadsScript None old new (Err stop) = ⊥
 ReadsScript (Some name) old new result = ReadsBytes script_place name old new result
+
+-- what the next check of a session goes on from
+abbrev pub opening_in : State → Opening
+opening_in s = record { net = s.last; book = s.book }
+
+-- the session goes on from these entries, and how many it takes is said
+pub record LoadsWhole (load : Option (List ℕ)) (s t : State) (old new : DeskState) : Type 0 where
+  pub lemmas : Option (List Entry)
+  pub reads : ReadsLemmas load old lemmas
+  pub opens : IsOpening s.options s.net lemmas (opening_in t)
+  pub session : t ≡ record s { book = t.book }
+  pub new_is : new ≡ after_opening lemmas (opening_in t) (after_reads old (lemmas_of load))
+
+-- they are read, but that isn't said whole
+pub record LoadsInPart (load : Option (List ℕ)) (s : State) (old new : DeskState) (stop : Stop) : Type 0 where
+  pub entries : List Entry
+  pub reads : ReadsLemmas load old (Some entries)
+  pub stops : ((stop ≡ OutOfMemory) × (new ≡ after_reads old (lemmas_of load)))
+      ⊎ ((from : Opening) × IsOpening s.options s.net (Some entries) from
+      × Says (opening_text (Some entries) from) (after_reads old (lemmas_of load)) new (Err stop))
+
+abbrev pub LoadsLemmas : Option (List ℕ) → ℕ → State → State → DeskState → DeskState → Result (Unit {0}) Stop → Type 0
+LoadsLemmas load k s t old new (Ok _) = LoadsWhole load s t old new
+LoadsLemmas load k s t old new (Err stop) =
+    ((earlier : List (List ℕ)) → ReadsUpTo k earlier (lemmas_of load) old new stop) ⊎ LoadsInPart load s old new stop
+
+-- the place of the lemma file among the files that are read: behind the script, if there is one
+abbrev pub lemmas_place : Option (List ℕ) → ℕ
+lemmas_place None = script_place
+lemmas_place (Some edits) = script_place + 1
+
+-- the lemmas are saved, if they are to be, or not whole
+abbrev pub SavesLemmas : Option (List ℕ) → List Kept → DeskState → DeskState → Result (Unit {0}) Stop → Type 0
+SavesLemmas save kept old new (Ok _) = new ≡ after_files old (saved_of save kept)
+SavesLemmas save kept old new (Err stop) = StopsAmong (saved_of save kept) old new stop
 
 -- what the program makes of arguments that ask for nothing, by why they are refused
 abbrev pub AnswersRefusal : Refusal → DeskState → DeskState → Status → Type 0
@@ -160,15 +197,15 @@ KeepsOpen number status book before after (Err e) = after ≡ before
 -- ---- the checks that a script asks for
 
 -- all are made and told, or that ends without the last verdict or with more than it
-abbrev pub RunsPlan : How → Plan → DeskState → DeskState → List Kept → Result Status Stop → Type 0
-RunsPlan how plan old new kept (Ok status) = Ends how plan old new status kept
-RunsPlan how plan old new kept (Err stop) = StopsChecks how plan old kept new stop
+abbrev pub RunsPlan : How → Opening → Plan → DeskState → DeskState → List Kept → Result Status Stop → Type 0
+RunsPlan how from plan old new kept (Ok status) = Ends how from plan old new status kept
+RunsPlan how from plan old new kept (Err stop) = StopsChecks how from plan old kept new stop
 
 -- ---- circuits that the program makes
 
 -- a session for them, without an option; or memory runs out
 abbrev pub MakesSession : SelfCommand → Result State Stop → Type 0
-MakesSession c (Ok s) = AreWorkload c s.net × (s.options ≡ own_how.options) × (s.edits ≡ [])
+MakesSession c (Ok s) = AreWorkload c s.net × (s ≡ opened s.net own_how.options)
 MakesSession c (Err stop) = stop ≡ OutOfMemory
 
 -- bytes that spell a circuit are read as it; or memory runs out

@@ -41,3 +41,7 @@ unfoldable pub workload_text : SelfCommand → AigPair → List ℕ
 workload_text c net =
     codes "kind " ++ kind_name c.kind ++ codes " n " ++ decimal c.n ++ codes "\ngates " ++ decimal (length net.a.gates)
     ++ codes " " ++ decimal (length net.b.gates) ++ codes "\noutputs " ++ decimal (length net.a.outputs) ++ codes "\n"
+
+-- how many lemmas of a file were taken, of how many
+unfoldable pub lemmas_line : ℕ → ℕ → List ℕ
+lemmas_line taken given = codes "lemmas " ++ decimal taken ++ codes " of " ++ decimal given ++ codes "\n"

@@ -91,7 +91,7 @@ fn tell<D: Desk>(
 }
 
 /// What ends the program where a check's files can't be left.
-fn stop_of(fault: StitchErr) -> Stop
+pub(crate) fn stop_of(fault: StitchErr) -> Stop
     ensures { result ≡ stop_of_stitch fault }
 {
     match fault {

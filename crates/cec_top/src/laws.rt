@@ -3,7 +3,7 @@ ghost use Rattle.std.specs.Prelude.{◌≡◌, ◌≢◌, ◌≤◌, ◌⊎◌, 
 ghost use Rattle.desk_port.specs.Desk.{DeskState, Files};
 ghost use Rattle.endings.specs.Status.{code_of};
 ghost use Rattle.endings.specs.declared.status.Status.{Status};
-ghost use Rattle.command_line.specs.Words.{CheckCommand, LratCommand, SelfCommand, CheckIt, LratIt, SelfIt, Asks};
+ghost use Rattle.command_line.specs.Words.{CheckCommand, FraigCommand, LratCommand, SelfCommand, CheckIt, FraigIt, LratIt, SelfIt, Asks};
 ghost use Rattle.lemma_book.specs.Book.{IsLegal};
 ghost use Rattle.check_session.specs.Finding.{Finding, Finds};
 ghost use Rattle.cec_top.specs.declared.kept.Kept.{Kept};
@@ -12,6 +12,7 @@ ghost use Rattle.cec_top.specs.Check.{IsProof};
 ghost use Rattle.cec_top.specs.Complete.{CanCheck, CanVerify, NoFault, IsAmple, HasVerdict};
 ghost use Rattle.cec_top.specs.Headline.{IsEquivalent, IsDifferent, IsUndecided, IsVerified, Shows};
 ghost use Rattle.cec_top.specs.Headline.{AreEquivalent, AreDifferent, AreUndecided, OfWorkload};
+ghost use Rattle.cec_top.specs.Reduced.{CanReduce, IsReducedTo, MakesNothing, MakesPart, RefusesCircuit};
 ghost use Rattle.cec_top.specs.Refused.{Refuses};
 ghost use Rattle.cec_top.specs.SelfCheck.{own_how};
 ghost use Rattle.cec_top.specs.Stopped.{Stopped};
@@ -67,6 +68,40 @@ pub fn verdicts()
         → code_of status ≡ 2 → Shows (OfWorkload c kept (AreUndecided own_how kept)) old new }
 {
     command_line::words_are_one_of();
+    command_line::saved_is_apart();
+}
+
+/// What each status promises where a reduced circuit is asked for: `specs/Reduced.antt`.
+pub fn reductions()
+    ensures reduced { (words : List (List ℕ)) (c : FraigCommand)
+        (old new : DeskState) (status : Status) (kept : List Kept) →
+        Asks words (FraigIt c) → Answers words old new status kept
+        → code_of status ≡ 0 → Shows (IsReducedTo c kept) old new }
+
+    // Both compute the same, so neither DIFFERENT nor UNDECIDED comes; nor are the arguments refused.
+    ensures codes { (words : List (List ℕ)) (c : FraigCommand)
+        (old new : DeskState) (status : Status) (kept : List Kept) →
+        Asks words (FraigIt c) → Answers words old new status kept
+        → (code_of status ≡ 0) ⊎ (4 ≤ code_of status) }
+    ensures refused { (words : List (List ℕ)) (c : FraigCommand)
+        (old new : DeskState) (status : Status) (kept : List Kept) (before : Files) →
+        Asks words (FraigIt c) → Answers words old new status kept
+        → code_of status ≡ 4 → old.files ≡ Some before → RefusesCircuit c old new kept before }
+    ensures stopped { (words : List (List ℕ)) (c : FraigCommand)
+        (old new : DeskState) (status : Status) (kept : List Kept) (before : Files) →
+        Asks words (FraigIt c) → Answers words old new status kept
+        → 5 ≤ code_of status → old.files ≡ Some before
+        → MakesNothing old new kept before ⊎ MakesPart c old new kept before }
+
+    // A file that spells a circuit and no fault of the desk leave only this, and want of memory.
+    ensures complete { (words : List (List ℕ)) (c : FraigCommand)
+        (old new : DeskState) (status : Status) (kept : List Kept) →
+        Asks words (FraigIt c) → Answers words old new status kept
+        → CanReduce c old → NoFault old new → (code_of status ≡ 0) ⊎ (code_of status ≡ 7) }
+{
+    command_line::words_are_one_of();
+    command_line::reduced_is_apart();
+    aiger_text::written_binary();
 }
 
 /// Arguments that ask for a check or for a proof's check, files that spell what they should and fit,

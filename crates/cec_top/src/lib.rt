@@ -2,17 +2,19 @@
 //!
 //! `run` reads two circuits, checks them, writes the CNF of their miter beside a proof and says the verdict,
 //! and goes on so as an edit script asks for it: each line edits the circuits or has them checked again. Or
-//! it makes two circuits itself and checks those; or it checks such a proof. What each verdict promises
+//! it makes two circuits itself and checks those; or it checks such a proof. Or it reduces a circuit, and
+//! writes what is left of it with a proof that both compute the same. What each verdict promises
 //! is on one page, `specs/Headline.antt`, and `laws::verdicts` shows it from the contract of `run`, which
-//! says what each status means: `specs/Answers.antt`. What is warned of a file or a script's line that is
+//! says what each status means: `specs/Answers.antt`. That of a reduced circuit is `specs/Reduced.antt`, by
+//! `laws::reductions`. What is warned of a file or a script's line that is
 //! refused, and what stands then, is in `specs/Refused.antt`, by the same law. When a run has to come to a
 //! verdict is in `specs/Complete.antt`, and `laws::completeness` shows it.
 //!
 //! Definitions on which the answers stand: `specs/Script.antt` (what an edit script asks for),
 //! `specs/Check.antt` (one check, from what it found to its files and its verdict, and checks one after
-//! another), `specs/SelfCheck.antt` (that of two circuits that the program makes), `specs/Texts.antt` (what
-//! is said), `specs/Lines.antt` (what is warned of circuits, their files and lines of a script);
-//! `specs/Steps.antt` is for the crate's own functions. Begin to read at `program.rt`, then `script.rt` and
+//! another), `specs/SelfCheck.antt` (that of two circuits that the program makes), `specs/Fraig.antt` (a
+//! circuit that is reduced), `specs/Inputs.antt` (the files that are read), `specs/Texts.antt` (what is said), `specs/Lines.antt` (what is warned of circuits, their files and lines of a script);
+//! `specs/Steps.antt` and `specs/FraigSteps.antt` are for the crate's own functions. Begin to read at `program.rt`, then `script.rt` and
 //! `checking.rt`.
 #![tactic(auto)]
 
@@ -21,8 +23,10 @@ pub use kept::Kept;
 pub use program::run;
 
 mod checking;
+mod fraig;
 mod kept;
 pub mod laws;
+mod lemmas;
 mod lines;
 mod own;
 mod program;

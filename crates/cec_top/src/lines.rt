@@ -1,6 +1,7 @@
 ghost use Rattle.std.specs.Prelude.{◌≡◌, ◌++◌, IfOk, string_bytes, codes, decimal, encode_utf8};
-ghost use Rattle.cec_top.specs.Lines.{aiger_text, edit_text, port_text, refused_text, unlike_text};
+ghost use Rattle.cec_top.specs.Lines.{aiger_text, edit_text, lemma_text, port_text, refused_text, unlike_text};
 
+use book_file::BookErr;
 use byte_scan::AigerErr;
 use itoa::Buffer;
 use lits::Side;
@@ -98,6 +99,18 @@ fn differing(alloc: Global, what: &str, a: u32, b: u32) -> Result<String, AllocE
     text.push_str(Buffer::new().format(b))?;
     text.push_str(" differ")?;
     Ok(text)
+}
+
+/// The text of a fault of bytes that are no lemma file.
+#[tactic(auto, unfolding(crate::specs::Lines::lemma_text))]
+pub(crate) fn lemma_fault(alloc: Global, fault: BookErr) -> Result<String, AllocError>
+    ensures { IfOk result (λ s. string_bytes s ≡ lemma_text fault) }
+{
+    match fault {
+        BookErr::BadLine(line) => around(alloc, "line ", line, ": bad line"),
+        BookErr::Truncated(line) => around(alloc, "line ", line, ": ends too early"),
+        BookErr::NoMemory => String::from_str(alloc, "out of memory"),
+    }
 }
 
 /// The text of a fault of an edit, or of a line that spells none.

@@ -6,7 +6,9 @@ ghost use Rattle.cec_top.specs.Answers.{Answers, AnswersCheck, EndsCheck, SaysHe
 ghost use Rattle.cec_top.specs.SelfCheck.{AnswersSelf};
 ghost use Rattle.cec_top.specs.Steps.{AnswersRefusal};
 
+use crate::fraig::reduce_file;
 use crate::kept::Kept;
+use crate::lemmas::{lemmas_place, load_lemmas, save_lemmas};
 use crate::own::check_own;
 use crate::reading::{read_script, read_session};
 use crate::script::run_script;
@@ -38,6 +40,7 @@ pub fn run<D: Desk, G: Gate + Sync>(
 {
     match command_line::read(alloc, words) {
         Ok(Asked::Check(words)) => check_files(rt, alloc, desk, gate, words),
+        Ok(Asked::Fraig(words)) => reduce_file(rt, alloc, desk, gate, words),
         Ok(Asked::Lrat(words)) => {
             let status = lrat_run::run(alloc, desk, words.cnf, words.proof);
             (status, Vec::new(alloc))
@@ -67,8 +70,9 @@ fn check_files<D: Desk, G: Gate + Sync>(
     }
 }
 
-/// Reads the pair and the script, and makes the checks: check 0, of the circuits as they were read, and those
-/// that the script asks for.
+/// Reads the pair, the script and the lemmas, and makes the checks: check 0, of the circuits as they were read,
+/// and those that the script asks for. Behind them it saves the lemmas of the last one. Nothing is saved behind a
+/// line that is refused, nor where a check isn't told whole.
 fn read_and_check<D: Desk, G: Gate + Sync>(
     rt: &(impl Threads + Wait + Sync),
     alloc: Global,
@@ -86,7 +90,9 @@ fn read_and_check<D: Desk, G: Gate + Sync>(
 {
     let mut session = read_session(alloc, desk, words)?;
     let script = read_script(alloc, desk, words.edits)?;
-    run_script(
+    let place = lemmas_place(words.edits);
+    load_lemmas(alloc, desk, &mut session, words.load, place)?;
+    let status = run_script(
         rt,
         alloc,
         desk,
@@ -95,7 +101,9 @@ fn read_and_check<D: Desk, G: Gate + Sync>(
         words.out,
         script.as_slice(),
         kept,
-    )
+    )?;
+    save_lemmas(alloc, desk, words.save, kept.as_slice())?;
+    Ok(status)
 }
 
 /// Warns of the cause why a check of files ends, and gives its status.
@@ -103,9 +111,16 @@ fn end_check<D: Desk>(alloc: Global, desk: &mut D, words: CheckWords<'_>, stop: 
     ensures { Warns (stop_line (names_of (check_texts words.entry)) stop.now) (status_of stop.now)
         (D.state desk.old) (D.state desk.new) result }
 {
+    let (a, b) = (words.a, words.b);
     match words.edits {
-        Some(edits) => end(alloc, desk, &[words.a, words.b, edits], stop),
-        None => end(alloc, desk, &[words.a, words.b], stop),
+        Some(edits) => match words.load {
+            Some(load) => end(alloc, desk, &[a, b, edits, load], stop),
+            None => end(alloc, desk, &[a, b, edits], stop),
+        },
+        None => match words.load {
+            Some(load) => end(alloc, desk, &[a, b, load], stop),
+            None => end(alloc, desk, &[a, b], stop),
+        },
     }
 }
 

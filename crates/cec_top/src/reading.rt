@@ -2,7 +2,8 @@ ghost use Rattle.std.specs.Prelude.{◌≡◌, ℕ, List, option_map};
 ghost use Rattle.endings.specs.Reading.{ReadsAs};
 ghost use Rattle.aiger_file.specs.File.{SpellsAiger};
 ghost use Rattle.command_line.specs.Answers.{check_texts};
-ghost use Rattle.cec_top.specs.Answers.{circuit_file, how_of};
+ghost use Rattle.cec_top.specs.Answers.{how_of};
+ghost use Rattle.cec_top.specs.Inputs.{circuit_file};
 ghost use Rattle.check_session.specs.Check.{AreInRange};
 ghost use Rattle.cec_top.specs.Steps.{ReadsScript, ReadsSession, StopsUnlike};
 
@@ -18,7 +19,7 @@ use netlist::{Circuit, Unlike};
 use std::alloc::Global;
 
 /// The circuit of the named file, which is this one of those that are read.
-fn read_circuit<D: Desk>(
+pub(crate) fn read_circuit<D: Desk>(
     alloc: Global,
     desk: &mut D,
     name: &str,

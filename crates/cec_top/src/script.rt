@@ -1,7 +1,7 @@
 ghost use Rattle.std.specs.Prelude.{◌≡◌, ◌++◌, ◌∷◌, [], None, OnOk, OnErr, option_map};
 ghost use Rattle.netlist_edits.specs.Script.{script_lines};
 ghost use Rattle.cec_top.specs.Script.{plan_of, turn_of};
-ghost use Rattle.cec_top.specs.Steps.{DoesTurn, KeepsOpen, RunsPlan, StopsAtLine, how_in};
+ghost use Rattle.cec_top.specs.Steps.{DoesTurn, KeepsOpen, RunsPlan, StopsAtLine, how_in, opening_in};
 
 use crate::checking::check;
 use crate::kept::Kept;
@@ -18,8 +18,8 @@ use std::thread::Threads;
 /// The place of the script among the files that are read.
 pub(crate) const SCRIPT_PLACE: usize = 2;
 
-/// Makes check 0 of a session's pair and each check that the script asks for, and makes the edits of its
-/// lines. Each check is told whole before the next line is looked at. A line that is refused ends it.
+/// Makes check 0 of a session's pair, which goes on from what was loaded, and each check that the script asks
+/// for, and makes the edits of its lines. Each check is told whole before the next line is looked at. A line that is refused ends it.
 ///
 /// The bytes are read line by line, so a line costs no more in a long script than in a short one. Of each
 /// check that left outputs open, and of the last one, the book is kept. It is known only behind the later
@@ -38,7 +38,7 @@ pub(crate) fn run_script<D: Desk, G: Gate + Sync>(
     requires started { (D.state desk.old).started ≡ None }
     requires unedited { session.old.edits ≡ [] }
     requires empty { kept.old.items ≡ [] }
-    ensures { RunsPlan (how_in session.old (option_map (λ s. s.now) out.entry))
+    ensures { RunsPlan (how_in session.old (option_map (λ s. s.now) out.entry)) (opening_in session.old)
         (plan_of session.old.net (script_lines script.now))
         (D.state desk.old) (D.state desk.new) kept.new.items result }
 {

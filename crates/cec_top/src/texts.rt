@@ -4,7 +4,8 @@ ghost use Rattle.command_line.specs.Plain.{kind_name};
 ghost use Rattle.cec_top.specs.Check.{text_of};
 ghost use Rattle.cec_top.specs.Steps.{opens_in};
 ghost use Rattle.check_session.specs.Outputs.{finding_of};
-ghost use Rattle.cec_top.specs.Texts.{digit_of, input_text, output_line, span_line, different_text, open_text, open_text_with, workload_text};
+ghost use Rattle.cec_top.specs.Texts.{digit_of, input_text, lemmas_line, output_line, span_line, different_text, open_text, open_text_with, workload_text};
+ghost use Rattle.cec_top.specs.Fraig.{reduced_text};
 
 use check_session::Verdict;
 use command_line::SelfWords;
@@ -100,6 +101,18 @@ fn push_span(text: &mut Vec<u8>, span: Span) -> Result<(), AllocError>
     text.extend_from_slice(b"\n")
 }
 
+/// How many lemmas of a file were taken, of how many.
+#[tactic(auto, unfolding(crate::specs::Texts::lemmas_line))]
+pub(crate) fn lemmas_line(alloc: Global, taken: u64, given: u64) -> Result<Vec<u8>, AllocError>
+    ensures { IfOk result (λ v. v.items ≡ lemmas_line taken given) }
+{
+    let mut text = Vec::new(alloc);
+    push_number(&mut text, b"lemmas ", taken)?;
+    push_number(&mut text, b" of ", given)?;
+    text.extend_from_slice(b"\n")?;
+    Ok(text)
+}
+
 /// Appends a label and the number behind it.
 fn push_number(text: &mut Vec<u8>, label: &[u8], number: u64) -> Result<(), AllocError>
     ensures { OnOk result (text.new.items ≡ text.old.items ++ label.now ++ decimal number) }
@@ -153,6 +166,19 @@ pub(crate) fn workload_text(
     push_number(&mut text, b" ", b.gates().len() as u64)?;
     push_number(&mut text, b"\noutputs ", u64::from(net.outputs()))?;
     text.extend_from_slice(b"\n")?;
+    Ok(text)
+}
+
+/// How many gates a circuit and its reduced one have, and that they are equivalent.
+#[tactic(auto, unfolding(crate::specs::Fraig::reduced_text))]
+pub(crate) fn reduced_text(alloc: Global, net: &Net) -> Result<Vec<u8>, AllocError>
+    ensures { IfOk result (λ v. v.items ≡ reduced_text net.now) }
+{
+    let (a, b) = (net.circuit(Side::A), net.circuit(Side::B));
+    let mut text = Vec::new(alloc);
+    push_number(&mut text, b"gates ", a.gates().len() as u64)?;
+    push_number(&mut text, b" ", b.gates().len() as u64)?;
+    text.extend_from_slice(b"\nEQUIVALENT\n")?;
     Ok(text)
 }
 

@@ -3,9 +3,12 @@ mod OutputLemmas
 mod PoolLemmas
 mod BegunLemmas
 mod PatternLemmas
+mod BlockLemmas
 mod AdmittedLemmas
 mod MeansLemmas
 mod SweptLemmas
 mod WithinLemmas
 mod FilesLemmas
+mod MiterTextLemmas
 mod SessionLemmas
+mod ReductionLemmas

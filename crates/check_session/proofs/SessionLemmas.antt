@@ -1,11 +1,13 @@
 -- What a session has between its calls.
-use Rattle.std.proofs.Common.{◌≡◌, ℕ, List, [], ◌∷◌, ◌++◌, length, Option, Some, None, sym, ap, ◌∙◌, subst}
+use Rattle.std.proofs.Common.{◌≡◌, ℕ, inl, inr, refl, List, [], ◌∷◌, ◌++◌, length, Option, Some, None, sym, ap, ◌∙◌, subst}
 use Rattle.std.specs.Prelude.{IfSome, unwrap_or}
 use Rattle.std.specs.List.{AllByRecursion}
 use Rattle.netlist.specs.Net.{AigPair}
 use Rattle.word_sim.specs.Patterns.{Patterns}
 use Rattle.lemma_book.specs.Entry.{Entries}
+use Rattle.lemma_book.specs.declared.entry.Entry.{Entry}
 use Rattle.lemma_book.specs.Book.{IsLegal}
+use Rattle.book_file.specs.Loaded.{IsLoaded, Loads as LoadsBehind, with_taken}
 use Rattle.netlist_edits.specs.declared.edit.Edit.{Edit}
 use Rattle.netlist_edits.specs.Edited.{edited}
 use Rattle.netlist_edits.proofs.Facts.{edited_all-last, inputs-edited_all}
@@ -15,7 +17,7 @@ use Rattle.check_session.specs.declared.begin.Past.{Past}
 use Rattle.check_session.specs.declared.options.Options.{Options}
 use Rattle.check_session.specs.Pool.{IsPoolOf, first_pool}
 use Rattle.check_session.specs.Begun.{IsPastOf, MayBegin, begun_after, begun_from}
-use Rattle.check_session.specs.Check.{IsSession, State, begun_by, with_edit}
+use Rattle.check_session.specs.Check.{IsSession, State, begun_by, empty_book, opened, with_edit}
 use Rattle.check_session.proofs.BegunLemmas.{pool-alike, pool-inputs}
 use Rattle.check_session.proofs.PoolLemmas.{pool-or_first}
 
@@ -74,3 +76,32 @@ module _ (net : AigPair) (o : Options) (past : Past) (is : IsPastOf net o past) 
     equal = kept-equal (unwrap_or past.last net) past.edits.items past.book;
     pool = pool-inputs net o (unwrap_or past.pool (first_pool net o)) (handed_out past.book.entries) (pool-or_first net o past.pool is.pool) begun-inputs;
   }
+
+-- ---- a session that loads lemmas
+
+-- the loaded book has the budgets of the one that took the entries
+loads-budgets : (net : AigPair) (book : Entries) (numbers : List (Option ℕ)) (entries : List Entry) (last : Entries)
+    → LoadsBehind net book numbers entries last → (last.sweep_budget ≡ book.sweep_budget) × (last.out_budget ≡ book.out_budget)
+loads-budgets net book numbers [] last is = (ap (λ (b : Entries). b.sweep_budget) is, ap (λ (b : Entries). b.out_budget) is)
+loads-budgets net book numbers (e ∷ entries) last (inl taken) =
+    loads-budgets net (with_taken book numbers e) (numbers ++ Some (length book.entries) ∷ []) entries last taken.1
+loads-budgets net book numbers (e ∷ entries) last (inr passed) = loads-budgets net book (numbers ++ None ∷ []) entries last passed.1
+
+-- and is one that a session may have
+session-loads : (s : State) (entries : List Entry) (book : Entries) → IsSession s → s ≡ opened s.net s.options
+    → IsLoaded s.net s.options.sweep_budget s.options.out_budget entries book → IsLegal s.net book
+    → IsSession (record (opened s.net s.options) { book = book })
+session-loads s entries book is fresh loaded legal =
+    let budgets = loads-budgets s.net (empty_book s.options) [] entries book loaded in
+    record {
+      range = is.range;
+      edited = refl;
+      pool = tt;
+      book = record { sweep_is = budgets.0; budget_is = budgets.1; legal = legal };
+      found = tt;
+    }
+
+pub session-loaded : (s : State) (entries : List Entry) (book : Entries) → IsSession s → s ≡ opened s.net s.options
+    → IsLoaded s.net s.options.sweep_budget s.options.out_budget entries book → IsLegal s.net book → IsSession (record s { book = book })
+session-loaded s entries book is fresh loaded legal =
+    subst (λ (x : State). IsSession (record x { book = book })) (sym fresh) (session-loads s entries book is fresh loaded legal)

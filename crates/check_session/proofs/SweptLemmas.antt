@@ -17,11 +17,11 @@ use Rattle.lemma_book.specs.declared.entry.Entry.TheVariants.{Merge, Apart, Spen
 use Rattle.lemma_book.specs.declared.entry.Subject.TheVariants.{Merged}
 use Rattle.lemma_book.specs.Entry.{Entries, is_merge, is_on, is_spent_on, subject_of, with_last}
 use Rattle.lemma_book.specs.Root.{IsRoot, merge_in}
-use Rattle.lemma_book.specs.Book.{IsLegal}
+use Rattle.lemma_book.specs.Book.{IsLegal, StartsWith}
 use Rattle.lemma_book.specs.Agreement.{IsTrue}
 use Rattle.lemma_book.proofs.Facts.{root-unsettled}
 use Rattle.sig_classes.specs.Leader.{IsReduced, IsSwept}
-use Rattle.strash_pass.specs.Strash.{IsMerge}
+use Rattle.strash_pass.specs.Strash.{AddsMerges, IsMerge}
 use Rattle.sweep_workers.specs.Answered.{sees_first}
 use Rattle.sweep_workers.specs.Swept.{IsPoolFor, apart_inputs, is_of_output, is_of_pair}
 use Rattle.check_session.specs.declared.options.Options.{Options}
@@ -216,6 +216,58 @@ swept-for net es (Different j input) swept = inl swept
 swept-for net es Undecided swept = swept
 
 -- ---- by the sweep
+
+-- ---- behind merges that the structure shows
+
+-- no merge is added
+pub adds-none : (book : Entries) → AddsMerges book book
+adds-none book = record { added = []; entries = sym (append-nil book.entries); merges = tt; sweep = refl; out = refl }
+
+pub starts-merged : (old new : Entries) → AddsMerges old new → StartsWith new old
+starts-merged old new adds = record { rest = adds.added; entries = adds.entries; sweep = adds.sweep; out = adds.out }
+
+merges-equal : (es fs : List Entry) → AllByRecursion IsMerge fs → list_all is_equal es ≡ true → list_all is_equal (es ++ fs) ≡ true
+merges-equal [] [] merges all = refl
+merges-equal [] (Merge node lit steps ∷ fs) merges all = merges-equal [] fs merges.1 all
+merges-equal [] (Apart node lit input ∷ fs) merges all = absurd merges.0
+merges-equal [] (Spent node lit seen log ∷ fs) merges all = absurd merges.0
+merges-equal [] (Out j steps ∷ fs) merges all = absurd merges.0
+merges-equal [] (OutApart j input ∷ fs) merges all = absurd merges.0
+merges-equal [] (OutSpent j seen log ∷ fs) merges all = absurd merges.0
+merges-equal (e ∷ es) fs merges all = go (is_equal e) refl all (merges-equal es fs merges)
+  where
+    go : (b : Bool) → is_equal e ≡ b → list_all is_equal (e ∷ es) ≡ true
+        → (list_all is_equal es ≡ true → list_all is_equal (es ++ fs) ≡ true) → list_all is_equal (e ∷ es ++ fs) ≡ true
+    go true is all rest = rw is (rest (rw is at all))
+    go false is all rest = let t : false ≡ true = rw is at all in cc
+
+-- a check may begin with them too
+pub begin-merged : (net : AigPair) (o : Options) (old new : Entries) (pool : Patterns) → MayBegin net o (record { book = old; pool = pool })
+    → AddsMerges old new → IsLegal net new → MayBegin net o (record { book = new; pool = pool })
+begin-merged net o old new pool may adds legal = record {
+  book = record { sweep_is = adds.sweep ∙ may.book.sweep_is; budget_is = adds.out ∙ may.book.budget_is; legal = legal };
+  equal =
+      subst (λ (es : List Entry). list_all is_equal es ≡ true) (sym adds.entries)
+      (merges-equal old.entries adds.added adds.merges may.equal);
+  pool = may.pool;
+}
+
+-- what goes on from them and from patterns that joined goes on from what was before
+pub goes_on-merged : (r : Result Checked AllocError) (old new : Entries) (before pool : Patterns) → AddsMerges old new → Extends before pool
+    → IfOk r (λ c. GoesOn (record { book = new; pool = pool }) c.book c.pool)
+    → IfOk r (λ c. GoesOn (record { book = old; pool = before }) c.book c.pool)
+goes_on-merged (Ok c) old new before pool adds extends on = record {
+  entries = starts-twice old new c.book (starts-merged old new adds) on.entries;
+  patterns = extends-twice before pool c.pool extends on.patterns;
+}
+goes_on-merged (Err e) old new before pool adds extends on = tt
+
+-- what was found of whatever book and patterns came before was found of these
+pub found-merged : (r : Result Checked AllocError) (A : Entries → Type 0) (B : Entries → Patterns → Type 0) (D : Patterns → Type 0)
+    (F : Entries → Patterns → Checked → Type 0) (old : Entries) (before : Patterns) → A old → B old before → D before
+    → IfOk r (λ c. (book : Entries) (pool : Patterns) → A book → B book pool → D pool → F book pool c) → IfOk r (F old before)
+found-merged (Ok c) A B D F old before a b d found = found old before a b d
+found-merged (Err e) A B D F old before a b d found = tt
 
 -- what a sweep and the queries about the outputs find, where patterns may have joined before
 pub found-by_sweep : (net : AigPair) (o : Options) (begun pool seen : Patterns) (first last : Entries) (v : Verdict)

@@ -9,6 +9,7 @@ use Rattle.lemma_book.specs.declared.entry.Entry.{Entry}
 use Rattle.lemma_book.specs.declared.entry.Entry.TheVariants.{OutApart}
 use Rattle.lemma_book.specs.Entry.{Entries}
 use Rattle.lemma_book.specs.Book.{IsLegal}
+use Rattle.book_file.specs.Loaded.{IsLoaded}
 use Rattle.netlist_edits.specs.declared.edit.Edit.{Edit}
 use Rattle.netlist_edits.specs.Edited.{edited, edited_all}
 use Rattle.sig_classes.specs.Leader.{IsReduced, IsSwept}
@@ -32,8 +33,10 @@ pub record AreInRange (o : Options) : Type 0 where
   pub out_most : o.out_budget ≤ 1000000000
 
 -- A session: the pair as it stands, the numbers that its checks go by, and of the last check the patterns, the book and what
--- it found. There are no patterns before the first check and after one that was refused memory; nothing is found then, nor
--- after an edit. Besides, the pair of the last check, or of the opening where there was none, and the edits since, in order.
+-- it found; before the first check the book is the one that was loaded, if one was. There are no patterns before the first check
+-- and after one that was refused memory; nothing is found then, nor after an edit. A session of a circuit and its reduced one has
+-- no patterns either, but its book was made to show that both agree, which is found. Besides, the pair of the last check, or of the
+-- opening where there was none, and the edits since, in order.
 pub record State : Type 0 where
   pub net : AigPair
   pub options : Options
@@ -43,7 +46,7 @@ pub record State : Type 0 where
   pub last : AigPair
   pub edits : List Edit
 
--- the book of a session without a check
+-- the book of a session without a check, into which none was loaded
 abbrev pub empty_book : Options → Entries
 empty_book o = record { sweep_budget = o.sweep_budget; out_budget = o.out_budget; entries = [] }
 
@@ -63,6 +66,13 @@ with_edit s edit = record {
   last = s.last;
   edits = s.edits ++ edit ∷ [];
 }
+
+-- The session, in which nothing was checked or edited, has loaded these entries: its book is that of those that are good over its
+-- pair, and so many they are. The next check begins with what is kept of that book over the edits until then (`begun_by`).
+pub record Loads (entries : List Entry) (s t : State) (taken : ℕ) : Type 0 where
+  pub loaded : IsLoaded s.net s.options.sweep_budget s.options.out_budget entries t.book
+  pub else_opened : t ≡ record (opened s.net s.options) { book = t.book }
+  pub count : taken ≡ length t.book.entries
 
 -- the session without the book of its last check, which counts as not checked
 abbrev pub without_book : State → State

@@ -1,9 +1,9 @@
 -- The two files of a check: their names, what stands in them, and what is left where one of them isn't written whole.
 use Rattle.std.specs.Prelude.{◌≡◌, ℕ, List, [], ◌∷◌, ◌++◌, length, codes, decimal, Result, Ok, Err, IfSome}
-use Rattle.desk_port.specs.Desk.{DeskState}
+use Rattle.desk_port.specs.Desk.{DeskState, Sizes, and_sizes}
 use Rattle.endings.specs.declared.stop.Stop.{Stop}
 use Rattle.endings.specs.declared.stop.Stop.TheVariants.{CannotWrite, OutOfMemory}
-use Rattle.endings.specs.Writing.{Output, StopsAmong, after_files}
+use Rattle.endings.specs.Writing.{Output, StopsAmong, after_files, sizes_of}
 use Rattle.netlist.specs.Net.{AigPair}
 use Rattle.netlist.specs.Miter.{miter_of, variables_of}
 use Rattle.dimacs_text.specs.CnfText.{cnf_text}
@@ -74,6 +74,11 @@ pub record HasProof (net : AigPair) (book : Entries) (finding : Finding) : Type 
 abbrev pub WritesFiles : {A : Type 0} → State → List ℕ → ℕ → DeskState → DeskState → Result A StitchErr → Type 0
 WritesFiles s prefix number old new result =
     IfSome s.found (λ finding. LeavesAll (files_of prefix number s.net s.book.entries finding) old new result)
+
+-- and where they are whole, each went out in pieces
+abbrev pub HasSizes : State → List ℕ → ℕ → Sizes → Sizes → Type 0
+HasSizes s prefix number old new =
+    IfSome s.found (λ finding. new ≡ and_sizes old (sizes_of (files_of prefix number s.net s.book.entries finding)))
 
 -- and these are the spans of its logs
 abbrev pub TellsSpans : State → List Span → Type 0

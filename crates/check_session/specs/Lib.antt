@@ -1,7 +1,10 @@
 pub mod Finding
 pub mod Outputs
 pub mod Pool
+pub mod Blocks
 pub mod Begun
 pub mod Check
 pub mod Sweep
 pub mod Files
+pub mod MiterText
+pub mod Reduction

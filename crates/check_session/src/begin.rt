@@ -64,7 +64,7 @@ fn before<'a>(last: &'a Option<Net>, net: &'a Net) -> &'a Net
 }
 
 /// The patterns, or those that the seed draws for the pair's inputs where there are none.
-fn pool_or_first(
+pub(crate) fn pool_or_first(
     alloc: Global,
     net: &Net,
     options: Options,

@@ -3,10 +3,11 @@
 //! A `Session` holds the pair, and takes edits of it between checks. Its `check` begins with what is kept of
 //! the book of the last one, and with its patterns (`begin`), and sweeps in the way of FRAIGs (Kuehlmann et
 //! al. 2002; Mishchenko, Chatterjee, Jiang and Brayton 2005). A pattern may tell an output apart at once
-//! (`patterns`). Else `strash_pass` merges what the structure alone shows to be equal, and workers settle
-//! first the candidates that simulation leaves, from the inputs up, and then the outputs (`sweep`, by
-//! `sweep_workers`). The workers last for the whole check: each has a search, a solver and their memory. They
-//! share one sieve of patterns, that from which the look for a difference came.
+//! (`patterns`). Else `strash_pass` merges what the structure alone shows to be equal. Behind that a sieve of
+//! many more patterns is looked through, for outputs that the structure leaves open: one that tells an output
+//! apart joins the patterns, and the check ends as if it had been there. Else workers settle first the
+//! candidates that simulation leaves, from the inputs up, and then the outputs (`sweep`, by `sweep_workers`).
+//! The workers last for the whole check: each has a search, a solver and their memory. They share the sieve.
 //!
 //! `check` answers with a `Verdict`, and promises that the session's book is legal and shows it, and what it
 //! means for the circuits. The book and the patterns go on from what the check began with. Over the patterns
@@ -14,22 +15,29 @@
 //! apart and the book is reduced, and so swept. `write` then leaves the check's two files: the CNF of the
 //! circuits' miter, and its proof.
 //!
+//! `reduce` takes one circuit, which it sweeps by itself, and gives the circuit that is left where each literal
+//! gives way to its root, with a session that shows the two equal (`reduction`).
+//!
 //! Definitions: `specs/Finding.antt` (what a book's entries show, and what that means), `specs/Pool.antt`
 //! (the patterns of a check), `specs/Begun.antt` (what a check begins with), `specs/Check.antt` (a session,
-//! its edits, and a check that has its verdict), `specs/Files.antt` (its files); `specs/Sweep.antt` and
-//! `Outputs.antt` say what parts of a check do. Begin to read at `session.rt`, then `begin.rt`, `sweep.rt`,
-//! `patterns.rt` and `write.rt`.
+//! its edits, and a check that has its verdict), `specs/Reduction.antt` (a reduced circuit and its session),
+//! `specs/Files.antt` (its files) and `specs/MiterText.antt` (the lines of the CNF, node by node);
+//! `specs/Sweep.antt`, `Outputs.antt` and `Blocks.antt` say what parts of a check do. Begin to read at
+//! `session.rt`, then `begin.rt`, `sweep.rt`, `patterns.rt`, `write.rt`, `miter_text.rt` and `reduction.rt`.
 #![tactic(auto)]
 
 pub use options::Options;
+pub use reduction::reduce;
 pub use session::Session;
 pub use verdict::Verdict;
 
 mod admitted;
 mod begin;
 mod laws;
+mod miter_text;
 mod options;
 mod patterns;
+mod reduction;
 mod session;
 mod sweep;
 mod verdict;

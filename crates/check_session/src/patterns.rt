@@ -1,18 +1,23 @@
-ghost use Rattle.std.specs.Prelude.{◌≡◌, ◌<◌, ◌&&◌, Some, [], length, Bool, List, IfOk, IfSome, OnOk, MatchOption, bit_and, bit_xor};
+ghost use Rattle.std.specs.Prelude.{◌≡◌, ◌≤◌, ◌<◌, ◌*◌, ◌&&◌, Some, [], length, Bool, List, IfOk, IfSome, OnOk, MatchOption, bit_and, bit_xor};
 ghost use Rattle.std.specs.List.{slice_index_or};
 ghost use Rattle.lits.specs.declared.literal.Lit.{Lit};
 ghost use Rattle.netlist.specs.Net.{differs, nodes_of, output_of};
-ghost use Rattle.word_sim.specs.Patterns.{is_set, words_of};
+ghost use Rattle.word_sim.specs.Patterns.{is_set, part_from, words_of};
 ghost use Rattle.word_sim.specs.Rows.{AreSignatures, IsRow, mask_of};
 ghost use Rattle.sweep_workers.specs.Swept.{IsPoolFor};
+ghost use Rattle.check_session.specs.Blocks.{IsFirstIn, lesser};
 ghost use Rattle.check_session.specs.Pool.{Extends, HasBitsFor, HasBitsOf, IsAmongOrJoins, IsFirstApart, IsFirstOf, MayJoin, NoneApart, admits, bit_of, tells_apart};
 
 use crate::admitted::admitted_row;
 use circuit_search::Sieve;
+use lemma_book::Book;
 use lits::{Listed, Side};
 use netlist::Net;
 use std::alloc::{AllocError, Global};
 use word_sim::{Pool, Sigs, signatures};
+
+/// How many words of the pool's patterns are simulated at once.
+const BLOCK: u32 = 4;
 
 /// An output that differs, and an admitted input on which it does.
 #[derive(Drop)]
@@ -21,32 +26,12 @@ pub(crate) struct Difference {
     pub(crate) input: Listed<bool>,
 }
 
-/// The least output that a pattern tells apart, with the first such pattern: one of the pool's, or else one
-/// of the sieve's own, which then joins the pool.
-pub(crate) fn first_difference(
+/// The least output that a pattern of the sieve's own tells apart, which then joins the pool, with that
+/// pattern. None of the pool's tells one apart.
+pub(crate) fn own_difference(
     alloc: Global,
     net: &Net,
-    sieve: &mut Sieve,
-    pool: &mut Pool,
-) -> Result<Option<Difference>, AllocError>
-    requires { IsPoolFor net.now pool.old }
-    ensures fits { OnOk result (IsPoolFor net.now pool.new) }
-    ensures extends { OnOk result (Extends pool.old pool.new) }
-    ensures first { IfOk result (λ d. MatchOption d (NoneApart net.now pool.new.patterns)
-        (λ x. IsFirstApart net.now pool.new.patterns x.output x.input)) }
-    ensures from { IfOk result
-        (λ d. IfSome d (λ x. IsAmongOrJoins net.now pool.old.patterns pool.new.patterns x.input)) }
-{
-    match difference_in(alloc, net, pool)? {
-        Some(difference) => Ok(Some(difference)),
-        None => own_difference(alloc, net, sieve, pool),
-    }
-}
-
-/// The same where no pattern of the pool tells an output apart.
-fn own_difference(
-    alloc: Global,
-    net: &Net,
+    book: &Book,
     sieve: &mut Sieve,
     pool: &mut Pool,
 ) -> Result<Option<Difference>, AllocError>
@@ -54,12 +39,11 @@ fn own_difference(
     requires none { NoneApart net.now pool.old.patterns }
     ensures fits { OnOk result (IsPoolFor net.now pool.new) }
     ensures extends { OnOk result (Extends pool.old pool.new) }
-    ensures first { IfOk result (λ d. MatchOption d (NoneApart net.now pool.new.patterns)
-        (λ x. IsFirstApart net.now pool.new.patterns x.output x.input)) }
+    ensures first { IfOk result (IsFirstIn net.now pool.new.patterns) }
     ensures from { IfOk result
         (λ d. IfSome d (λ x. IsAmongOrJoins net.now pool.old.patterns pool.new.patterns x.input)) }
 {
-    let Some(input) = sieve.difference(alloc, net)? else {
+    let Some(input) = sieve.difference(alloc, net, book)? else {
         return Ok(None);
     };
     join(pool, input.as_slice())?;
@@ -80,11 +64,58 @@ fn join(pool: &mut Pool, input: &[bool]) -> Result<(), AllocError>
 /// The least output that a pattern of the pool tells apart, with the first such pattern. A pattern tells only
 /// where it is admitted.
 ///
-/// The rows of signatures are searched word by word.
-fn difference_in(alloc: Global, net: &Net, pool: &Pool) -> Result<Option<Difference>, AllocError>
+/// A few words of patterns are simulated at once, so that memory doesn't grow with what joined the pool.
+pub(crate) fn difference_in(
+    alloc: Global,
+    net: &Net,
+    pool: &Pool,
+) -> Result<Option<Difference>, AllocError>
     requires { IsPoolFor net.now pool.now }
-    ensures { IfOk result (λ d. MatchOption d (NoneApart net.now pool.now.patterns)
-        (λ x. IsFirstApart net.now pool.now.patterns x.output x.input)) }
+    ensures { IfOk result (IsFirstIn net.now pool.now.patterns) }
+{
+    let mut first = None;
+    for block in 0..pool.words().div_ceil(BLOCK) {
+        let part = part_at(alloc, pool, block)?;
+        let other = difference_of(alloc, net, &part)?;
+        first = lesser(first, other);
+    }
+    Ok(first)
+}
+
+/// A block of the pool's patterns, behind those of its first word.
+fn part_at(alloc: Global, pool: &Pool, block: u32) -> Result<Pool, AllocError>
+    requires { 256 * block ≤ length pool.now.patterns }
+    ensures { IfOk result (λ p. p ≡ record {
+      inputs = pool.now.inputs;
+      patterns = part_from (256 * block) 4 pool.now.patterns;
+    }) }
+{
+    pool.part(alloc, 256 * u64::from(block), BLOCK)
+}
+
+/// The difference of the lesser output, the first one where both are of one.
+fn lesser(first: Option<Difference>, second: Option<Difference>) -> Option<Difference>
+    ensures { result ≡ lesser first second }
+{
+    match (first, second) {
+        (Some(first), Some(second)) => {
+            if second.output < first.output {
+                Some(second)
+            } else {
+                Some(first)
+            }
+        }
+        (Some(first), None) => Some(first),
+        (None, second) => second,
+    }
+}
+
+/// The least output that one of these patterns tells apart, with the first such pattern.
+///
+/// The rows of signatures are searched word by word.
+fn difference_of(alloc: Global, net: &Net, pool: &Pool) -> Result<Option<Difference>, AllocError>
+    requires { IsPoolFor net.now pool.now }
+    ensures { IfOk result (IsFirstIn net.now pool.now.patterns) }
 {
     netlist::laws::is_net(net);
     let sigs = signatures(alloc, net, pool)?;

@@ -4,8 +4,9 @@ ghost use Rattle.netlist.specs.Unlike.{unlike_of};
 ghost use Rattle.netlist.specs.Pairing.{paired, unlike_in};
 ghost use Rattle.netlist_edits.specs.Fault.{fault_of};
 ghost use Rattle.check_session.specs.Begun.{GoesOn, IsPastOf, begun_after};
-ghost use Rattle.check_session.specs.Check.{AreInRange, BeginsWith, IsFound, begun_by, opened, with_edit, without_book};
-ghost use Rattle.check_session.specs.Files.{TellsSpans, WritesFiles};
+ghost use Rattle.check_session.specs.Check.{AreInRange, BeginsWith, IsFound, IsSettled, Loads, begun_by, opened, with_edit, without_book};
+ghost use Rattle.check_session.specs.Finding.{Equivalent};
+ghost use Rattle.check_session.specs.Files.{HasSizes, TellsSpans, WritesFiles};
 ghost use Rattle.check_session.specs.Outputs.{finding_of};
 
 use crate::begin::{Past, begin};
@@ -15,7 +16,7 @@ use crate::verdict::Verdict;
 use crate::write::{Miter, Proof, named};
 use desk_port::{Desk, Gate};
 use endings::write_file;
-use lemma_book::Book;
+use lemma_book::{Book, Entry};
 use netlist::{Circuit, Net, Unlike};
 use netlist_edits::{Edit, EditErr, fault_of, make};
 use proof_stitch::{Span, StitchErr};
@@ -163,6 +164,24 @@ impl Session {
         })
     }
 
+    /// A session of the pair that counts as checked: its book shows each output equal. It has no patterns, as
+    /// one that was just opened.
+    pub(crate) fn of_equal(alloc: Global, net: Net, options: Options, book: Book) -> Session
+        requires range { AreInRange options }
+        requires settled { IsSettled net options.sweep_budget options.out_budget book Equivalent }
+        ensures { result ≡ record (opened net options) { book = book; found = Some Equivalent } }
+    {
+        Session {
+            net,
+            options,
+            pool: None,
+            book,
+            found: Some(Verdict::Equivalent),
+            last: None,
+            edits: Vec::new(alloc),
+        }
+    }
+
     /// Makes an edit of the pair, or answers its first fault; where it answers an error the session is as it
     /// was. What was found of the pair then no longer counts, but the next check begins with what is kept.
     pub fn edit(&mut self, alloc: Global, edit: Edit) -> Result<(), EditErr>
@@ -192,9 +211,27 @@ impl Session {
         Ok(())
     }
 
-    /// Settles the pair, beginning with what is kept of the last check and of the edits since. Where memory is
-    /// refused the session is as if it had just been opened with the pair as it stands, and may be checked
-    /// anew.
+    /// Takes those of the entries that are good over the pair, one after the other, and gives how many they are:
+    /// the next check begins with what is kept of them. Each is judged, so it doesn't matter where they come from.
+    /// Nothing may have been checked or edited before. Where memory is refused the session is as it was.
+    pub fn load(&mut self, alloc: Global, entries: Vec<Entry>) -> Result<u64, AllocError>
+        requires opened { self.old ≡ opened self.old.net self.old.options }
+        ensures loaded { IfOk result (Loads entries.items self.old self.new) }
+        ensures refused { OnErr result (self.new ≡ self.old) }
+    {
+        let Options {
+            sweep_budget,
+            out_budget,
+            ..
+        } = self.options;
+        let (book, taken) = book_file::load(alloc, &self.net, entries, sweep_budget, out_budget)?;
+        self.book = book;
+        Ok(taken)
+    }
+
+    /// Settles the pair, beginning with what is kept of the last check, or of what was loaded, and of the edits
+    /// since. Where memory is refused the session is as if it had just been opened with the pair as it stands, and
+    /// may be checked anew.
     ///
     /// As many workers settle the pairs and then the outputs as the options say, in as many threads, of which
     /// the caller is one; each passes the gate behind each task that it draws.
@@ -252,6 +289,8 @@ impl Session {
         requires checked { IsSome self.now.found }
         requires started { (D.state desk.old).started ≡ None }
         ensures files { WritesFiles self.now prefix.now check (D.state desk.old) (D.state desk.new) result }
+        ensures sizes { OnOk result
+            (HasSizes self.now prefix.now check (D.sizes desk.old) (D.sizes desk.new)) }
         ensures spans { IfOk result (λ spans. TellsSpans self.now spans.items) }
     {
         let Some(verdict) = &self.found else {
@@ -275,7 +314,7 @@ impl Session {
         &self.net
     }
 
-    /// The book of the last check.
+    /// The book of the last check, or what was loaded before the first.
     pub fn book(&self) -> &Book
         ensures { result.now ≡ self.now.book }
     {

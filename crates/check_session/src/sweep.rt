@@ -1,8 +1,9 @@
 ghost use Rattle.std.specs.Prelude.{◌≡◌, ◌≤◌, Some, length, IfOk, OnOk};
 ghost use Rattle.word_sim.specs.Patterns.{Patterns};
 ghost use Rattle.lemma_book.specs.Book.{IsLegal};
-ghost use Rattle.lemma_book.specs.Entry.{with_last};
+ghost use Rattle.lemma_book.specs.Entry.{Entries, with_last};
 ghost use Rattle.lemma_book.specs.Good.{IsGood};
+ghost use Rattle.strash_pass.specs.Strash.{AddsMerges};
 ghost use Rattle.sweep_workers.specs.Swept.{IsPoolFor};
 ghost use Rattle.check_session.specs.Begun.{GoesOn, MayBegin};
 ghost use Rattle.check_session.specs.Check.{AreInRange, IsFound};
@@ -11,7 +12,7 @@ ghost use Rattle.check_session.specs.Sweep.{IsSettledFrom};
 
 use crate::laws::{is_swept, is_within, means};
 use crate::options::Options;
-use crate::patterns::{Difference, first_difference};
+use crate::patterns::{Difference, difference_in, own_difference};
 use crate::verdict::Verdict;
 use circuit_search::Sieve;
 use desk_port::Gate;
@@ -34,8 +35,8 @@ pub(crate) struct Checked {
     pub(crate) verdict: Verdict,
 }
 
-/// Checks a pair, beginning with this book and these patterns: what a pattern shows at once, or else what the
-/// sweep finds.
+/// Checks a pair, beginning with this book and these patterns: what a pattern shows at once, or else what is
+/// found behind the structure.
 pub(crate) fn run<T: Threads + Wait + Sync, G: Gate + Sync>(
     rt: &T,
     alloc: Global,
@@ -51,14 +52,72 @@ pub(crate) fn run<T: Threads + Wait + Sync, G: Gate + Sync>(
     ensures found { IfOk result (λ c.
         IsFound net.now options (record { book = book; pool = pool }) (Some c.pool) c.book c.verdict) }
 {
-    let mut pool = pool;
-    let mut sieve = Sieve::new(alloc, net, options.seed, options.words)?;
-    match first_difference(alloc, net, &mut sieve, &mut pool)? {
+    match difference_in(alloc, net, &pool)? {
         Some(difference) => verdict_at_once(alloc, net, options, book, pool, difference),
+        None => verdict_by_structure(rt, alloc, net, options, gate, book, pool),
+    }
+}
+
+/// Merges the nodes that the structure alone shows to be equal, and goes on from there, where no pattern
+/// tells an output apart.
+///
+/// The book as it was stays at hand, since a pattern that shows a difference later is told behind that: it
+/// shares its entries, and at the first check of a pair has none.
+fn verdict_by_structure<T: Threads + Wait + Sync, G: Gate + Sync>(
+    rt: &T,
+    alloc: Global,
+    net: &Net,
+    options: Options,
+    gate: &G,
+    book: Book,
+    pool: Pool,
+) -> Result<Checked, AllocError>
+    requires range { AreInRange options }
+    requires begun { MayBegin net.now options (record { book = book; pool = pool }) }
+    requires none { NoneApart net.now pool.patterns }
+    ensures goes_on { IfOk result (λ c. GoesOn (record { book = book; pool = pool }) c.book c.pool) }
+    ensures found { IfOk result (λ c.
+        IsFound net.now options (record { book = book; pool = pool }) (Some c.pool) c.book c.verdict) }
+{
+    let mut merged = book.copy(alloc)?;
+    strash_pass::run(alloc, net, &mut merged)?;
+    verdict_of_own(rt, alloc, net, options, gate, book, merged, pool)
+}
+
+/// What a pattern shows that isn't in the pool, and then joins it, or else what the sweep finds, behind the
+/// merges that the structure shows.
+fn verdict_of_own<T: Threads + Wait + Sync, G: Gate + Sync>(
+    rt: &T,
+    alloc: Global,
+    net: &Net,
+    options: Options,
+    gate: &G,
+    begun: Book,
+    merged: Book,
+    pool: Pool,
+) -> Result<Checked, AllocError>
+    requires range { AreInRange options }
+    requires begun { MayBegin net.now options (record { book = begun; pool = pool }) }
+    requires structure { AddsMerges begun merged }
+    requires legal { IsLegal net.now merged }
+    requires none { NoneApart net.now pool.patterns }
+    ensures goes_on { IfOk result (λ c. GoesOn (record { book = begun; pool = pool }) c.book c.pool) }
+    ensures found { IfOk result (λ c.
+        IsFound net.now options (record { book = begun; pool = pool }) (Some c.pool) c.book c.verdict) }
+{
+    let mut pool = pool;
+    let mut sieve = Sieve::new(alloc, options.seed, options.words);
+    match own_difference(alloc, net, &merged, &mut sieve, &mut pool)? {
+        Some(difference) => verdict_at_once(alloc, net, options, begun, pool, difference),
         None => {
+            drop(begun);
             let sieve = Mutex::new(sieve);
-            let begun = Swept { book, pool, sieve };
-            verdict_of_sweep(rt, alloc, net, options, gate, begun)
+            let swept = Swept {
+                book: merged,
+                pool,
+                sieve,
+            };
+            verdict_of_sweep(rt, alloc, net, options, gate, swept)
         }
     }
 }
@@ -97,7 +156,7 @@ fn verdict_at_once(
     })
 }
 
-/// The verdict of the sweep and of what is asked about the outputs.
+/// The verdict of the sweep and of what is asked about the outputs, behind merges that the structure shows.
 fn verdict_of_sweep<T: Threads + Wait + Sync, G: Gate + Sync>(
     rt: &T,
     alloc: Global,
@@ -111,10 +170,9 @@ fn verdict_of_sweep<T: Threads + Wait + Sync, G: Gate + Sync>(
     requires none { NoneApart net.now begun.pool.patterns }
     ensures goes_on { IfOk result
         (λ c. GoesOn (record { book = begun.book; pool = begun.pool }) c.book c.pool) }
-    ensures found { IfOk result (λ c. (first : Patterns) → IsPoolOf net.now options first
-        → Extends first begun.pool
-        → IsFound net.now options (record { book = begun.book; pool = first })
-        (Some c.pool) c.book c.verdict) }
+    ensures found { IfOk result (λ c. (old : Entries) (first : Patterns) → AddsMerges old begun.book
+        → MayBegin net.now options (record { book = old; pool = first }) → Extends first begun.pool
+        → IsFound net.now options (record { book = old; pool = first }) (Some c.pool) c.book c.verdict) }
 {
     let mut workers = workers(alloc, options.workers)?;
     let (book, pool) = settled(rt, alloc, net, gate, begun, workers.as_mut_slice())?;
@@ -130,18 +188,18 @@ fn verdict_of_sweep<T: Threads + Wait + Sync, G: Gate + Sync>(
 }
 
 /// So many workers, numbered from 0, each with a solver of its own.
-fn workers(alloc: Global, many: u32) -> Result<Vec<Worker<WatchSolver>>, AllocError>
+pub(crate) fn workers(alloc: Global, many: u32) -> Result<Vec<Worker<WatchSolver>>, AllocError>
     ensures { IfOk result (λ v. length v.items ≡ many) }
 {
     let mut workers = Vec::new(alloc);
     for number in 0..many {
-        workers.push(Worker::new(number, WatchSolver::new(alloc)?))?;
+        workers.push(Worker::new(alloc, number, WatchSolver::new(alloc)?))?;
     }
     Ok(workers)
 }
 
-/// Merges the nodes that the structure alone shows to be equal, and lets workers settle the pairs that
-/// simulation leaves, and then the outputs. Gives the book and the patterns.
+/// Lets workers settle the pairs that simulation leaves, and then the outputs, behind merges that the structure
+/// shows. Gives the book and the patterns.
 fn settled<T: Threads + Wait + Sync, G: Gate + Sync>(
     rt: &T,
     alloc: Global,
@@ -153,10 +211,9 @@ fn settled<T: Threads + Wait + Sync, G: Gate + Sync>(
     requires legal { IsLegal net.now begun.book }
     requires pool { IsPoolFor net.now begun.pool }
     requires some { 1 ≤ length workers.old }
-    ensures { IfOk result (λ r. IsSettledFrom net.now begun.book begun.pool r.0 r.1) }
+    ensures { IfOk result (λ r. (old : Entries) → AddsMerges old begun.book
+        → IsSettledFrom net.now old begun.pool r.0 r.1) }
 {
-    let mut begun = begun;
-    strash_pass::run(alloc, net, &mut begun.book)?;
     let Swept { book, pool, sieve } = sweep_by(rt, alloc, net, begun, gate, workers)?;
     let (book, _sieve) = outputs_by(rt, alloc, net, book, sieve, gate, workers)?;
     Ok((book, pool))

@@ -1,8 +1,10 @@
 //! What stands in the two files of a check, and how they are named.
 ghost use Rattle.std.specs.Prelude.{◌≡◌, ◌++◌, IfOk, codes, decimal, string_bytes};
 
+use crate::miter_text::put_miter;
 use crate::verdict::Verdict;
 use desk_port::{Desk, PutErr};
+use dimacs_text::CnfText;
 use endings::Content;
 use itoa::Buffer;
 use lemma_book::Book;
@@ -25,12 +27,10 @@ impl Content for Miter<'_> {
 
     ghost tells = { λ _ _. Unit {0} };
 
-    #[tactic(auto, unfolding(crate::specs::Files::cnf_text_of))]
     fn put<D: Desk>(&self, alloc: Global, desk: &mut D) -> Result<(), PutErr> {
-        let Ok(miter) = self.0.miter(alloc) else {
-            return Err(PutErr::NoMemory);
-        };
-        dimacs_text::print(alloc, desk, self.0.variables(), miter.as_slice())
+        let mut text = CnfText::new(alloc)?;
+        put_miter(desk, self.0, &mut text)?;
+        text.finish(desk)
     }
 }
 

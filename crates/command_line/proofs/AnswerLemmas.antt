@@ -10,10 +10,10 @@ use Rattle.clap.specs.declared.parser.matches.ArgMatches.{ArgMatches}
 use Rattle.clap.specs.declared.error.kind.ErrorKind.{ErrorKind}
 use Rattle.clap.specs.declared.error.kind.ErrorKind.TheVariants.{DisplayHelp, DisplayVersion, OutOfMemory}
 use Rattle.command_line.specs.Answers.{Informs, MayRefuse, request, version_text}
-use Rattle.command_line.specs.Parsing.{IsRefusal, RefusesFound, RefusesHelp, RefusesMisnamed, found}
+use Rattle.command_line.specs.Parsing.{IsRefusal, RefusesFound, RefusesHelp, RefusesMisuse, found}
 use Rattle.command_line.specs.declared.asked.Asked.{Asked}
 use Rattle.command_line.specs.Commands.{cec_app}
-use Rattle.command_line.specs.Words.{AreRefused, AskMisnamed, Asks, Misnamed, Misnames, Outcome, Requested, WantHelp, faults, is_info, names_help, outcome_in, outcome_of}
+use Rattle.command_line.specs.Words.{AreRefused, AskAmiss, Asks, Misuse, Misuses, Outcome, Requested, WantHelp, faults, is_info, names_help, outcome_in, outcome_of}
 use Rattle.command_line.specs.declared.reading.Refusal.{Refusal}
 use Rattle.command_line.specs.declared.reading.Refusal.TheVariants.{Help, Usage, NoMemory}
 use Rattle.command_line.proofs.HelpLemmas.{faults_alone}
@@ -101,7 +101,7 @@ refusal_told words k (Usage text) named fails is = (
   words_refused words k fails is.0 is.1,
   record {
     no_help = λ help. let bad : true ≡ false = sym help ∙ named in cc;
-    misnamed = λ word asks. absurd (no_outcome words (Misnames word) (fault_there words k fails is.1) asks);
+    amiss = λ word asks. absurd (no_outcome words (Misuses word) (fault_there words k fails is.1) asks);
   },
 )
 refusal_told words k NoMemory named fails is = tt
@@ -120,28 +120,28 @@ pub outcome_told : (words : List Text) (m : ArgMatches) (o : Outcome) → names_
 unfolding outcome_of
 outcome_told words m o named none matches made = rw (named, none, ← (matches refl).1) made
 
--- a word that is none of the names that its argument takes is refused
-misnamed_told : (words : List Text) (word : Misnamed) (refusal : Refusal) → names_help words ≡ false → AskMisnamed words word → RefusesMisnamed word refusal
+-- values that ask for nothing are refused
+misuse_told : (words : List Text) (word : Misuse) (refusal : Refusal) → names_help words ≡ false → AskAmiss words word → RefusesMisuse word refusal
     → MayRefuse words refusal
-misnamed_told words word (Help text) named asks is = absurd is
-misnamed_told words word (Usage text) named asks is = (
+misuse_told words word (Help text) named asks is = absurd is
+misuse_told words word (Usage text) named asks is = (
   inr (inr (word, asks)),
   record {
     no_help = λ help. let bad : true ≡ false = sym help ∙ named in cc;
-    misnamed = λ other others.
-        let same : Some (Misnames word) ≡ Some (Misnames other) = sym asks ∙ others in
+    amiss = λ other others.
+        let same : Some (Misuses word) ≡ Some (Misuses other) = sym asks ∙ others in
         let equal : word ≡ other = cc in
         rw (← equal) is;
   },
 )
-misnamed_told words word NoMemory named asks is = tt
+misuse_told words word NoMemory named asks is = tt
 
 found_told : (words : List Text) (m : ArgMatches) (refusal : Refusal) → names_help words ≡ false → faults words ≡ [] → HasMatchesOf cec_app words m
     → RefusesFound (found m) refusal → MayRefuse words refusal
 found_told words m refusal named none matches refuses = go (found m) refl refuses
   where
     go : (o : Option Outcome) → found m ≡ o → RefusesFound o refusal → MayRefuse words refusal
-    go (Some (Misnames word)) is r = misnamed_told words word refusal named (outcome_told words m (Misnames word) named none matches is) r
+    go (Some (Misuses word)) is r = misuse_told words word refusal named (outcome_told words m (Misuses word) named none matches is) r
     go (Some (Requested request)) is r = absurd r
     go None is r = absurd r
 
@@ -168,7 +168,7 @@ help_refused words (Usage text) named is = (
   inl named,
   record {
     no_help = λ help. is;
-    misnamed = λ word asks. absurd (no_request words (Misnames word) named asks);
+    amiss = λ word asks. absurd (no_request words (Misuses word) named asks);
   },
 )
 help_refused words NoMemory named is = tt

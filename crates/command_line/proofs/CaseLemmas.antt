@@ -8,7 +8,7 @@ use Rattle.clap.specs.Walk.{Text, is_empty}
 use Rattle.clap.specs.declared.error.kind.ErrorKind.{ErrorKind}
 use Rattle.clap.specs.declared.error.kind.ErrorKind.TheVariants.{DisplayHelp, DisplayVersion}
 use Rattle.command_line.specs.Commands.{cec_app}
-use Rattle.command_line.specs.Words.{AreRefused, Asks, Misnames, Outcome, Request, Requested, WantHelp, WantInfo, WantVersion, faults, is_info, names_help, outcome_in, outcome_of}
+use Rattle.command_line.specs.Words.{AreRefused, Asks, Misuses, Outcome, Request, Requested, WantHelp, WantInfo, WantVersion, faults, is_info, names_help, outcome_in, outcome_of}
 use Rattle.command_line.proofs.AnswerLemmas.{some_kinds}
 use Rattle.command_line.proofs.HelpLemmas.{faults_alone}
 use Rattle.command_line.proofs.RequestLemmas.{some_outcome}
@@ -37,7 +37,7 @@ one_holds words = go (names_help words) refl
     asked : (named : names_help words ≡ false) → faults words ≡ [] → (outcome : Option Outcome) → made words ≡ outcome → is_some outcome ≡ true
         → ((r : Request) × Asks words r) ⊎ (WantInfo words ⊎ AreRefused words)
     asked named none (Some (Requested r)) is some = inl (r, rw (named, none) is)
-    asked named none (Some (Misnames word)) is some = inr (inr (inr (inr (word, rw (named, none) is))))
+    asked named none (Some (Misuses word)) is some = inr (inr (inr (inr (word, rw (named, none) is))))
     asked named none None is some = cc
 
     found : (named : names_help words ≡ false) (kinds : Kinds) → faults words ≡ kinds
@@ -74,7 +74,7 @@ module _ (words : List Text) (k : ErrorKind) (info : is_info k ≡ true) (named 
       let none : list_any is_info (k ∷ []) ≡ false = rw is at other.1 in
       let bad : (true || false) ≡ false = rw info at none in
       cc
-  not_refused (inr (inr none)) = no_outcome (Misnames none.0) none.1
+  not_refused (inr (inr none)) = no_outcome (Misuses none.0) none.1
 
 pub asks_alone : (words : List Text) (r : Request) → Asks words r → ¬ (WantInfo words ⊎ AreRefused words)
 asks_alone words r asks (inl (inl help)) = no_outcome words DisplayHelp refl help.0 help.1 (Requested r) asks
@@ -83,7 +83,7 @@ asks_alone words r asks (inl (inr version)) =
 asks_alone words r asks (inr (inl named)) = let parts = (outcome_parts words (Requested r) asks).0 in cc
 asks_alone words r asks (inr (inr (inl other))) = let parts = (outcome_parts words (Requested r) asks).1 in cc
 asks_alone words r asks (inr (inr (inr none))) =
-    let bad : Some (Requested r) ≡ Some (Misnames none.0) = sym asks ∙ none.1 in
+    let bad : Some (Requested r) ≡ Some (Misuses none.0) = sym asks ∙ none.1 in
     cc
 
 pub info_alone : (words : List Text) → WantInfo words → ¬ AreRefused words

@@ -7,7 +7,7 @@ use Rattle.clap.specs.ValueTests.{is_unsigned_in}
 use Rattle.clap.specs.Walk.{Row, Text, first_of}
 use Rattle.clap.specs.declared.builder.value_parser.ValueParser.TheVariants.{Unsigned}
 use Rattle.command_line.specs.Commands.{budget_option, seed_option, sweep_budget_option, words_option, workers_option}
-use Rattle.command_line.specs.Words.{CheckCommand, Outcome, check_given, check_in, number_in, number_or, matched, plain_check, with_options}
+use Rattle.command_line.specs.Words.{CheckCommand, FraigCommand, Outcome, check_given, check_in, fraig_given, fraig_in, number_in, number_or, matched, plain_check, plain_fraig, with_fraig_options, with_options, written}
 
 -- an answer that shows as some text is some answer
 pub shown_is_there : {X Y : Type 0} (f : X → Y) (o : Option X) (v w : Option Y) → option_map f o ≡ v → v ≡ w → is_some w ≡ true → IsSome o
@@ -62,7 +62,7 @@ pub check_made : (rows : List Row) (a b : Text)
 check_made rows a b a_is b_is = rw (a_is, b_is) refl
 
 -- where something is made of a command, the command is there
-pub command_there : (make : CheckCommand → Outcome) (given : Option CheckCommand) → is_some (option_map make given) ≡ true
+pub command_there : {C : Type 0} (make : C → Outcome) (given : Option C) → is_some (option_map make given) ≡ true
     → is_some given ≡ true
 command_there make (Some c) some = refl
 command_there make None some = cc
@@ -74,19 +74,40 @@ check_matched rows word c o word_is given is =
     ap₂ (λ (w : Option Text) (d : Option CheckCommand). option_map (matched w) d) word_is given ∙ ap Some (sym is)
 
 -- options that are given set their fields
-pub options_given : (rows : List Row) (c : CheckCommand) (edits out : Option Text) (workers seed words sweep_budget budget : ℕ)
+pub options_given : (rows : List Row) (c : CheckCommand) (edits out load save : Option Text) (workers seed words sweep_budget budget : ℕ)
     → first_of (codes "edits") rows ≡ edits → first_of (codes "out") rows ≡ out
+    → first_of (codes "load") rows ≡ load → first_of (codes "save") rows ≡ save
     → workers ≡ number_or c.workers workers_option rows → seed ≡ number_or c.seed seed_option rows → words ≡ number_or c.words words_option rows
     → sweep_budget ≡ number_or c.sweep_budget sweep_budget_option rows → budget ≡ number_or c.budget budget_option rows
     → with_options rows c
     ≡ record c {
       edits = edits;
       out = out;
+      load = load;
+      save = save;
       workers = workers;
       seed = seed;
       words = words;
       sweep_budget = sweep_budget;
       budget = budget;
     }
-options_given rows c edits out workers seed words sweep_budget budget edits_is out_is workers_is seed_is words_is sweep_is budget_is =
-    rw (edits_is, out_is, workers_is, seed_is, words_is, sweep_is, budget_is) refl
+options_given rows c edits out load save workers seed words sweep_budget budget edits_is out_is load_is save_is workers_is seed_is words_is sweep_is budget_is =
+    rw (edits_is, out_is, load_is, save_is, workers_is, seed_is, words_is, sweep_is, budget_is) refl
+
+-- the same of a reduced circuit
+pub fraig_made : (rows : List Row) (a reduced : Text)
+    → first_of (codes "a") rows ≡ Some a → first_of (codes "reduced") rows ≡ Some reduced
+    → fraig_given rows ≡ Some (with_fraig_options rows (plain_fraig a reduced))
+fraig_made rows a reduced a_is reduced_is = rw (a_is, reduced_is) refl
+
+pub fraig_asked : (rows : List Row) (c : FraigCommand) (o : Outcome) → fraig_given rows ≡ Some c → o ≡ written c → fraig_in rows ≡ Some o
+fraig_asked rows c o given is = rw given (ap Some (sym is))
+
+pub fraig_options_given : (rows : List Row) (c : FraigCommand) (out : Option Text) (workers seed words sweep_budget : ℕ)
+    → first_of (codes "out") rows ≡ out
+    → workers ≡ number_or c.workers workers_option rows → seed ≡ number_or c.seed seed_option rows → words ≡ number_or c.words words_option rows
+    → sweep_budget ≡ number_or c.sweep_budget sweep_budget_option rows
+    → with_fraig_options rows c
+    ≡ record c { out = out; workers = workers; seed = seed; words = words; sweep_budget = sweep_budget }
+fraig_options_given rows c out workers seed words sweep_budget out_is workers_is seed_is words_is sweep_is =
+    rw (out_is, workers_is, seed_is, words_is, sweep_is) refl

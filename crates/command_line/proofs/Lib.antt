@@ -6,6 +6,7 @@ mod WalkingLemmas
 mod LevelLemmas
 mod RequestLemmas
 mod GetterLemmas
+mod SavedLemmas
 mod AnswerLemmas
 mod CaseLemmas
 mod PlainLemmas

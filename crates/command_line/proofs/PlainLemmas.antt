@@ -14,13 +14,13 @@ use Rattle.clap.specs.ValueTests.{is_unsigned_in}
 use Rattle.clap.specs.Simple.{Shape, built_leaf, inherited, marked_built, on_top, with_leaf_noted}
 use Rattle.clap.specs.Walk.{Held, Rule, Step, Text, Waiting, Walk, after_step, finished, idle, is_empty, nothing_held, settled, option, plain_word, positional, walk_from, walked, word_met}
 use Rattle.clap.specs.Faults.{check_fault, defaults_fault, settle_fault, step_fault, turn_fault, walk_fault}
-use Rattle.command_line.specs.Commands.{cec_app, check_command, lrat_command, most_seed, self_command}
+use Rattle.command_line.specs.Commands.{cec_app, check_command, fraig_command, lrat_command, most_seed, self_command}
 use Rattle.workload_gen.specs.declared.kind.Kind.{Kind}
 use Rattle.workload_gen.specs.declared.kind.Kind.TheVariants.{Adder, Parity, Comparator}
 use Rattle.workload_gen.specs.declared.workload.TheConstants.{MOST_BITS}
 use Rattle.command_line.specs.declared.asked.TheConstants.{BUDGET_LIMIT, WORDS_LIMIT, WORKERS_LIMIT}
-use Rattle.command_line.specs.Words.{CheckIt, LratIt, SelfIt, CheckCommand, Misnames, Outcome, Requested, faults, misnamed_pairing, number_in, outcome_in, outcome_of, matched_by, pairing_named, plain_check, self_of}
-use Rattle.command_line.specs.Plain.{IsPlain, SetsName, SetsNumber, SetsText, Writes, kind_name}
+use Rattle.command_line.specs.Words.{CheckIt, FraigIt, LratIt, SelfIt, CheckCommand, FraigCommand, Misnames, Misuses, Outcome, Request, saved, Requested, faults, misnamed_pairing, number_in, outcome_in, outcome_of, matched_by, pairing_named, plain_check, plain_fraig, self_of, written}
+use Rattle.command_line.specs.Plain.{IsPlain, SetsFraigNumber, SetsName, SetsNumber, SetsText, Writes, kind_name}
 
 no_end : (word : Text) → IsPlain word → bytes_eq word (45 ∷ 45 ∷ []) ≡ false
 no_end [] plain = refl
@@ -196,10 +196,10 @@ module _ (program a b : Text) (plain_a : IsPlain a) (plain_b : IsPlain b) where
 
 -- a number in its range is taken where the words have no fault but one of it
 module _ (least most default n : ℕ) (word : Text) (fits : most ≤ most_seed) (writes : Writes least most word n) where
-  number-taken : (passes : Kinds → Bool) (make : ℕ → CheckCommand) → passes [] ≡ true
+  number-taken : (passes : Kinds → Bool) (make : ℕ → Request) → passes [] ≡ true
       → (if passes (values_kinds false (Unsigned least most) (word ∷ []))
-      then Some (Requested (CheckIt (make (unwrap_or (number_in least most word) default)))) else None)
-      ≡ Some (Requested (CheckIt (make n)))
+      then Some (Requested (make (unwrap_or (number_in least most word) default))) else None)
+      ≡ Some (Requested (make n))
   number-taken passes make empty =
       rw (accepted least most word n fits writes, empty, known_number least most word n fits writes) refl
 
@@ -212,7 +212,19 @@ sets-number : (name : Text) (least most default : ℕ) (set : CheckCommand → �
 sets-number name least most default set fits walk a b word n plain_a plain_b writes program =
     walk program a b word plain_a plain_b (digits-plain least most word n writes)
     ∙ number-taken least most default n word fits writes (λ k. is_empty (or_else (or_else k []) []))
-    (set (plain_check a b)) refl
+    (λ v. CheckIt (set (plain_check a b) v)) refl
+
+-- the same of a reduced circuit
+sets-fraig : (name : Text) (least most default : ℕ) (set : FraigCommand → ℕ → FraigCommand) → most ≤ most_seed
+    → ((program a reduced word : Text) → IsPlain a → IsPlain reduced → IsPlain word
+    → outcome_of (program ∷ codes "fraig" ∷ a ∷ reduced ∷ name ∷ word ∷ [])
+    ≡ (if is_empty (or_else (or_else (values_kinds false (Unsigned least most) (word ∷ [])) []) [])
+    then Some (Requested (FraigIt (set (plain_fraig a reduced) (unwrap_or (number_in least most word) default)))) else None))
+    → SetsFraigNumber name least most set
+sets-fraig name least most default set fits walk a reduced word n plain_a plain_r writes program =
+    walk program a reduced word plain_a plain_r (digits-plain least most word n writes)
+    ∙ number-taken least most default n word fits writes (λ k. is_empty (or_else (or_else k []) []))
+    (λ v. FraigIt (set (plain_fraig a reduced) v)) refl
 
 few_words : WORDS_LIMIT ≤ most_seed
 few_words = omega (arith, lit< {m = 64} {n = 18446744073709551615} tt)
@@ -234,6 +246,28 @@ unfolding outcome_of faults walked walk_fault defaults_fault
 sets-out a b p plain_a plain_b plain_p program =
     outcome-marked (completed check_command) (plain a ∷ plain b ∷ flag (codes "--out") ∷ plain p ∷ [])
     (plain_a, refl, (plain_b, refl, (plain_p, refl, tt)))
+
+pub sets-load : SetsText (codes "--load") (λ c f. record c { load = Some f })
+unfolding outcome_of faults walked walk_fault defaults_fault
+sets-load a b f plain_a plain_b plain_f program =
+    outcome-marked (completed check_command) (plain a ∷ plain b ∷ flag (codes "--load") ∷ plain f ∷ [])
+    (plain_a, refl, (plain_b, refl, (plain_f, refl, tt)))
+
+pub sets-save : SetsText (codes "--save") (λ c f. record c { save = Some f })
+unfolding outcome_of faults walked walk_fault defaults_fault
+sets-save a b f plain_a plain_b plain_f program =
+    outcome-marked (completed check_command) (plain a ∷ plain b ∷ flag (codes "--save") ∷ plain f ∷ [])
+    (plain_a, refl, (plain_b, refl, (plain_f, refl, tt)))
+
+-- both name files that are written
+pub saves-behind : (program a b p word : Text) → IsPlain a → IsPlain b → IsPlain p → IsPlain word
+    → outcome_of (program ∷ codes "check" ∷ a ∷ b ∷ codes "--out" ∷ p ∷ codes "--save" ∷ word ∷ [])
+    ≡ Some (saved (record (plain_check a b) { out = Some p; save = Some word }))
+unfolding outcome_of faults walked walk_fault defaults_fault
+saves-behind program a b p word plain_a plain_b plain_p plain_word =
+    outcome-marked (completed check_command)
+    (plain a ∷ plain b ∷ flag (codes "--out") ∷ plain p ∷ flag (codes "--save") ∷ plain word ∷ [])
+    (plain_a, refl, (plain_b, refl, (plain_p, refl, (plain_word, refl, tt))))
 
 pub sets-workers : SetsNumber (codes "--workers") 1 WORKERS_LIMIT (λ c n. record c { workers = n })
 unfolding outcome_of faults walked walk_fault defaults_fault
@@ -291,7 +325,7 @@ no_pairing : (word : Text) → word ≢ codes "position" → word ≢ codes "nam
 no_pairing word position names = rw (not_named word (codes "position") position, not_named word (codes "names") names) refl
 
 pub misnames-match : (program a b word : Text) → IsPlain a → IsPlain b → IsPlain word → word ≢ codes "position" → word ≢ codes "names"
-    → outcome_of (program ∷ codes "check" ∷ a ∷ b ∷ codes "--match" ∷ word ∷ []) ≡ Some (Misnames (misnamed_pairing word))
+    → outcome_of (program ∷ codes "check" ∷ a ∷ b ∷ codes "--match" ∷ word ∷ []) ≡ Some (Misuses (Misnames (misnamed_pairing word)))
 unfolding outcome_of faults walked walk_fault defaults_fault
 misnames-match program a b word plain_a plain_b plain_word position names =
     outcome-marked (completed check_command) (plain a ∷ plain b ∷ flag (codes "--match") ∷ plain word ∷ [])
@@ -312,7 +346,7 @@ module _ (program a b p word : Text) (n : ℕ) (plain_a : IsPlain a) (plain_b : 
       (plain a ∷ plain b ∷ flag (codes "--out") ∷ plain p ∷ flag (codes "--budget") ∷ plain word ∷ [])
       (plain_a, refl, (plain_b, refl, (plain_p, refl, (plain_n, refl, tt))))
       ∙ number-taken 1 BUDGET_LIMIT 100000 n word small_budget writes (λ k. is_empty (or_else (or_else k []) []))
-      (λ v. record (plain_check a b) { out = Some p; budget = v }) refl
+      (λ v. CheckIt (record (plain_check a b) { out = Some p; budget = v })) refl
 
   pub sets-budget_out : outcome_of (program ∷ codes "check" ∷ a ∷ b ∷ codes "--budget" ∷ word ∷ codes "--out" ∷ p ∷ [])
       ≡ Some (Requested (CheckIt (record (plain_check a b) { out = Some p; budget = n })))
@@ -323,4 +357,50 @@ module _ (program a b p word : Text) (n : ℕ) (plain_a : IsPlain a) (plain_b : 
       (plain_a, refl, (plain_b, refl, (plain_n, refl, (plain_p, refl, tt))))
       ∙ number-taken 1 BUDGET_LIMIT 100000 n word small_budget writes
       (λ k. is_empty (or_else (or_else (or_else (or_else k []) []) []) []))
-      (λ v. record (plain_check a b) { out = Some p; budget = v }) refl
+      (λ v. CheckIt (record (plain_check a b) { out = Some p; budget = v })) refl
+
+-- ---- a reduced circuit
+
+pub asks-fraig : (program a reduced : Text) → IsPlain a → IsPlain reduced
+    → outcome_of (program ∷ codes "fraig" ∷ a ∷ reduced ∷ []) ≡ Some (Requested (FraigIt (plain_fraig a reduced)))
+unfolding outcome_of faults walked walk_fault defaults_fault
+asks-fraig program a reduced plain_a plain_r =
+    outcome-marked (completed fraig_command) (plain a ∷ plain reduced ∷ []) (plain_a, refl, (plain_r, refl, tt))
+
+-- both name files that are written
+pub writes-behind : (program a reduced p : Text) → IsPlain a → IsPlain reduced → IsPlain p
+    → outcome_of (program ∷ codes "fraig" ∷ a ∷ reduced ∷ codes "--out" ∷ p ∷ [])
+    ≡ Some (written (record (plain_fraig a reduced) { out = Some p }))
+unfolding outcome_of faults walked walk_fault defaults_fault
+writes-behind program a reduced p plain_a plain_r plain_p =
+    outcome-marked (completed fraig_command) (plain a ∷ plain reduced ∷ flag (codes "--out") ∷ plain p ∷ [])
+    (plain_a, refl, (plain_r, refl, (plain_p, refl, tt)))
+
+pub fraig-workers : SetsFraigNumber (codes "--workers") 1 WORKERS_LIMIT (λ c n. record c { workers = n })
+unfolding outcome_of faults walked walk_fault defaults_fault
+fraig-workers = sets-fraig (codes "--workers") 1 WORKERS_LIMIT 4 (λ c n. record c { workers = n }) few_workers
+    (λ program a reduced word plain_a plain_r plain_word.
+    outcome-marked (completed fraig_command) (plain a ∷ plain reduced ∷ flag (codes "--workers") ∷ plain word ∷ [])
+    (plain_a, refl, (plain_r, refl, (plain_word, refl, tt))))
+
+pub fraig-seed : SetsFraigNumber (codes "--seed") 0 most_seed (λ c n. record c { seed = n })
+unfolding outcome_of faults walked walk_fault defaults_fault
+fraig-seed = sets-fraig (codes "--seed") 0 most_seed 1 (λ c n. record c { seed = n }) (omega arith)
+    (λ program a reduced word plain_a plain_r plain_word.
+    outcome-marked (completed fraig_command) (plain a ∷ plain reduced ∷ flag (codes "--seed") ∷ plain word ∷ [])
+    (plain_a, refl, (plain_r, refl, (plain_word, refl, tt))))
+
+pub fraig-words : SetsFraigNumber (codes "--words") 1 WORDS_LIMIT (λ c n. record c { words = n })
+unfolding outcome_of faults walked walk_fault defaults_fault
+fraig-words = sets-fraig (codes "--words") 1 WORDS_LIMIT 4 (λ c n. record c { words = n }) few_words
+    (λ program a reduced word plain_a plain_r plain_word.
+    outcome-marked (completed fraig_command) (plain a ∷ plain reduced ∷ flag (codes "--words") ∷ plain word ∷ [])
+    (plain_a, refl, (plain_r, refl, (plain_word, refl, tt))))
+
+pub fraig-sweep_budget : SetsFraigNumber (codes "--sweep-budget") 1 BUDGET_LIMIT (λ c n. record c { sweep_budget = n })
+unfolding outcome_of faults walked walk_fault defaults_fault
+fraig-sweep_budget =
+    sets-fraig (codes "--sweep-budget") 1 BUDGET_LIMIT 100 (λ c n. record c { sweep_budget = n }) small_budget
+    (λ program a reduced word plain_a plain_r plain_word.
+    outcome-marked (completed fraig_command) (plain a ∷ plain reduced ∷ flag (codes "--sweep-budget") ∷ plain word ∷ [])
+    (plain_a, refl, (plain_r, refl, (plain_word, refl, tt))))

@@ -9,7 +9,7 @@ use Rattle.clap.specs.Faults.{level_fault}
 use Rattle.clap.specs.Simple.{Shape, argument_words, built, subcommand_of}
 use Rattle.clap.specs.ValueTests.{is_unsigned_in}
 use Rattle.clap.specs.Walk.{Row, Text, first_of, nothing_held, rows_after}
-use Rattle.command_line.specs.Commands.{NumberOption, cec_app, check_command}
+use Rattle.command_line.specs.Commands.{NumberOption, cec_app, check_command, fraig_command}
 use Rattle.command_line.specs.Plain.{IsInRange}
 use Rattle.command_line.specs.Words.{faults}
 use Rattle.command_line.proofs.FoundLemmas.{found_holds, found_test}
@@ -43,8 +43,8 @@ abbrev is_taken : NumberOption → List Row → Option Bool
 is_taken o rows =
     option_map_or (λ t. if is_unsigned_in o.least o.most t then Some true else None) (first_of o.id rows) (Some true)
 
-abbrev is_taken_by : NumberOption → Text × List Row → Option Bool
-is_taken_by o p = if bytes_eq p.0 (codes "check") then is_taken o p.1 else Some true
+abbrev is_taken_by : Text → NumberOption → Text × List Row → Option Bool
+is_taken_by name o p = if bytes_eq p.0 name then is_taken o p.1 else Some true
 
 level_taken : (o : NumberOption) (s : Shape) (words : List Text)
     → list_all (takes_one o.id o.least o.most) s.rules ≡ true
@@ -61,21 +61,40 @@ level_taken o s words takes passed = go (first_of o.id (rows_after s.rules [] wo
         (rows_filled o.id o.least o.most s words takes passed) is in
         rw fits refl
 
-taken : (o : NumberOption) → list_all (takes_one o.id o.least o.most) (completed check_command).rules ≡ true
-    → (words : List Text) → faults words ≡ []
-    → is_some (option_and_then (is_taken_by o) (subcommand_of cec_app words)) ≡ true
-unfolding faults
-taken o takes words passed =
-    built_gives (built cec_app) (argument_words cec_app words) (is_taken_by o) refl
-    (λ ws none. level_taken o (completed check_command) ws takes none, (λ ws none. refl, (λ ws none. refl, tt))) passed
+-- where the values of the options of a command are in their ranges
+abbrev AreTaken : Text → NumberOption → Type 0
+AreTaken name o = (words : List Text) → faults words ≡ []
+    → is_some (option_and_then (is_taken_by name o) (subcommand_of cec_app words)) ≡ true
 
-pub in_range : (o : NumberOption) → list_all (takes_one o.id o.least o.most) (completed check_command).rules ≡ true
-    → IsInRange o
-in_range o takes words rows text none names given =
-    let some : is_some (is_taken_by o (codes "check", rows)) ≡ true = rw names at (taken o takes words none) in
-    let test : is_some (if is_unsigned_in o.least o.most text then Some true else None) ≡ true = rw given at some in
+check-taken : (o : NumberOption) → list_all (takes_one o.id o.least o.most) (completed check_command).rules ≡ true
+    → AreTaken (codes "check") o
+unfolding faults
+check-taken o takes words passed =
+    built_gives (built cec_app) (argument_words cec_app words) (is_taken_by (codes "check") o) refl
+    (λ ws none. level_taken o (completed check_command) ws takes none, (λ ws none. refl, (λ ws none. refl, (λ ws none. refl, tt)))) passed
+
+fraig-taken : (o : NumberOption) → list_all (takes_one o.id o.least o.most) (completed fraig_command).rules ≡ true
+    → AreTaken (codes "fraig") o
+unfolding faults
+fraig-taken o takes words passed =
+    built_gives (built cec_app) (argument_words cec_app words) (is_taken_by (codes "fraig") o) refl
+    (λ ws none. refl, (λ ws none. level_taken o (completed fraig_command) ws takes none, (λ ws none. refl, (λ ws none. refl, tt)))) passed
+
+in_range : (name : Text) (o : NumberOption) → AreTaken name o → bytes_eq name name ≡ true → IsInRange name o
+in_range name o taken same words rows text none names given =
+    let some : is_some (is_taken_by name o (name, rows)) ≡ true = rw names at (taken words none) in
+    let own : is_some (is_taken o rows) ≡ true = rw same at some in
+    let test : is_some (if is_unsigned_in o.least o.most text then Some true else None) ≡ true = rw given at own in
     go (is_unsigned_in o.least o.most text) test
   where
     go : (b : Bool) → is_some (cond b (Some true) None) ≡ true → b ≡ true
     go true some = refl
     go false some = cc
+
+pub in_range-check : (o : NumberOption) → list_all (takes_one o.id o.least o.most) (completed check_command).rules ≡ true
+    → IsInRange (codes "check") o
+in_range-check o takes = in_range (codes "check") o (check-taken o takes) refl
+
+pub in_range-fraig : (o : NumberOption) → list_all (takes_one o.id o.least o.most) (completed fraig_command).rules ≡ true
+    → IsInRange (codes "fraig") o
+in_range-fraig o takes = in_range (codes "fraig") o (fraig-taken o takes) refl

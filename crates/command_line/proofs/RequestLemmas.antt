@@ -12,7 +12,7 @@ use Rattle.clap.specs.ValueTests.{is_unsigned_in}
 use Rattle.clap.specs.Walk.{Held, Row, Rule, Text, answers_to, arg_by_id, finished, first_of, nothing_held, rows_after, settled, walk, walk_from}
 use Rattle.command_line.specs.Commands.{cec_app}
 use Rattle.workload_gen.specs.declared.workload.TheConstants.{MOST_BITS}
-use Rattle.command_line.specs.Words.{check_of, faults, lrat_of, number_in, outcome_in, matched, self_of}
+use Rattle.command_line.specs.Words.{check_of, faults, fraig_of, lrat_of, number_in, outcome_in, matched, self_of, written}
 use Rattle.command_line.proofs.FoundLemmas.{found_holds}
 use Rattle.command_line.proofs.LevelLemmas.{required_number, required_value}
 use Rattle.command_line.proofs.RowLemmas.{first_passed, second_passed, takes_one}
@@ -80,6 +80,12 @@ check_some (Some a) (Some b) pairing rows ha hb = refl
 check_some None b pairing rows ha hb = cc
 check_some (Some a) None pairing rows ha hb = cc
 
+fraig_some : (a reduced : Option Text) (rows : List Row) → is_some a ≡ true → is_some reduced ≡ true
+    → is_some (option_map written (fraig_of a reduced rows)) ≡ true
+fraig_some (Some a) (Some reduced) rows ha hr = refl
+fraig_some None reduced rows ha hr = cc
+fraig_some (Some a) None rows ha hr = cc
+
 lrat_some : (cnf proof : Option Text) → is_some cnf ≡ true → is_some proof ≡ true → is_some (lrat_of cnf proof) ≡ true
 lrat_some (Some cnf) (Some proof) hc hp = refl
 lrat_some None proof hc hp = cc
@@ -108,8 +114,17 @@ check_given s a b words takes a_is a_required a_id b_is b_required b_id passed =
     let value = named_value [] 0 0 s words takes passed in
     check_some _ _ (first_of (codes "match") (rows_after s.rules [] words)) _ (value (codes "a") a a_is a_required a_id) (value (codes "b") b b_is b_required b_id)
 
--- `lrat` gives two names
+-- `fraig` does
+fraig_given : (s : Shape) (a b : Rule) (words : List Text) → list_all (takes_one [] 0 0) s.rules ≡ true
+    → arg_by_id s.rules (codes "a") ≡ Some a → a.required ≡ true → a.id ≡ codes "a"
+    → arg_by_id s.rules (codes "reduced") ≡ Some b → b.required ≡ true → b.id ≡ codes "reduced"
+    → level_fault s [] nothing_held words false [] ≡ []
+    → is_some (outcome_in (codes "fraig") (rows_after s.rules [] words)) ≡ true
+fraig_given s a b words takes a_is a_required a_id b_is b_required b_id passed =
+    let value = named_value [] 0 0 s words takes passed in
+    fraig_some _ _ _ (value (codes "a") a a_is a_required a_id) (value (codes "reduced") b b_is b_required b_id)
 
+-- and `lrat`
 lrat_given : (s : Shape) (a b : Rule) (words : List Text) → list_all (takes_one [] 0 0) s.rules ≡ true
     → arg_by_id s.rules (codes "cnf") ≡ Some a → a.required ≡ true → a.id ≡ codes "cnf"
     → arg_by_id s.rules (codes "proof") ≡ Some b → b.required ≡ true → b.id ≡ codes "proof"
@@ -145,7 +160,10 @@ some_outcome words passed =
     built_gives (built cec_app) (argument_words cec_app words) (λ p. outcome_in p.0 p.1) refl (
       λ ws none. check_given _ _ _ ws refl refl refl refl refl refl refl none,
       (
-        λ ws none. lrat_given _ _ _ ws refl refl refl refl refl refl refl none,
-        (λ ws none. self_given _ _ _ ws refl refl refl refl refl refl refl none, tt),
+        λ ws none. fraig_given _ _ _ ws refl refl refl refl refl refl refl none,
+        (
+          λ ws none. lrat_given _ _ _ ws refl refl refl refl refl refl refl none,
+          (λ ws none. self_given _ _ _ ws refl refl refl refl refl refl refl none, tt),
+        ),
       ),
     ) passed

@@ -1,10 +1,11 @@
 -- What `read` answers to words.
 use Rattle.std.specs.Prelude.{◌≡◌, ℕ, true, List, ◌++◌, codes, option_map, string_bytes}
 use Rattle.clap.specs.Walk.{Text}
-use Rattle.command_line.specs.Words.{CheckCommand, LratCommand, SelfCommand, Request, CheckIt, LratIt, SelfIt, WantInfo, WantVersion, AreRefused, Misnamed, AskMisnamed, names_help}
+use Rattle.command_line.specs.Words.{CheckCommand, FraigCommand, LratCommand, SelfCommand, Request, CheckIt, FraigIt, LratIt, SelfIt, WantInfo, WantVersion, AreRefused, Misnamed, Misuse, Misnames, SavesOver, WritesOver, AskAmiss, names_help}
 use Rattle.command_line.specs.declared.asked.Asked.{Asked}
-use Rattle.command_line.specs.declared.asked.Asked.TheVariants.{Check, Lrat, SelfCheck}
+use Rattle.command_line.specs.declared.asked.Asked.TheVariants.{Check, Fraig, Lrat, SelfCheck}
 use Rattle.command_line.specs.declared.asked.CheckWords.{CheckWords}
+use Rattle.command_line.specs.declared.asked.FraigWords.{FraigWords}
 use Rattle.command_line.specs.declared.asked.LratWords.{LratWords}
 use Rattle.command_line.specs.declared.asked.SelfWords.{SelfWords}
 use Rattle.command_line.specs.declared.reading.Refusal.{Refusal}
@@ -16,12 +17,25 @@ check_texts c = record {
   b = c.b.now;
   edits = option_map (λ edits. edits.now) c.edits;
   out = option_map (λ out. out.now) c.out;
+  load = option_map (λ load. load.now) c.load;
+  save = option_map (λ save. save.now) c.save;
   workers = c.workers;
   seed = c.seed;
   words = c.words;
   sweep_budget = c.sweep_budget;
   budget = c.budget;
   by_name = c.by_name;
+}
+
+abbrev pub fraig_texts : FraigWords → FraigCommand
+fraig_texts c = record {
+  a = c.a.now;
+  reduced = c.reduced.now;
+  out = option_map (λ out. out.now) c.out;
+  workers = c.workers;
+  seed = c.seed;
+  words = c.words;
+  sweep_budget = c.sweep_budget;
 }
 
 abbrev pub lrat_texts : LratWords → LratCommand
@@ -33,6 +47,7 @@ self_texts s = record { kind = s.kind; n = s.n }
 -- the request in the texts that were handed out
 abbrev pub request : Asked → Request
 request (Check c) = CheckIt (check_texts c)
+request (Fraig c) = FraigIt (fraig_texts c)
 request (Lrat c) = LratIt (lrat_texts c)
 request (SelfCheck c) = SelfIt (self_texts c)
 
@@ -45,10 +60,24 @@ abbrev pub misnamed_text : Misnamed → List ℕ
 misnamed_text m = codes "error: invalid value '" ++ m.word ++ codes "' for '" ++ m.argument ++ codes "'\n  [possible values: "
     ++ m.names ++ codes "]\n\nFor more information, try '--help'.\n"
 
--- such a word, or the command `help`, is told of by its own text
+-- what is said where a file that is left would be saved over
+abbrev pub saves_over_text : List ℕ
+saves_over_text = codes "cec: --save names a file of --out\n"
+
+-- and where it would be written over by the reduced circuit
+abbrev pub writes_over_text : List ℕ
+writes_over_text = codes "cec: OUT is a file of --out\n"
+
+-- what is said of values that ask for nothing
+abbrev pub misuse_text : Misuse → List ℕ
+misuse_text (Misnames m) = misnamed_text m
+misuse_text SavesOver = saves_over_text
+misuse_text WritesOver = writes_over_text
+
+-- the command `help`, or why values ask for nothing, is told by its own text
 pub record Names (words : List Text) (text : List ℕ) : Type 0 where
   pub no_help : names_help words ≡ true → text ≡ no_help_text
-  pub misnamed : (m : Misnamed) → AskMisnamed words m → text ≡ misnamed_text m
+  pub amiss : (m : Misuse) → AskAmiss words m → text ≡ misuse_text m
 
 -- what is said to words that ask for the version
 abbrev pub version_text : List ℕ

@@ -51,13 +51,19 @@ budget_option = record { id = codes "budget"; least = 1; most = BUDGET_LIMIT }
 abbrev pub command : Text → List Rule → Shape
 command name rules = record (new_shape name) { rules = rules }
 
--- `cec check A B [--edits F] [--out PREFIX] [--workers N] [--seed N] [--words N] [--sweep-budget N] [--budget N]
--- [--match BY]`
+-- `cec check A B [--edits F] [--out PREFIX] [--load FILE] [--save FILE] [--workers N] [--seed N] [--words N]
+-- [--sweep-budget N] [--budget N] [--match BY]`
 abbrev pub check_command : Shape
 check_command = command (codes "check")
     (place (codes "a") ∷ place (codes "b") ∷ text_option (codes "edits") ∷ text_option (codes "out")
-    ∷ number_option workers_option ∷ number_option seed_option ∷ number_option words_option
+    ∷ text_option (codes "load") ∷ text_option (codes "save") ∷ number_option workers_option ∷ number_option seed_option ∷ number_option words_option
     ∷ number_option sweep_budget_option ∷ number_option budget_option ∷ text_option (codes "match") ∷ [])
+
+-- `cec fraig A OUT [--out PREFIX] [--workers N] [--seed N] [--words N] [--sweep-budget N]`
+abbrev pub fraig_command : Shape
+fraig_command = command (codes "fraig")
+    (place (codes "a") ∷ place (codes "reduced") ∷ text_option (codes "out") ∷ number_option workers_option
+    ∷ number_option seed_option ∷ number_option words_option ∷ number_option sweep_budget_option ∷ [])
 
 -- `cec lrat CNF PROOF`
 abbrev pub lrat_command : Shape
@@ -80,4 +86,4 @@ program commands = record {
 }
 
 abbrev pub cec_app : App
-cec_app = program (check_command ∷ lrat_command ∷ self_command ∷ [])
+cec_app = program (check_command ∷ fraig_command ∷ lrat_command ∷ self_command ∷ [])

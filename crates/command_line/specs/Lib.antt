@@ -1,5 +1,6 @@
 pub mod Commands
 pub mod Table
+pub mod Saved
 pub mod Words
 pub mod Answers
 pub mod Parsing

@@ -4,10 +4,12 @@ use Rattle.clap.specs.Simple.{subcommand_rows_of}
 use Rattle.clap.specs.declared.error.kind.ErrorKind.{ErrorKind}
 use Rattle.clap.specs.declared.error.kind.ErrorKind.TheVariants.{DisplayHelp, DisplayVersion, OutOfMemory}
 use Rattle.clap.specs.declared.parser.matches.ArgMatches.{ArgMatches}
-use Rattle.command_line.specs.Answers.{misnamed_text, no_help_text, request, version_text}
-use Rattle.command_line.specs.Words.{Misnamed, Misnames, Outcome, Requested, is_info, outcome_in}
+use Rattle.command_line.specs.Answers.{misuse_text, no_help_text, request, version_text}
+use Rattle.command_line.specs.Words.{Misnamed as Word, Misuse, Misnames, SavesOver, WritesOver, Misuses, Outcome, Requested, is_info, outcome_in}
 use Rattle.command_line.specs.declared.asked.Asked.{Asked}
 use Rattle.command_line.specs.declared.asked.MisnamedWord.{MisnamedWord}
+use Rattle.command_line.specs.declared.asked.Unfit.{Unfit}
+use Rattle.command_line.specs.declared.asked.Unfit.TheVariants.{Misnamed, SavesOver as Over, WritesOver as Written}
 use Rattle.command_line.specs.declared.reading.Refusal.{Refusal}
 use Rattle.command_line.specs.declared.reading.Refusal.TheVariants.{Help, Usage, NoMemory}
 
@@ -17,15 +19,15 @@ RefusesHelp (Help text) = ⊥
 RefusesHelp (Usage text) = string_bytes text ≡ no_help_text
 RefusesHelp NoMemory = Unit {0}
 
--- the refusal of a word that is none of the names that its argument takes
-abbrev pub RefusesMisnamed : Misnamed → Refusal → Type 0
-RefusesMisnamed misnamed (Help text) = ⊥
-RefusesMisnamed misnamed (Usage text) = string_bytes text ≡ misnamed_text misnamed
-RefusesMisnamed misnamed NoMemory = Unit {0}
+-- the refusal of values that ask for nothing
+abbrev pub RefusesMisuse : Misuse → Refusal → Type 0
+RefusesMisuse misuse (Help text) = ⊥
+RefusesMisuse misuse (Usage text) = string_bytes text ≡ misuse_text misuse
+RefusesMisuse misuse NoMemory = Unit {0}
 
--- the refusal of what matches come to: only such a word is refused
+-- the refusal of what matches come to: only such values are refused
 abbrev pub RefusesFound : Option Outcome → Refusal → Type 0
-RefusesFound (Some (Misnames misnamed)) refusal = RefusesMisnamed misnamed refusal
+RefusesFound (Some (Misuses misuse)) refusal = RefusesMisuse misuse refusal
 RefusesFound (Some (Requested request)) refusal = ⊥
 RefusesFound None refusal = ⊥
 
@@ -47,10 +49,16 @@ abbrev pub found : ArgMatches → Option Outcome
 found m = option_and_then (λ p. outcome_in p.0 p.1) (subcommand_rows_of m)
 
 -- the texts of a word that is no name
-abbrev pub misnamed_texts : MisnamedWord → Misnamed
+abbrev pub misnamed_texts : MisnamedWord → Word
 misnamed_texts m = record { argument = m.argument.now; names = m.names.now; word = m.word.now }
 
--- what was made of them: a request, or such a word
-abbrev pub outcome : Result Asked MisnamedWord → Outcome
+-- why values ask for nothing, in the texts that were handed out
+abbrev pub misuse : Unfit → Misuse
+misuse (Misnamed word) = Misnames (misnamed_texts word)
+misuse Over = SavesOver
+misuse Written = WritesOver
+
+-- what was made of them: a request, or such values
+abbrev pub outcome : Result Asked Unfit → Outcome
 outcome (Ok asked) = Requested (request asked)
-outcome (Err misnamed) = Misnames (misnamed_texts misnamed)
+outcome (Err unfit) = Misuses (misuse unfit)

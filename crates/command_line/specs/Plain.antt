@@ -7,7 +7,7 @@ use Rattle.clap.specs.Simple.{subcommand_of}
 use Rattle.clap.specs.ValueTests.{is_unsigned_in}
 use Rattle.clap.specs.Walk.{Row, first_of}
 use Rattle.command_line.specs.Commands.{NumberOption, cec_app}
-use Rattle.command_line.specs.Words.{Asks, CheckCommand, CheckIt, faults, plain_check}
+use Rattle.command_line.specs.Words.{Asks, CheckCommand, CheckIt, FraigCommand, FraigIt, faults, plain_check, plain_fraig}
 use Rattle.workload_gen.specs.declared.kind.Kind.{Kind}
 use Rattle.workload_gen.specs.declared.kind.Kind.TheVariants.{Adder, Parity, Comparator}
 
@@ -45,11 +45,19 @@ abbrev pub SetsName : List ℕ → List ℕ → (CheckCommand → CheckCommand) 
 SetsName flag name set = (a b : List ℕ) → IsPlain a → IsPlain b
     → AskCheck (codes "check" ∷ a ∷ b ∷ flag ∷ name ∷ []) (set (plain_check a b))
 
--- what is given for an option of a check is a number in its range, where the words have no fault: its default stands only
+-- the same of a reduced circuit
+abbrev pub AskFraig : List (List ℕ) → FraigCommand → Type 0
+AskFraig words command = (program : List ℕ) → Asks (program ∷ words) (FraigIt command)
+
+abbrev pub SetsFraigNumber : List ℕ → ℕ → ℕ → (FraigCommand → ℕ → FraigCommand) → Type 0
+SetsFraigNumber flag least most set = (a reduced word : List ℕ) (n : ℕ) → IsPlain a → IsPlain reduced → Writes least most word n
+    → AskFraig (codes "fraig" ∷ a ∷ reduced ∷ flag ∷ word ∷ []) (set (plain_fraig a reduced) n)
+
+-- what is given for an option of this command is a number in its range, where the words have no fault: its default stands only
 -- where it is left out
-abbrev pub IsInRange : NumberOption → Type 0
-IsInRange o = (words : List (List ℕ)) (rows : List Row) (text : List ℕ) → faults words ≡ []
-    → subcommand_of cec_app words ≡ Some (codes "check", rows) → first_of o.id rows ≡ Some text
+abbrev pub IsInRange : List ℕ → NumberOption → Type 0
+IsInRange name o = (words : List (List ℕ)) (rows : List Row) (text : List ℕ) → faults words ≡ []
+    → subcommand_of cec_app words ≡ Some (name, rows) → first_of o.id rows ≡ Some text
     → is_unsigned_in o.least o.most text ≡ true
 
 -- the name of a kind of workload

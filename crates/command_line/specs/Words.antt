@@ -11,13 +11,15 @@ use Rattle.clap.specs.ValueTests.{is_unsigned_in}
 use Rattle.clap.specs.Walk.{Row, Text, first_of, is_empty}
 use Rattle.clap.specs.declared.error.kind.ErrorKind.{ErrorKind}
 use Rattle.clap.specs.declared.error.kind.ErrorKind.TheVariants.{DisplayHelp, DisplayVersion}
+use Rattle.command_line.specs.Saved.{saves_over, writes_over}
 use Rattle.command_line.specs.Commands.{NumberOption, budget_option, cec_app, seed_option, sweep_budget_option, words_option, workers_option}
 use Rattle.workload_gen.specs.declared.kind.Kind.{Kind}
 use Rattle.workload_gen.specs.declared.kind.Kind.TheVariants.{Adder, Parity, Comparator}
 use Rattle.workload_gen.specs.declared.workload.TheConstants.{MOST_BITS}
 
 -- `check A B`: the names of the two circuits' files and of an edit script's, if there is one, what the names of the written
--- files begin with, if any are to be written, how many workers settle pairs and outputs, from which seed how many words of 64
+-- files begin with, if any are to be written, the names of the files from which lemmas are loaded and to which they are saved,
+-- if there are such, how many workers settle pairs and outputs, from which seed how many words of 64
 -- patterns are drawn, and how many clauses a solver may learn for a pair of nodes and for an output, and whether inputs and
 -- outputs are paired by their names, and not by their positions
 pub record CheckCommand : Type 0 where
@@ -25,12 +27,26 @@ pub record CheckCommand : Type 0 where
   pub b : List ℕ
   pub edits : Option (List ℕ)
   pub out : Option (List ℕ)
+  pub load : Option (List ℕ)
+  pub save : Option (List ℕ)
   pub workers : ℕ
   pub seed : ℕ
   pub words : ℕ
   pub sweep_budget : ℕ
   pub budget : ℕ
   pub by_name : Bool
+
+-- `fraig A OUT`: the names of the files of the circuit and of the reduced one, what the names of the other written files begin
+-- with, if any are to be written, how many workers settle pairs, from which seed how many words of 64 patterns are drawn, and
+-- how many clauses a solver may learn for a pair of nodes
+pub record FraigCommand : Type 0 where
+  pub a : List ℕ
+  pub reduced : List ℕ
+  pub out : Option (List ℕ)
+  pub workers : ℕ
+  pub seed : ℕ
+  pub words : ℕ
+  pub sweep_budget : ℕ
 
 -- `lrat CNF PROOF`: the names of the files of a formula and of its proof
 pub record LratCommand : Type 0 where
@@ -45,6 +61,7 @@ pub record SelfCommand : Type 0 where
 -- what the program is asked to do
 pub data Request : Type 0 where
   CheckIt : CheckCommand → Request
+  FraigIt : FraigCommand → Request
   LratIt : LratCommand → Request
   SelfIt : SelfCommand → Request
 
@@ -55,11 +72,17 @@ pub record Misnamed : Type 0 where
   pub names : Text
   pub word : Text
 
--- what the values of arguments come to: what the program is asked to do, or a word that is none of the names that its argument
--- takes
+-- why the values of arguments ask for nothing, each of which may be given: a word is none of the names that its argument takes,
+-- or the file of `--save` is one of those of `--out`, or that of the reduced circuit is
+pub data Misuse : Type 0 where
+  Misnames : Misnamed → Misuse
+  SavesOver : Misuse
+  WritesOver : Misuse
+
+-- what the values of arguments come to: what the program is asked to do, or why it is asked for nothing
 pub data Outcome : Type 0 where
   Requested : Request → Outcome
-  Misnames : Misnamed → Outcome
+  Misuses : Misuse → Outcome
 
 -- the number that a text spells, if it is in a range: decimal digits, which zeros and one + may precede
 abbrev pub number_in : ℕ → ℕ → Text → Option ℕ
@@ -84,7 +107,7 @@ misnamed_kind word = record { argument = codes "<KIND>"; names = codes "adder, p
 -- a workload of the kind that the word names, if it names one
 abbrev pub workload_of : Option Kind → Text → ℕ → Outcome
 workload_of (Some kind) word n = Requested (SelfIt (record { kind = kind; n = n }))
-workload_of None word n = Misnames (misnamed_kind word)
+workload_of None word n = Misuses (Misnames (misnamed_kind word))
 
 abbrev pub self_of : Option Text → Option ℕ → Option Outcome
 self_of (Some word) (Some n) = Some (workload_of (kind_named word) word n)
@@ -101,6 +124,8 @@ plain_check a b = record {
   b = b;
   edits = None;
   out = None;
+  load = None;
+  save = None;
   workers = 4;
   seed = 1;
   words = 4;
@@ -118,12 +143,48 @@ abbrev pub with_options : List Row → CheckCommand → CheckCommand
 with_options rows c = record c {
   edits = first_of (codes "edits") rows;
   out = first_of (codes "out") rows;
+  load = first_of (codes "load") rows;
+  save = first_of (codes "save") rows;
   workers = number_or c.workers workers_option rows;
   seed = number_or c.seed seed_option rows;
   words = number_or c.words words_option rows;
   sweep_budget = number_or c.sweep_budget sweep_budget_option rows;
   budget = number_or c.budget budget_option rows;
 }
+
+-- the reduced circuit without an option: the default of each
+abbrev pub plain_fraig : Text → Text → FraigCommand
+plain_fraig a reduced = record {
+  a = a;
+  reduced = reduced;
+  out = None;
+  workers = 4;
+  seed = 1;
+  words = 4;
+  sweep_budget = 100;
+}
+
+-- the same with the numbers and the text of the options that are given, each of which sets a field of its own
+abbrev pub with_fraig_options : List Row → FraigCommand → FraigCommand
+with_fraig_options rows c = record c {
+  out = first_of (codes "out") rows;
+  workers = number_or c.workers workers_option rows;
+  seed = number_or c.seed seed_option rows;
+  words = number_or c.words words_option rows;
+  sweep_budget = number_or c.sweep_budget sweep_budget_option rows;
+}
+
+-- the reduced circuit, unless it would be written over a file that is left beside it
+abbrev pub written : FraigCommand → Outcome
+written c = if writes_over c.out c.reduced then Misuses WritesOver else Requested (FraigIt c)
+
+abbrev pub fraig_of : Option Text → Option Text → List Row → Option FraigCommand
+fraig_of (Some a) (Some reduced) rows = Some (with_fraig_options rows (plain_fraig a reduced))
+fraig_of a reduced rows = None
+
+-- the reduced circuit of a file, by all options
+abbrev pub fraig_given : List Row → Option FraigCommand
+fraig_given rows = fraig_of (first_of (codes "a") rows) (first_of (codes "reduced") rows) rows
 
 -- whether a text names the pairing by names, if it names one
 abbrev pub pairing_named : Text → Option Bool
@@ -133,15 +194,19 @@ pairing_named text =
 abbrev pub misnamed_pairing : Text → Misnamed
 misnamed_pairing word = record { argument = codes "--match <BY>"; names = codes "position, names"; word = word }
 
+-- the check, unless it would save over a file that it leaves
+abbrev pub saved : CheckCommand → Outcome
+saved c = if saves_over c.out c.save then Misuses SavesOver else Requested (CheckIt c)
+
 -- the check by the pairing that the word names, if it names one
 abbrev pub matched_by : Option Bool → Text → CheckCommand → Outcome
-matched_by (Some by_name) word c = Requested (CheckIt (record c { by_name = by_name }))
-matched_by None word c = Misnames (misnamed_pairing word)
+matched_by (Some by_name) word c = saved (record c { by_name = by_name })
+matched_by None word c = Misuses (Misnames (misnamed_pairing word))
 
 -- and as it is where no word is given
 abbrev pub matched : Option Text → CheckCommand → Outcome
 matched (Some word) c = matched_by (pairing_named word) word c
-matched None c = Requested (CheckIt c)
+matched None c = saved c
 
 abbrev pub check_of : Option Text → Option Text → List Row → Option CheckCommand
 check_of (Some a) (Some b) rows = Some (with_options rows (plain_check a b))
@@ -155,6 +220,9 @@ check_given rows = check_of (first_of (codes "a") rows) (first_of (codes "b") ro
 abbrev pub check_in : List Row → Option Outcome
 check_in rows = option_map (matched (first_of (codes "match") rows)) (check_given rows)
 
+abbrev pub fraig_in : List Row → Option Outcome
+fraig_in rows = option_map written (fraig_given rows)
+
 abbrev pub lrat_in : List Row → Option Outcome
 lrat_in rows = lrat_of (first_of (codes "cnf") rows) (first_of (codes "proof") rows)
 
@@ -165,6 +233,7 @@ self_in rows = self_of (first_of (codes "kind") rows) (number_of (codes "n") 1 M
 abbrev pub outcome_in : Text → List Row → Option Outcome
 outcome_in name rows =
     if bytes_eq name (codes "check") then check_in rows
+    else if bytes_eq name (codes "fraig") then fraig_in rows
     else if bytes_eq name (codes "lrat") then lrat_in rows
     else if bytes_eq name (codes "self") then self_in rows
     else None
@@ -205,13 +274,14 @@ WantVersion words = (names_help words ≡ false) × (faults words ≡ DisplayVer
 abbrev pub WantInfo : List Text → Type 0
 WantInfo words = WantHelp words ⊎ WantVersion words
 
--- the words ask for a workload or a check, but one of them is none of the names that its argument takes
-abbrev pub AskMisnamed : List Text → Misnamed → Type 0
-AskMisnamed words misnamed = outcome_of words ≡ Some (Misnames misnamed)
+-- the words name a command, but for this cause the values of its arguments ask for nothing
+abbrev pub AskAmiss : List Text → Misuse → Type 0
+AskAmiss words misuse = outcome_of words ≡ Some (Misuses misuse)
 
 -- the words ask neither for help or the version nor for what the program does: they name the command `help`, or have another
--- fault than that they ask for help or the version, or name no kind of workload or no pairing
+-- fault than that they ask for help or the version, or name no kind of workload or no pairing, or would save or write over a
+-- file that is left
 abbrev pub AreRefused : List Text → Type 0
 AreRefused words = (names_help words ≡ true)
     ⊎ ((is_empty (faults words) ≡ false) × (list_any is_info (faults words) ≡ false))
-    ⊎ ((misnamed : Misnamed) × AskMisnamed words misnamed)
+    ⊎ ((misuse : Misuse) × AskAmiss words misuse)

@@ -24,6 +24,10 @@ pub struct CheckWords<'a> {
     pub edits: Option<&'a str>,
     /// What the names of the written files begin with, if any are to be written.
     pub out: Option<&'a str>,
+    /// The name of the file from which lemmas are loaded, if there is one.
+    pub load: Option<&'a str>,
+    /// The name of the file to which the lemmas of the last check are saved, if they are to be.
+    pub save: Option<&'a str>,
     /// How many workers settle pairs of nodes and outputs.
     pub workers: u64,
     /// What the patterns are drawn from.
@@ -44,6 +48,31 @@ pub struct CheckWords<'a> {
     pub ghost most_sweep_budget: { sweep_budget ≤ BUDGET_LIMIT },
     pub ghost least: { 1 ≤ budget },
     pub ghost most: { budget ≤ BUDGET_LIMIT },
+}
+
+/// What `fraig` was given.
+#[derive(Clone, Copy)]
+pub struct FraigWords<'a> {
+    /// The name of the circuit's file.
+    pub a: &'a str,
+    /// The name of the file to which the reduced circuit is written.
+    pub reduced: &'a str,
+    /// What the names of the other written files begin with, if any are to be written.
+    pub out: Option<&'a str>,
+    /// How many workers settle pairs of nodes.
+    pub workers: u64,
+    /// What the patterns are drawn from.
+    pub seed: u64,
+    /// How many words of 64 patterns are drawn for each input.
+    pub words: u64,
+    /// How many clauses a solver may learn for a pair of nodes.
+    pub sweep_budget: u64,
+    pub ghost least_workers: { 1 ≤ workers },
+    pub ghost most_workers: { workers ≤ WORKERS_LIMIT },
+    pub ghost least_words: { 1 ≤ words },
+    pub ghost most_words: { words ≤ WORDS_LIMIT },
+    pub ghost least_sweep_budget: { 1 ≤ sweep_budget },
+    pub ghost most_sweep_budget: { sweep_budget ≤ BUDGET_LIMIT },
 }
 
 /// What `lrat` was given.
@@ -77,11 +106,24 @@ pub(crate) struct MisnamedWord<'a> {
     pub(crate) word: &'a str,
 }
 
+/// Why the values of arguments ask for nothing, each of which may be given.
+#[derive(Clone, Copy)]
+pub(crate) enum Unfit<'a> {
+    /// One is none of the names that its argument takes.
+    Misnamed(MisnamedWord<'a>),
+    /// The file of `--save` is one of those of `--out`.
+    SavesOver,
+    /// That of the reduced circuit is.
+    WritesOver,
+}
+
 /// What the words ask for.
 #[derive(Clone, Copy)]
 pub enum Asked<'a> {
     /// To decide whether two circuits agree.
     Check(CheckWords<'a>),
+    /// To reduce a circuit.
+    Fraig(FraigWords<'a>),
     /// To check a proof.
     Lrat(LratWords<'a>),
     /// To decide whether two circuits agree that the program makes.

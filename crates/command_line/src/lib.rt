@@ -13,9 +13,11 @@
 #![tactic(auto)]
 
 pub use asked::{
-    Asked, BUDGET_LIMIT, CheckWords, LratWords, SelfWords, WORDS_LIMIT, WORKERS_LIMIT,
+    Asked, BUDGET_LIMIT, CheckWords, FraigWords, LratWords, SelfWords, WORDS_LIMIT, WORKERS_LIMIT,
 };
-pub use laws::{given_numbers, plain_words, words_are_one_of};
+pub use laws::{
+    given_numbers, left_names, plain_words, reduced_is_apart, saved_is_apart, words_are_one_of,
+};
 pub use reading::{Refusal, read};
 
 mod asked;
@@ -23,4 +25,5 @@ mod command;
 mod laws;
 mod matches;
 mod reading;
+mod saved;
 mod table;

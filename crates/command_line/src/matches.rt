@@ -1,18 +1,19 @@
 ghost use Rattle.std.specs.Prelude.{◌≡◌, ◌≤◌, IfSome, Some, true, is_some, unwrap_or};
 ghost use Rattle.clap.specs.Words.{first_of, found_of, rows_of};
-ghost use Rattle.command_line.specs.Words.{LratIt, Requested, check_given, check_in, kind_named, lrat_in, misnamed_kind, misnamed_pairing, number_in, number_of, outcome_in, matched, pairing_named, plain_check, self_in};
-ghost use Rattle.command_line.specs.Answers.{check_texts, lrat_texts};
+ghost use Rattle.command_line.specs.Words.{LratIt, Requested, check_given, check_in, fraig_given, fraig_in, kind_named, lrat_in, misnamed_kind, misnamed_pairing, number_in, number_of, outcome_in, matched, pairing_named, plain_check, plain_fraig, saved, self_in};
+ghost use Rattle.command_line.specs.Answers.{check_texts, fraig_texts, lrat_texts};
 ghost use Rattle.command_line.specs.Parsing.{found, misnamed_texts, outcome};
 
 use crate::asked::{
-    Asked, BUDGET_LIMIT, CheckWords, LratWords, MisnamedWord, SelfWords, WORDS_LIMIT, WORKERS_LIMIT,
+    Asked, BUDGET_LIMIT, CheckWords, FraigWords, LratWords, MisnamedWord, SelfWords, Unfit,
+    WORDS_LIMIT, WORKERS_LIMIT,
 };
+use crate::saved::{saves_over, writes_over};
 use clap::ArgMatches;
 use workload_gen::{Kind, MOST_BITS};
 
-/// What the matches of the program's command ask for, or the word in them that is none of the names that its
-/// argument takes.
-pub(crate) fn asked_in<'a>(matches: &ArgMatches<'a>) -> Result<Asked<'a>, MisnamedWord<'a>>
+/// What the matches of the program's command ask for, or why their values ask for nothing.
+pub(crate) fn asked_in<'a>(matches: &ArgMatches<'a>) -> Result<Asked<'a>, Unfit<'a>>
     requires { is_some (found matches.now) ≡ true }
     ensures { found matches.now ≡ Some (outcome result) }
 {
@@ -23,12 +24,15 @@ pub(crate) fn asked_in<'a>(matches: &ArgMatches<'a>) -> Result<Asked<'a>, Misnam
 }
 
 /// What the matches of the command of this name ask for.
-fn asked_by<'a>(name: &str, matches: &ArgMatches<'a>) -> Result<Asked<'a>, MisnamedWord<'a>>
+fn asked_by<'a>(name: &str, matches: &ArgMatches<'a>) -> Result<Asked<'a>, Unfit<'a>>
     requires { is_some (outcome_in name.now (rows_of (found_of matches.now))) ≡ true }
     ensures { outcome_in name.now (rows_of (found_of matches.now)) ≡ Some (outcome result) }
 {
     if name == "check" {
         return check_in(matches);
+    }
+    if name == "fraig" {
+        return fraig_in(matches);
     }
     if name == "lrat" {
         return Ok(Asked::Lrat(lrat_words(matches)));
@@ -49,6 +53,8 @@ impl<'a> CheckWords<'a> {
             b,
             edits: None,
             out: None,
+            load: None,
+            save: None,
             workers: 4,
             seed: 1,
             words: 4,
@@ -59,36 +65,49 @@ impl<'a> CheckWords<'a> {
     }
 }
 
-/// The check, or the word that should name its pairing and doesn't.
-fn check_in<'a>(matches: &ArgMatches<'a>) -> Result<Asked<'a>, MisnamedWord<'a>>
+/// The check, or why its values ask for none: first, that the word that should name its pairing doesn't.
+fn check_in<'a>(matches: &ArgMatches<'a>) -> Result<Asked<'a>, Unfit<'a>>
     requires { is_some (check_in (rows_of (found_of matches.now))) ≡ true }
     ensures { check_in (rows_of (found_of matches.now)) ≡ Some (outcome result) }
 {
     let check = check_words(matches);
     match matches.get_str("match") {
         Some(word) => matched(check, word),
-        None => Ok(Asked::Check(check)),
+        None => saved(check),
     }
 }
 
 /// The check by the pairing that the word names.
-fn matched<'a>(check: CheckWords<'a>, word: &'a str) -> Result<Asked<'a>, MisnamedWord<'a>>
+fn matched<'a>(check: CheckWords<'a>, word: &'a str) -> Result<Asked<'a>, Unfit<'a>>
     ensures { outcome result ≡ matched (Some word.now) (check_texts check.entry) }
 {
     match pairing_named(word) {
-        Some(by_name) => Ok(Asked::Check(CheckWords {
+        Some(by_name) => saved(CheckWords {
             a: check.a,
             b: check.b,
             edits: check.edits,
             out: check.out,
+            load: check.load,
+            save: check.save,
             workers: check.workers,
             seed: check.seed,
             words: check.words,
             sweep_budget: check.sweep_budget,
             budget: check.budget,
             by_name,
-        })),
-        None => Err(misnamed_pairing(word)),
+        }),
+        None => Err(Unfit::Misnamed(misnamed_pairing(word))),
+    }
+}
+
+/// The check, unless it would save over a file that it leaves.
+fn saved<'a>(check: CheckWords<'a>) -> Result<Asked<'a>, Unfit<'a>>
+    ensures { outcome result ≡ saved (check_texts check.entry) }
+{
+    if saves_over(check.out, check.save) {
+        Err(Unfit::SavesOver)
+    } else {
+        Ok(Asked::Check(check))
     }
 }
 
@@ -125,12 +144,62 @@ fn check_words<'a>(matches: &ArgMatches<'a>) -> CheckWords<'a>
         b: plain.b,
         edits: matches.get_str("edits"),
         out: matches.get_str("out"),
+        load: matches.get_str("load"),
+        save: matches.get_str("save"),
         workers: number_or(matches, "workers", 1, WORKERS_LIMIT, plain.workers),
         seed: number_or(matches, "seed", 0, u64::MAX, plain.seed),
         words: number_or(matches, "words", 1, WORDS_LIMIT, plain.words),
         sweep_budget: number_or(matches, "sweep-budget", 1, BUDGET_LIMIT, plain.sweep_budget),
         budget: number_or(matches, "budget", 1, BUDGET_LIMIT, plain.budget),
         by_name: plain.by_name,
+    }
+}
+
+impl<'a> FraigWords<'a> {
+    /// The reduced circuit without an option: the default of each.
+    pub fn plain(a: &'a str, reduced: &'a str) -> FraigWords<'a>
+        ensures { fraig_texts result ≡ plain_fraig a.now reduced.now }
+    {
+        FraigWords {
+            a,
+            reduced,
+            out: None,
+            workers: 4,
+            seed: 1,
+            words: 4,
+            sweep_budget: 100,
+        }
+    }
+}
+
+/// The reduced circuit, unless it would be written over a file that is left beside it.
+fn fraig_in<'a>(matches: &ArgMatches<'a>) -> Result<Asked<'a>, Unfit<'a>>
+    requires { is_some (fraig_in (rows_of (found_of matches.now))) ≡ true }
+    ensures { fraig_in (rows_of (found_of matches.now)) ≡ Some (outcome result) }
+{
+    let fraig = fraig_words(matches);
+    if writes_over(fraig.out, fraig.reduced) {
+        Err(Unfit::WritesOver)
+    } else {
+        Ok(Asked::Fraig(fraig))
+    }
+}
+
+/// The words of a reduced circuit, by the names that the table has for them. An option that is left out has its
+/// default.
+fn fraig_words<'a>(matches: &ArgMatches<'a>) -> FraigWords<'a>
+    requires { is_some (fraig_given (rows_of (found_of matches.now))) ≡ true }
+    ensures { fraig_given (rows_of (found_of matches.now)) ≡ Some (fraig_texts result) }
+{
+    let plain = FraigWords::plain(text(matches, "a"), text(matches, "reduced"));
+    FraigWords {
+        a: plain.a,
+        reduced: plain.reduced,
+        out: matches.get_str("out"),
+        workers: number_or(matches, "workers", 1, WORKERS_LIMIT, plain.workers),
+        seed: number_or(matches, "seed", 0, u64::MAX, plain.seed),
+        words: number_or(matches, "words", 1, WORDS_LIMIT, plain.words),
+        sweep_budget: number_or(matches, "sweep-budget", 1, BUDGET_LIMIT, plain.sweep_budget),
     }
 }
 
@@ -146,7 +215,7 @@ fn lrat_words<'a>(matches: &ArgMatches<'a>) -> LratWords<'a>
 }
 
 /// The workload, or the word that should name its kind and doesn't.
-fn self_in<'a>(matches: &ArgMatches<'a>) -> Result<Asked<'a>, MisnamedWord<'a>>
+fn self_in<'a>(matches: &ArgMatches<'a>) -> Result<Asked<'a>, Unfit<'a>>
     requires { is_some (self_in (rows_of (found_of matches.now))) ≡ true }
     ensures { self_in (rows_of (found_of matches.now)) ≡ Some (outcome result) }
 {
@@ -154,7 +223,7 @@ fn self_in<'a>(matches: &ArgMatches<'a>) -> Result<Asked<'a>, MisnamedWord<'a>>
     let n = number(matches, "n", 1, MOST_BITS as u64);
     match kind_named(word) {
         Some(kind) => Ok(Asked::SelfCheck(SelfWords { kind, n: n as u32 })),
-        None => Err(misnamed_kind(word)),
+        None => Err(Unfit::Misnamed(misnamed_kind(word))),
     }
 }
 

@@ -2,10 +2,10 @@ ghost use Rattle.std.specs.Prelude.{◌≡◌, IfOk, IfErr, Some, is_some, map, 
 ghost use Rattle.clap.specs.Words.{FailsBy, HasMatchesOf, kind_of};
 ghost use Rattle.command_line.specs.Commands.{cec_app};
 ghost use Rattle.command_line.specs.Words.{Asks, Requested, faults, names_help};
-ghost use Rattle.command_line.specs.Answers.{misnamed_text, request, version_text, MayRefuse};
-ghost use Rattle.command_line.specs.Parsing.{RefusesFound, RefusesHelp, RefusesMisnamed, TellsVersion, IsRefusal, found, misnamed_texts};
+ghost use Rattle.command_line.specs.Answers.{misnamed_text, misuse_text, request, version_text, MayRefuse};
+ghost use Rattle.command_line.specs.Parsing.{RefusesFound, RefusesHelp, RefusesMisuse, TellsVersion, IsRefusal, found, misnamed_texts, misuse};
 
-use crate::asked::{Asked, MisnamedWord};
+use crate::asked::{Asked, MisnamedWord, Unfit};
 use crate::command::cec_command;
 use crate::matches::asked_in;
 use crate::table::VERSION;
@@ -59,7 +59,7 @@ fn no_command_help(alloc: Global) -> Refusal
     }
 }
 
-/// What the matches ask for. A word that is none of the names that its argument takes is refused here.
+/// What the matches ask for. Values that ask for nothing, each of which may be given, are refused here.
 fn answer_to<'a>(alloc: Global, matches: &ArgMatches<'a>) -> Result<Asked<'a>, Refusal>
     requires { is_some (found matches.now) ≡ true }
     ensures asked { IfOk result (λ asked. found matches.now ≡ Some (Requested (request asked))) }
@@ -67,22 +67,34 @@ fn answer_to<'a>(alloc: Global, matches: &ArgMatches<'a>) -> Result<Asked<'a>, R
 {
     match asked_in(matches) {
         Ok(asked) => Ok(asked),
-        Err(word) => Err(misnamed(alloc, &word)),
+        Err(unfit) => Err(refused(alloc, &unfit)),
     }
 }
 
-/// The refusal of such a word. `clap` could refuse it, by the list of names of the argument; but its
-/// definitions see such a list as a place in memory, of which no definition can speak.
-fn misnamed(alloc: Global, word: &MisnamedWord<'_>) -> Refusal
-    ensures { RefusesMisnamed (misnamed_texts word.now) result }
+/// The refusal of such values.
+fn refused(alloc: Global, unfit: &Unfit<'_>) -> Refusal
+    ensures { RefusesMisuse (misuse unfit.now) result }
 {
-    match misnamed_text(alloc, word) {
+    match unfit_text(alloc, unfit) {
         Ok(text) => Refusal::Usage(text),
         Err(_) => Refusal::NoMemory,
     }
 }
 
-/// The text of it, as `clap` says this of a value that isn't among the names of its argument.
+/// The text of it.
+fn unfit_text(alloc: Global, unfit: &Unfit<'_>) -> Result<String, AllocError>
+    ensures { IfOk result (λ s. string_bytes s ≡ misuse_text (misuse unfit.now)) }
+{
+    match unfit {
+        Unfit::Misnamed(word) => misnamed_text(alloc, word),
+        Unfit::SavesOver => String::from_str(alloc, "cec: --save names a file of --out\n"),
+        Unfit::WritesOver => String::from_str(alloc, "cec: OUT is a file of --out\n"),
+    }
+}
+
+/// The text of a word that is none of the names that its argument takes, as `clap` says it. `clap` could refuse
+/// the word, by the list of names of the argument; but its definitions see such a list as a place in memory, of
+/// which no definition can speak.
 fn misnamed_text(alloc: Global, misnamed: &MisnamedWord<'_>) -> Result<String, AllocError>
     ensures { IfOk result (λ s. string_bytes s ≡ misnamed_text (misnamed_texts misnamed.now)) }
 {

@@ -48,7 +48,7 @@ pub(crate) const VERSION: &str = "0.2.0";
 pub(crate) const PROGRAM_HELP: &str =
     "Decide whether circuits compute the same, and leave a proof that others can check";
 
-pub(crate) static COMMANDS: [CommandRow; 3] = [
+pub(crate) static COMMANDS: [CommandRow; 4] = [
     CommandRow {
         name: "check",
         help: "Decide whether two circuits compute the same outputs",
@@ -77,6 +77,18 @@ pub(crate) static COMMANDS: [CommandRow; 3] = [
                 value_name: "PREFIX",
                 takes: Takes::Text,
                 help: "Leave the question and its proof in files whose names begin with PREFIX",
+            },
+            ArgumentRow {
+                name: "load",
+                value_name: "FILE",
+                takes: Takes::Text,
+                help: "Begin with those lemmas in FILE that hold, as --save leaves them",
+            },
+            ArgumentRow {
+                name: "save",
+                value_name: "FILE",
+                takes: Takes::Text,
+                help: "Leave the lemmas of the last check in FILE, for --load",
             },
             ArgumentRow {
                 name: "workers",
@@ -131,6 +143,68 @@ pub(crate) static COMMANDS: [CommandRow; 3] = [
                 takes: Takes::Text,
                 help: "Pair inputs and outputs by their position, \
                        or by the names that the files give them: position or names [default: position]",
+            },
+        ],
+    },
+    CommandRow {
+        name: "fraig",
+        help: "Merge the nodes of a circuit that are equal, and leave what is left of it with a proof",
+        notes: FRAIG_NOTES,
+        arguments: &[
+            ArgumentRow {
+                name: "a",
+                value_name: "A",
+                takes: Takes::Place,
+                help: "A combinational circuit, as an AIGER file",
+            },
+            ArgumentRow {
+                name: "reduced",
+                value_name: "OUT",
+                takes: Takes::Place,
+                help: "The file of the reduced circuit, which is written as binary AIGER",
+            },
+            ArgumentRow {
+                name: "out",
+                value_name: "PREFIX",
+                takes: Takes::Text,
+                help: "Leave a proof that both compute the same in files whose names begin with PREFIX",
+            },
+            ArgumentRow {
+                name: "workers",
+                value_name: "N",
+                takes: Takes::Number {
+                    least: 1,
+                    most: WORKERS_LIMIT,
+                },
+                help: "Settle pairs of nodes by N workers, from 1 to 64 [default: 4]",
+            },
+            ArgumentRow {
+                name: "seed",
+                value_name: "N",
+                takes: Takes::Number {
+                    least: 0,
+                    most: u64::MAX,
+                },
+                help: "Draw the first patterns from N, from 0 to 18446744073709551615 [default: 1]",
+            },
+            ArgumentRow {
+                name: "words",
+                value_name: "N",
+                takes: Takes::Number {
+                    least: 1,
+                    most: WORDS_LIMIT,
+                },
+                help: "Draw 64 times N first patterns, N from 1 to 64 [default: 4]",
+            },
+            ArgumentRow {
+                name: "sweep-budget",
+                value_name: "N",
+                takes: Takes::Number {
+                    least: 1,
+                    most: BUDGET_LIMIT,
+                },
+                help: "Give up on a pair of nodes after N learned clauses, \
+                       from 1 to 1000000000 [default: 100]",
             },
         ],
     },
@@ -208,7 +282,22 @@ where S is a or b, J an output from 0, and LHS, R0, R1 and LIT are AIGER literal
   drop S LHS                   the gate LHS goes, which no gate and no output reads
   out S J LIT                  the output J gets the literal LIT
   check                        the next check is made, of the circuits as they are then
-A line that is refused ends the program, and what was said and left before it stays.";
+A line that is refused ends the program, and what was said and left before it stays.
+
+With --load, says before check 0 how many of the lemmas in FILE hold, of how many:
+  lemmas N of M
+With --save, leaves FILE behind the last check, unless a line of the script is refused.
+FILE can't be PREFIX.K.cnf or PREFIX.K.lrat of --out.";
+
+const FRAIG_NOTES: &str = "\
+Says how many gates either circuit has, and ends with the status before what it says of both:
+  gates GA GR
+  0  EQUIVALENT
+Other statuses tell of a fault: see cec --help.
+
+OUT has the inputs and names of A, and of each output and constraint the value that it has in A.
+With --out, leaves PREFIX.0.cnf and PREFIX.0.lrat of the two circuits, as check does. OUT can't be
+one of these.";
 
 const LRAT_NOTES: &str = "\
 Says, and ends with the status before it:

@@ -1,7 +1,7 @@
 //! How commands end, over files in memory.
 use crate::checks::check;
 use crate::desks::desk_with;
-use desk_port::{Desk, MemDesk, PutErr};
+use desk_port::{Desk, MemDesk, PutErr, put_in_pieces};
 use endings::{Content, READ_LIMIT, Status, Stop, end, read_file, say, warn, write_file};
 use std::alloc::{AllocError, Global};
 use std::process::Abort;
@@ -68,8 +68,8 @@ impl Content for Letters {
 
     ghost tells = { λ _ told. told ≡ 3 };
 
-    fn put<D: Desk>(&self, _alloc: Global, desk: &mut D) -> Result<u8, PutErr> {
-        desk.write(b"abc")?;
+    fn put<D: Desk>(&self, alloc: Global, desk: &mut D) -> Result<u8, PutErr> {
+        put_in_pieces(alloc, desk, b"abc")?;
         Ok(3)
     }
 }

@@ -4,11 +4,11 @@
 //! The tests of a crate stand here and not in it, since a crate with tests is proved twice. Modules: `bytes`
 //! is of `byte_scan`, `circuit_texts` of `circuit_text` and of what `aiger_binary` writes, `ascii` of
 //! `aiger_ascii`, `binary` of what `aiger_binary` reads, `forms` of `aiger_file`, `pairings` of `netlist`,
-//! `formulas` of `dimacs_text`, `proof_lines` of `lrat_text`, `proof_checks` of `lrat_checker`, `desks` of
-//! `desk_port`, `real_desks` of `os_desk`, `proof_runs` of `lrat_run`, `ends` of `endings`, `words` of
-//! `command_line`, `workloads` of `workload_gen`; `texts` has the texts of the faults of all, `circuits` what
-//! the readers of circuits are compared by, `tables` the tables that are texts, and `checks` what ends each
-//! comparison. Begin to read at `bytes.rt`.
+//! `formulas` of `dimacs_text`, `proof_lines` of `lrat_text`, `proof_checks` of `lrat_checker`, `desks` and
+//! `pieces` of `desk_port`, `real_desks` of `os_desk`, `proof_runs` of `lrat_run`, `ends` of `endings`,
+//! `words` of `command_line`, `workloads` of `workload_gen`; `texts` has the texts of the faults of all,
+//! `circuits` what the readers of circuits are compared by, `tables` the tables that are texts, and `checks`
+//! what ends each comparison. Begin to read at `bytes.rt`.
 #![tactic(auto)]
 
 #[cfg(test)]
@@ -33,6 +33,8 @@ mod forms;
 mod formulas;
 #[cfg(test)]
 mod pairings;
+#[cfg(test)]
+mod pieces;
 #[cfg(test)]
 mod proof_checks;
 #[cfg(test)]

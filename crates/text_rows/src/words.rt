@@ -1,6 +1,6 @@
 use crate::checks::{check, is_text};
 use crate::tables::{Table, check_rows};
-use command_line::{Asked, CheckWords, LratWords, Refusal, SelfWords, read};
+use command_line::{Asked, CheckWords, FraigWords, LratWords, Refusal, SelfWords, read};
 use std::alloc::{AllocError, Global};
 use std::test::*;
 use workload_gen::Kind;
@@ -12,6 +12,7 @@ Usage: cec <COMMAND>
 
 Commands:
   check  Decide whether two circuits compute the same outputs
+  fraig  Merge the nodes of a circuit that are equal, and leave what is left of it with a proof
   lrat   Check a proof that a formula has no model
   self   Decide whether two circuits agree that the program makes, in two architectures
 
@@ -42,6 +43,8 @@ Arguments:
 Options:
       --edits <F>         Edit the circuits and check them again, as the script in file F says
       --out <PREFIX>      Leave the question and its proof in files whose names begin with PREFIX
+      --load <FILE>       Begin with those lemmas in FILE that hold, as --save leaves them
+      --save <FILE>       Leave the lemmas of the last check in FILE, for --load
       --workers <N>       Settle pairs of nodes and outputs by N workers, from 1 to 64 [default: 4]
       --seed <N>          Draw the first patterns from N, from 0 to 18446744073709551615 [default: 1]
       --words <N>         Draw 64 times N first patterns, N from 1 to 64 [default: 4]
@@ -71,6 +74,39 @@ where S is a or b, J an output from 0, and LHS, R0, R1 and LIT are AIGER literal
   out S J LIT                  the output J gets the literal LIT
   check                        the next check is made, of the circuits as they are then
 A line that is refused ends the program, and what was said and left before it stays.
+
+With --load, says before check 0 how many of the lemmas in FILE hold, of how many:
+  lemmas N of M
+With --save, leaves FILE behind the last check, unless a line of the script is refused.
+FILE can't be PREFIX.K.cnf or PREFIX.K.lrat of --out.
+";
+
+const FRAIG_HELP: &str = "help: \
+Merge the nodes of a circuit that are equal, and leave what is left of it with a proof
+
+Usage: cec fraig [OPTIONS] <A> <OUT>
+
+Arguments:
+  <A>    A combinational circuit, as an AIGER file
+  <OUT>  The file of the reduced circuit, which is written as binary AIGER
+
+Options:
+      --out <PREFIX>      Leave a proof that both compute the same in files whose names begin with PREFIX
+      --workers <N>       Settle pairs of nodes by N workers, from 1 to 64 [default: 4]
+      --seed <N>          Draw the first patterns from N, from 0 to 18446744073709551615 [default: 1]
+      --words <N>         Draw 64 times N first patterns, N from 1 to 64 [default: 4]
+      --sweep-budget <N>  Give up on a pair of nodes after N learned clauses, \
+      from 1 to 1000000000 [default: 100]
+  -h, --help              Print help
+
+Says how many gates either circuit has, and ends with the status before what it says of both:
+  gates GA GR
+  0  EQUIVALENT
+Other statuses tell of a fault: see cec --help.
+
+OUT has the inputs and names of A, and of each output and constraint the value that it has in A.
+With --out, leaves PREFIX.0.cnf and PREFIX.0.lrat of the two circuits, as check does. OUT can't be
+one of these.
 ";
 
 const LRAT_HELP: &str = "help: \
@@ -112,7 +148,7 @@ Reads no file and leaves none.
 
 const NO_COMMAND: &str = "usage: \
 error: 'cec' requires a subcommand but one was not provided
-  [subcommands: check, lrat, self]
+  [subcommands: check, fraig, lrat, self]
 
 Usage: cec <COMMAND>
 
@@ -145,14 +181,19 @@ Usage: cec check [OPTIONS] <A> <B>
 For more information, try '--help'.
 ";
 
+const SAVED_OVER: &str = "usage: cec: --save names a file of --out\n";
+
 const NO_HELP: &str = "usage: cec: no command help\n";
 
+const WRITTEN_OVER: &str = "usage: cec: OUT is a file of --out\n";
+
 /// Words, and what they are told.
-static TOLD: [(&str, &str); 15] = [
+static TOLD: [(&str, &str); 18] = [
     ("cec --help", PROGRAM_HELP),
     ("cec -h", PROGRAM_HELP),
     ("cec check --help", CHECK_HELP),
     ("cec check x y -h", CHECK_HELP),
+    ("cec fraig --help", FRAIG_HELP),
     ("cec lrat --help", LRAT_HELP),
     ("cec self --help", SELF_HELP),
     ("cec --version", VERSION),
@@ -162,6 +203,8 @@ static TOLD: [(&str, &str); 15] = [
     ("cec", NO_COMMAND),
     ("cec self help 1", NO_KIND),
     ("cec check x y --match by", NO_PAIRING),
+    ("cec check x y --out p --save p.0.cnf", SAVED_OVER),
+    ("cec fraig x p.0.lrat --out p", WRITTEN_OVER),
     ("cec help", NO_HELP),
     ("cec help check", NO_HELP),
 ];
@@ -192,8 +235,17 @@ const TAKEN: &str = concat!(
     "cec check --out p --edits=s x y => x and y edited by s, to p, by 4 from 1, 4, 100 and 100000;",
     "cec check x --match names y --edits check => \
         x and y by name edited by check, to nowhere, by 4 from 1, 4, 100 and 100000;",
+    "cec check x y --load l => x and y with lemmas from l, to nowhere, by 4 from 1, 4, 100 and 100000;",
+    "cec check --save=l x y --out p => x and y with lemmas to l, to p, by 4 from 1, 4, 100 and 100000;",
+    "cec check x y --out p --save p.x.cnf --load p.0.cnf => \
+        x and y with lemmas from p.0.cnf with lemmas to p.x.cnf, to p, by 4 from 1, 4, 100 and 100000;",
     "cec check x y --workers 1 => x and y, to nowhere, by 1 from 1, 4, 100 and 100000;",
     "cec check --workers=64 x y --seed 2 => x and y, to nowhere, by 64 from 2, 4, 100 and 100000;",
+    "cec fraig x y => what is left of x in y, to nowhere, by 4 from 1, 4 and 100;",
+    "cec fraig x p.1.cnf --out p => what is left of x in p.1.cnf, to p, by 4 from 1, 4 and 100;",
+    "cec fraig x --out p.0 p.0.cnf => what is left of x in p.0.cnf, to p.0, by 4 from 1, 4 and 100;",
+    "cec fraig --workers=64 x y --seed 0 --words 1 --sweep-budget 5 => \
+        what is left of x in y, to nowhere, by 64 from 0, 1 and 5;",
     "cec lrat f p => p of f;",
     "cec self adder 1 => an adder of 1;",
     "cec self parity 4096 => a parity of 4096;",
@@ -215,6 +267,9 @@ const REFUSED: &str = concat!(
     "cec check x y --edits => a value is required for '--edits <F>' but none was supplied\n;",
     "cec check x y --edits s --edits s => \
         the argument '--edits <F>' cannot be used multiple times\n;",
+    "cec check x y --save => a value is required for '--save <FILE>' but none was supplied\n;",
+    "cec check x y --load l --load l => \
+        the argument '--load <FILE>' cannot be used multiple times\n;",
     "cec self adder 1 --edits s => unexpected argument '--edits' found\n;",
     "cec check x y --match => a value is required for '--match <BY>' but none was supplied\n;",
     "cec check x y --match name => \
@@ -223,6 +278,9 @@ const REFUSED: &str = concat!(
         the argument '--match <BY>' cannot be used multiple times\n;",
     "cec check x --match by => the following required arguments were not provided:\n  <B>\n;",
     "cec check x y --match by --words 0 => invalid value '0' for '--words <N>': 0 is not in 1..=64\n;",
+    "cec fraig x => the following required arguments were not provided:\n  <OUT>\n;",
+    "cec fraig x y --budget 7 => unexpected argument '--budget' found\n;",
+    "cec fraig x y --workers 0 => invalid value '0' for '--workers <N>': 0 is not in 1..=64\n;",
     "cec check x => the following required arguments were not provided:\n  <B>\n;",
     "cec lrat => the following required arguments were not provided:\n  <CNF>\n  <PROOF>\n;",
     "cec check x y z => unexpected argument 'z' found\n;",
@@ -258,17 +316,26 @@ fn words_of(alloc: Global, line: &str) -> Result<Vec<String>, AllocError> {
     Ok(words)
 }
 
-/// The files that a check was given, how they are paired and edited, and where its proof goes.
+/// These words and the name behind them, or nothing where there is no name.
+fn named(alloc: Global, words: &str, name: Option<&str>) -> Result<String, AllocError> {
+    match name {
+        Some(name) => format!(in alloc; " {words} {name}"),
+        None => Ok(String::new(alloc)),
+    }
+}
+
+/// The files that a check was given, how they are paired and edited, what it loads and saves, and where its
+/// proof goes.
 fn files_of(alloc: Global, check: &CheckWords<'_>) -> Result<String, AllocError> {
     let out = check.out.unwrap_or("nowhere");
     let pairing = if check.by_name { " by name" } else { "" };
-    match check.edits {
-        Some(f) => format!(in alloc;
-            "{} and {}{pairing} edited by {f}, to {out}",
-            check.a, check.b
-        ),
-        None => format!(in alloc; "{} and {}{pairing}, to {out}", check.a, check.b),
-    }
+    let edits = named(alloc, "edited by", check.edits)?;
+    let load = named(alloc, "with lemmas from", check.load)?;
+    let save = named(alloc, "with lemmas to", check.save)?;
+    format!(in alloc;
+        "{} and {}{pairing}{edits}{load}{save}, to {out}",
+        check.a, check.b
+    )
 }
 
 /// The numbers that a check was given.
@@ -286,6 +353,14 @@ fn is_check(alloc: Global, check: &CheckWords<'_>, meaning: &str) -> bool {
         }
         None => false,
     }
+}
+
+fn told_fraig(alloc: Global, fraig: &FraigWords<'_>) -> Result<String, AllocError> {
+    let out = fraig.out.unwrap_or("nowhere");
+    format!(in alloc;
+        "what is left of {} in {}, to {out}, by {} from {}, {} and {}",
+        fraig.a, fraig.reduced, fraig.workers, fraig.seed, fraig.words, fraig.sweep_budget
+    )
 }
 
 fn name_of(kind: Kind) -> &'static str {
@@ -311,6 +386,7 @@ fn told_self(alloc: Global, own: &SelfWords) -> Result<String, AllocError> {
 fn is_asked(alloc: Global, asked: &Asked<'_>, meaning: &str) -> bool {
     match asked {
         Asked::Check(check) => is_check(alloc, check, meaning),
+        Asked::Fraig(fraig) => is_text(told_fraig(alloc, fraig), meaning),
         Asked::Lrat(lrat) => is_lrat(lrat, meaning),
         Asked::SelfCheck(own) => is_text(told_self(alloc, own), meaning),
     }

@@ -9,17 +9,20 @@ use Rattle.cec_top.proofs.laws.verdicts.Goals as goal
 pub returns-clause-equivalent : goal.returns-clause-equivalent
 returns-clause-equivalent call = λ words c old new status kept asks answers code.
     equivalent c old new status kept
-    (answers-check words old new status kept call.words_are_one_of.ensures.asked answers c asks (omega (arith, code))) code
+    (answers-check words old new status kept call.words_are_one_of.ensures.asked answers c asks (omega (arith, code)))
+    (λ prefix name. call.saved_is_apart.ensures words c prefix name asks) code
 
 pub returns-clause-different : goal.returns-clause-different
 returns-clause-different call = λ words c old new status kept asks answers code.
     different c old new status kept
-    (answers-check words old new status kept call.words_are_one_of.ensures.asked answers c asks (omega (arith, code))) code
+    (answers-check words old new status kept call.words_are_one_of.ensures.asked answers c asks (omega (arith, code)))
+    (λ prefix name. call.saved_is_apart.ensures words c prefix name asks) code
 
 pub returns-clause-undecided : goal.returns-clause-undecided
 returns-clause-undecided call = λ words c old new status kept asks answers code.
     undecided c old new status kept
-    (answers-check words old new status kept call.words_are_one_of.ensures.asked answers c asks (omega (arith, code))) code
+    (answers-check words old new status kept call.words_are_one_of.ensures.asked answers c asks (omega (arith, code)))
+    (λ prefix name. call.saved_is_apart.ensures words c prefix name asks) code
 
 pub returns-clause-verified : goal.returns-clause-verified
 returns-clause-verified call = λ words c old new status kept asks answers code.
@@ -45,4 +48,5 @@ returns-clause-refused call = λ words c old new status kept before asks answers
 
 pub returns-clause-stopped : goal.returns-clause-stopped
 returns-clause-stopped call = λ words c old new status kept before asks answers above told.
-    stopped words old new status kept call.words_are_one_of.ensures.asked answers c asks before told above
+    stopped words old new status kept call.words_are_one_of.ensures.asked answers c asks
+    (λ prefix name. call.saved_is_apart.ensures words c prefix name asks) before told above

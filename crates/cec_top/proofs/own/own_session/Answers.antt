@@ -6,7 +6,8 @@ use Rattle.check_session.specs.Check.{State}
 use Rattle.cec_top.proofs.OwnLemmas.{made-own}
 use Rattle.check_session.specs.declared.options.Options.{Options}
 use Rattle.netlist.specs.Pairing.{paired}
-use Rattle.cec_top.proofs.ReadLemmas.{pair-there}
+use Rattle.cec_top.proofs.ReadLemmas.{opened-by, pair-there}
+use Rattle.cec_top.specs.SelfCheck.{own_how}
 use Rattle.cec_top.proofs.own.own_session.Goals as goal
 
 pub read_back-requires : goal.read_back-requires
@@ -30,6 +31,5 @@ returns-in-Ok c =
           (c.as_slice.ensures.value ∙ c.in_ok-first.ensures.bytes.0) (c.as_slice-2.ensures.value ∙ c.in_ok-first.ensures.bytes.1)
           c.in_ok-a.ensures c.in_ok-b.ensures
           (ap (λ (s : State). s.net) p.1 ∙ ap (λ (o : Options). paired o.by_name c.in_ok-a.a c.in_ok-b.b) c.default_options.ensures.options),
-      ap (λ (s : State). s.options) p.1 ∙ c.default_options.ensures.options,
-      ap (λ (s : State). s.edits) p.1,
+      opened-by c.in-Ok.session _ c.default_options.result own_how.options p.1 c.default_options.ensures.options,
     )

@@ -1,9 +1,11 @@
+use Rattle.std.proofs.Common.{ap}
+use Rattle.check_session.specs.Check.{State}
 use Rattle.command_line.specs.Answers.{self_texts}
 use Rattle.cec_top.proofs.OwnLemmas.{at-workload, own-ok, own-err}
 use Rattle.cec_top.proofs.own.say_and_settle.Goals as goal
 
 pub run_script-requires-clause-unedited : goal.run_script-requires-clause-unedited
-run_script-requires-clause-unedited g c κs within = c.requires.made.2
+run_script-requires-clause-unedited g c κs within = ap (λ (s : State). s.edits) c.requires.made.1
 
 pub returns-clause-ok : goal.returns-clause-ok
 returns-clause-ok g c =

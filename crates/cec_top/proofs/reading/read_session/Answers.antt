@@ -6,7 +6,8 @@ use Rattle.check_session.specs.declared.options.Options.{Options}
 use Rattle.netlist.specs.Pairing.{paired, unlike_in}
 use Rattle.std.proofs.lemmas.Result.{err_from_is_err_and}
 use Rattle.command_line.specs.Answers.{check_texts}
-use Rattle.cec_top.proofs.ReadLemmas.{stops-a, stops-b, reads-both, unlike-pair, pair-there, err_is}
+use Rattle.cec_top.specs.Answers.{how_of}
+use Rattle.cec_top.proofs.ReadLemmas.{opened-by, stops-a, stops-b, reads-both, unlike-pair, pair-there, err_is}
 use Rattle.cec_top.proofs.reading.read_session.Goals as goal
 
 pub returns-in_err-a : goal.returns-in_err-a
@@ -31,8 +32,7 @@ returns-in-Ok g c =
           c.in-Ok.session.net
           (ap (λ (s : State). s.net) p.1 ∙ ap (λ (o : Options). paired o.by_name a b) c.options_of.ensures.options) alike
           (c.pairs_are_matched.ensures.stands words.by_name alike),
-      ap (λ (s : State). s.options) p.1 ∙ c.options_of.ensures.options,
-      ap (λ (s : State). s.edits) p.1,
+      opened-by c.in-Ok.session _ c.options_of.result (how_of words).options p.1 c.options_of.ensures.options,
     )
 
 pub returns-in-Err : goal.returns-in-Err

@@ -12,7 +12,7 @@ use Rattle.netlist_edits.specs.Script.{script_lines}
 use Rattle.cec_top.specs.declared.kept.Kept.{Kept}
 use Rattle.cec_top.specs.Script.{plan_of, turn_of}
 use Rattle.cec_top.specs.Check.{How, StopsChecks}
-use Rattle.cec_top.specs.Steps.{DoesTurn, NotMade, ToldInPart, ToldWhole, how_in}
+use Rattle.cec_top.specs.Steps.{DoesTurn, NotMade, ToldInPart, ToldWhole, how_in, opening_in}
 use Rattle.cec_top.proofs.RunLemmas.{Stands, checked-stops, first-stops, line-stops, stands-asked, stands-checked, stands-closed, stands-end, stands-faulty, stands-first, stands-goes, stands-out-before}
 use Rattle.cec_top.proofs.ScanLemmas.{scan-end, scan-next, scan-start}
 use Rattle.cec_top.proofs.script.run_script.Goals as goal
@@ -52,7 +52,7 @@ loop-line-init g c =
       count = omega arith;
       within = omega (arith, c.new-scan.ensures.at);
       fewer = omega arith;
-      stands = subst (λ (bytes : List ℕ). Stands how (plan_of s.net lines) (g.D.Desk.state c.args.desk.now) (g.D.Desk.state c.check.new.desk)
+      stands = subst (λ (bytes : List ℕ). Stands how (opening_in s) (plan_of s.net lines) (g.D.Desk.state c.args.desk.now) (g.D.Desk.state c.check.new.desk)
           c.check.new.kept.items 0 c.in_ok-status.status c.check.new.session 1 (script_lines bytes)) (sym ahead_is)
           (stands-first how s c.check.new.session (g.D.Desk.state c.args.desk.now) (g.D.Desk.state c.check.new.desk) c.args.kept.now.items
           c.check.new.kept.items c.in_ok-status.status lines c.requires.unedited refl c.requires.empty c.in_ok-status.ensures);
@@ -69,13 +69,13 @@ returns-in_err-keep_open-in-Ok-true g c =
     let now = g.D.Desk.state l.desk in
     let r = scan-next l.scan c.line.new.self c.in-Some.line.now c.in-Some.ensures.line c.in-Some.ensures.moved in
     let lines = script_lines (ahead c.line.new.self) in
-    let at = subst (λ (ls : List (List ℕ)). Stands how plan start now l.kept.items l.number l.status l.session (l.at + 1) ls) r.lines
+    let at = subst (λ (ls : List (List ℕ)). Stands how (opening_in s0) plan start now l.kept.items l.number l.status l.session (l.at + 1) ls) r.lines
     l.invariant.stands in
-    let asked = stands-asked how plan start now l.kept.items l.number l.status l.session c.do_line.new.session (l.at + 1) c.in-Some.line.now
+    let asked = stands-asked how (opening_in s0) plan start now l.kept.items l.number l.status l.session c.do_line.new.session (l.at + 1) c.in-Some.line.now
     lines at (subst (λ (b : Bool). DoesTurn (turn_of l.session.net c.in-Some.line.now) l.session c.do_line.new.session (Ok b)) c.in-Ok-true.field-0-test c.in-Ok-true.ensures) in
     rw (p.1, p.2)
-    (subst (λ (ks : List Kept). StopsChecks how plan start ks now OutOfMemory) (sym c.in_err-keep_open-in-Ok-true.ensures)
-    (stands-out-before how plan start now l.kept.items l.number l.status c.do_line.new.session (l.at + 1) (c.in-Some.line.now ∷ lines) asked.at
+    (subst (λ (ks : List Kept). StopsChecks how (opening_in s0) plan start ks now OutOfMemory) (sym c.in_err-keep_open-in-Ok-true.ensures)
+    (stands-out-before how (opening_in s0) plan start now l.kept.items l.number l.status c.do_line.new.session (l.at + 1) (c.in-Some.line.now ∷ lines) asked.at
     OutOfMemory refl))
 
 pub check-requires-in-Ok-true-clause-started : goal.check-requires-in-Ok-true-clause-started
@@ -86,7 +86,7 @@ check-requires-in-Ok-true-clause-started g c κs within =
     let start = g.D.Desk.state c.args.desk.now in
     let l = c.loop-line in
     let now = g.D.Desk.state l.desk in
-    stands-closed how plan start now l.kept.items l.number l.status l.session (l.at + 1) (script_lines (ahead l.scan)) l.invariant.stands
+    stands-closed how (opening_in s0) plan start now l.kept.items l.number l.status l.session (l.at + 1) (script_lines (ahead l.scan)) l.invariant.stands
     c.requires.started
 
 pub returns-in_err-status-in-Ok-true : goal.returns-in_err-status-in-Ok-true
@@ -100,12 +100,12 @@ returns-in_err-status-in-Ok-true g c =
     let now = g.D.Desk.state l.desk in
     let r = scan-next l.scan c.line.new.self c.in-Some.line.now c.in-Some.ensures.line c.in-Some.ensures.moved in
     let lines = script_lines (ahead c.line.new.self) in
-    let at = subst (λ (ls : List (List ℕ)). Stands how plan start now l.kept.items l.number l.status l.session (l.at + 1) ls) r.lines
+    let at = subst (λ (ls : List (List ℕ)). Stands how (opening_in s0) plan start now l.kept.items l.number l.status l.session (l.at + 1) ls) r.lines
     l.invariant.stands in
-    let asked = stands-asked how plan start now l.kept.items l.number l.status l.session c.do_line.new.session (l.at + 1) c.in-Some.line.now
+    let asked = stands-asked how (opening_in s0) plan start now l.kept.items l.number l.status l.session c.do_line.new.session (l.at + 1) c.in-Some.line.now
     lines at (subst (λ (b : Bool). DoesTurn (turn_of l.session.net c.in-Some.line.now) l.session c.do_line.new.session (Ok b)) c.in-Ok-true.field-0-test c.in-Ok-true.ensures) in
     rw (p.1, p.2)
-    (checked-stops how plan start now l.kept.items l.number l.status c.do_line.new.session (l.at + 1) c.in-Some.line.now lines asked.at asked.asks
+    (checked-stops how (opening_in s0) plan start now l.kept.items l.number l.status c.do_line.new.session (l.at + 1) c.in-Some.line.now lines asked.at asked.asks
     c.keep_open.new.kept.items c.in_ok-keep_open-in-Ok-true.ensures (g.D.Desk.state c.check-in-Ok-true.new.desk) c.check-in-Ok-true.new.kept.items _
     (how-same how c.do_line.new.session c.do_line.new.session (l.number + 1) now (g.D.Desk.state c.check-in-Ok-true.new.desk)
     c.keep_open.new.kept.items c.check-in-Ok-true.new.kept.items _ asked.at.options_are c.in_err-status-in-Ok-true.ensures))
@@ -120,16 +120,16 @@ loop-line-preserved-in-Ok-true g c =
     let now = g.D.Desk.state l.desk in
     let r = scan-next l.scan c.line.new.self c.in-Some.line.now c.in-Some.ensures.line c.in-Some.ensures.moved in
     let lines = script_lines (ahead c.line.new.self) in
-    let at = subst (λ (ls : List (List ℕ)). Stands how plan start now l.kept.items l.number l.status l.session (l.at + 1) ls) r.lines
+    let at = subst (λ (ls : List (List ℕ)). Stands how (opening_in s0) plan start now l.kept.items l.number l.status l.session (l.at + 1) ls) r.lines
     l.invariant.stands in
-    let asked = stands-asked how plan start now l.kept.items l.number l.status l.session c.do_line.new.session (l.at + 1) c.in-Some.line.now
+    let asked = stands-asked how (opening_in s0) plan start now l.kept.items l.number l.status l.session c.do_line.new.session (l.at + 1) c.in-Some.line.now
     lines at (subst (λ (b : Bool). DoesTurn (turn_of l.session.net c.in-Some.line.now) l.session c.do_line.new.session (Ok b)) c.in-Ok-true.field-0-test c.in-Ok-true.ensures) in
     record {
       whole = r.whole ∙ l.invariant.whole;
       count = omega (arith, r.further, l.invariant.count);
       within = omega (arith, r.within, ap (λ (t : List ℕ). length t) l.invariant.whole);
       fewer = omega (arith, l.invariant.fewer);
-      stands = stands-checked how plan start now l.kept.items l.number l.status c.do_line.new.session (l.at + 1) c.in-Some.line.now lines
+      stands = stands-checked how (opening_in s0) plan start now l.kept.items l.number l.status c.do_line.new.session (l.at + 1) c.in-Some.line.now lines
           asked.at asked.asks c.keep_open.new.kept.items c.in_ok-keep_open-in-Ok-true.ensures c.check-in-Ok-true.new.session
           (g.D.Desk.state c.check-in-Ok-true.new.desk) c.check-in-Ok-true.new.kept.items c.in_ok-status-in-Ok-true.status
           (how-whole how c.do_line.new.session c.check-in-Ok-true.new.session (l.number + 1) now (g.D.Desk.state c.check-in-Ok-true.new.desk)
@@ -147,14 +147,14 @@ loop-line-preserved g c =
     let now = g.D.Desk.state l.desk in
     let r = scan-next l.scan c.line.new.self c.in-Some.line.now c.in-Some.ensures.line c.in-Some.ensures.moved in
     let lines = script_lines (ahead c.line.new.self) in
-    let at = subst (λ (ls : List (List ℕ)). Stands how plan start now l.kept.items l.number l.status l.session (l.at + 1) ls) r.lines
+    let at = subst (λ (ls : List (List ℕ)). Stands how (opening_in s0) plan start now l.kept.items l.number l.status l.session (l.at + 1) ls) r.lines
     l.invariant.stands in
     record {
       whole = r.whole ∙ l.invariant.whole;
       count = omega (arith, r.further, l.invariant.count);
       within = omega (arith, r.within, ap (λ (t : List ℕ). length t) l.invariant.whole);
       fewer = omega (arith, l.invariant.fewer);
-      stands = stands-goes how plan start now l.kept.items l.number l.status l.session c.do_line.new.session (l.at + 1) c.in-Some.line.now
+      stands = stands-goes how (opening_in s0) plan start now l.kept.items l.number l.status l.session c.do_line.new.session (l.at + 1) c.in-Some.line.now
           lines at (subst (λ (b : Bool). DoesTurn (turn_of l.session.net c.in-Some.line.now) l.session c.do_line.new.session (Ok b)) c.in-Ok-false.field-0-test c.in-Ok-false.ensures);
     }
 
@@ -169,13 +169,13 @@ returns-in_err-keep-in-Err g c =
     let now = g.D.Desk.state l.desk in
     let r = scan-next l.scan c.line.new.self c.in-Some.line.now c.in-Some.ensures.line c.in-Some.ensures.moved in
     let lines = script_lines (ahead c.line.new.self) in
-    let at = subst (λ (ls : List (List ℕ)). Stands how plan start now l.kept.items l.number l.status l.session (l.at + 1) ls) r.lines
+    let at = subst (λ (ls : List (List ℕ)). Stands how (opening_in s0) plan start now l.kept.items l.number l.status l.session (l.at + 1) ls) r.lines
     l.invariant.stands in
-    let faulty = stands-faulty how plan start now l.kept.items l.number l.status l.session c.do_line.new.session (l.at + 1)
+    let faulty = stands-faulty how (opening_in s0) plan start now l.kept.items l.number l.status l.session c.do_line.new.session (l.at + 1)
     c.in-Some.line.now lines c.in-Err.fault at c.in-Err.ensures in
     rw (p.1, p.2)
-    (subst (λ (ks : List Kept). StopsChecks how plan start ks now OutOfMemory) (sym c.in_err-keep-in-Err.ensures.err)
-    (stands-out-before how plan start now l.kept.items l.number l.status c.do_line.new.session (l.at + 1) (c.in-Some.line.now ∷ lines) faulty.at
+    (subst (λ (ks : List Kept). StopsChecks how (opening_in s0) plan start ks now OutOfMemory) (sym c.in_err-keep-in-Err.ensures.err)
+    (stands-out-before how (opening_in s0) plan start now l.kept.items l.number l.status c.do_line.new.session (l.at + 1) (c.in-Some.line.now ∷ lines) faulty.at
     OutOfMemory refl))
 
 pub returns-in-Err : goal.returns-in-Err
@@ -188,11 +188,11 @@ returns-in-Err g c =
     let now = g.D.Desk.state l.desk in
     let r = scan-next l.scan c.line.new.self c.in-Some.line.now c.in-Some.ensures.line c.in-Some.ensures.moved in
     let lines = script_lines (ahead c.line.new.self) in
-    let at = subst (λ (ls : List (List ℕ)). Stands how plan start now l.kept.items l.number l.status l.session (l.at + 1) ls) r.lines
+    let at = subst (λ (ls : List (List ℕ)). Stands how (opening_in s0) plan start now l.kept.items l.number l.status l.session (l.at + 1) ls) r.lines
     l.invariant.stands in
-    let faulty = stands-faulty how plan start now l.kept.items l.number l.status l.session c.do_line.new.session (l.at + 1)
+    let faulty = stands-faulty how (opening_in s0) plan start now l.kept.items l.number l.status l.session c.do_line.new.session (l.at + 1)
     c.in-Some.line.now lines c.in-Err.fault at c.in-Err.ensures in
-    line-stops how plan start now l.kept.items l.number l.status c.do_line.new.session (l.at + 1) c.in-Some.line.now lines c.in-Err.fault faulty
+    line-stops how (opening_in s0) plan start now l.kept.items l.number l.status c.do_line.new.session (l.at + 1) c.in-Some.line.now lines c.in-Err.fault faulty
     c.keep.new.kept.items c.in_ok-keep-in-Err.ensures.ok c.refused_stop.result c.refused_stop.ensures
 
 pub returns-in_err-keep : goal.returns-in_err-keep
@@ -205,8 +205,8 @@ returns-in_err-keep g c =
     let l = c.loop-line in
     let now = g.D.Desk.state l.desk in
     rw (p.1, p.2)
-    (subst (λ (ks : List Kept). StopsChecks how plan start ks now OutOfMemory) (sym c.in_err-keep.ensures.err)
-    (stands-out-before how plan start now l.kept.items l.number l.status l.session (l.at + 1) (script_lines (ahead l.scan)) l.invariant.stands
+    (subst (λ (ks : List Kept). StopsChecks how (opening_in s0) plan start ks now OutOfMemory) (sym c.in_err-keep.ensures.err)
+    (stands-out-before how (opening_in s0) plan start now l.kept.items l.number l.status l.session (l.at + 1) (script_lines (ahead l.scan)) l.invariant.stands
     OutOfMemory refl))
 
 pub returns : goal.returns
@@ -217,5 +217,5 @@ returns g c =
     let start = g.D.Desk.state c.args.desk.now in
     let l = c.loop-line in
     let now = g.D.Desk.state l.desk in
-    stands-end how plan start now l.kept.items l.number l.status l.session (l.at + 1) (script_lines (ahead l.scan)) l.invariant.stands
+    stands-end how (opening_in s0) plan start now l.kept.items l.number l.status l.session (l.at + 1) (script_lines (ahead l.scan)) l.invariant.stands
     (scan-end l.scan c.in_default.ensures.line) c.keep-2.new.kept.items c.in_ok-keep.ensures.ok

@@ -1,7 +1,6 @@
-use Rattle.std.proofs.Common.{◌≡◌, ◌∙◌, ◌&&◌, ℕ, List, Bool, length, replicate, arith, ap, sym, subst}
+use Rattle.std.proofs.Common.{◌≡◌, ◌∙◌, ℕ, List, length, arith, sym, subst}
 use Rattle.std.proofs.lemmas.List.{with_items_is}
-use Rattle.std.specs.List.{slice_index_or}
-use Rattle.check_session.specs.Pool.{HasBitsFor, admits, bit_of}
+use Rattle.check_session.specs.Pool.{HasBitsFor, admits}
 use Rattle.check_session.proofs.AdmittedLemmas.{admitted-all}
 use Rattle.check_session.proofs.admitted.admitted_row.Goals as goal
 

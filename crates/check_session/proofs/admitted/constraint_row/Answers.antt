@@ -1,6 +1,5 @@
 use Rattle.std.proofs.Common.{◌≡◌, Option, Some, ℕ, ◌∙◌, arith, sym, subst}
 use Rattle.std.specs.Prelude.{IsSome}
-use Rattle.std.proofs.lemmas.Option.{same_Some}
 use Rattle.netlist.specs.Net.{bound_of, position_of}
 use Rattle.netlist.proofs.Facts.{bound-below}
 use Rattle.lits.specs.declared.literal.Lit.{Lit}

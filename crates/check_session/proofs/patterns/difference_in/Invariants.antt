@@ -1,8 +1,7 @@
--- No pattern tells an output so far apart.
-use Rattle.std.proofs.Common.{◌≡◌, ℕ, ◌<◌, None}
-use Rattle.std.specs.List.{find}
-use Rattle.check_session.specs.Pool.{tells_apart}
+-- The least output that a pattern of the blocks so far tells apart.
+use Rattle.std.proofs.Common.{◌*◌, take}
+use Rattle.check_session.specs.Blocks.{IsFirstIn}
 use Rattle.check_session.proofs.patterns.difference_in.Given as goal
 
-abbrev pub invariant-loop-output : goal.invariant-loop-output
-invariant-loop-output l = (k : ℕ) → k < l.output → find (tells_apart l.net k) l.pool.patterns ≡ None
+abbrev pub invariant-loop-block : goal.invariant-loop-block
+invariant-loop-block l = IsFirstIn l.net (take (256 * l.block) l.pool.patterns) l.first

@@ -1,4 +1,4 @@
-use Rattle.std.proofs.Common.{◌≡◌, ◌∙◌, None, Some, codes, refl, sym}
+use Rattle.std.proofs.Common.{◌≡◌, ◌∙◌, None, Some, codes, sym}
 use Rattle.clap.proofs.WalkLemmas.{first_value-rows}
 use Rattle.clap.specs.Words.{first_of, found_of, rows_of}
 use Rattle.command_line.proofs.GetterLemmas.{check_matched, command_there}
@@ -19,4 +19,4 @@ returns-in-None c =
     let found = found_of c.args.matches.now in
     let none : first_of (codes "match") (rows_of found) ≡ None =
     sym (first_value-rows found (codes "match")) ∙ sym c.in-None.ensures in
-    check_matched (rows_of found) _ _ _ none c.check_words-check.ensures refl
+    check_matched (rows_of found) _ _ _ none c.check_words-check.ensures c.saved.ensures

@@ -1,0 +1,12 @@
+-- The text so far is taken.
+use Rattle.std.proofs.Common.{take}
+use Rattle.std.specs.List.{flat_map}
+use Rattle.netlist.specs.Miter.{xors_of}
+use Rattle.check_session.specs.MiterText.{node_lines}
+use Rattle.desk_port.proofs.Facts.{Taken}
+use Rattle.check_session.proofs.miter_text.put_xors.Given as goal
+
+abbrev pub invariant-loop-j : goal.invariant-loop-j
+invariant-loop-j g l =
+    Taken (flat_map (node_lines l.net) (take l.j (xors_of l.net))) l.fn.text l.text
+    (g.D.Desk.state l.fn.desk) (g.D.Desk.state l.desk) (g.D.Desk.sizes l.fn.desk) (g.D.Desk.sizes l.desk)
