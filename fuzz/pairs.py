@@ -9,7 +9,7 @@ on every input here, and what counts are the inputs on which each constraint of 
 true and its proof VERIFIED. DIFFERENT must name an output and such an input on which it differs, and with the whole budget the first
 output that differs. UNDECIDED may list only outputs whose logs stand at those lines of the file, as long as the budget, and each other
 output must be equal. Some pairs are matched by name: the second file then has its inputs and outputs in another order, and is judged
-by the first one's. Status 1 where anything is wrong.
+by the first one's. The CNF must be the one that tools/miter.py makes of the two files. Status 1 where anything is wrong.
 """
 import itertools
 import random
@@ -19,6 +19,7 @@ import tempfile
 from pathlib import Path
 
 from rounds import Tally, house, words_of
+import miter
 
 
 def random_circuit(rng, inputs, outputs, gates):
@@ -171,11 +172,22 @@ def judged_open(said, differing, folder, checker, budget):
     return None if strict == f"STEPS {spans[-1][2] - clauses}" else "its lines are " + strict
 
 
+def is_miter(folder, by_name):
+    """Whether the CNF is that of the two files, as another program makes it."""
+    a, b = (miter.circuit_in(Path(folder, name)) for name in "AB")
+    if by_name:
+        miter.put_in_order(a, b)
+    made = "".join(line + "\n" for line in miter.lines(*miter.miter(a, b)))
+    return made == Path(folder, "p.0.cnf").read_text()
+
+
 def judged(ran, a, b, bounds, folder, checker, budget):
     """None where the answer is right, else what is wrong."""
     differing = differing_outputs(a, b, bounds)
     if ran.stderr:
         return "a warning"
+    if not is_miter(folder, "--match" in ran.args):
+        return "another CNF"
     if ran.returncode == 0:
         return judged_equal(ran.stdout, differing, folder, checker)
     if ran.returncode == 1:

@@ -16,8 +16,9 @@ TOP = os.path.dirname(os.path.dirname(os.path.abspath(__file__)))
 HOME = 'cec_top/specs/Headline'
 PROMISES = ['IsEquivalent', 'IsDifferent', 'IsUndecided', 'IsVerified']
 FILES = ('LeavesFiles', 'RefutesMiter')
-# What the two verdicts that need no book promise besides: of a run's earlier checks, and of the books that are handed back.
-BESIDES = ('KeepsPromise', 'HandsBack')
+# What the two verdicts that need no book promise besides: of a run's earlier checks, of the books that are handed back, and of lemmas
+# that are loaded and saved.
+BESIDES = ('KeepsPromise', 'HandsBack', 'Loads', 'opening_text', 'BeginsOn', 'SavesUnder', 'Opening')
 FORMATS = 'SpellsAiger'
 SAID = ('EQUIVALENT without the written files {}, of which {} are the two forms of AIGER, and with them {}; DIFFERENT {}; '
         'UNDECIDED {}; VERIFIED {}.')

@@ -1,6 +1,7 @@
 #!/usr/bin/env python3
-"""Runs every script of bench/, fuzz/ and tools/ that judges or measures, once, as it is without further words. Only the one that has the
-prover try wrong bodies, fuzz/wrong_bodies.py, is left out: like the gate, it takes as long as the proofs.
+"""Runs every script of bench/, fuzz/ and tools/ that judges or measures, once, as it is without further words; bench/large.py without the
+pairs that take long. Only the one that has the prover try wrong bodies, fuzz/wrong_bodies.py, is left out: like the gate, it takes as
+long as the proofs.
 
 Usage: round.py [PROGRAM]
 
@@ -28,7 +29,10 @@ MEASURING = {
     "bench/sim.py": NONE,
     "bench/board.py": NONE,
     "bench/edits.py": NAMED,
+    "bench/lemmas.py": (*NAMED, "--sizes", "50000", "--copies", "32"),
+    "bench/made_constrained.py": NAMED,
     "bench/workers.py": NAMED,
+    "bench/large.py": (*NAMED, "--largest", "40000"),
 }
 
 JUDGING = {
@@ -50,6 +54,7 @@ JUDGING = {
     "fuzz/kept.py": NONE,
     "tools/real_aiger.py": FIRST,
     "tools/examples.py": FIRST,
+    "tools/recipes.py": FIRST,
     "tools/believe.py": ("--check",),
 }
 
