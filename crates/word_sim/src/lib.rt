@@ -13,7 +13,7 @@
 
 pub use gates::{GateAt, GateList};
 pub use pool::Pool;
-pub use rows::fill;
+pub use rows::{fill, fill_sources};
 pub use sigs::{Sigs, signatures};
 
 mod draws;

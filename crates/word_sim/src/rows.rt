@@ -18,9 +18,18 @@ pub fn fill(net: &Net, pool: &Pool, buf: &mut [u64])
     ensures { AreRows net.now pool.now.patterns buf.new }
 {
     laws::is_net(net);
+    fill_sources(net, pool, buf);
+    fill_gates(net, pool, buf);
+}
+
+/// Writes the rows of the nodes that no gate defines, the constant and the inputs, where `fill` writes them.
+pub fn fill_sources(net: &Net, pool: &Pool, buf: &mut [u64])
+    requires inputs { pool.now.inputs ≡ length net.now.a.inputs }
+    requires room { length buf.old ≡ length (nodes_of net.now) * words_of (length pool.now.patterns) }
+    ensures { AreFilled net.now pool.now.patterns (1 + length net.now.a.inputs) buf.new }
+{
     fill_constant(net, pool, buf);
     fill_inputs(net, pool, buf);
-    fill_gates(net, pool, buf);
 }
 
 /// The row of the constant, which is true.

@@ -1,7 +1,7 @@
-ghost use Rattle.std.specs.Prelude.{◌≡◌, ◌<◌, [], IfOk, length};
+ghost use Rattle.std.specs.Prelude.{◌≡◌, ◌<◌, ◌*◌, ℕ, [], IfOk, length};
 ghost use Rattle.std.specs.List.{slice_index_or};
 ghost use Rattle.word_sim.specs.Patterns.{words_of};
-ghost use Rattle.word_sim.specs.Rows.{AreSignatures};
+ghost use Rattle.word_sim.specs.Rows.{AreRows, AreSignatures, row_at};
 
 use crate::pool::Pool;
 use crate::rows::{fill, row};
@@ -34,11 +34,32 @@ impl Model for Sigs {
 }
 
 impl Sigs {
+    /// Keeps the rows of all nodes on the patterns of a pool.
+    pub fn of(net: &Net, pool: &Pool, words: Vec<u64>) -> Sigs
+        requires { AreRows net.now pool.now.patterns words.items }
+        ensures { AreSignatures net.now pool.now.patterns result }
+    {
+        Sigs {
+            patterns: pool.patterns(),
+            positions: net.positions(),
+            words,
+        }
+    }
+
     /// On how many patterns the rows tell the nodes' values.
     pub fn patterns(&self) -> u64
         ensures { result ≡ self.now.patterns }
     {
         self.patterns
+    }
+
+    /// All rows, one after another.
+    pub fn words(&self) -> &[u64]
+        ensures size { length result.now ≡ length self.now.rows * words_of self.now.patterns }
+        ensures rows { (p : ℕ) → p < length self.now.rows
+            → row_at (words_of self.now.patterns) p result.now ≡ slice_index_or self.now.rows p [] }
+    {
+        self.words.as_slice()
     }
 
     /// The row of the node at a position, its words in order; the bits behind the last pattern are 0.
@@ -60,12 +81,7 @@ pub fn signatures(alloc: Global, net: &Net, pool: &Pool) -> Result<Sigs, AllocEr
     requires { pool.now.inputs ≡ length net.now.a.inputs }
     ensures { IfOk result (AreSignatures net.now pool.now.patterns) }
 {
-    let positions = net.positions();
-    let mut words = vec![in alloc; 0; positions as usize * pool.words() as usize]?;
+    let mut words = vec![in alloc; 0; net.positions() as usize * pool.words() as usize]?;
     fill(net, pool, words.as_mut_slice());
-    Ok(Sigs {
-        patterns: pool.patterns(),
-        positions,
-        words,
-    })
+    Ok(Sigs::of(net, pool, words))
 }
