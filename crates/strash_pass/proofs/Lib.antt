@@ -12,3 +12,4 @@ mod PassLemmas
 mod PlaceLemmas
 mod CodeLemmas
 mod TwinTable
+mod GateWords

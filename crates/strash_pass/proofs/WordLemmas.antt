@@ -1,5 +1,5 @@
 -- Clauses and sets of literals as words of bits.
-use Rattle.std.proofs.Common.{◌≡◌, ◌≢◌, ℕ, suc, ◌+◌, ◌*◌, ◌%◌, ◌^◌, ◌<◌, ◌≤◌, ◌==◌, Bool, true, false, not, ◌&&◌, ◌||◌, min, Option, Some, None, List, [], ◌∷◌, ◌++◌, length, get_or, take, filter, refl, sym, ap, ◌∙◌, subst, arith, ◌⊎◌, inl, inr, w64}
+use Rattle.std.proofs.Common.{◌≡◌, ◌≢◌, ℕ, suc, ◌+◌, ◌*◌, ◌/◌, ◌%◌, ◌^◌, ◌<◌, ◌≤◌, ◌==◌, Bool, true, false, not, ◌&&◌, ◌||◌, min, Option, Some, None, List, [], ◌∷◌, ◌++◌, length, get_or, take, filter, refl, sym, ap, ◌∙◌, subst, arith, ◌⊎◌, inl, inr, w64}
 use Rattle.std.specs.Prelude.{bit_and, bit_or, if◌then◌else◌}
 use Rattle.std.specs.Int.{bit_at, bit_not, trailing_zeros}
 use Rattle.std.specs.List.{position, position_from}
@@ -142,6 +142,23 @@ module _ (nodes : List Node) (few : length nodes ≤ 32) where
         let at = is-at l b e in
         rw at.found (ap Some (turned-one at.place l.neg ∙ ap turned (sym at.value)));
   }
+
+  -- bits of two places are of two nodes
+  pub apart-nodes : (x y : Lit) (a b : ℕ) → bit_of nodes x ≡ Some a → bit_of nodes y ≡ Some b → not (a / 2 == b / 2) ≡ true
+      → same_node x.node y.node ≡ false
+  apart-nodes x y a b e f apart = go (same_node x.node y.node) refl
+    where
+      go : (t : Bool) → same_node x.node y.node ≡ t → t ≡ false
+      go false h = refl
+      go true h =
+          let p = is-at x a e in
+          let q = is-at y b f in
+          let same : Some p.place ≡ Some q.place =
+          sym p.found ∙ ap (λ (n : Node). position (λ m. same_node m n) nodes) (exact-node x.node y.node h) ∙ q.found in
+          let places : p.place ≡ q.place = same_Some p.place q.place same in
+          let halves : a / 2 ≡ b / 2 = omega (arith, p.value, q.value, places, sign-small x.neg, sign-small y.neg) in
+          let equal : (a / 2 == b / 2) ≡ true = grind (arith, nat_tests, halves) in
+          let k : false ≡ true = sym (ap not equal) ∙ apart in cc
 
 -- ---- words
 pub bits-none : (bit : Lit → Option ℕ) → AreBits bit [] 0

@@ -40,7 +40,7 @@ pub fn word_of(nodes: &[Node], lits: &[Lit]) -> Option<u64>
 }
 
 /// The bit of a literal.
-fn bit(nodes: &[Node], lit: Lit) -> Option<u32>
+pub fn bit(nodes: &[Node], lit: Lit) -> Option<u32>
     requires { length nodes.now ≤ 32 }
     ensures value { result ≡ bit_of nodes.now lit }
     ensures small { IfSome result (λ b. b < 64) }

@@ -1,4 +1,4 @@
-ghost use Rattle.std.specs.Prelude.{◌≡◌, ◌≤◌, ℕ, [], ◌∷◌, List, length, IfOk, IfSome};
+ghost use Rattle.std.specs.Prelude.{◌≡◌, ◌≤◌, ℕ, [], ◌∷◌, List, true, length, IfOk, IfSome};
 ghost use Rattle.std.specs.List.{find};
 ghost use Rattle.std.specs.Option.{option_copied};
 ghost use Rattle.lits.specs.Clause.{IsClause};
@@ -19,13 +19,16 @@ use std::alloc::{AllocError, Global};
 /// `unit_prop::scan`; none where a literal has no bit, or scanning comes to no end.
 ///
 /// Scanning asks a dozen clauses of three literals a dozen times for each merge. As words of bits a clause
-/// is judged in a few instructions; with sets of literals that was half of the pass.
+/// is judged in a few instructions; with sets of literals that was half of the pass. The hints are put
+/// together in the list given, and the step has one of just their length: a list that grows and then gives room
+/// back asks for memory three times.
 pub fn step_by_words(
     alloc: Global,
     nodes: &[Node],
     coded: &[Coded],
     one: Lit,
     other: Lit,
+    hints: &mut Vec<Ref>,
 ) -> Result<Option<Step>, AllocError>
     requires clause { IsClause same_lit opposite (one ∷ other ∷ []) }
     requires few { length nodes.now ≤ 32 }
@@ -36,47 +39,46 @@ pub fn step_by_words(
     let Some(marks) = marks_of(nodes, one, other) else {
         return Ok(None);
     };
-    match hints_from(alloc, coded, marks)? {
-        Some(hints) => Ok(Some(step_of(alloc, one, other, hints)?)),
-        None => Ok(None),
+    if hints_from(coded, marks, hints)? {
+        Ok(Some(step_of(alloc, one, other, hints)?))
+    } else {
+        Ok(None)
     }
 }
 
 /// The step of two literals and these hints.
-fn step_of(alloc: Global, one: Lit, other: Lit, hints: Vec<Ref>) -> Result<Step, AllocError>
+fn step_of(alloc: Global, one: Lit, other: Lit, hints: &[Ref]) -> Result<Step, AllocError>
     requires clause { IsClause same_lit opposite (one ∷ other ∷ []) }
-    ensures { IfOk result (λ s. (s.clause ≡ one ∷ other ∷ []) × (s.hints ≡ hints.items)) }
+    ensures { IfOk result (λ s. (s.clause ≡ one ∷ other ∷ []) × (s.hints ≡ hints.now)) }
 {
     let clause = Clause::from_slice(alloc, &[one, other])?;
-    let hints = Listed::of(hints);
+    let hints = Listed::of(Vec::from_slice(alloc, hints)?);
     Ok(Step { clause, hints })
 }
 
-/// The hints that scanning the clauses gives from the marks on; none where it comes to no end.
-fn hints_from(alloc: Global, coded: &[Coded], marks: Marks) -> Result<Option<Vec<Ref>>, AllocError>
-    ensures { IfOk result (λ r. IfSome r (λ hints.
-        (nodes : List Node) (base : List Named) (set : List Lit) → length nodes ≤ 32
+/// Takes the hints that scanning the clauses gives from the marks on, and tells whether it came to an end.
+fn hints_from(coded: &[Coded], marks: Marks, hints: &mut Vec<Ref>) -> Result<bool, AllocError>
+    ensures { IfOk result (λ b. b ≡ true
+        → (nodes : List Node) (base : List Named) (set : List Lit) → length nodes ≤ 32
         → AreCoded (bit_of nodes) base coded.now → AreMarks (bit_of nodes) set marks
-        → ScansTo base set hints.items)) }
+        → ScansTo base set hints.new.items) }
 {
     let mut marks = marks;
-    let mut hints = Vec::new(alloc);
+    hints.clear();
     for _ in 0..64 {
         match first_asking(coded, marks) {
-            None => return Ok(None),
+            None => return Ok(false),
             Some(clause) => {
                 hints.push(clause.by)?;
                 let open = marks.open(clause.word);
                 if open == 0 {
-                    // A book keeps the hints of each merge, so the room that they don't need is given back.
-                    hints.shrink_to_fit();
-                    return Ok(Some(hints));
+                    return Ok(true);
                 }
                 marks = marks.with(open.trailing_zeros());
             }
         }
     }
-    Ok(None)
+    Ok(false)
 }
 
 /// The first clause that asks for a hint.

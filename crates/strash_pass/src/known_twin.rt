@@ -34,6 +34,7 @@ pub fn merge_to_twin(
     ensures err { OnErr result (book.new ≡ book.old) }
 {
     laws::is_net(net);
-    let (roots, way) = roots_of(alloc, book, gate)?;
-    merge_twin(alloc, net, book, words, gate, twin, roots, way)
+    let mut way = Vec::new(alloc);
+    let roots = roots_of(book, gate, &mut way)?;
+    merge_twin(alloc, net, book, words, gate, twin, roots, &mut way)
 }

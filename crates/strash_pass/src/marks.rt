@@ -41,7 +41,7 @@ impl Marks {
 }
 
 /// The bit of the negation.
-fn turned(bit: u32) -> u32
+pub fn turned(bit: u32) -> u32
     requires { bit < 64 }
     ensures value { result ≡ turned bit }
     ensures small { result < 64 }

@@ -18,7 +18,7 @@ use crate::coded::Coded;
 use crate::hints::step_by_words;
 use crate::words::Words;
 use lemma_book::{Book, Entry};
-use lits::{Listed, Lit, Literal, Named, Node, Step};
+use lits::{Listed, Lit, Literal, Named, Node, Ref, Step};
 use netlist::Net;
 use std::alloc::{AllocError, Global};
 use unit_prop::scanned_step;
@@ -99,7 +99,14 @@ fn steps_by_words(
         (λ v. AreScanned (clauses_on net.now book.now.entries (nodes_in way.now)) node target v.items)) }
 {
     if words.gather(net, book, way, others)? {
-        both_by_words(alloc, &words.nodes, &words.coded, node, target)
+        both_by_words(
+            alloc,
+            &words.nodes,
+            &words.coded,
+            node,
+            target,
+            &mut words.hints,
+        )
     } else {
         Ok(None)
     }
@@ -113,6 +120,7 @@ fn both_by_words(
     coded: &[Coded],
     node: Node,
     target: Lit,
+    hints: &mut Vec<Ref>,
 ) -> Result<Option<Vec<Step>>, AllocError>
     requires few { length nodes.now ≤ 32 }
     requires apart { same_node target.node node ≡ false }
@@ -120,10 +128,10 @@ fn both_by_words(
         → AreScanned base node target v.items)) }
 {
     let lit = Lit { node, neg: false };
-    let Some(below) = step_by_words(alloc, nodes, coded, lit.not(), target)? else {
+    let Some(below) = step_by_words(alloc, nodes, coded, lit.not(), target, hints)? else {
         return Ok(None);
     };
-    let Some(above) = step_by_words(alloc, nodes, coded, lit, target.not())? else {
+    let Some(above) = step_by_words(alloc, nodes, coded, lit, target.not(), hints)? else {
         return Ok(None);
     };
     let mut steps = Vec::with_capacity(alloc, 2)?;

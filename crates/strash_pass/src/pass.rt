@@ -33,6 +33,7 @@ pub fn run(alloc: Global, net: &Net, book: &mut Book) -> Result<u64, AllocError>
     let mut pass = Pass {
         twins: Twins::new(alloc, net.positions() as usize)?,
         visited: 0,
+        way: Vec::new(alloc),
         words: Words::new(alloc),
     };
     visit_both(&mut pass, alloc, net, book)?;

@@ -17,11 +17,12 @@ use netlist::{Definition, Net};
 use std::alloc::{AllocError, Global};
 
 /// The gates that were visited and stay unmerged, by their fanins' roots, how many gates were visited, and
-/// room for the clauses that a merge stands on.
+/// room for a gate's way and for the clauses that a merge stands on.
 #[derive(Drop)]
 pub struct Pass {
     pub twins: Twins,
     pub visited: u64,
+    pub way: Vec<Lit>,
     pub words: Words,
 }
 
@@ -76,14 +77,32 @@ impl Pass {
         if book.is_merged(gate.node) {
             return Ok(());
         }
-        let (roots, way) = roots_of(alloc, book, gate)?;
+        let roots = roots_of(book, gate, &mut self.way)?;
         match folded(roots.left, roots.right) {
             Some(target) => {
-                merge_folded(alloc, net, book, &mut self.words, gate, roots, target, way)
+                merge_folded(
+                    alloc,
+                    net,
+                    book,
+                    &mut self.words,
+                    gate,
+                    roots,
+                    target,
+                    &mut self.way,
+                )
             },
             None => match self.twin(net, book, gate, roots)? {
                 Some(twin) => {
-                    merge_twin(alloc, net, book, &mut self.words, gate, twin, roots, way)
+                    merge_twin(
+                        alloc,
+                        net,
+                        book,
+                        &mut self.words,
+                        gate,
+                        twin,
+                        roots,
+                        &mut self.way,
+                    )
                 }
                 None => Ok(()),
             },
@@ -111,6 +130,7 @@ impl Pass {
         ensures noted { IfOk result (λ r. IfNone r
             (IsPass net.now book.now.entries self.new.twins (self.old.visited + 1))) }
         ensures visited { self.new.visited ≡ self.old.visited }
+        ensures way { self.new.way.items ≡ self.old.way.items }
     {
         let left = code_of(net, roots.left);
         let right = code_of(net, roots.right);
@@ -124,23 +144,19 @@ impl Pass {
     }
 }
 
-/// The roots of a gate's fanins, and its way: the gate, and the merged nodes that its fanins pass.
-pub fn roots_of(
-    alloc: Global,
-    book: &Book,
-    gate: Definition,
-) -> Result<(Pair, Vec<Lit>), AllocError>
-    ensures left { IfOk result (λ r. r.0.left ≡ root_of book.now.entries gate.left) }
-    ensures right { IfOk result (λ r. r.0.right ≡ root_of book.now.entries gate.right) }
-    ensures way { IfOk result (λ r. r.1.items ≡ (positive gate.node ∷ passed_by book.now.entries gate.left)
+/// The roots of a gate's fanins. The list gets its way: the gate, and the merged nodes that its fanins pass.
+pub fn roots_of(book: &Book, gate: Definition, way: &mut Vec<Lit>) -> Result<Pair, AllocError>
+    ensures left { IfOk result (λ r. r.left ≡ root_of book.now.entries gate.left) }
+    ensures right { IfOk result (λ r. r.right ≡ root_of book.now.entries gate.right) }
+    ensures way { OnOk result (way.new.items ≡ (positive gate.node ∷ passed_by book.now.entries gate.left)
         ++ passed_by book.now.entries gate.right) }
 {
-    let mut way = Vec::new(alloc);
+    way.clear();
     way.push(Lit {
         node: gate.node,
         neg: false,
     })?;
-    let left = book.root_by(gate.left, &mut way)?;
-    let right = book.root_by(gate.right, &mut way)?;
-    Ok((Pair { left, right }, way))
+    let left = book.root_by(gate.left, way)?;
+    let right = book.root_by(gate.right, way)?;
+    Ok(Pair { left, right })
 }

@@ -1,4 +1,4 @@
-ghost use Rattle.std.specs.Prelude.{◌≡◌, ◌++◌, Some, IfOk, OnOk, OnErr};
+ghost use Rattle.std.specs.Prelude.{◌≡◌, ◌++◌, Some, OnOk, OnErr};
 ghost use Rattle.netlist.specs.Net.{IsNet};
 ghost use Rattle.netlist.specs.Miter.{positive};
 ghost use Rattle.lemma_book.specs.Book.{IsLegal};
@@ -24,33 +24,28 @@ pub fn merge_folded(
     gate: Definition,
     roots: Pair,
     target: Lit,
-    way: Vec<Lit>,
+    way: &mut Vec<Lit>,
 ) -> Result<(), AllocError>
     requires net { IsNet net.now }
     requires legal { IsLegal net.now book.old }
     requires gate { HasGate net.now gate }
-    requires way { IsWay net.now book.old.entries way.items gate }
+    requires way { IsWay net.now book.old.entries way.old.items gate }
     requires left { roots.left ≡ root_of book.old.entries gate.left }
     requires right { roots.right ≡ root_of book.old.entries gate.right }
     requires folds { folded roots.left roots.right ≡ Some target }
     ensures legal { IsLegal net.now book.new }
     ensures ok { OnOk result (Merges net.now book.old book.new
-        (way.items ++ constant_among roots.left roots.right target) gate.node target) }
+        (way.old.items ++ constant_among roots.left roots.right target) gate.node target) }
     ensures err { OnErr result (book.new ≡ book.old) }
 {
-    let way = with_constant(way, roots.left, roots.right, target)?;
+    with_constant(way, roots.left, roots.right, target)?;
     let others = [gate.left, gate.right, roots.left, roots.right];
-    merge(alloc, net, book, words, gate.node, target, &way, &others)
+    merge(alloc, net, book, words, gate.node, target, way, &others)
 }
 
-/// The way with the constant, where one of the literals is it.
-fn with_constant(
-    mut way: Vec<Lit>,
-    left: Lit,
-    right: Lit,
-    target: Lit,
-) -> Result<Vec<Lit>, AllocError>
-    ensures { IfOk result (λ v. v.items ≡ way.items ++ constant_among left right target) }
+/// Puts the constant last on the way, where one of the literals is it.
+fn with_constant(way: &mut Vec<Lit>, left: Lit, right: Lit, target: Lit) -> Result<(), AllocError>
+    ensures { OnOk result (way.new.items ≡ way.old.items ++ constant_among left right target) }
 {
     if left.node == Node::Const || right.node == Node::Const || target.node == Node::Const {
         way.push(Lit {
@@ -58,7 +53,7 @@ fn with_constant(
             neg: false,
         })?;
     }
-    Ok(way)
+    Ok(())
 }
 
 /// Merges a gate to an earlier one over the same roots. The way has the gate and the merged nodes that
@@ -71,25 +66,24 @@ pub fn merge_twin(
     gate: Definition,
     twin: Definition,
     roots: Pair,
-    way: Vec<Lit>,
+    way: &mut Vec<Lit>,
 ) -> Result<(), AllocError>
     requires net { IsNet net.now }
     requires legal { IsLegal net.now book.old }
-    requires way { IsWay net.now book.old.entries way.items gate }
+    requires way { IsWay net.now book.old.entries way.old.items gate }
     requires twin { IsTwin net.now book.old.entries twin gate }
     ensures legal { IsLegal net.now book.new }
     ensures ok { OnOk result (Merges net.now book.old book.new
-        (way.items ++ way_of book.old.entries twin) gate.node (positive twin.node)) }
+        (way.old.items ++ way_of book.old.entries twin) gate.node (positive twin.node)) }
     ensures err { OnErr result (book.new ≡ book.old) }
 {
-    let mut way = way;
     let target = Lit {
         node: twin.node,
         neg: false,
     };
     way.push(target)?;
-    let _left = book.root_by(twin.left, &mut way)?;
-    let _right = book.root_by(twin.right, &mut way)?;
+    let _left = book.root_by(twin.left, way)?;
+    let _right = book.root_by(twin.right, way)?;
     let others = [
         gate.left,
         gate.right,
@@ -98,5 +92,5 @@ pub fn merge_twin(
         roots.left,
         roots.right,
     ];
-    merge(alloc, net, book, words, gate.node, target, &way, &others)
+    merge(alloc, net, book, words, gate.node, target, way, &others)
 }

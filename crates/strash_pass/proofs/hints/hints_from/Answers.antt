@@ -6,7 +6,7 @@ use Rattle.strash_pass.proofs.HintLemmas.{hinting-last, hinting-next, hinting-st
 use Rattle.strash_pass.proofs.hints.hints_from.Goals as goal
 
 pub loop-init : goal.loop-init
-loop-init c = λ nodes base set few coded are. rw c.new-hints.ensures.items (hinting-start (bit_of nodes) base set c.args.marks are)
+loop-init c = λ nodes base set few coded are. rw c.clear.ensures.items (hinting-start (bit_of nodes) base set c.args.marks are)
 
 pub loop-preserved : goal.loop-preserved
 loop-preserved c = λ nodes base set few coded are.
@@ -16,7 +16,7 @@ loop-preserved c = λ nodes base set few coded are.
     c.with-marks.ensures.yes c.with-marks.ensures.no c.with-marks.ensures.small)
 
 pub returns-then-open-eq0 : goal.returns-then-open-eq0
-returns-then-open-eq0 c = λ nodes base set few coded are.
-    rw (c.shrink_to_fit.ensures.items, c.in_ok-push-in-Some.ensures.items)
+returns-then-open-eq0 c = λ t nodes base set few coded are.
+    rw c.in_ok-push-in-Some.ensures.items
     (hinting-last (bit_of nodes) (numbering nodes few) base set c.loop.marks c.loop.hints.items (c.loop.invariant nodes base set few coded are) c.args.coded.now
     c.in-Some.clause.now coded (sym c.in-Some.ensures) (sym c.open-open.ensures ∙ c.if-open-eq0.true))

@@ -11,4 +11,4 @@ returns-clause-way c =
     ∙ ap (λ (l : List Lit). l ++ passed_by c.args.book.now.entries c.args.gate.right)
     (c.in_ok-left.ensures.passed
     ∙ ap (λ (l : List Lit). l ++ passed_by c.args.book.now.entries c.args.gate.left)
-    (c.in_ok-push.ensures.items ∙ ap (λ (l : List Lit). l ++ positive c.args.gate.node ∷ []) c.new-way.ensures.items))
+    (c.in_ok-push.ensures.items ∙ ap (λ (l : List Lit). l ++ positive c.args.gate.node ∷ []) c.clear.ensures.items))

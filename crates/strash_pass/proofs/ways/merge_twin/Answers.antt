@@ -15,7 +15,7 @@ merge-requires-clause-there c =
     (c.deref.ensures.value ∙ c.in_ok-_right.ensures.passed
     ∙ ap (λ (l : List Lit). l ++ passed_by c.args.book.now.entries c.args.twin.right)
     (c.in_ok-_left.ensures.passed ∙ ap (λ (l : List Lit). l ++ passed_by c.args.book.now.entries c.args.twin.left) c.in_ok-push.ensures.items)))
-    (twin-placed_all c.args.net.now c.args.book.now c.requires.legal c.requires.net c.args.way.items c.args.twin c.args.gate c.requires.twin c.requires.way))
+    (twin-placed_all c.args.net.now c.args.book.now c.requires.legal c.requires.net c.args.way.now.items c.args.twin c.args.gate c.requires.twin c.requires.way))
 
 pub merge-requires-clause-no_xors : goal.merge-requires-clause-no_xors
 merge-requires-clause-no_xors c =
@@ -23,15 +23,15 @@ merge-requires-clause-no_xors c =
     (c.deref.ensures.value ∙ c.in_ok-_right.ensures.passed
     ∙ ap (λ (l : List Lit). l ++ passed_by c.args.book.now.entries c.args.twin.right)
     (c.in_ok-_left.ensures.passed ∙ ap (λ (l : List Lit). l ++ passed_by c.args.book.now.entries c.args.twin.left) c.in_ok-push.ensures.items)))
-    (twin-placed_all c.args.net.now c.args.book.now c.requires.legal c.requires.net c.args.way.items c.args.twin c.args.gate c.requires.twin c.requires.way))
+    (twin-placed_all c.args.net.now c.args.book.now c.requires.legal c.requires.net c.args.way.now.items c.args.twin c.args.gate c.requires.twin c.requires.way))
 
 pub merge-requires-clause-placed : goal.merge-requires-clause-placed
 merge-requires-clause-placed c =
-    twin-placed c.args.net.now c.args.book.now c.requires.legal c.requires.net c.args.way.items c.args.twin c.args.gate c.requires.twin c.requires.way
+    twin-placed c.args.net.now c.args.book.now c.requires.legal c.requires.net c.args.way.now.items c.args.twin c.args.gate c.requires.twin c.requires.way
 
 pub merge-requires-clause-earlier : goal.merge-requires-clause-earlier
 merge-requires-clause-earlier c =
-    twin-earlier c.args.net.now c.args.book.now c.requires.legal c.requires.net c.args.way.items c.args.twin c.args.gate c.requires.twin c.requires.way
+    twin-earlier c.args.net.now c.args.book.now c.requires.legal c.requires.net c.args.way.now.items c.args.twin c.args.gate c.requires.twin c.requires.way
 
 pub merge-requires-clause-shows : goal.merge-requires-clause-shows
 merge-requires-clause-shows c =
@@ -39,7 +39,7 @@ merge-requires-clause-shows c =
     (c.deref.ensures.value ∙ c.in_ok-_right.ensures.passed
     ∙ ap (λ (l : List Lit). l ++ passed_by c.args.book.now.entries c.args.twin.right)
     (c.in_ok-_left.ensures.passed ∙ ap (λ (l : List Lit). l ++ passed_by c.args.book.now.entries c.args.twin.left) c.in_ok-push.ensures.items)))
-    (twin-way c.args.net.now c.args.book.now c.requires.legal c.requires.net c.args.way.items c.args.twin c.args.gate c.requires.twin c.requires.way)
+    (twin-way c.args.net.now c.args.book.now c.requires.legal c.requires.net c.args.way.now.items c.args.twin c.args.gate c.requires.twin c.requires.way)
 
 pub returns-clause-ok : goal.returns-clause-ok
 returns-clause-ok c =
@@ -49,8 +49,8 @@ returns-clause-ok c =
     let way_is =
     c.deref.ensures.value ∙ c.in_ok-_right.ensures.passed
     ∙ ap (λ (l : List Lit). l ++ right) (c.in_ok-_left.ensures.passed ∙ ap (λ (l : List Lit). l ++ left) c.in_ok-push.ensures.items)
-    ∙ append_assoc (c.args.way.items ++ positive c.args.twin.node ∷ []) left right
-    ∙ append_assoc c.args.way.items (positive c.args.twin.node ∷ []) (left ++ right) in
+    ∙ append_assoc (c.args.way.now.items ++ positive c.args.twin.node ∷ []) left right
+    ∙ append_assoc c.args.way.now.items (positive c.args.twin.node ∷ []) (left ++ right) in
     on_ok_weaker c.merge.result
     (λ m. subst (λ (l : List Lit). Merges c.args.net.now c.args.book.now c.merge.new.book l c.args.gate.node (positive c.args.twin.node)) way_is m)
     c.merge.ensures.ok

@@ -37,7 +37,7 @@ pub returns-in-Some-clause-grows : goal.returns-in-Some-clause-grows
 returns-in-Some-clause-grows c =
     let root = root-from (merge_of c.args.book.now.entries c.args.gate.node) c.is_merged.result c.is_merged.ensures c.if-is_merged.false in
     fold-grows c.args.net.now c.args.book.now c.merge_folded.new.book c.args.self.now.visited c.args.gate c.requires.gate root
-    c.in_ok-roots.roots.left c.in_ok-roots.roots.right c.in-Some.target c.in_ok-roots.way.items c.merge_folded.result c.in_ok-roots.ensures.way
+    c.in_ok-roots.roots.left c.in_ok-roots.roots.right c.in-Some.target c.roots_of.new.way.items c.merge_folded.result c.in_ok-roots.ensures.way
     c.in_ok-roots.ensures.left c.in_ok-roots.ensures.right (sym c.folded.ensures ∙ c.in-Some.is) c.merge_folded.ensures.ok c.merge_folded.ensures.err
 
 pub returns-in-Some-clause-pass : goal.returns-in-Some-clause-pass
@@ -52,7 +52,7 @@ merge_twin-requires-clause-way c =
     let es = c.args.book.now.entries in
     let gate = is-gate c.args.net.now c.requires.net c.args.self.now.visited c.args.gate c.requires.gate in
     let root = root-from (merge_of es c.args.gate.node) c.is_merged.result c.is_merged.ensures c.if-is_merged.false in
-    subst (λ (l : List Lit). IsWay c.args.net.now es l c.args.gate) (sym c.in_ok-roots.ensures.way)
+    subst (λ (l : List Lit). IsWay c.args.net.now es l c.args.gate) (sym (c.twin.ensures.way ∙ c.in_ok-roots.ensures.way))
     (way-of c.args.net.now c.args.book.now c.requires.legal [] tt c.args.self.now.visited c.args.gate gate root)
 
 pub returns-in-Some-2-clause-grows : goal.returns-in-Some-2-clause-grows
@@ -61,7 +61,7 @@ returns-in-Some-2-clause-grows c =
     let found = subst (λ (o : Option Definition). IfSome o (λ x. IsTwin c.args.net.now c.args.book.now.entries x c.args.gate
     × IsPass c.args.net.now c.args.book.now.entries c.twin.new.self.twins c.args.self.now.visited)) c.in-Some-2.is c.in_ok-twin-in-None.ensures.twin in
     twin-grows c.args.net.now c.args.book.now c.merge_twin.new.book c.args.self.now.visited c.args.gate c.requires.gate root
-    c.in-Some-2.twin c.in_ok-roots.way.items c.merge_twin.result c.requires.net c.in_ok-roots.ensures.way c.requires.pass.plain found.0
+    c.in-Some-2.twin c.twin.new.self.way.items c.merge_twin.result c.requires.net (c.twin.ensures.way ∙ c.in_ok-roots.ensures.way) c.requires.pass.plain found.0
     (ap (λ (x : Lit). folded x (root_of c.args.book.now.entries c.args.gate.right)) (sym c.in_ok-roots.ensures.left)
     ∙ ap (folded c.in_ok-roots.roots.left) (sym c.in_ok-roots.ensures.right) ∙ sym c.folded.ensures ∙ c.in-None.is)
     c.merge_twin.ensures.ok c.merge_twin.ensures.err
