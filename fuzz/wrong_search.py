@@ -4,7 +4,9 @@
 Usage: wrong_search.py [--runs N] [--seed N] [--edit NAME ..]
 
 For each file `wrong_search/NAME.edit` (its lines as in a must-fail edit) a program over a copy of the crates, in which `circuit_search`
-is changed so, checks the same random pairs, and so does one that isn't changed. The pairs are evaluated on every input here:
+is changed so, checks the same random pairs, and so does one that isn't changed. Edits whose names begin with `whole` are of the search
+of whole cones: pairs of nodes have a budget of one clause there, and the lazy search is given no output, so that all that is left open
+comes to it. The pairs are evaluated on every input here:
 EQUIVALENT must be true, and DIFFERENT must name an output and an input on which it differs. A proposal that the lemma book refuses may
 cost a query of the whole cone, and may leave a pair undecided, but that is all. Nothing is proved here: the contract of
 `circuit_search`, that an entry is good, is what this shows at work. Prints a line for each program; status 1 where anything is wrong.
@@ -25,6 +27,9 @@ from pairs import evaluated, random_circuit, rewritten, text
 from rounds import SEED
 
 EDITS = Path(__file__).resolve().parent / "wrong_search"
+LAZY = ("self.engine.output_by_equalities(alloc, net, output, caps)?", "None::<Entry>")
+BUDGET = ("sweep_budget: 1000", "sweep_budget: 1")
+AS_IT_IS = ("as it is", "whole as it is")
 USES = ["check_session", "desk_port", "aiger_file", "lemma_book"]
 
 
@@ -77,10 +82,21 @@ def changed(crates, edit):
     replaced(crates / "circuit_search" / said["file"], said["old"], said["new"])
 
 
+def is_whole(name):
+    """Whether an edit is of the search of whole cones."""
+    return name.startswith("whole")
+
+
 def answers(name, lines):
     """What the program with this edit, or with none, says of the pairs."""
-    change = (lambda crates: changed(crates, EDITS / f"{name}.edit")) if name else None
-    return runner.answers("checks", USES, lines, change).splitlines()
+
+    def change(crates):
+        if is_whole(name):
+            replaced(crates / "circuit_search" / "src/search.rt", *LAZY)
+        if name not in AS_IT_IS:
+            changed(crates, EDITS / f"{name}.edit")
+
+    return runner.answers("checks", USES, lines, change, [BUDGET] if is_whole(name) else []).splitlines()
 
 
 def main():
@@ -94,7 +110,7 @@ def main():
         return 0
     made = list(pairs(random.Random(asked.seed), asked.runs))
     lines = ["\t".join(text(circuit).replace("\n", ";") for circuit in pair) for pair in made]
-    names = [None, *asked.edit]
+    names = [*AS_IT_IS, *asked.edit]
     with ThreadPoolExecutor(2) as workers:
         said = dict(zip(names, workers.map(lambda name: answers(name, lines), names)))
     wrong = 0
@@ -102,8 +118,8 @@ def main():
         faults = [(fault_in(answer, *pair), line) for answer, pair, line in zip(said[name], made, lines)]
         faults = [(fault, line) for fault, line in faults if fault] + [("no answer", line) for line in lines[len(said[name]):]]
         found = dict(Counter(answer.split()[0] for answer in said[name] if answer))
-        others = sum(one != other for one, other in zip(said[name], said[None]))
-        print(f"{name or 'as it is'}: {found}, {others} other answers or books than as it is, {len(faults)} wrong")
+        others = sum(one != other for one, other in zip(said[name], said[AS_IT_IS[is_whole(name)]]))
+        print(f"{name}: {found}, {others} other answers or books than as it is, {len(faults)} wrong")
         for fault, line in faults:
             print(f"  {fault}: {line}")
         wrong += len(faults)

@@ -55,12 +55,14 @@ impl Engine {
         })
     }
 
-    /// Reads what is new in the book.
-    pub(crate) fn catch_up(&mut self, net: &Net, book: &Book) {
-        if self.merges.catch_up(net, book) {
+    /// Reads what is new in the book. Whether it is another book than before.
+    pub(crate) fn catch_up(&mut self, net: &Net, book: &Book) -> bool {
+        let is_other = self.merges.catch_up(net, book);
+        if is_other {
             self.equalities.forget();
             self.is_equated = false;
         }
+        is_other
     }
 
     /// Forgets the query before, and begins one. The constant is true.

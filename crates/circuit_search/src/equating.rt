@@ -118,6 +118,6 @@ impl Engine {
 }
 
 /// Whether some circuit has a constraint.
-fn has_constraints(net: &Net) -> bool {
+pub(crate) fn has_constraints(net: &Net) -> bool {
     !net.circuit(Side::A).constraints().is_empty() || !net.circuit(Side::B).constraints().is_empty()
 }

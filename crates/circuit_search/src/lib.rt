@@ -53,3 +53,4 @@ mod trail;
 mod variables;
 mod visits;
 mod watches;
+mod whole;

@@ -6,6 +6,7 @@ ghost use Rattle.circuit_search.specs.Answer.{CountsDropped, CountsRefused, Find
 use crate::caps::Caps;
 use crate::engine::Engine;
 use crate::judged::judged;
+use crate::whole::Whole;
 use lemma_book::{Book, Entry, Judge, Task};
 use netlist::Net;
 use std::alloc::{AllocError, Global};
@@ -14,6 +15,7 @@ use std::alloc::{AllocError, Global};
 /// from query to query.
 pub struct Search {
     engine: Engine,
+    whole: Whole,
     judge: Judge,
     dropped: u64,
 }
@@ -23,6 +25,7 @@ impl Drop for Search {
     fn drop(self) {
         let Search {
             engine: _,
+            whole: _,
             judge: _,
             dropped: _,
         } = self;
@@ -36,6 +39,7 @@ impl Search {
     {
         Ok(Search {
             engine: Engine::of(alloc, net)?,
+            whole: Whole::new(alloc),
             judge: Judge::new(alloc),
             dropped: 0,
         })
@@ -63,7 +67,7 @@ impl Search {
         ensures counted { IfOk result (CountsDropped self.old.dropped self.new.dropped) }
         ensures err { OnErr result (self.new.dropped ≡ self.old.dropped) }
     {
-        self.engine.catch_up(net, book);
+        self.catch_up(net, book);
         match self.engine.pair(alloc, net, task, caps)? {
             Some(entry) => self.judged(alloc, net, book, entry),
             None => Ok(None),
@@ -85,10 +89,37 @@ impl Search {
         ensures counted { IfOk result (CountsDropped self.old.dropped self.new.dropped) }
         ensures err { OnErr result (self.new.dropped ≡ self.old.dropped) }
     {
-        self.engine.catch_up(net, book);
-        match self.engine.output_by_equalities(alloc, net, output, caps)? {
+        self.catch_up(net, book);
+        match self.proposed(alloc, net, output, caps)? {
             Some(entry) => self.judged(alloc, net, book, entry),
             None => Ok(None),
+        }
+    }
+
+    /// The entry that is proposed for an output: the lazy search's, else that of the whole cone's.
+    fn proposed(
+        &mut self,
+        alloc: Global,
+        net: &Net,
+        output: u32,
+        caps: Caps,
+    ) -> Result<Option<Entry>, AllocError>
+        ensures found { IfOk result (λ o. IfSome o (SettlesOutput output)) }
+        ensures counted { self.new.dropped ≡ self.old.dropped }
+    {
+        if let Some(entry) = self.engine.output_by_equalities(alloc, net, output, caps)? {
+            return Ok(Some(entry));
+        }
+        self.whole
+            .output(alloc, net, &self.engine.merges, output, caps)
+    }
+
+    /// Reads what is new in the book.
+    fn catch_up(&mut self, net: &Net, book: &Book)
+        ensures { self.new.dropped ≡ self.old.dropped }
+    {
+        if self.engine.catch_up(net, book) {
+            self.whole.begin_anew();
         }
     }
 

@@ -131,7 +131,7 @@ impl Engine {
 }
 
 /// The node at a position.
-fn node_at(net: &Net, position: u32) -> Node {
+pub(crate) fn node_at(net: &Net, position: u32) -> Node {
     if position < net.positions() {
         net.node(position)
     } else {

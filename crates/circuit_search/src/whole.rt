@@ -1,0 +1,335 @@
+ghost use Rattle.std.specs.Prelude.{IfOk, IfSome};
+ghost use Rattle.circuit_search.specs.Answer.{SettlesOutput};
+
+use crate::caps::Caps;
+use crate::equating::has_constraints;
+use crate::merges::{Merges, lit_code};
+use crate::table::{at, count, mark};
+use crate::whole::analysis::Analysis;
+use crate::whole::nodes::Nodes;
+use crate::whole::order::Order;
+use crate::whole::query::Answer;
+use crate::whole::restarts::Restarts;
+use crate::whole::store::{Name, Store};
+use crate::whole::trail::Trail;
+use crate::whole::watches::Watches;
+use lemma_book::Entry;
+use lits::{Listed, Side};
+use netlist::Net;
+use std::alloc::{AllocError, Global};
+
+mod analysis;
+mod cone;
+mod nodes;
+mod order;
+mod propagation;
+mod query;
+mod restarts;
+mod steps;
+mod store;
+mod trail;
+mod watches;
+
+/// How many conflicts an output's search may have in vain: what shows a pair equal counts for nothing, since it
+/// stays. Where pairs aren't shown equal this search is no better than the query, whose steps nobody judges.
+const VAIN: u64 = 2000;
+
+/// How far the search for one equality goes, and then those for what is left.
+const PASSES: [u64; 2] = [1000, 10000];
+
+/// How many nodes of cones are visited in the time of a conflict.
+const VISITS: u64 = 1000;
+
+/// How many words clauses and hints take before all is forgotten.
+const KEPT: usize = 4_000_000;
+
+/// How many outputs may fail before the search isn't asked any more.
+const MISSES: u32 = 2;
+
+/// A search of whole cones that keeps what it learns from pair to pair and from output to output.
+///
+/// It is for outputs that the lazy search leaves. Pairs of the output's cone that the book leaves open are
+/// searched first, since what they show makes those above them easy; pairs that fail are asked again, with more
+/// conflicts. The solver drops and shortens what it learns, as good ones do: hints are kept all the while, in
+/// the order of the trail.
+#[derive(Drop)]
+pub(crate) struct Whole {
+    nodes: Nodes,
+    /// How many variables there are.
+    variables: u32,
+    store: Store,
+    watches: Watches,
+    trail: Trail,
+    order: Order,
+    restarts: Restarts,
+    analysis: Analysis,
+    /// The number of the query.
+    query: u32,
+    /// The variables of its cone.
+    cone: Vec<u32>,
+    /// What is still to be visited.
+    pending: Vec<u32>,
+    /// A clause while it is added.
+    added: Vec<u32>,
+    /// What pairs are searched, or which clauses a proof needs.
+    listed: Vec<u32>,
+    /// The clauses that may be dropped.
+    keys: Vec<u64>,
+    /// How many codes of level 0 have their units as reasons.
+    explained: u32,
+    /// How many clauses were learned since some were dropped.
+    lessons: u32,
+    /// How many outputs failed.
+    misses: u32,
+}
+
+/// What was found out of two codes.
+#[derive(Clone, Copy)]
+enum Found {
+    /// They have one value, by the clauses of these numbers.
+    Equal(u32, u32),
+    Apart,
+    Open,
+}
+
+impl Whole {
+    /// Before the first output: no tables yet.
+    pub(crate) fn new(alloc: Global) -> Whole {
+        Whole {
+            nodes: Nodes::new(alloc),
+            variables: 0,
+            store: Store::new(alloc),
+            watches: Watches::new(alloc),
+            trail: Trail::new(alloc),
+            order: Order::new(alloc),
+            restarts: Restarts::new(),
+            analysis: Analysis::new(alloc),
+            query: 0,
+            cone: Vec::new(alloc),
+            pending: Vec::new(alloc),
+            added: Vec::new(alloc),
+            listed: Vec::new(alloc),
+            keys: Vec::new(alloc),
+            explained: 0,
+            lessons: 0,
+            misses: 0,
+        }
+    }
+
+    /// Forgets all.
+    pub(crate) fn forget(&mut self) {
+        self.nodes.clear();
+        self.variables = 0;
+        self.store.clear();
+        self.watches.clear();
+        self.trail.clear();
+        self.order.clear();
+        self.analysis.clear();
+        self.explained = 0;
+        self.lessons = 0;
+    }
+
+    /// Forgets all of another book.
+    pub(crate) fn begin_anew(&mut self) {
+        self.forget();
+        self.misses = 0;
+    }
+
+    /// The entry that is proposed for an output.
+    pub(crate) fn output(
+        &mut self,
+        alloc: Global,
+        net: &Net,
+        merges: &Merges,
+        output: u32,
+        caps: Caps,
+    ) -> Result<Option<Entry>, AllocError>
+        ensures { IfOk result (λ o. IfSome o (SettlesOutput output)) }
+    {
+        let Some(codes) = codes_of(net, output) else {
+            return Ok(None);
+        };
+        if self.misses >= MISSES {
+            return Ok(None);
+        }
+        self.prepare(net)?;
+        match self.settle(net, merges, codes, caps.conflicts.min(VAIN))? {
+            Found::Equal(there, back) => self.out(alloc, net, output, (there, back)),
+            Found::Apart => self.out_apart(alloc, net, merges, output),
+            Found::Open => {
+                self.misses = self.misses.saturating_add(1);
+                Ok(None)
+            }
+        }
+    }
+
+    /// Makes the tables that aren't there yet, and forgets what has grown too large.
+    fn prepare(&mut self, net: &Net) -> Result<(), AllocError> {
+        self.nodes.prepare(net.positions())?;
+        if self.store.size() > KEPT {
+            self.forget();
+        }
+        if self.variables == 0 {
+            let constant = self.code(0)?;
+            self.add_base(&[constant], Name::Axiom(0, 0))?;
+        }
+        self.begin_output()
+    }
+
+    /// Asks whether two codes have one value, after the pairs that are open in their cone: with few conflicts
+    /// for each, and then again with more for those that are left.
+    fn settle(
+        &mut self,
+        net: &Net,
+        merges: &Merges,
+        codes: (u32, u32),
+        conflicts: u64,
+    ) -> Result<Found, AllocError> {
+        let mut left = conflicts;
+        for most in PASSES {
+            self.equate(net, merges, codes, most, &mut left)?;
+            let found = self.compare(net, merges, codes, most, &mut left)?;
+            match found {
+                Found::Open => {}
+                _ => return Ok(found),
+            }
+            if left == 0 {
+                return Ok(Found::Open);
+            }
+        }
+        Ok(Found::Open)
+    }
+
+    /// Searches for why the open pairs in a cone are equal, from the inputs up, but for those that failed with
+    /// so many conflicts.
+    fn equate(
+        &mut self,
+        net: &Net,
+        merges: &Merges,
+        codes: (u32, u32),
+        most: u64,
+        left: &mut u64,
+    ) -> Result<(), AllocError> {
+        self.enter(net, merges, codes)?;
+        self.list_open(merges, most)?;
+        for place in 0..count(self.listed.len()) {
+            let position = at(&self.listed, place);
+            if let Some(target) = merges.open(position) {
+                self.equate_pair(net, merges, position, target, most, left)?;
+            }
+            if *left == 0 {
+                return Ok(());
+            }
+        }
+        Ok(())
+    }
+
+    /// Lists the positions of the cone whose pairs are open, in order.
+    fn list_open(&mut self, merges: &Merges, most: u64) -> Result<(), AllocError> {
+        self.listed.clear();
+        for var in self.cone.as_slice() {
+            let node = self.nodes.get(*var);
+            if node.equal == 0 && node.tried < most && merges.open(node.position).is_some() {
+                self.listed.push(node.position)?;
+            }
+        }
+        self.listed.as_mut_slice().sort_unstable();
+        Ok(())
+    }
+
+    /// Searches for why a node is equal to a code.
+    fn equate_pair(
+        &mut self,
+        net: &Net,
+        merges: &Merges,
+        position: u32,
+        target: u32,
+        most: u64,
+        left: &mut u64,
+    ) -> Result<(), AllocError> {
+        let code = position.wrapping_mul(2);
+        let found = self.compare(net, merges, (code, target), most, left)?;
+        let var = self.code(code)? / 2;
+        let mut node = self.nodes.get(var);
+        match found {
+            Found::Equal(_, _) => node.equal = target.saturating_add(1),
+            Found::Apart => node.tried = u64::MAX,
+            Found::Open => node.tried = most,
+        }
+        self.nodes.set(var, node);
+        Ok(())
+    }
+
+    /// Asks whether two codes of positions have one value, with so many conflicts of those that are left. What
+    /// it takes in vain is taken from these, and so is a conflict for each thousand nodes of its cone.
+    fn compare(
+        &mut self,
+        net: &Net,
+        merges: &Merges,
+        codes: (u32, u32),
+        most: u64,
+        left: &mut u64,
+    ) -> Result<Found, AllocError> {
+        let granted = most.min(*left);
+        let mut few = granted;
+        self.enter(net, merges, codes)?;
+        let found = self.compare_cone(codes, &mut few)?;
+        let visits = u64::from(count(self.cone.len())) / VISITS;
+        let spent = match found {
+            Found::Open => granted.saturating_sub(few).saturating_add(visits),
+            _ => visits,
+        };
+        *left = left.saturating_sub(spent);
+        Ok(found)
+    }
+
+    /// Asks whether two codes have one value, whose cone is there.
+    fn compare_cone(&mut self, codes: (u32, u32), left: &mut u64) -> Result<Found, AllocError> {
+        let first = self.code(codes.0)?;
+        let second = self.code(codes.1)?;
+        if first / 2 == second / 2 {
+            return Ok(Found::Open);
+        }
+        match self.ask((first ^ 1, second), left)? {
+            Answer::Shown(there) => match self.ask((first, second ^ 1), left)? {
+                Answer::Shown(back) => Ok(Found::Equal(there, back)),
+                Answer::Possible => Ok(Found::Apart),
+                Answer::Open => Ok(Found::Open),
+            },
+            Answer::Possible => Ok(Found::Apart),
+            Answer::Open => Ok(Found::Open),
+        }
+    }
+
+    /// The entry of an output that differs on the inputs that the trail has. None under constraints, which
+    /// this search doesn't know.
+    fn out_apart(
+        &self,
+        alloc: Global,
+        net: &Net,
+        merges: &Merges,
+        output: u32,
+    ) -> Result<Option<Entry>, AllocError>
+        ensures { IfOk result (λ o. IfSome o (SettlesOutput output)) }
+    {
+        if has_constraints(net) {
+            return Ok(None);
+        }
+        let mut input = vec![in alloc; false; net.circuit(Side::A).inputs().len()]?;
+        for code in self.trail.since(0) {
+            let position = self.nodes.get(*code / 2).position;
+            if *code & 1 == 0 && merges.is_input(position) {
+                let _was = mark(&mut input, position.wrapping_sub(1), true);
+            }
+        }
+        let input = Listed::of(input);
+        Ok(Some(Entry::OutApart { output, input }))
+    }
+}
+
+/// The codes of both circuits' output.
+fn codes_of(net: &Net, output: u32) -> Option<(u32, u32)> {
+    let first = lit_code(net, net.output(Side::A, output)?)?;
+    let second = lit_code(net, net.output(Side::B, output)?)?;
+    Some((first, second))
+}
