@@ -60,7 +60,7 @@ subject-output (Out k steps) j is = let same : k ≡ j = cc in ap (λ (i : ℕ).
 subject-output (OutApart k input) j is = let same : k ≡ j = cc in ap (λ (i : ℕ). Some (Output i)) same
 subject-output (OutSpent k seen log) j is = let same : k ≡ j = cc in ap (λ (i : ℕ). Some (Output i)) same
 
-own-answer : (q : Question) (e : Entry) → question_of e ≡ q → IsAnswerTo q e
+pub own-answer : (q : Question) (e : Entry) → question_of e ≡ q → IsAnswerTo q e
 own-answer (OfPair node lit) e is = inl is
 own-answer (OfOutput j) e is = subject-output e j is
 

@@ -6,3 +6,4 @@ mod ClosedLemmas
 mod OnceLemmas
 mod AnswerLemmas
 mod PartLemmas
+mod AloneLemmas

@@ -112,7 +112,7 @@ offer-in : (e : Entry) (o : Offered) (p : ℕ) → offers (note_of p (said_of e 
 offer-in e (offered.At i) p = refl
 offer-in e (offered.Already i) p = refl
 
-sees-more : (n : ℕ) (book : Entries) (a : Answer) → n ≤ length book.entries → SeesAllOf book a → sees n a ≡ true
+pub sees-more : (n : ℕ) (book : Entries) (a : Answer) → n ≤ length book.entries → SeesAllOf book a → sees n a ≡ true
 sees-more n book (Equal steps) some all = refl
 sees-more n book (Differ input) some all = refl
 sees-more n book (Open seen log) some all = grind (arith, nat_tests)

@@ -4,11 +4,11 @@
 //! these pairs from a board, settle them and offer the entries. `outputs` does the same for the outputs that
 //! have no entry. Each worker is a thread with a pass of the board, a search and a solver of its own; all
 //! share the book, through the board, and one sieve. A worker settles over the book that it has seen, and
-//! looks at it again before its next task.
+//! looks at it again before its next task. Where little is asked, one worker does so alone, without a board.
 //!
-//! Whatever order they run in, the book is legal, begins as before, and has an entry for what was asked:
-//! each number below that of the tasks was drawn once, and the entry that its worker offered is in the book,
-//! or one that settles it. After `sweep` the book is reduced over the patterns, to which the counterexamples'
+//! Whatever order they run in, the book is legal, begins as before, and has an entry for what was asked: of the
+//! tasks on a board each number was drawn once, and the entry that its worker offered is in the book, or one
+//! that settles it. After `sweep` the book is reduced over the patterns, to which the counterexamples'
 //! inputs were added; after `outputs` each output has an entry, and a query that spent its budget saw at
 //! least the book before.
 //!
@@ -16,15 +16,16 @@
 //!
 //! Definitions: `specs/Swept.antt` (what the two calls leave), `specs/Answered.antt` (what a round leaves),
 //! `specs/Asked.antt` (its questions); `specs/Working.antt` says what a worker's pass shows. Begin to read at
-//! `rounds.rt`, then `open_outputs.rt`, `round.rt`, `fan.rt`, `work.rt` and `worker.rt`; `calls.rt` has the
+//! `rounds.rt`, then `open_outputs.rt`, `round.rt`, `alone.rt`, `fan.rt`, `work.rt` and `worker.rt`; `calls.rt` has the
 //! calls that begin with solvers.
 #![tactic(auto)]
 
 pub use calls::{outputs, sweep};
 pub use open_outputs::outputs_by;
 pub use rounds::{Swept, sweep_by};
-pub use worker::Worker;
+pub use worker::{Tally, Worker};
 
+mod alone;
 mod asked;
 mod calls;
 mod fan;

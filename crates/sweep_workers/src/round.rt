@@ -1,4 +1,4 @@
-ghost use Rattle.std.specs.Prelude.{◌≡◌, ◌≤◌, length, IfOk};
+ghost use Rattle.std.specs.Prelude.{◌≡◌, ◌≤◌, drop, length, IfOk};
 ghost use Rattle.std.specs.List.{AllByRecursion};
 ghost use Rattle.lemma_book.specs.Book.{IsLegal};
 ghost use Rattle.sweep_workers.specs.Asked.{IsAskable, questions};
@@ -6,6 +6,7 @@ ghost use Rattle.board_lock.specs.Pass.{IsWholePass};
 ghost use Rattle.sweep_workers.specs.Answered.{AreAnswered};
 ghost use Rattle.sweep_workers.specs.Working.{IsRound, Works};
 
+use crate::alone::{effort_alone, settle_alone};
 use crate::asked::Asked;
 use crate::fan::fan_out;
 use crate::work::Round;
@@ -20,8 +21,8 @@ use std::sync::{Mutex, Wait};
 use std::thread::Threads;
 use unit_prop::Refuter;
 
-/// Lets workers answer what is asked, no more of them than there are questions. Where nothing is asked the book is
-/// given back: a board would take copies of it.
+/// Lets workers answer what is asked: one of them begins alone where a board would cost more than that, and
+/// what it leaves is shared out.
 pub(crate) fn round<T: Threads + Wait + Sync, R: Refuter + Send, G: Gate + Sync>(
     rt: &T,
     alloc: Global,
@@ -37,9 +38,43 @@ pub(crate) fn round<T: Threads + Wait + Sync, R: Refuter + Send, G: Gate + Sync>
     requires some { 1 ≤ length workers.old }
     ensures { IfOk result (λ r. AreAnswered net.now (questions tasks.items) book r.0) }
 {
-    if tasks.is_empty() {
+    let effort = effort_alone(book.len(), tasks.len(), workers.len());
+    let all = tasks.as_slice();
+    let first = &mut workers[0];
+    let (book, settled) = settle_alone(rt, alloc, net, book, all, &sieve, gate, first, effort)?;
+    if settled >= tasks.len() {
         return Ok((book, sieve));
     }
+    let rest = behind(tasks, settled)?;
+    share_out(rt, alloc, net, book, rest, sieve, gate, workers)
+}
+
+/// The tasks from a place on.
+fn behind(tasks: Vec<Asked>, settled: usize) -> Result<Vec<Asked>, AllocError>
+    requires { settled ≤ length tasks.items }
+    ensures { IfOk result (λ v. v.items ≡ drop settled tasks.items) }
+{
+    let mut tasks = tasks;
+    tasks.split_off(settled)
+}
+
+/// Lets workers answer what is asked over a board, no more of them than there are questions.
+fn share_out<T: Threads + Wait + Sync, R: Refuter + Send, G: Gate + Sync>(
+    rt: &T,
+    alloc: Global,
+    net: &Net,
+    book: Book,
+    tasks: Vec<Asked>,
+    sieve: Mutex<Sieve>,
+    gate: &G,
+    workers: &mut [Worker<R>],
+) -> Result<(Book, Mutex<Sieve>), AllocError>
+    requires legal { IsLegal net.now book }
+    requires askable { AllByRecursion (IsAskable net.now) tasks.items }
+    requires asked { 1 ≤ length tasks.items }
+    requires some { 1 ≤ length workers.old }
+    ensures { IfOk result (λ r. AreAnswered net.now (questions tasks.items) book r.0) }
+{
     match Board::open(alloc, net, book, tasks.len() as u64) {
         Ok((board, pass)) => {
             let many = workers.len().min(tasks.len());

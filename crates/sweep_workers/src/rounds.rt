@@ -86,10 +86,20 @@ fn settle_due<T: Threads + Wait + Sync, R: Refuter + Send, G: Gate + Sync>(
     let part = now.as_slice();
     let tasks = pairs(alloc, part)?;
     let known = book.len();
+    note_round(workers);
     let (book, sieve) = round(rt, alloc, net, book, tasks, sieve, gate, workers)?;
     let mut pool = pool;
     join_inputs(net, &book, known, &mut pool)?;
     Ok(Swept { book, pool, sieve })
+}
+
+/// Lets the first worker count one more round.
+fn note_round<R: Refuter + Send>(workers: &mut [Worker<R>])
+    ensures { length workers.new ≡ length workers.old }
+{
+    if let Some(first) = workers.get_mut(0) {
+        first.note_round();
+    }
 }
 
 /// Those of the pairs that are marked, in order.

@@ -17,6 +17,17 @@ use std::alloc::{AllocError, Global};
 use std::sync::{Mutex, Wait};
 use unit_prop::Refuter;
 
+/// What a worker counted. Nothing is claimed of the numbers.
+#[derive(Clone, Copy)]
+pub struct Tally {
+    /// The rounds of a sweep, which the first of the workers counts.
+    pub rounds: u64,
+    /// The merges that the search found.
+    pub by_search: u64,
+    /// The merges that a query of the whole cone found.
+    pub by_cone: u64,
+}
+
 /// One worker's memory, kept from round to round: its search, its solver for queries of whole cones, and the
 /// judge of what patterns tell apart.
 ///
@@ -27,6 +38,7 @@ pub struct Worker<R: Refuter> {
     search: Option<Search>,
     judge: Judge,
     refuter: R,
+    tally: Tally,
 }
 
 // Written out, so that a drop is one call and not one for each field at each exit of a function.
@@ -37,6 +49,7 @@ impl<R: Refuter> Drop for Worker<R> {
             search: _,
             judge: _,
             refuter: _,
+            tally: _,
         } = self;
     }
 }
@@ -49,6 +62,11 @@ impl<R: Refuter + Send> Worker<R> {
             search: None,
             judge: Judge::new(alloc),
             refuter,
+            tally: Tally {
+                rounds: 0,
+                by_search: 0,
+                by_cone: 0,
+            },
         }
     }
 
@@ -59,8 +77,19 @@ impl<R: Refuter + Send> Worker<R> {
             search: _,
             judge: _,
             refuter,
+            tally: _,
         } = self;
         refuter
+    }
+
+    /// What the worker counted.
+    pub fn tally(&self) -> Tally {
+        self.tally
+    }
+
+    /// Counts one more round.
+    pub(crate) fn note_round(&mut self) {
+        self.tally.rounds = self.tally.rounds.saturating_add(1);
     }
 
     /// The number by which gates know the worker.
@@ -158,8 +187,15 @@ impl<R: Refuter + Send> Worker<R> {
         let caps = pair_caps(seen.sweep_budget());
         let search = made(&mut self.search, alloc, net)?;
         match search.pair(alloc, net, seen, task, caps)? {
-            Some(entry) => Ok(entry),
-            None => cone_query::pair(alloc, net, seen, task, &mut self.refuter),
+            Some(entry) => {
+                count_merge(&mut self.tally.by_search, &entry);
+                Ok(entry)
+            }
+            None => {
+                let entry = cone_query::pair(alloc, net, seen, task, &mut self.refuter)?;
+                count_merge(&mut self.tally.by_cone, &entry);
+                Ok(entry)
+            }
         }
     }
 
@@ -188,6 +224,13 @@ impl<R: Refuter + Send> Worker<R> {
             Some(entry) => Ok(entry),
             None => cone_query::output(alloc, net, seen, output, &mut self.refuter),
         }
+    }
+}
+
+/// Counts the entry, if it is a merge.
+fn count_merge(count: &mut u64, entry: &Entry) {
+    if let Entry::Merge { .. } = entry {
+        *count = count.saturating_add(1);
     }
 }
 

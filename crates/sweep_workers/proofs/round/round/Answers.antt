@@ -1,33 +1,22 @@
-use Rattle.std.proofs.Common.{◌≡◌, ◌==◌, ℕ, length, ap, sym, subst, IfOk, arith, ◌∙◌}
-use Rattle.board_lock.specs.Story.{Root}
+-- What one worker settles, and then the others.
+use Rattle.std.proofs.Common.{List, take, subst}
+use Rattle.sweep_workers.specs.declared.asked.Asked.{Asked}
 use Rattle.sweep_workers.specs.Asked.{questions}
 use Rattle.sweep_workers.specs.Answered.{AreAnswered}
-use Rattle.sweep_workers.proofs.WorkLemmas.{round-begun, works-begun, whole-begun}
-use Rattle.sweep_workers.proofs.AnswerLemmas.{none-items}
-use Rattle.sweep_workers.proofs.ClosedLemmas.{answered-none}
+use Rattle.sweep_workers.proofs.AnswerLemmas.{if-ok}
+use Rattle.sweep_workers.proofs.AloneLemmas.{answered-rest, askable-rest}
 use Rattle.sweep_workers.proofs.round.round.Goals as goal
 
-pub settle_round-requires-clause-round : goal.settle_round-requires-clause-round
-settle_round-requires-clause-round g c κs lives =
-    round-begun c.args.net.now c.args.book c.in-Ok.board c.args.tasks.items _ c.in-Ok.ensures.root c.in-Ok.ensures.tasks
-    (omega (arith, c.len.ensures, c.args.tasks.ok.0))
-    c.requires.askable
+pub returns : goal.returns
+returns g c =
+    if-ok c.share_out.result (λ r. AreAnswered c.args.net.now (questions c.in_ok-rest.rest.items) c.in_ok-book.book r.0)
+    (λ r. AreAnswered c.args.net.now (questions c.args.tasks.items) c.args.book r.0) c.share_out.ensures
+    (λ r done. answered-rest c.args.net.now c.args.tasks.items c.in_ok-rest.rest.items c.in_ok-book.settled c.args.book c.in_ok-book.book r.0
+    c.in_ok-rest.ensures
+    (subst (λ (ts : List Asked). AreAnswered c.args.net.now (questions (take c.in_ok-book.settled ts)) c.args.book c.in_ok-book.book)
+    c.as_slice-all.ensures.value c.in_ok-book.ensures.answered)
+    done)
 
-pub settle_round-requires-clause-works : goal.settle_round-requires-clause-works
-settle_round-requires-clause-works g c κs lives =
-    works-begun c.args.net.now c.args.book c.in-Ok.board (questions c.args.tasks.items) c.in-Ok.pass c.in-Ok.ensures.root c.in-Ok.ensures.pass
-    c.requires.legal
-
-pub settle_round-requires-clause-whole : goal.settle_round-requires-clause-whole
-settle_round-requires-clause-whole g c κs lives = whole-begun c.in-Ok.board c.in-Ok.pass c.in-Ok.ensures.pass
-
-pub returns-in-Ok : goal.returns-in-Ok
-returns-in-Ok g c =
-    subst (λ (root : Root). IfOk c.settle_round.result (λ r. AreAnswered root.net (questions c.args.tasks.items) root.opening r.0))
-    c.in-Ok.ensures.root c.settle_round.ensures
-
-pub returns-then-is_empty : goal.returns-then-is_empty
-returns-then-is_empty g c =
-    let count : length c.args.tasks.items ≡ c.args.tasks.len = omega (arith, c.args.tasks.ok.0) in
-    answered-none c.args.net.now (questions c.args.tasks.items) c.args.book
-    (ap questions (none-items c.args.tasks.items (ap (λ (n : ℕ). n == 0) count ∙ sym c.is_empty.ensures ∙ c.if-is_empty.true))) c.requires.legal
+pub share_out-requires-clause-askable : goal.share_out-requires-clause-askable
+share_out-requires-clause-askable g c κs lives =
+    askable-rest c.args.net.now c.args.tasks.items c.in_ok-rest.rest.items c.in_ok-book.settled c.in_ok-rest.ensures c.requires.askable
