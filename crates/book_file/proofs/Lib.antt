@@ -8,3 +8,4 @@ mod TextLemmas
 mod WrittenLemmas
 mod PlaceLemmas
 mod TakenLemmas
+mod TurnedLemmas

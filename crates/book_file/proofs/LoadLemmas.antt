@@ -1,10 +1,12 @@
 -- Books are loaded entry by entry, and there is one loaded book.
 use Rattle.std.proofs.Common.{◌≡◌, ℕ, Bool, true, false, Option, Some, None, List, [], ◌∷◌, ◌++◌, length, refl, sym, ◌∙◌, subst, inl, inr}
+use Rattle.std.proofs.Math.Seq.{take-length}
 use Rattle.netlist.specs.Net.{AigPair}
 use Rattle.lemma_book.specs.declared.entry.Entry.{Entry}
 use Rattle.lemma_book.specs.declared.refused.Fault.{Fault}
 use Rattle.lemma_book.specs.declared.refused.Fault.TheVariants as fault
-use Rattle.lemma_book.specs.Entry.{Entries}
+use Rattle.lemma_book.specs.Entry.{Entries, first_entries, settled_at, with_last}
+use Rattle.lemma_book.specs.Book.{book_after}
 use Rattle.lemma_book.specs.Good.{IsGood, NoNode, Already, NotEarlier, NotApart, Shape, Count, Seen, NoStep, NotNew}
 use Rattle.lemma_book.specs.Fault.{IsFault, IsFirst, IsSettled}
 use Rattle.book_file.specs.Loaded.{with_taken, cites_among, is_taken, number_in, renumbered, Loads}
@@ -28,6 +30,16 @@ apart_bad net book e is good = is.stands (good NotApart)
 
 pub settled_bad : (net : AigPair) (book : Entries) (e : Entry) (i : ℕ) → IsSettled net book e i → ¬ IsGood net book e
 settled_bad net book e i is good = is.0.stands (good Already)
+
+-- ---- a good entry
+pub good-all : (net : AigPair) (book : Entries) (e : Entry) → IsGood net book e → IsGood net (first_entries (length book.entries) book) e
+good-all net book e good =
+    subst (λ (es : List Entry). IsGood net (record { sweep_budget = book.sweep_budget; out_budget = book.out_budget; entries = es }) e)
+    (sym (take-length book.entries)) good
+
+-- is settled by no other one
+pub after-good : (net : AigPair) (book : Entries) (e : Entry) → IsGood net book e → book_after book e ≡ with_last book e
+after-good net book e good = let free : settled_at book.entries e ≡ None = good Already in rw free refl
 
 -- ---- one entry
 

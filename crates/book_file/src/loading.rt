@@ -1,14 +1,17 @@
 ghost use Rattle.std.specs.Prelude.{◌≡◌, ◌≤◌, length, map, IfOk, OnOk};
 ghost use Rattle.std.specs.List.{list_all};
 ghost use Rattle.lemma_book.specs.Book.{IsLegal};
+ghost use Rattle.lemma_book.specs.Entry.{with_last};
+ghost use Rattle.lemma_book.specs.Good.{IsGood};
 ghost use Rattle.keep_lemmas.specs.Kept.{renewed_hint, renewed_step};
 ghost use Rattle.book_file.specs.Loaded.{IsLoaded, cites_among, hint_among, is_taken, number_in, renumbered, steps_among};
 ghost use Rattle.book_file.specs.Loading.{TakesGood, PutsOrPasses, TakesOrPasses};
 
-use lemma_book::{Book, Entry, Offered, Refused};
+use lemma_book::{Book, Entry, Judge, Judgement};
 use lits::{Listed, Ref, Step};
 use netlist::Net;
 use std::alloc::{AllocError, Global};
+use std::mem::replace;
 
 /// The book of those of the entries that can be taken, one after the other, and how many they are. Budgets are
 /// as those of a new book.
@@ -30,8 +33,9 @@ pub fn load(
 {
     let mut numbers = Vec::with_capacity(alloc, entries.len())?;
     let mut book = Book::new(alloc, sweep_budget, out_budget);
+    let mut judge = Judge::new(alloc);
     for entry in entries {
-        take_or_pass(alloc, net, &mut book, &mut numbers, entry)?;
+        take_or_pass(alloc, net, &mut judge, &mut book, &mut numbers, entry)?;
     }
     let count = book.len();
     Ok((book, count))
@@ -41,6 +45,7 @@ pub fn load(
 fn take_or_pass(
     alloc: Global,
     net: &Net,
+    judge: &mut Judge,
     book: &mut Book,
     numbers: &mut Vec<Option<u64>>,
     entry: Entry,
@@ -51,7 +56,7 @@ fn take_or_pass(
     ensures legal { IsLegal net.now book.new }
 {
     let number = book.len();
-    let is_taken = is_put(alloc, net, book, numbers.as_slice(), entry)?;
+    let is_taken = is_put(alloc, net, judge, book, numbers.as_slice(), entry)?;
     numbers.push(if is_taken { Some(number) } else { None })?;
     Ok(())
 }
@@ -61,6 +66,7 @@ fn take_or_pass(
 fn is_put(
     alloc: Global,
     net: &Net,
+    judge: &mut Judge,
     book: &mut Book,
     numbers: &[Option<u64>],
     entry: Entry,
@@ -72,23 +78,46 @@ fn is_put(
     if !cites_taken(numbers, &entry) {
         return Ok(false);
     }
-    let entry = renumbered(alloc, numbers, &entry)?;
-    is_offered(alloc, net, book, entry)
+    let mut entry = entry;
+    renumber(alloc, numbers, &mut entry);
+    is_good_put(alloc, net, judge, book, entry)
 }
 
 /// Puts the entry last, if it is good.
 #[tactic(auto, using(crate::proofs::LoadLemmas::fault_bad, crate::proofs::LoadLemmas::apart_bad, crate::proofs::LoadLemmas::settled_bad))]
-fn is_offered(alloc: Global, net: &Net, book: &mut Book, entry: Entry) -> Result<bool, AllocError>
+fn is_good_put(
+    alloc: Global,
+    net: &Net,
+    judge: &mut Judge,
+    book: &mut Book,
+    entry: Entry,
+) -> Result<bool, AllocError>
     requires legal { IsLegal net.now book.old }
     ensures ok { IfOk result (TakesGood net.now book.old entry book.new) }
     ensures legal { IsLegal net.now book.new }
 {
-    match book.offer(alloc, net, entry) {
-        Ok(Offered::At(_)) => Ok(true),
-        Ok(Offered::Already(_)) => Ok(false),
-        Err((_, Refused::Bad(_))) => Ok(false),
-        Err((_, Refused::NotApart)) => Ok(false),
-        Err((_, Refused::NoMemory)) => Err(AllocError),
+    match judge.judge(alloc, net, book, &entry)? {
+        Judgement::Good => {
+            put(alloc, net, book, entry)?;
+            Ok(true)
+        }
+        Judgement::Settled(_) => Ok(false),
+        Judgement::NotApart => Ok(false),
+        Judgement::Bad(_) => Ok(false),
+    }
+}
+
+/// Puts a good entry last.
+fn put(alloc: Global, net: &Net, book: &mut Book, entry: Entry) -> Result<(), AllocError>
+    requires legal { IsLegal net.now book.old }
+    requires good { IsGood net.now book.old entry }
+    ensures ok { OnOk result (book.new ≡ with_last book.old entry) }
+    ensures legal { IsLegal net.now book.new }
+{
+    let known = book.len();
+    match book.append(alloc, net, known, entry) {
+        Ok(_) => Ok(()),
+        Err((_entry, error)) => Err(error),
     }
 }
 
@@ -140,91 +169,38 @@ fn is_taken(numbers: &[Option<u64>], place: u64) -> bool
     }
 }
 
-/// The entry with the numbers in the book of those that it cites.
-fn renumbered(alloc: Global, numbers: &[Option<u64>], entry: &Entry) -> Result<Entry, AllocError>
-    ensures { IfOk result (λ e. e ≡ renumbered (number_in numbers.now) entry.now) }
+/// Puts the numbers in the book of those that the entry cites into the entry.
+fn renumber(alloc: Global, numbers: &[Option<u64>], entry: &mut Entry)
+    ensures { entry.new ≡ renumbered (number_in numbers.now) entry.old }
 {
     match entry {
-        Entry::Merge { node, lit, steps } => Ok(Entry::Merge {
-            node: *node,
-            lit: *lit,
-            steps: renumbered_steps(alloc, numbers, steps.as_slice())?,
-        }),
-        Entry::Out { output, steps } => Ok(Entry::Out {
-            output: *output,
-            steps: renumbered_steps(alloc, numbers, steps.as_slice())?,
-        }),
-        Entry::Spent {
-            node,
-            lit,
-            seen,
-            log,
-        } => Ok(Entry::Spent {
-            node: *node,
-            lit: *lit,
-            seen: *seen,
-            log: renumbered_steps(alloc, numbers, log.as_slice())?,
-        }),
-        Entry::OutSpent { output, seen, log } => Ok(Entry::OutSpent {
-            output: *output,
-            seen: *seen,
-            log: renumbered_steps(alloc, numbers, log.as_slice())?,
-        }),
-        Entry::Apart { node, lit, input } => Ok(Entry::Apart {
-            node: *node,
-            lit: *lit,
-            input: copied(alloc, input)?,
-        }),
-        Entry::OutApart { output, input } => Ok(Entry::OutApart {
-            output: *output,
-            input: copied(alloc, input)?,
-        }),
+        Entry::Merge { steps, .. } => renumber_steps(alloc, numbers, steps),
+        Entry::Out { steps, .. } => renumber_steps(alloc, numbers, steps),
+        Entry::Spent { log, .. } => renumber_steps(alloc, numbers, log),
+        Entry::OutSpent { log, .. } => renumber_steps(alloc, numbers, log),
+        Entry::Apart { .. } => {}
+        Entry::OutApart { .. } => {}
     }
 }
 
-fn copied(alloc: Global, input: &Listed<bool>) -> Result<Listed<bool>, AllocError>
-    ensures { IfOk result (λ l. l ≡ input.now) }
+fn renumber_steps(alloc: Global, numbers: &[Option<u64>], steps: &mut Listed<Step>)
+    ensures { steps.new ≡ map (renewed_step (number_in numbers.now)) steps.old }
 {
-    Ok(Listed::of(Vec::from_slice(alloc, input.as_slice())?))
-}
-
-fn renumbered_steps(
-    alloc: Global,
-    numbers: &[Option<u64>],
-    steps: &[Step],
-) -> Result<Listed<Step>, AllocError>
-    ensures { IfOk result (λ v. v ≡ map (renewed_step (number_in numbers.now)) steps.now) }
-{
-    let mut renumbered = Vec::with_capacity(alloc, steps.len())?;
-    for step in steps {
-        renumbered.push(renumbered_step(alloc, numbers, step)?)?;
+    let mut list = replace(steps, Listed::of(Vec::new(alloc))).into_vec();
+    for step in list.iter_mut() {
+        renumber_hints(alloc, numbers, &mut step.hints);
     }
-    Ok(Listed::of(renumbered))
+    *steps = Listed::of(list);
 }
 
-fn renumbered_step(alloc: Global, numbers: &[Option<u64>], step: &Step) -> Result<Step, AllocError>
-    ensures { IfOk result (λ s. s ≡ renewed_step (number_in numbers.now) step.now) }
+fn renumber_hints(alloc: Global, numbers: &[Option<u64>], hints: &mut Listed<Ref>)
+    ensures { hints.new ≡ map (renewed_hint (number_in numbers.now)) hints.old }
 {
-    let clause = step.clause.copy()?;
-    let hints = renumbered_hints(alloc, numbers, step.hints.as_slice())?;
-    Ok(Step {
-        clause,
-        hints: Listed::of(hints),
-    })
-}
-
-fn renumbered_hints(
-    alloc: Global,
-    numbers: &[Option<u64>],
-    hints: &[Ref],
-) -> Result<Vec<Ref>, AllocError>
-    ensures { IfOk result (λ v. v.items ≡ map (renewed_hint (number_in numbers.now)) hints.now) }
-{
-    let mut renumbered = Vec::with_capacity(alloc, hints.len())?;
-    for hint in hints {
-        renumbered.push(renumbered_hint(numbers, *hint))?;
+    let mut list = replace(hints, Listed::of(Vec::new(alloc))).into_vec();
+    for hint in list.iter_mut() {
+        *hint = renumbered_hint(numbers, *hint);
     }
-    Ok(renumbered)
+    *hints = Listed::of(list);
 }
 
 fn renumbered_hint(numbers: &[Option<u64>], hint: Ref) -> Ref

@@ -1,8 +1,0 @@
--- The steps so far have their numbers.
-use Rattle.std.proofs.Common.{◌≡◌, map, take}
-use Rattle.keep_lemmas.specs.Kept.{renewed_step}
-use Rattle.book_file.specs.Loaded.{number_in}
-use Rattle.book_file.proofs.loading.renumbered_steps.Given as goal
-
-abbrev pub invariant-loop-step : goal.invariant-loop-step
-invariant-loop-step l = l.renumbered.items ≡ map (renewed_step (number_in l.numbers)) (take l.step-index l.steps)
