@@ -606,10 +606,11 @@ def load(rig):
 
 def compared(rig, what, words, files):
     """Runs on files that share slots and on others of their size, and tells where the first took more than five times
-    as long, in the processor's seconds."""
+    as long, in the processor's seconds. A file stands for both names, or two stand for one each."""
     seconds = []
     for file in files:
-        with rig.folder(A=file, B=file, EMPTY=b"") as folder:
+        first, second = file if isinstance(file, tuple) else (file, file)
+        with rig.folder(A=first, B=second, EMPTY=b"") as folder:
             start = processor_seconds()
             run = rig.ran(folder, words, seconds=1800)
             seconds.append(processor_seconds() - start)
@@ -628,6 +629,7 @@ def slots(rig):
     compared(rig, "merged nodes", check, sharing.merged_nodes(count))
     compared(rig, "signatures", check + ["--words", "1"], sharing.signatures(rig.rng, count))
     compared(rig, "literals of a clause", ["lrat", "A", "EMPTY"], sharing.literals(rig.rng, count))
+    compared(rig, "literals of a line", ["lrat", "A", "B"], sharing.proofs(rig.rng, count))
 
 
 GROUPS = (names, devices, streams, inputs, signals, scripts, threads, together, memory, load, slots)

@@ -93,15 +93,28 @@ def codes_in_one_slot(count):
     return found
 
 
+def words_of(codes):
+    """The words of literals of these codes, twice the variable and one more where it is negated, each variable once."""
+    seen, words = set(), []
+    for code in codes:
+        if code // 2 and code // 2 not in seen:
+            seen.add(code // 2)
+            words.append(("-" if code % 2 else "") + str(code // 2))
+    return words
+
+
 def literals(rng, count):
-    """(sharing, drawn): a clause of literals whose codes, twice the variable and one more where it is negated, share
-    slots."""
+    """(sharing, drawn): a clause of literals whose codes share slots."""
     def clause(codes):
-        seen, words = set(), []
-        for code in codes:
-            if code // 2 and code // 2 not in seen:
-                seen.add(code // 2)
-                words.append(("-" if code % 2 else "") + str(code // 2))
-        return f"p cnf 2147483647 1\n{' '.join(words)} 0\n".encode()
+        return f"p cnf 2147483647 1\n{' '.join(words_of(codes))} 0\n".encode()
     sharing = codes_in_one_slot(count)
     return clause(sharing), clause(rng.sample(range(2, 1 << 32), count))
+
+
+def proofs(rng, count):
+    """(sharing, drawn): a formula of one literal, and a line that adds it among literals whose codes share slots."""
+    def pair(codes):
+        words = words_of(codes)
+        return f"p cnf 2147483647 1\n{words[0]} 0\n".encode(), f"2 {' '.join(words)} 0 1 0\n".encode()
+    sharing = codes_in_one_slot(count)
+    return pair(sharing), pair(rng.sample(range(2, 1 << 32), count))

@@ -1,2 +1,5 @@
 mod LiveLemmas
 mod VerdictLemmas
+mod RenamedSteps
+mod RenamedVerdicts
+mod Numberings

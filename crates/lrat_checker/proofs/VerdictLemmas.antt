@@ -9,16 +9,16 @@ use Rattle.lrat_checker.specs.declared.verdict.Verdict.TheVariants.{Refuted, NoE
 use Rattle.lrat_checker.specs.Verdict.{FirstBad, IsVerdict}
 
 -- the fault of a line, or what stands behind it
-abbrev bad_or : Option BadStep → ℕ → Option Verdict → Option Verdict
+abbrev pub bad_or : Option BadStep → ℕ → Option Verdict → Option Verdict
 bad_or None number rest = rest
 bad_or (Some bad) number rest = Some (Bad number bad)
 
 -- the first line that is no step, if there is one
-abbrev first_bad : Live → List Line → Option Verdict
+abbrev pub first_bad : Live → List Line → Option Verdict
 first_bad live [] = None
 first_bad live (line ∷ lines) = bad_or (fault_over live line.step) line.at (first_bad (after_step live line.step) lines)
 
-first_bad-none : (live : Live) (lines : List Line) → DerivesFrom live lines → first_bad live lines ≡ None
+pub first_bad-none : (live : Live) (lines : List Line) → DerivesFrom live lines → first_bad live lines ≡ None
 first_bad-none live [] derives = refl
 first_bad-none live (line ∷ lines) derives = rw derives.0 (first_bad-none (after_step live line.step) lines derives.1)
 
@@ -28,7 +28,7 @@ first_bad-some live [] line behind bad derives fault = rw fault refl
 first_bad-some live (l ∷ before) line behind bad derives fault =
     rw derives.0 (first_bad-some (after_step live l.step) before line behind bad derives.1 fault)
 
-first_bad-is : (formula : List (List DimacsLiteral)) (lines : List Line) (number : ℕ) (bad : BadStep) → FirstBad formula lines number bad
+pub first_bad-is : (formula : List (List DimacsLiteral)) (lines : List Line) (number : ℕ) (bad : BadStep) → FirstBad formula lines number bad
     → first_bad (formula_live formula) lines ≡ Some (Bad number bad)
 first_bad-is formula lines number bad f =
     ap (first_bad (formula_live formula)) f.whole

@@ -6,11 +6,13 @@ ghost use Rattle.lrat_text.specs.Derivation.{adds_empty, formula_live};
 ghost use Rattle.lrat_checker.specs.Live.{clauses_of};
 ghost use Rattle.lrat_checker.specs.Verdict.{IsVerdict};
 
+use crate::extent::is_dense;
 use crate::judging::fault_over;
 use crate::live::LiveClauses;
+use crate::renumber::renumbered;
 use crate::verdict::Verdict;
 use dimacs_text::Cnf;
-use lits::Dim;
+use lits::{Dim, Listed};
 use lrat_text::{Line, LratStep, derived_lines};
 use std::alloc::{AllocError, Global};
 use unit_prop::StepCheck;
@@ -24,8 +26,40 @@ pub fn check(alloc: Global, cnf: &Cnf, lines: &[Line]) -> Result<Verdict, AllocE
         ¬ IsSatisfiable opposite_dim cnf.now.clauses) }
 {
     derived_lines();
-    let mut live = LiveClauses::of(alloc, cnf.clauses.as_slice())?;
-    let mut steps = StepCheck::new(alloc);
+    judge_by_size(alloc, cnf, lines)
+}
+
+/// Judges the lines, where the table that finds literals takes memory by the size of formula and lines.
+fn judge_by_size(alloc: Global, cnf: &Cnf, lines: &[Line]) -> Result<Verdict, AllocError>
+    ensures { IfOk result (IsVerdict cnf.now.clauses lines.now) }
+{
+    let formula = cnf.clauses.as_slice();
+    if is_dense(cnf, lines) {
+        judge(alloc, formula, lines)
+    } else {
+        judge_renumbered(alloc, formula, lines)
+    }
+}
+
+/// The same where variables may be few and great: first they get small numbers.
+fn judge_renumbered(
+    alloc: Global,
+    formula: &[Listed<Dim>],
+    lines: &[Line],
+) -> Result<Verdict, AllocError>
+    ensures { IfOk result (IsVerdict formula.now lines.now) }
+{
+    let (formula, lines) = renumbered(alloc, formula, lines)?;
+    judge(alloc, formula.as_slice(), lines.as_slice())
+}
+
+/// Judges the lines of a proof. It finds a literal in one look, by a table that is as long as the greatest
+/// variable. (A table of hashes took 250 times as long where literals were chosen to share a slot.)
+fn judge(alloc: Global, formula: &[Listed<Dim>], lines: &[Line]) -> Result<Verdict, AllocError>
+    ensures { IfOk result (IsVerdict formula.now lines.now) }
+{
+    let mut live = LiveClauses::of(alloc, formula)?;
+    let mut steps = StepCheck::marked(alloc);
     judge_all(&mut steps, &mut live, lines)
 }
 

@@ -6,7 +6,8 @@
 //! add the empty clause, and then no assignment meets the formula.
 //!
 //! Definitions: `specs/Verdict.antt` (what each verdict says of formula and lines), over what the steps of a
-//! proof derive (`lrat_text`, `specs/Derivation.antt`); `specs/Live.antt` (how the live clauses are kept).
+//! proof derive (`lrat_text`, `specs/Derivation.antt`); `specs/Live.antt` (how the live clauses are kept);
+//! `specs/Renamed.antt` (formulas and lines in other names, and variables by numbers).
 //! Begin to read at `checking.rt`.
 #![tactic(auto)]
 
@@ -15,7 +16,9 @@ pub use laws::one_verdict;
 pub use verdict::Verdict;
 
 mod checking;
+mod extent;
 mod judging;
 mod laws;
 mod live;
+mod renumber;
 mod verdict;

@@ -5,18 +5,19 @@ ghost use Rattle.std.specs.Option.{option_map};
 use lits::{Dim, Listed};
 use lrat_text::LratStep;
 use std::alloc::{AllocError, Global};
-use std::collections::HashMap;
+use std::collections::BTreeMap;
 use unit_prop::Clauses;
 
 /// The clauses that are live, by their ids. They stand in the formula and in the lines of the proof, and are
 /// only lent.
 ///
 /// A clause stands in the slot that its id numbers, as all do in a proof whose ids have no gaps. Ids behind a
-/// gap have no slot, and a map holds their clauses. (A map of all clauses took two to three times as long.)
+/// gap have no slot, and an ordered map holds their clauses, so that no choice of ids makes it slow. (A map of
+/// all clauses took two to three times as long, though it was one by hashing.)
 #[derive(Drop)]
 pub(crate) struct LiveClauses<'a> {
     slots: Vec<Option<&'a [Dim]>>,
-    others: HashMap<u64, &'a [Dim]>,
+    others: BTreeMap<u64, &'a [Dim]>,
 }
 
 impl<'a> LiveClauses<'a> {
@@ -33,7 +34,7 @@ impl<'a> LiveClauses<'a> {
     {
         Ok(LiveClauses {
             slots: slots_of(alloc, formula)?,
-            others: HashMap::new(alloc),
+            others: BTreeMap::new(alloc),
         })
     }
 

@@ -17,6 +17,13 @@ const SWAPPED_AND: &[u8] =
 /// Each clause over two variables.
 const ALL_PAIRS: &[u8] = b"p cnf 6 4\n1 2 0\n-1 2 0\n1 -2 0\n-1 -2 0\n";
 
+/// The same over two variables of which one is as great as can be, so that no table has a place for each.
+const FAR_PAIRS: &[u8] =
+    b"p cnf 2147483647 4\n2147483647 5 0\n-2147483647 5 0\n2147483647 -5 0\n-2147483647 -5 0\n";
+
+/// Two clauses of one literal, whose variables are neighbours and far from 1.
+const FAR_NEIGHBOURS: &[u8] = b"p cnf 2147483647 2\n2147483646 0\n-2147483647 0\n";
+
 /// A clause of one literal, and the empty one.
 const WITH_EMPTY: &[u8] = b"p cnf 6 2\n1 0\n0\n";
 
@@ -51,7 +58,7 @@ fn verdict(alloc: Global, formula: &[u8], proof: &str) -> Option<Verdict> {
 /// A formula, a proof text, and what the checker should say.
 type Row = (&'static [u8], &'static str, Want);
 
-static CHECKS: [Row; 27] = [
+static CHECKS: [Row; 35] = [
     (b"p cnf 1 2\n1 0\n0\n", "3 0 2 0\n", Refuted),
     (WITH_EMPTY, "3 0 2 0\n", Refuted),
     // Proofs that were written by hand: whole, with a hint that is doubled, cut, and with a deletion.
@@ -132,6 +139,24 @@ static CHECKS: [Row; 27] = [
         "5 2 0 1 2 0\n6 0 9 0\n7 0 1 0\n",
         Bad(2, 1, Why::NoClause),
     ),
+    // The same verdicts where variables are few and great.
+    (FAR_PAIRS, "5 5 0 1 2 0\n6 0 5 3 4 0\n", Refuted),
+    (FAR_PAIRS, "5 5 0 1 2 0\n", NoEmpty),
+    (FAR_PAIRS, "5 5 -5 0 1 2 0\n", Bad(1, 0, Why::Tautology)),
+    (FAR_PAIRS, "5 0 1 0\n", Bad(1, 1, Why::TwoFree)),
+    (FAR_PAIRS, "5 5 0 1 1 0\n", Bad(1, 2, Why::Satisfied)),
+    (
+        FAR_PAIRS,
+        "5 5 0 1 2 0\n5 d 5 0\n6 0 5 3 4 0\n",
+        Bad(3, 1, Why::NoClause),
+    ),
+    // A variable that the formula hasn't, and neighbours, which aren't one.
+    (
+        FAR_PAIRS,
+        "5 5 2000000000 0 1 2 0\n6 5 0 1 2 0\n7 0 6 3 4 0\n",
+        Refuted,
+    ),
+    (FAR_NEIGHBOURS, "3 0 1 2 0\n", Bad(1, 0, Why::NotFalse)),
 ];
 
 #[test]
