@@ -105,12 +105,14 @@ impl Case for Derivation {
     }
 }
 
-/// The steps of a merge and of its output, in the numbers of the CNF: 1 to 12 are its clauses.
+/// The steps of a merge and of its output, in the numbers of the CNF, 1 to 12 being its clauses: each is deleted
+/// behind the last one that cites it, but for the output's unit.
 static EQUAL: Derivation = Derivation {
     entries: "merge b3 a3: -b3 a3 by b3.0 b3.1 a3.2; b3 -a3 by a3.0 a3.1 b3.2 => Ok(At(0))\n\
         out 0: -d0 a3 by d0.0 e0.0; -d0 by s0 d0.1 e0.1 => Ok(At(1))",
     spans: &[],
-    text: b"13 -5 4 0 5 6 4 0\n14 5 -4 0 2 3 7 0\n15 -6 4 0 8 13 0\n16 -6 0 15 9 14 0\n",
+    text: b"13 -5 4 0 5 6 4 0\n14 5 -4 0 2 3 7 0\n15 -6 4 0 8 13 0\n15 d 13 0\n\
+        16 -6 0 15 9 14 0\n16 d 14 15 0\n",
 };
 
 const SPAN: Span = Span {

@@ -9,28 +9,18 @@ use Rattle.netlist.specs.Net.{AigPair}
 use Rattle.netlist.specs.Miter.{miter_of}
 use Rattle.lemma_book.specs.declared.entry.Entry.{Entry}
 use Rattle.lrat_text.specs.declared.step.LratStep.{LratStep}
-use Rattle.lrat_text.specs.Writing.{text_from}
-use Rattle.proof_stitch.specs.Steps.{additions_from, additions}
 use Rattle.proof_stitch.specs.Written.{written_steps, shown_ids, book_additions}
 use Rattle.lemma_book.specs.Entry.{has_spent, outputs_of}
-use Rattle.proof_stitch.specs.Derivation.{spent_log, derivation_of, spans_from, spans_of, IsDerivation}
-use Rattle.proof_stitch.proofs.GrowLemmas.{Formula, Grows, grows-derives, grows-writable}
+use Rattle.proof_stitch.specs.Derivation.{IsDerivation, all_lines, derivation_of, is_for_logs, log_lines, spans_from, spent_log}
+use Rattle.proof_stitch.specs.Progress.{InRow}
+use Rattle.proof_stitch.proofs.GrowLemmas.{Formula, Grows}
 use Rattle.proof_stitch.proofs.StepLemmas.{clauses_in, IsDerived, grows-lists}
 use Rattle.proof_stitch.proofs.ShownLemmas.{merges-live, grows-entries}
 use Rattle.proof_stitch.proofs.BookLemmas.{IsSoundBook, log-derived, log-short, log-whole, total}
 use Rattle.proof_stitch.proofs.RefutationLemmas.{fits_dimacs, length-additions, length-clauses_in, total-few}
-use Rattle.proof_stitch.proofs.TrimmedLemmas.{Spelling}
-use Rattle.proof_stitch.proofs.WriterLemmas.{text_from-lists}
-
--- lists behind other lists
-pub additions-append : (net : AigPair) (shown : List ℕ) (id : ℕ) (xs ys : List (List Step))
-    → additions net shown id (xs ++ ys) ≡ additions net shown id xs ++ additions net shown (id + total xs) ys
-additions-append net shown id [] ys = rw (add-zero id) refl
-additions-append net shown id (steps ∷ xs) ys =
-    let shift : id + length steps + total xs ≡ id + (length steps + total xs) = omega arith in
-    ap (λ (l : List LratStep). additions_from net shown id id steps ++ l) (additions-append net shown (id + length steps) xs ys)
-    ∙ ap (λ (n : ℕ). additions_from net shown id id steps ++ (additions net shown (id + length steps) xs ++ additions net shown n ys)) shift
-    ∙ sym (append_assoc (additions_from net shown id id steps) (additions net shown (id + length steps) xs) (additions net shown (id + (length steps + total xs)) ys))
+use Rattle.proof_stitch.proofs.RowLemmas.{grows-row}
+use Rattle.proof_stitch.proofs.TrimmedLemmas.{Spelling, trimmed-written}
+use Rattle.proof_stitch.proofs.XorLemmas.{miter-some}
 
 all-logs : (net : AigPair) (out : ℕ) (entries : List Entry) (js : List ℕ) → IsSoundBook net out entries
     → AllByRecursion (IsDerived net entries) (map (spent_log entries) js)
@@ -49,87 +39,66 @@ pub logs-few : (net : AigPair) (out : ℕ) (entries : List Entry) → IsSoundBoo
 logs-few net out entries book =
     omega (arith, book.is_net.a.count, logs-most net out entries (length net.a.outputs) 0 book)
 
--- the derivation in its two parts
-pub derivation-parts : (net : AigPair) (entries : List Entry) → derivation_of net entries
-    ≡ book_additions net entries
-    ++ additions net (shown_ids net entries) (length (miter_of net) + 1 + total (map written_steps entries)) (map (spent_log entries) (outputs_of net))
-derivation-parts net entries =
-    additions-append net (shown_ids net entries) (length (miter_of net) + 1) (map written_steps entries) (map (spent_log entries) (outputs_of net))
+-- as many lines as steps
+pub length-log_lines : (net : AigPair) (entries : List Entry) → length (log_lines net entries) ≡ total (map (spent_log entries) (outputs_of net))
+length-log_lines net entries =
+    length-additions net (shown_ids net entries) (length (miter_of net) + length (book_additions net entries) + 1) (map (spent_log entries) (outputs_of net))
 
--- the derivation derives
-pub derivation-derives : (net : AigPair) (out : ℕ) (entries : List Entry) → IsSoundBook net out entries → Spelling → length (miter_of net) < 2 ^ 32
-    → IsDerivation net (derivation_of net entries)
-derivation-derives net out entries book spelling few = record {
-  spells =
-      spelling m (derivation_of net entries) (omega arith)
-      (grows-writable (miter_of net) (derivation_of net entries) short grows);
-  derives = grows-derives (miter_of net) (derivation_of net entries) 1 grows;
-}
-  where
-    m : ℕ
-    m = length (miter_of net)
+module _ (net : AigPair) (out : ℕ) (entries : List Entry) (book : IsSoundBook net out entries) where
+  abbrev m : ℕ
+  m = length (miter_of net)
 
-    shown : List ℕ
-    shown = shown_ids net entries
+  abbrev logs : List (List Step)
+  logs = map (spent_log entries) (outputs_of net)
 
-    logs : List (List Step)
-    logs = map (spent_log entries) (outputs_of net)
+  behind : (f : Formula) → f ≡ miter_of net ++ clauses_in net (map written_steps entries) → Grows f (log_lines net entries)
+  behind f e =
+      subst (λ (l : List LratStep). Grows f l) (append-nil (log_lines net entries))
+      (grows-lists net book.is_net (fits_dimacs net book.is_net) (shown_ids net entries) entries logs f
+      (record { more = clauses_in net (map written_steps entries); is = e })
+      (merges-live net entries entries [] (sym (append-nil entries)) book.shown f e) [] (m + length (book_additions net entries) + 1) next
+      (all-logs net out entries (outputs_of net) book) (λ g h. tt))
+    where
+      next : m + length (book_additions net entries) + 1 ≡ length f + 1
+      next =
+          let l : length f ≡ length (miter_of net ++ clauses_in net (map written_steps entries)) = ap length e in
+          omega (
+            arith,
+            l,
+            length-append (miter_of net) (clauses_in net (map written_steps entries)),
+            length-clauses_in net (map written_steps entries),
+            length-additions net (shown_ids net entries) (m + 1) (map written_steps entries),
+          )
 
-    start : ℕ
-    start = m + 1 + total (map written_steps entries)
+  -- the miter grows by all steps and the logs
+  pub lines-grow : Grows (miter_of net) (all_lines net entries)
+  lines-grow =
+      grows-entries net book.is_net (fits_dimacs net book.is_net) entries [] entries refl tt book.shown book.in_turn (miter_of net)
+      (sym (append-nil (miter_of net))) (log_lines net entries) (m + 1) refl behind
 
-    behind : (f : Formula) → f ≡ miter_of net ++ clauses_in net (map written_steps entries) → Grows f (additions net shown start logs)
-    behind f e =
-        subst (λ (l : List LratStep). Grows f l) (append-nil (additions net shown start logs))
-        (grows-lists net book.is_net (fits_dimacs net book.is_net) shown entries logs f
-        (record { more = clauses_in net (map written_steps entries); is = e })
-        (merges-live net entries entries [] (sym (append-nil entries)) book.shown f e) [] start next
-        (all-logs net out entries (outputs_of net) book) (λ g h. tt))
-      where
-        next : start ≡ length f + 1
-        next =
-            let l : length f ≡ length (miter_of net ++ clauses_in net (map written_steps entries)) = ap length e in
-            omega (arith, length-append (miter_of net) (clauses_in net (map written_steps entries)), length-clauses_in net (map written_steps entries))
+  pub lines-row : InRow m (all_lines net entries)
+  lines-row = grows-row (miter_of net) (all_lines net entries) lines-grow
 
-    grows : Grows (miter_of net) (derivation_of net entries)
-    grows =
-        subst (λ (l : List LratStep). Grows (miter_of net) l) (sym (derivation-parts net entries))
-        (grows-entries net book.is_net (fits_dimacs net book.is_net) entries [] entries refl tt book.shown book.in_turn (miter_of net)
-        (sym (append-nil (miter_of net))) (additions net shown start logs) (m + 1) refl behind)
+  pub lines-few : m < 2 ^ 32 → m + length (all_lines net entries) < 2 ^ 59
+  lines-few few =
+      omega (
+        arith,
+        few,
+        length-append (book_additions net entries) (log_lines net entries),
+        length-additions net (shown_ids net entries) (m + 1) (map written_steps entries),
+        length-log_lines net entries,
+        total-few net out entries book,
+        logs-few net out entries book,
+      )
 
-    short : m + length (derivation_of net entries) < 10 ^ 18
-    short =
-        omega (
-          arith,
-          ap length (derivation-parts net entries),
-          length-append (book_additions net entries) (additions net shown start logs),
-          length-additions net shown (m + 1) (map written_steps entries),
-          length-additions net shown start logs,
-          total-few net out entries book,
-          logs-few net out entries book,
-        )
-
--- what is written behind the steps of the entries
-pub derivation-text : (net : AigPair) (entries : List Entry) (text : List ℕ) (last : ℕ) (text' : List ℕ)
-    → text ≡ text_from (length (miter_of net)) (book_additions net entries)
-    → last ≡ length (miter_of net) + length (book_additions net entries)
-    → text' ≡ text ++ text_from last (additions net (shown_ids net entries) (last + 1) (map (spent_log entries) (outputs_of net)))
-    → text' ≡ text_from (length (miter_of net)) (derivation_of net entries)
-derivation-text net entries text last text' f g h =
-    let m = length (miter_of net) in
-    let shown = shown_ids net entries in
-    let logs = map (spent_log entries) (outputs_of net) in
-    let next : last + 1 ≡ m + 1 + total (map written_steps entries) =
-    omega (arith, g, length-additions net shown (m + 1) (map written_steps entries)) in
-    h ∙ ap₂ (λ (t : List ℕ) (n : ℕ). t ++ text_from last (additions net shown n logs)) f next
-    ∙ ap (λ (n : ℕ). text_from m (book_additions net entries) ++ text_from n (additions net shown (m + 1 + total (map written_steps entries)) logs)) g
-    ∙ sym (text_from-lists net shown m (m + 1) (map written_steps entries) (additions net shown (m + 1 + total (map written_steps entries)) logs) refl)
-    ∙ ap (text_from m) (sym (derivation-parts net entries))
-
--- and the ids of the logs
-pub derivation-spans : (net : AigPair) (entries : List Entry) (last : ℕ) → last ≡ length (miter_of net) + length (book_additions net entries)
-    → spans_from entries (last + 1) (outputs_of net) ≡ spans_of net entries
-derivation-spans net entries last g = ap (λ (n : ℕ). spans_from entries (n + 1) (outputs_of net)) g
+  -- the derivation derives
+  pub derivation-derives : Spelling → m < 2 ^ 32 → IsDerivation net (derivation_of net entries)
+  unfolding derivation_of
+  derivation-derives spelling few =
+      let written =
+      trimmed-written (miter_of net) (is_for_logs net entries) (all_lines net entries) spelling lines-grow
+      (miter-some net) (omega (arith, few)) (omega (arith, lines-few few)) in
+      record { spells = written.spells; derives = written.derives; ids = written.ids }
 
 -- each span is as long as the budget
 spans-from-whole : (net : AigPair) (out : ℕ) (entries : List Entry) (id : ℕ) (js : List ℕ) → 1 ≤ out → IsSoundBook net out entries

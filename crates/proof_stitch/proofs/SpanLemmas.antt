@@ -1,52 +1,30 @@
--- The lines with the ids of a span are the log of its output.
-use Rattle.std.proofs.Common.{◌≡◌, ℕ, suc, ◌+◌, ◌-◌, ◌<◌, ◌≤◌, Bool, true, false, List, [], ◌∷◌, ◌++◌, length, map, if◌then◌else◌, refl, sym, ap, ◌∙◌, subst, arith, inl, inr, ◌⊎◌, append_assoc}
+-- The lines with the ids of a span add the clauses of the log of its output.
+use Rattle.std.proofs.Common.{◌≡◌, ℕ, suc, ◌+◌, ◌-◌, ◌<◌, ◌≤◌, Bool, true, false, not, ◌||◌, List, [], ◌∷◌, ◌++◌, length, map, if◌then◌else◌, refl, sym, ap, ◌∙◌, subst, arith, add-zero, inl, inr, ◌⊎◌, append_assoc, length-append}
 use Rattle.std.specs.Prelude.{filter, nat_le, ◌&&◌}
 use Rattle.std.specs.List.{AllByRecursion}
-use Rattle.std.proofs.lemmas.List.{append-nil}
+use Rattle.std.proofs.lemmas.List.{append-nil, length-map, map-append}
 use Rattle.std.proofs.lemmas.List.Elements.{filter-append, All-from_recursion}
-use Rattle.std.proofs.lemmas.Bool.{le-leb}
+use Rattle.std.proofs.lemmas.Bool.{le-leb, or_left, or_right}
 use Rattle.std.proofs.lemmas.Bool.Decides.{leb_tells}
+use Rattle.lits.specs.Dimacs.{DimacsLiteral}
 use Rattle.lits.specs.declared.step.Step.{Step}
 use Rattle.lits.proofs.Facts.{all-append}
 use Rattle.netlist.specs.Net.{AigPair}
-use Rattle.netlist.specs.Miter.{miter_of}
+use Rattle.netlist.specs.Miter.{miter_of, numbered}
 use Rattle.lemma_book.specs.declared.entry.Entry.{Entry}
 use Rattle.lrat_text.specs.declared.step.LratStep.{LratStep}
+use Rattle.lrat_text.specs.declared.step.LratStep.TheVariants.{Add, Del}
 use Rattle.proof_stitch.specs.declared.logs.Span.{Span}
 use Rattle.proof_stitch.specs.Steps.{additions_from, additions}
-use Rattle.proof_stitch.specs.Written.{written_steps, shown_ids, book_additions}
-use Rattle.proof_stitch.specs.Trimmed.{id_in}
+use Rattle.proof_stitch.specs.Written.{shown_ids, book_additions}
+use Rattle.proof_stitch.specs.Trimmed.{HaveNoGaps, cites, deletion, id_in, is_addition, is_cited, last_cited, new_id, reached, renamed, trimmed, with_deletions}
 use Rattle.lemma_book.specs.Entry.{has_spent, outputs_of}
-use Rattle.proof_stitch.specs.Derivation.{spent_log, derivation_of, with_ids, IsSpan, AreSpans, spans_from, spans_of}
-use Rattle.proof_stitch.proofs.BookLemmas.{total}
-use Rattle.proof_stitch.proofs.RefutationLemmas.{length-additions}
-use Rattle.proof_stitch.proofs.DerivationLemmas.{additions-append}
-
--- the line's id is from a on and below b
-pub record IsBetween (a b : ℕ) (line : LratStep) : Type 0 where
-  pub low : a ≤ id_in line
-  pub high : id_in line < b
-
-wider : (a b c d : ℕ) (xs : List LratStep) → c ≤ a → b ≤ d → AllByRecursion (IsBetween a b) xs → AllByRecursion (IsBetween c d) xs
-wider a b c d [] low high all = tt
-wider a b c d (x ∷ xs) low high all =
-    let here : IsBetween a b x = all.0 in
-    (record { low = omega (arith, here.low); high = omega (arith, here.high) }, wider a b c d xs low high all.1)
-
-between-from : (net : AigPair) (shown : List ℕ) (first id : ℕ) (steps : List Step) → AllByRecursion (IsBetween id (id + length steps)) (additions_from net shown first id steps)
-between-from net shown first id [] = tt
-between-from net shown first id (s ∷ ss) = (
-  record { low = omega arith; high = omega arith },
-  wider (id + 1) (id + 1 + length ss) id (id + suc (length ss)) (additions_from net shown first (id + 1) ss) (omega arith) (omega arith) (between-from net shown first (id + 1) ss),
-)
-
-between-lists : (net : AigPair) (shown : List ℕ) (id : ℕ) (lists : List (List Step)) → AllByRecursion (IsBetween id (id + total lists)) (additions net shown id lists)
-between-lists net shown id [] = tt
-between-lists net shown id (steps ∷ lists) =
-    all-append (IsBetween id (id + (length steps + total lists))) (additions_from net shown id id steps) (additions net shown (id + length steps) lists)
-    (wider id (id + length steps) id (id + (length steps + total lists)) (additions_from net shown id id steps) (omega arith) (omega arith) (between-from net shown id id steps))
-    (wider (id + length steps) (id + length steps + total lists) id (id + (length steps + total lists)) (additions net shown (id + length steps) lists)
-    (omega arith) (omega arith) (between-lists net shown (id + length steps) lists))
+use Rattle.proof_stitch.specs.Derivation.{AreSpans, IsSpan, all_lines, clause_in, derivation_of, is_for_logs, log_clauses, log_lines, shown_units, spans_from, spans_of, spent_log, with_ids, written_lines}
+use Rattle.proof_stitch.proofs.DerivationLemmas.{lines-row}
+use Rattle.proof_stitch.proofs.BookLemmas.{IsSoundBook}
+use Rattle.proof_stitch.proofs.LogLemmas.{IsBetween, added-from, added-lists, all-reached, goals-cites, logs-asked, wider}
+use Rattle.proof_stitch.proofs.RefutationLemmas.{length-additions_from}
+use Rattle.proof_stitch.proofs.TrimmedLemmas.{trimmed-additions}
 
 -- an id outside, and one inside
 is_out : (p q i : ℕ) → (i < p) ⊎ (q < i) → (nat_le p i && nat_le i q) ≡ false
@@ -95,44 +73,195 @@ own-lines before own behind first n end some low here high =
       none-with first (first + n - 1) (first + n) end behind (inr (omega arith)) high,
     ) (append-nil own))
 
+-- ---- what is written of all lines
+
+-- lines that are asked for stand behind those of the others that are reached
+kept-split : (asked : ℕ → Bool) (xs ys : List LratStep) → AllByRecursion (λ l. asked (id_in l) ≡ true) ys
+    → (front : List LratStep) × (reached asked (xs ++ ys) ≡ front ++ ys)
+kept-split asked [] ys all = ([], all-reached asked ys all)
+kept-split asked (x ∷ xs) ys all =
+    go (asked (id_in x) || is_cited (reached asked (xs ++ ys)) (id_in x)) refl (kept-split asked xs ys all)
+  where
+    go : (b : Bool) → (asked (id_in x) || is_cited (reached asked (xs ++ ys)) (id_in x)) ≡ b
+        → ((front : List LratStep) × (reached asked (xs ++ ys) ≡ front ++ ys))
+        → (front : List LratStep) × (reached asked (x ∷ (xs ++ ys)) ≡ front ++ ys)
+    go true e rest = (x ∷ rest.0, rw e (ap (λ (l : List LratStep). x ∷ l) rest.1))
+    go false e rest = (rest.0, rw e rest.1)
+
+deletions-split : (asked : ℕ → Bool) (before xs ys : List LratStep)
+    → (front : List LratStep) × (with_deletions asked before (xs ++ ys) ≡ front ++ with_deletions asked (before ++ xs) ys)
+deletions-split asked before [] ys = ([], ap (λ (l : List LratStep). with_deletions asked l ys) (sym (append-nil before)))
+deletions-split asked before (x ∷ xs) ys =
+    let rest = deletions-split asked (before ++ x ∷ []) xs ys in
+    let gone = deletion (last_cited asked before x (xs ++ ys)) in (
+      x ∷ (gone ++ rest.0),
+      ap (λ (l : List LratStep). x ∷ (gone ++ l))
+          (rest.1 ∙ ap (λ (l : List LratStep). rest.0 ++ with_deletions asked l ys) (append_assoc before (x ∷ []) xs))
+          ∙ ap (λ (l : List LratStep). x ∷ l) (sym (append_assoc gone rest.0 (with_deletions asked (before ++ (x ∷ xs)) ys))),
+    )
+
+filter-none : (test : ℕ → Bool) (ns : List ℕ) → ((n : ℕ) → test n ≡ false) → filter test ns ≡ []
+filter-none test [] none = refl
+filter-none test (n ∷ ns) none = rw (none n) (filter-none test ns none)
+
+-- nothing is deleted that is asked for
+no-deletions : (asked : ℕ → Bool) (before ys : List LratStep) → ((n : ℕ) → is_cited ys n ≡ true → asked n ≡ true)
+    → with_deletions asked before ys ≡ ys
+no-deletions asked before [] each = refl
+no-deletions asked before (y ∷ ys) each =
+    rw (filter-none (λ n. cites y n && not (asked n || is_cited ys n)) (map id_in before) none)
+    (ap (λ (l : List LratStep). y ∷ l)
+    (no-deletions asked (before ++ y ∷ []) ys (λ n h. each n (or_right (cites y n) (is_cited ys n) h))))
+  where
+    none : (n : ℕ) → (cites y n && not (asked n || is_cited ys n)) ≡ false
+    none n = go (cites y n) refl
+      where
+        go : (b : Bool) → cites y n ≡ b → (cites y n && not (asked n || is_cited ys n)) ≡ false
+        go false e = rw e refl
+        go true e = rw (e, each n (or_left (cites y n) (is_cited ys n) e)) refl
+
+-- how many of some lines are additions
+abbrev additions_in : List LratStep → ℕ
+additions_in lines = length (filter is_addition lines)
+
+-- ids without gaps are between the first and the last
+gaps-front : (last : ℕ) (xs ys : List LratStep) → HaveNoGaps last (xs ++ ys)
+    → AllByRecursion (IsBetween 0 (last + additions_in xs + 1)) xs × HaveNoGaps (last + additions_in xs) ys
+gaps-front last [] ys gaps = (tt, subst (λ (n : ℕ). HaveNoGaps n ys) (sym (add-zero last)) gaps)
+gaps-front last (Add id clause hints ∷ xs) ys gaps =
+    let rest = gaps-front id xs ys gaps.1 in
+    let sum : id + additions_in xs ≡ last + suc (additions_in xs) = omega (arith, gaps.0) in (
+      (
+        record { low = omega arith; high = omega (arith, gaps.0) },
+        wider 0 (id + additions_in xs + 1) 0 (last + suc (additions_in xs) + 1) xs (omega arith) (omega (arith, gaps.0)) rest.0,
+      ),
+      subst (λ (n : ℕ). HaveNoGaps n ys) sum rest.1,
+    )
+gaps-front last (Del ids ∷ xs) ys gaps =
+    let rest = gaps-front last xs ys gaps in
+    ((record { low = omega arith; high = omega arith }, rest.0), rest.1)
+
+gaps-added : (last : ℕ) (xs ys : List LratStep) → AllByRecursion (λ l. is_addition l ≡ true) xs → HaveNoGaps last (xs ++ ys)
+    → AllByRecursion (IsBetween (last + 1) (last + 1 + length xs)) xs × HaveNoGaps (last + length xs) ys
+gaps-added last [] ys all gaps = (tt, subst (λ (n : ℕ). HaveNoGaps n ys) (sym (add-zero last)) gaps)
+gaps-added last (Del ids ∷ xs) ys all gaps = cc
+gaps-added last (Add id clause hints ∷ xs) ys all gaps =
+    let rest = gaps-added id xs ys all.1 gaps.1 in
+    let sum : id + length xs ≡ last + suc (length xs) = omega (arith, gaps.0) in (
+      (
+        record { low = omega (arith, gaps.0); high = omega (arith, gaps.0) },
+        wider (id + 1) (id + 1 + length xs) (last + 1) (last + 1 + suc (length xs)) xs (omega (arith, gaps.0)) (omega (arith, gaps.0)) rest.0,
+      ),
+      subst (λ (n : ℕ). HaveNoGaps n ys) sum rest.1,
+    )
+
+added-renamed : (name : ℕ → ℕ) (xs : List LratStep) → AllByRecursion (λ l. is_addition l ≡ true) xs
+    → AllByRecursion (λ l. is_addition l ≡ true) (map (renamed name) xs)
+added-renamed name [] all = tt
+added-renamed name (Add id clause hints ∷ xs) all = (refl, added-renamed name xs all.1)
+added-renamed name (Del ids ∷ xs) all = cc
+
+count-added : (xs : List LratStep) → AllByRecursion (λ l. is_addition l ≡ true) xs → additions_in xs ≡ length xs
+count-added [] all = refl
+count-added (x ∷ xs) all = rw all.0 (ap suc (count-added xs all.1))
+
+-- the clauses of a log's lines, under whatever ids
+clauses-renamed : (net : AigPair) (name : ℕ → ℕ) (shown : List ℕ) (first id : ℕ) (steps : List Step)
+    → map clause_in (map (renamed name) (additions_from net shown first id steps)) ≡ log_clauses net steps
+clauses-renamed net name shown first id [] = refl
+clauses-renamed net name shown first id (s ∷ ss) =
+    ap (λ (l : List (List DimacsLiteral)). map (numbered net) s.clause ∷ l) (clauses-renamed net name shown first (id + 1) ss)
+
 -- the spans of some outputs' logs that stand behind other lines
 module _ (net : AigPair) (entries : List Entry) where
   abbrev Lines : List LratStep → Span → Type 0
-  Lines all s = with_ids s.first s.last all ≡ additions_from net (shown_ids net entries) s.first s.first (spent_log entries s.output)
+  Lines all s = map clause_in (with_ids s.first s.last all) ≡ log_clauses net (spent_log entries s.output)
 
-  spans-lines : (before : List LratStep) (id : ℕ) (js : List ℕ) → 1 ≤ id → AllByRecursion (IsBetween 0 id) before
-      → AllByRecursion (Lines (before ++ additions net (shown_ids net entries) id (map (spent_log entries) js))) (spans_from entries id js)
-  spans-lines before id [] some low = tt
-  spans-lines before id (j ∷ js) some low =
-      go (has_spent entries j) refl
-      (spans-lines (before ++ additions_from net (shown_ids net entries) id id (spent_log entries j)) (id + length (spent_log entries j)) js (omega arith) further)
+  abbrev renumbered : (ℕ → ℕ) → ℕ → List ℕ → List LratStep
+  renumbered name p js = map (renamed name) (additions net (shown_ids net entries) p (map (spent_log entries) js))
+
+  spans-lines : (name : ℕ → ℕ) (before : List LratStep) (p last : ℕ) (js : List ℕ) → AllByRecursion (IsBetween 0 (last + 1)) before
+      → HaveNoGaps last (renumbered name p js)
+      → AllByRecursion (Lines (before ++ renumbered name p js)) (spans_from entries (last + 1) js)
+  spans-lines name before p last [] low gaps = tt
+  spans-lines name before p last (j ∷ js) low gaps =
+      subst (λ (l : List LratStep). AllByRecursion (Lines (before ++ l)) (spans_from entries (last + 1) (j ∷ js))) (sym parts)
+      (go (has_spent entries j) refl (spans-lines name (before ++ own) next (last + length (spent_log entries j)) js further rest))
     where
+      log : List Step
+      log = spent_log entries j
+
       own : List LratStep
-      own = additions_from net (shown_ids net entries) id id (spent_log entries j)
+      own = map (renamed name) (additions_from net (shown_ids net entries) p p (spent_log entries j))
 
       next : ℕ
-      next = id + length (spent_log entries j)
+      next = p + length (spent_log entries j)
 
       behind : List LratStep
-      behind = additions net (shown_ids net entries) next (map (spent_log entries) js)
+      behind = renumbered name (p + length (spent_log entries j)) js
 
-      further : AllByRecursion (IsBetween 0 next) (before ++ own)
+      parts : renumbered name p (j ∷ js) ≡ own ++ behind
+      parts =
+          map-append (renamed name) (additions_from net (shown_ids net entries) p p (spent_log entries j))
+          (additions net (shown_ids net entries) (p + length (spent_log entries j)) (map (spent_log entries) js))
+
+      count : length own ≡ length (spent_log entries j)
+      count =
+          omega (
+            arith,
+            length-map (additions_from net (shown_ids net entries) p p (spent_log entries j)) (renamed name),
+            length-additions_from net (shown_ids net entries) p p (spent_log entries j),
+          )
+
+      added : AllByRecursion (λ l. is_addition l ≡ true) own
+      added =
+          added-renamed name (additions_from net (shown_ids net entries) p p (spent_log entries j))
+          (added-from net (shown_ids net entries) p p (spent_log entries j))
+
+      ids : AllByRecursion (IsBetween (last + 1) (last + 1 + length own)) own × HaveNoGaps (last + length own) behind
+      ids = gaps-added last own behind added (subst (λ (l : List LratStep). HaveNoGaps last l) parts gaps)
+
+      rest : HaveNoGaps (last + length (spent_log entries j)) (renumbered name next js)
+      rest = subst (λ (n : ℕ). HaveNoGaps (last + n) behind) count ids.1
+
+      here : AllByRecursion (IsBetween (last + 1) (last + 1 + length (spent_log entries j))) own
+      here = subst (λ (n : ℕ). AllByRecursion (IsBetween (last + 1) (last + 1 + n)) own) count ids.0
+
+      further : AllByRecursion (IsBetween 0 (last + length (spent_log entries j) + 1)) (before ++ own)
       further =
-          all-append (IsBetween 0 next) before own (wider 0 id 0 next before (omega arith) (omega arith) low)
-          (wider id next 0 next own (omega arith) (omega arith) (between-from net (shown_ids net entries) id id (spent_log entries j)))
+          all-append (IsBetween 0 (last + length (spent_log entries j) + 1)) before own
+          (wider 0 (last + 1) 0 (last + length (spent_log entries j) + 1) before (omega arith) (omega arith) low)
+          (wider (last + 1) (last + 1 + length (spent_log entries j)) 0 (last + length (spent_log entries j) + 1) own (omega arith) (omega arith) here)
 
-      regrouped : AllByRecursion (Lines (before ++ own ++ behind)) (spans_from entries next js)
-          → AllByRecursion (Lines (before ++ (own ++ behind))) (spans_from entries next js)
-      regrouped rest = subst (λ (l : List LratStep). AllByRecursion (Lines l) (spans_from entries next js)) (append_assoc before own behind) rest
+      last-ids : AllByRecursion (IsBetween (last + 1 + length (spent_log entries j)) (last + 1 + length (spent_log entries j) + length behind)) behind
+      last-ids =
+          let whole = gaps-added (last + length (spent_log entries j)) behind []
+          (added-renamed name (additions net (shown_ids net entries) (p + length (spent_log entries j)) (map (spent_log entries) js))
+          (added-lists net (shown_ids net entries) (p + length (spent_log entries j)) (map (spent_log entries) js)))
+          (subst (λ (l : List LratStep). HaveNoGaps (last + length (spent_log entries j)) l) (sym (append-nil behind)) rest) in
+          wider (last + length (spent_log entries j) + 1) (last + length (spent_log entries j) + 1 + length behind)
+          (last + 1 + length (spent_log entries j)) (last + 1 + length (spent_log entries j) + length behind) behind (omega arith) (omega arith) whole.0
 
-      go : (b : Bool) → has_spent entries j ≡ b → AllByRecursion (Lines (before ++ own ++ behind)) (spans_from entries next js)
-          → AllByRecursion (Lines (before ++ (own ++ behind))) ((if b then record { output = j; first = id; last = next - 1 } ∷ [] else []) ++ spans_from entries next js)
-      go true f rest = (
-        own-lines before own behind id (length (spent_log entries j)) (next + total (map (spent_log entries) js)) some low
-            (between-from net (shown_ids net entries) id id (spent_log entries j)) (between-lists net (shown_ids net entries) next (map (spent_log entries) js)),
-        regrouped rest,
+      Rest : List LratStep → Type 0
+      Rest l = AllByRecursion (Lines l) (spans_from entries (last + length (spent_log entries j) + 1) js)
+
+      regrouped : Rest ((before ++ own) ++ behind) → AllByRecursion (Lines (before ++ (own ++ behind))) (spans_from entries (last + 1 + length (spent_log entries j)) js)
+      regrouped given =
+          let shift : last + length (spent_log entries j) + 1 ≡ last + 1 + length (spent_log entries j) = omega arith in
+          subst (λ (n : ℕ). AllByRecursion (Lines (before ++ (own ++ behind))) (spans_from entries n js)) shift
+          (subst Rest (append_assoc before own behind) given)
+
+      go : (b : Bool) → has_spent entries j ≡ b → Rest ((before ++ own) ++ behind)
+          → AllByRecursion (Lines (before ++ (own ++ behind)))
+          ((if b then record { output = j; first = last + 1; last = last + 1 + length (spent_log entries j) - 1 } ∷ [] else [])
+          ++ spans_from entries (last + 1 + length (spent_log entries j)) js)
+      go true f given = (
+        ap (map clause_in)
+            (own-lines before own behind (last + 1) (length (spent_log entries j)) (last + 1 + length (spent_log entries j) + length behind) (omega arith) low here last-ids)
+            ∙ clauses-renamed net name (shown_ids net entries) p p (spent_log entries j),
+        regrouped given,
       )
-      go false f rest = regrouped rest
+      go false f given = regrouped given
 
   spans-count : (id : ℕ) (js : List ℕ) → 1 ≤ id → AllByRecursion (λ s. s.last + 1 ≡ s.first + length (spent_log entries s.output)) (spans_from entries id js)
   spans-count id [] some = tt
@@ -156,36 +285,88 @@ module _ (net : AigPair) (entries : List Entry) where
       go true f rest = ap (λ (l : List ℕ). j ∷ l) rest
       go false f rest = rest
 
-  -- those of the book's derivation
-  pub spans-are : AreSpans net entries (spans_of net entries)
-  spans-are = record {
-    outputs = spans-outputs start (outputs_of net);
-    each = All-from_recursion (IsSpan net entries) (spans_of net entries) (both (spans_of net entries) lines (spans-count start (outputs_of net) (omega arith)));
+-- those of the book's derivation
+module _ (net : AigPair) (out : ℕ) (entries : List Entry) (book : IsSoundBook net out entries) where
+  abbrev m : ℕ
+  m = length (miter_of net)
+
+  abbrev asked : ℕ → Bool
+  asked = is_for_logs net entries
+
+  abbrev name : ℕ → ℕ
+  name = new_id (length (miter_of net)) (written_lines net entries)
+
+  abbrev logs : List LratStep
+  logs = log_lines net entries
+
+  kept : (front : List LratStep) × (written_lines net entries ≡ front ++ log_lines net entries)
+  kept = kept-split asked (book_additions net entries) (log_lines net entries) (logs-asked net entries)
+
+  front : (front : List LratStep) × (with_deletions asked [] (written_lines net entries) ≡ front ++ log_lines net entries)
+  front =
+      let split = deletions-split asked [] kept.0 (log_lines net entries) in (
+        split.0,
+        ap (with_deletions asked []) kept.1 ∙ split.1
+            ∙ ap (λ (l : List LratStep). split.0 ++ l)
+            (no-deletions asked kept.0 (log_lines net entries) (goals-cites (shown_units net entries) (log_lines net entries))),
+      )
+
+  -- the lines of the derivation
+  lines-are : trimmed m asked (all_lines net entries) ≡ map (renamed name) front.0 ++ map (renamed name) (log_lines net entries)
+  lines-are = ap (map (renamed name)) front.1 ∙ map-append (renamed name) front.0 (log_lines net entries)
+
+  parts : derivation_of net entries ≡ map (renamed name) front.0 ++ map (renamed name) (log_lines net entries)
+  unfolding derivation_of
+  parts = lines-are
+
+  -- how many of them stand before the logs
+  abbrev before : ℕ
+  before = length (written_lines net entries) - length (log_lines net entries)
+
+  count : additions_in (map (renamed name) front.0) ≡ before
+  count =
+      let all = trimmed-additions m asked (all_lines net entries) (lines-row net out entries book) in
+      omega (
+        arith,
+        all,
+        ap additions_in lines-are,
+        ap length (filter-append is_addition (map (renamed name) front.0) (map (renamed name) (log_lines net entries))),
+        length-append (filter is_addition (map (renamed name) front.0)) (filter is_addition (map (renamed name) (log_lines net entries))),
+        count-added (map (renamed name) (log_lines net entries))
+            (added-renamed name (log_lines net entries)
+            (added-lists net (shown_ids net entries) (m + length (book_additions net entries) + 1) (map (spent_log entries) (outputs_of net)))),
+        length-map (log_lines net entries) (renamed name),
+      )
+
+  -- as many as the reached lines have ids before the logs
+  pub logs-within : length (log_lines net entries) ≤ length (written_lines net entries)
+  logs-within = omega (arith, ap length kept.1, length-append kept.0 (log_lines net entries))
+
+  pub spans-are : HaveNoGaps m (derivation_of net entries) → AreSpans net entries (spans_of net entries)
+  spans-are gaps = record {
+    outputs = spans-outputs net entries (m + length (written_lines net entries) - length (log_lines net entries) + 1) (outputs_of net);
+    each =
+        All-from_recursion (IsSpan net entries) (spans_of net entries)
+        (both (spans_of net entries) lines
+        (spans-count net entries (m + length (written_lines net entries) - length (log_lines net entries) + 1) (outputs_of net) (omega arith)));
   }
     where
-      m : ℕ
-      m = length (miter_of net)
+      split : AllByRecursion (IsBetween 0 (m + additions_in (map (renamed name) front.0) + 1)) (map (renamed name) front.0)
+          × HaveNoGaps (m + additions_in (map (renamed name) front.0)) (map (renamed name) (log_lines net entries))
+      split = gaps-front m (map (renamed name) front.0) (map (renamed name) (log_lines net entries)) (subst (λ (l : List LratStep). HaveNoGaps m l) parts gaps)
 
-      start : ℕ
-      start = m + length (book_additions net entries) + 1
+      start : m + additions_in (map (renamed name) front.0) ≡ m + length (written_lines net entries) - length (log_lines net entries)
+      start = omega (arith, count, logs-within)
 
-      parts : derivation_of net entries ≡ book_additions net entries ++ additions net (shown_ids net entries) start (map (spent_log entries) (outputs_of net))
-      parts =
-          let e : m + 1 + total (map written_steps entries) ≡ start = omega (arith, length-additions net (shown_ids net entries) (m + 1) (map written_steps entries)) in
-          additions-append net (shown_ids net entries) (m + 1) (map written_steps entries) (map (spent_log entries) (outputs_of net))
-          ∙ ap (λ (n : ℕ). book_additions net entries ++ additions net (shown_ids net entries) n (map (spent_log entries) (outputs_of net))) e
-
-      below : AllByRecursion (IsBetween 0 start) (book_additions net entries)
-      below =
-          wider (m + 1) (m + 1 + total (map written_steps entries)) 0 start (book_additions net entries) (omega arith)
-          (omega (arith, length-additions net (shown_ids net entries) (m + 1) (map written_steps entries))) (between-lists net (shown_ids net entries) (m + 1) (map written_steps entries))
-
-      lines : AllByRecursion (Lines (derivation_of net entries)) (spans_of net entries)
+      lines : AllByRecursion (Lines net entries (derivation_of net entries)) (spans_of net entries)
       lines =
-          subst (λ (l : List LratStep). AllByRecursion (Lines l) (spans_of net entries)) (sym parts)
-          (spans-lines (book_additions net entries) start (outputs_of net) (omega arith) below)
+          subst (λ (l : List LratStep). AllByRecursion (Lines net entries l) (spans_of net entries)) (sym parts)
+          (spans-lines net entries name (map (renamed name) front.0) (m + length (book_additions net entries) + 1)
+          (m + length (written_lines net entries) - length (log_lines net entries)) (outputs_of net)
+          (subst (λ (n : ℕ). AllByRecursion (IsBetween 0 (n + 1)) (map (renamed name) front.0)) start split.0)
+          (subst (λ (n : ℕ). HaveNoGaps n (map (renamed name) (log_lines net entries))) start split.1))
 
-      both : (spans : List Span) → AllByRecursion (Lines (derivation_of net entries)) spans
+      both : (spans : List Span) → AllByRecursion (Lines net entries (derivation_of net entries)) spans
           → AllByRecursion (λ s. s.last + 1 ≡ s.first + length (spent_log entries s.output)) spans → AllByRecursion (IsSpan net entries) spans
       both [] p q = tt
       both (s ∷ ss) p q = (record { lines = p.0; count = q.0 }, both ss p.1 q.1)

@@ -87,13 +87,13 @@ refutation_of-swapped : refutation_of swapped (merged ∷ Out 0 equal_steps ∷ 
 unfolding refutation_of
 refutation_of-swapped = refl
 
--- the log of a query about two nodes takes no ids
+-- The log of a query about two nodes takes no ids. The merge's second step is cited by nothing, and what the log cites isn't deleted.
 spent_entries : List Entry
 spent_entries = Spent b (positive a) 0 merge_steps ∷ merged ∷ OutSpent 0 2 (record { clause = negative (Xor 0) ∷ positive a ∷ []; hints = Axiom (Xor 0) 0 ∷ Shown 1 0 ∷ [] } ∷ []) ∷ []
 
 derivation_of-swapped : derivation_of swapped spent_entries
-    ≡ Add 13 (n 5 ∷ p 4 ∷ []) (5 ∷ 6 ∷ 4 ∷ []) ∷ Add 14 (p 5 ∷ n 4 ∷ []) (2 ∷ 3 ∷ 7 ∷ []) ∷ Add 15 (n 6 ∷ p 4 ∷ []) (8 ∷ 13 ∷ []) ∷ []
-unfolding spent_entries
+    ≡ Add 13 (n 5 ∷ p 4 ∷ []) (5 ∷ 6 ∷ 4 ∷ []) ∷ Add 14 (n 6 ∷ p 4 ∷ []) (8 ∷ 13 ∷ []) ∷ []
+unfolding derivation_of spent_entries
 derivation_of-swapped = refl
 
 -- Two outputs, the input and its negation, the same on both sides. The miter is 1: (1), 2: (-3 2), 3: (-3 -2), 4: (-4 -2),
@@ -128,19 +128,33 @@ refutation_of-unreached :
 unfolding refutation_of
 refutation_of-unreached = refl
 
--- logs come in the order of the outputs
+-- logs come in the order of the outputs, and what is no output of the circuits isn't written
 open_entries : List Entry
 open_entries = OutSpent 1 0 (only ∷ []) ∷ Out 2 (first ∷ []) ∷ OutSpent 0 0 (first ∷ second ∷ []) ∷ []
 
 derivation_of-wires : derivation_of wires open_entries
-    ≡ Add 7 (n 3 ∷ p 2 ∷ []) (2 ∷ []) ∷ Add 8 (n 3 ∷ p 2 ∷ []) (2 ∷ []) ∷ Add 9 (n 3 ∷ []) (8 ∷ 3 ∷ []) ∷ Add 10 (n 4 ∷ []) (4 ∷ 5 ∷ []) ∷ []
-unfolding open_entries
+    ≡ Add 7 (n 3 ∷ p 2 ∷ []) (2 ∷ []) ∷ Add 8 (n 3 ∷ []) (7 ∷ 3 ∷ []) ∷ Add 9 (n 4 ∷ []) (4 ∷ 5 ∷ []) ∷ []
+unfolding derivation_of open_entries
 derivation_of-wires = refl
 
 spans_of-wires : spans_of wires open_entries
-    ≡ record { output = 0; first = 8; last = 9 } ∷ record { output = 1; first = 10; last = 10 } ∷ []
+    ≡ record { output = 0; first = 7; last = 8 } ∷ record { output = 1; first = 9; last = 9 } ∷ []
 unfolding open_entries
 spans_of-wires = refl
+
+-- The unit of an Out is written, with what it cites and nothing else, and each of its steps is deleted behind the last that cites it,
+-- but for the unit.
+shown_entries : List Entry
+shown_entries = Out 0 (first ∷ first ∷ second ∷ []) ∷ OutSpent 1 1 (only ∷ []) ∷ []
+
+derivation_of-shown : derivation_of wires shown_entries
+    ≡ Add 7 (n 3 ∷ p 2 ∷ []) (2 ∷ []) ∷ Add 8 (n 3 ∷ []) (7 ∷ 3 ∷ []) ∷ Del (7 ∷ []) ∷ Add 9 (n 4 ∷ []) (4 ∷ 5 ∷ []) ∷ []
+unfolding derivation_of shown_entries
+derivation_of-shown = refl
+
+spans_of-shown : spans_of wires shown_entries ≡ record { output = 1; first = 9; last = 9 } ∷ []
+unfolding shown_entries
+spans_of-shown = refl
 
 -- A's output is the AND of its inputs, B's is the second input, and A has the constraint that the first input is true. The
 -- AND has the CNF variable 4, the XOR 5. The miter is 1: (1), 2: (-4 2), 3: (-4 3), 4: (4 -2 -3), 5: (-5 4 3),

@@ -1,6 +1,6 @@
 -- What a writer of a book's Merge and Out entries has written at each entry, and which ids it has noted.
-use Rattle.std.proofs.Common.{◌≡◌, ℕ, suc, ◌+◌, ◌-◌, ◌<◌, ◌≤◌, ◌^◌, drop, Option, Some, None, List, [], ◌∷◌, ◌++◌, length, map, refl, sym, ap, ap₂, ◌∙◌, subst, arith, add-zero, add-one, append_assoc, length-append, Bor}
-use Rattle.std.specs.Prelude.{slice_get, IsSome, All}
+use Rattle.std.proofs.Common.{◌≡◌, ℕ, suc, ◌+◌, ◌-◌, ◌<◌, ◌≤◌, ◌^◌, drop, Option, Some, None, Bool, true, false, List, [], ◌∷◌, ◌++◌, length, map, if◌then◌else◌, refl, sym, ap, ap₂, ◌∙◌, subst, arith, add-zero, add-one, append_assoc, length-append, Bor}
+use Rattle.std.specs.Prelude.{slice_get, IsSome, All, filter}
 use Rattle.std.specs.Option.{option_copied}
 use Rattle.std.specs.List.{range_with_len, slice_index_or, AllByRecursion}
 use Rattle.std.proofs.lemmas.List.{append-nil, length-map}
@@ -101,57 +101,6 @@ module _ (net : AigPair) (shown : List ℕ) (known : List Entry) (fit : ShownFit
   derived-ids steps first derived room =
       All-from_recursion (HasIds net shown first) steps (ids-from [] steps first (omega arith) derived.over derived.chain)
 
--- the text of a list, and of what stands behind it
-pub text_from-append : (net : AigPair) (shown : List ℕ) (first last id : ℕ) (steps : List Step) (rest : List LratStep) → id ≡ last + 1
-    → text_from last (additions_from net shown first id steps ++ rest)
-    ≡ text_from last (additions_from net shown first id steps) ++ text_from (last + length steps) rest
-text_from-append net shown first last id [] rest e = rw (add-zero last) refl
-text_from-append net shown first last id (s ∷ ss) rest e =
-    let shift : id + length ss ≡ last + length (s ∷ ss) = omega arith in
-    ap (λ (t : List ℕ). line_text last (addition net shown first id s) ++ t)
-    (text_from-append net shown first id (id + 1) ss rest refl
-    ∙ ap (λ (n : ℕ). text_from id (additions_from net shown first (id + 1) ss) ++ text_from n rest) shift)
-    ∙ sym (append_assoc (line_text last (addition net shown first id s)) (text_from id (additions_from net shown first (id + 1) ss)) (text_from (last + length (s ∷ ss)) rest))
-
--- the text of some lists, and of what stands behind them
-pub text_from-lists : (net : AigPair) (shown : List ℕ) (last id : ℕ) (lists : List (List Step)) (rest : List LratStep) → id ≡ last + 1
-    → text_from last (additions net shown id lists ++ rest)
-    ≡ text_from last (additions net shown id lists) ++ text_from (last + length (additions net shown id lists)) rest
-text_from-lists net shown last id [] rest e = rw (add-zero last) refl
-text_from-lists net shown last id (steps ∷ lists) rest e =
-    let here = additions_from net shown id id steps in
-    let behind = additions net shown (id + length steps) lists in
-    let next : id + length steps ≡ last + length steps + 1 = omega arith in
-    let count : last + length steps + length behind ≡ last + length (here ++ behind) =
-    omega (arith, length-append here behind, length-additions_from net shown id id steps) in
-    ap (text_from last) (append_assoc here behind rest)
-    ∙ text_from-append net shown id last id steps (behind ++ rest) e
-    ∙ ap (λ (t : List ℕ). text_from last here ++ t) (text_from-lists net shown (last + length steps) (id + length steps) lists rest next)
-    ∙ ap (λ (n : ℕ). text_from last here ++ (text_from (last + length steps) behind ++ text_from n rest)) count
-    ∙ sym (append_assoc (text_from last here) (text_from (last + length steps) behind) (text_from (last + length (here ++ behind)) rest))
-    ∙ ap (λ (t : List ℕ). t ++ text_from (last + length (here ++ behind)) rest) (sym (text_from-append net shown id last id steps behind e))
-
--- where a writer of the steps stands that began with a text and its last id, and has some of the entries left
-pub record IsAt (net : AigPair) (shown : List ℕ) (known : List Entry) (text0 : List ℕ) (last0 : ℕ) (left : List Entry) (text : List ℕ) (last : ℕ) : Type 0 where
-  pub text_is :
-      text ++ text_from last (additions net shown (last + 1) (map written_steps left))
-      ≡ text0 ++ text_from last0 (additions net shown (last0 + 1) (map written_steps known))
-  pub last_is : last + total (map written_steps left) ≡ last0 + total (map written_steps known)
-  pub derived : AllByRecursion (λ e. IsDerived net known (written_steps e)) left
-  pub fit : ShownFit shown known
-  pub few : last0 + total (map written_steps known) + 1 < 2 ^ 60
-
-pub at-start : (net : AigPair) (out : ℕ) (text : List ℕ) (last : ℕ) (entries : List Entry) → IsSoundBook net out entries
-    → last ≡ length (miter_of net) → length (miter_of net) < 2 ^ 32 → (shown : List ℕ) → shown ≡ shown_ids net entries
-    → IsAt net shown entries text last entries text last
-at-start net out text last entries book start few shown is = record {
-  text_is = refl;
-  last_is = refl;
-  derived = book.derived;
-  fit = subst (λ (l : List ℕ). ShownFit l entries) (sym is) (shown-fit net out entries book few);
-  few = omega (arith, start, total-few net out entries book);
-}
-
 -- an entry that is lent by its place
 pub entry-there : (o : Option (Bor Entry)) (entries : List Entry) (i : ℕ) → option_copied o ≡ slice_get entries i → i < length entries → IsSome o
 entry-there (Some e) entries i at lt = refl
@@ -167,60 +116,6 @@ pub next-drop : (i : ℕ) (e : Entry) (entries : List Entry) → slice_get entri
 next-drop i e entries at =
     drop-cons entries i e (slice_get_within entries i e at)
     ∙ ap₂ (λ (x : Entry) (n : ℕ). x ∷ drop n entries) (get_or_from_slice_get entries i e e at) (sym (add-one i))
-
-pub at-drop : {net : AigPair} {shown : List ℕ} {known : List Entry} {text0 : List ℕ} {last0 : ℕ} {text : List ℕ} {last : ℕ}
-    (i : ℕ) (e : Entry) → slice_get known i ≡ Some e → IsAt net shown known text0 last0 (drop i known) text last
-    → IsAt net shown known text0 last0 (e ∷ drop (i + 1) known) text last
-at-drop {net} {shown} {known} {text0} {last0} {text} {last} i e is at =
-    subst (λ (l : List Entry). IsAt net shown known text0 last0 l text last) (next-drop i e known is) at
-
-module _ {net : AigPair} {shown : List ℕ} {known : List Entry} {text0 : List ℕ} {last0 : ℕ} {e : Entry} {es : List Entry} {text : List ℕ} {last : ℕ}
-    (at : IsAt net shown known text0 last0 (e ∷ es) text last) where
-  pub at-room : last + length (written_steps e) + 1 < 2 ^ 64
-  at-room = omega (arith, at.last_is, at.few)
-
-  pub at-ids : All (HasIds net shown (last + 1)) (written_steps e)
-  at-ids = derived-ids net shown known at.fit (written_steps e) (last + 1) at.derived.0 (omega (arith, at-room))
-
-  -- one entry more
-  pub at-next : (text' : List ℕ) (last' : ℕ)
-      → text' ≡ text ++ text_from last (additions_from net shown (last + 1) (last + 1) (written_steps e))
-      → last' ≡ last + length (written_steps e) → IsAt net shown known text0 last0 es text' last'
-  at-next text' last' f g = record {
-    text_is =
-        rw (f, g, shift)
-        (append_assoc text here (text_from (last + length (written_steps e)) behind)
-        ∙ ap (λ (t : List ℕ). text ++ t) (sym (text_from-append net shown (last + 1) last (last + 1) (written_steps e) behind refl))
-        ∙ at.text_is);
-    last_is = omega (arith, at.last_is);
-    derived = at.derived.1;
-    fit = at.fit;
-    few = at.few;
-  }
-    where
-      here : List ℕ
-      here = text_from last (additions_from net shown (last + 1) (last + 1) (written_steps e))
-
-      behind : List LratStep
-      behind = additions net shown (last + 1 + length (written_steps e)) (map written_steps es)
-
-      shift : last + length (written_steps e) + 1 ≡ last + 1 + length (written_steps e)
-      shift = omega arith
-
--- behind the last entry
-pub at-done : {net : AigPair} {shown : List ℕ} {known : List Entry} {text0 : List ℕ} {last0 : ℕ} {text : List ℕ} {last : ℕ}
-    (i : ℕ) → length known ≤ i → IsAt net shown known text0 last0 (drop i known) text last
-    → (text ≡ text0 ++ text_from last0 (additions net shown (last0 + 1) (map written_steps known)))
-    × (last ≡ last0 + length (additions net shown (last0 + 1) (map written_steps known)))
-    × (last + 1 < 2 ^ 60)
-at-done {net} {shown} {known} {text0} {last0} {text} {last} i past given = (
-  sym (append-nil text) ∙ at.text_is,
-  omega (arith, at.last_is, length-additions net shown (last0 + 1) (map written_steps known)),
-  omega (arith, at.last_is, at.few),
-)
-  where
-    at : IsAt net shown known text0 last0 [] text last
-    at = subst (λ (l : List Entry). IsAt net shown known text0 last0 l text last) (drop_of_length-le known past) given
 
 -- where a writer of the table stands: the next id, and what is left of the entries
 pub record IsAtShown (net : AigPair) (first : ℕ) (known left : List Entry) (shown : List ℕ) (next : ℕ) : Type 0 where
@@ -287,3 +182,28 @@ pub units-done : (f : ℕ → ℕ) (whole units : List ℕ) (j n : ℕ) → n �
 units-done f whole units j n past at =
     let none : n - j ≡ 0 = omega arith in
     sym (append-nil units) ∙ subst (λ (k : ℕ). units ++ map f (range_with_len j k) ≡ whole) none at
+
+-- the same of a writer of those that pass a test
+pub some-next : (test : ℕ → Bool) (f : ℕ → ℕ) (whole units units' : List ℕ) (j n : ℕ) → j < n
+    → units' ≡ units ++ (if test j then f j ∷ [] else []) → units ++ map f (filter test (range_with_len j (n - j))) ≡ whole
+    → units' ++ map f (filter test (range_with_len (j + 1) (n - (j + 1)))) ≡ whole
+some-next test f whole units units' j n lt new at = rw new (go (test j) refl)
+  where
+    all : units ++ map f (filter test (j ∷ range_with_len (j + 1) (n - (j + 1)))) ≡ whole
+    all = let count : n - j ≡ suc (n - (j + 1)) = omega arith in subst (λ (k : ℕ). units ++ map f (filter test (range_with_len j k)) ≡ whole) count at
+
+    go : (b : Bool) → test j ≡ b
+        → (units ++ (if test j then f j ∷ [] else [])) ++ map f (filter test (range_with_len (j + 1) (n - (j + 1)))) ≡ whole
+    go true e =
+        let here : filter test (j ∷ range_with_len (j + 1) (n - (j + 1))) ≡ j ∷ filter test (range_with_len (j + 1) (n - (j + 1))) = rw e refl in
+        rw e (append_assoc units (f j ∷ []) (map f (filter test (range_with_len (j + 1) (n - (j + 1)))))
+        ∙ ap (λ (l : List ℕ). units ++ map f l) (sym here) ∙ all)
+    go false e =
+        let here : filter test (j ∷ range_with_len (j + 1) (n - (j + 1))) ≡ filter test (range_with_len (j + 1) (n - (j + 1))) = rw e refl in
+        rw (e, append-nil units) (ap (λ (l : List ℕ). units ++ map f l) (sym here) ∙ all)
+
+pub some-done : (test : ℕ → Bool) (f : ℕ → ℕ) (whole units : List ℕ) (j n : ℕ) → n ≤ j
+    → units ++ map f (filter test (range_with_len j (n - j))) ≡ whole → units ≡ whole
+some-done test f whole units j n past at =
+    let none : n - j ≡ 0 = omega arith in
+    sym (append-nil units) ∙ subst (λ (k : ℕ). units ++ map f (filter test (range_with_len j k)) ≡ whole) none at

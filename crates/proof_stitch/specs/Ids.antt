@@ -23,7 +23,3 @@ AreNumbered net lits = All (λ l. IsSome (cnf_number_of net l)) lits
 pub record HasIds (net : AigPair) (shown : List ℕ) (first : ℕ) (step : Step) : Type 0 where
   pub literals : AreNumbered net step.clause
   pub hints : All (HasId net shown first) step.hints
-
--- so has each of some steps that stand behind the id `last`
-abbrev pub HaveIds : AigPair → List ℕ → ℕ → List Step → Type 0
-HaveIds net shown last steps = All (HasIds net shown (last + 1)) steps

@@ -29,10 +29,6 @@ additions_from net shown first id [] = []
 additions_from net shown first id (step ∷ steps) =
     addition net shown first id step ∷ additions_from net shown first (id + 1) steps
 
--- the additions of a list of steps behind the id `last`
-abbrev pub additions_behind : AigPair → List ℕ → ℕ → List Step → List LratStep
-additions_behind net shown last steps = additions_from net shown (last + 1) (last + 1) steps
-
 -- the additions of some lists, from that id on
 abbrev pub additions : AigPair → List ℕ → ℕ → List (List Step) → List LratStep
 additions net shown id [] = []

@@ -1,7 +1,8 @@
 -- What the writer keeps of each step while it goes through a book: a number by the step's id in the whole proof.
-use Rattle.std.specs.Prelude.{◌≡◌, ℕ, ◌+◌, ◌-◌, ◌<◌, ◌≤◌, Bool, ◌&&◌, ◌==◌, nat_le, List, [], ◌∷◌, length, if◌then◌else◌}
+use Rattle.std.specs.Prelude.{◌≡◌, ℕ, ◌+◌, ◌-◌, ◌<◌, ◌≤◌, Bool, ◌&&◌, ◌==◌, nat_le, List, [], ◌∷◌, ◌++◌, length, if◌then◌else◌}
 use Rattle.std.specs.List.{slice_index_or, AllByRecursion}
 use Rattle.lrat_text.specs.declared.step.LratStep.{LratStep}
+use Rattle.lrat_text.specs.declared.step.LratStep.TheVariants.{Add, Del}
 use Rattle.proof_stitch.specs.Trimmed.{cites, has_id, id_in}
 use Rattle.proof_stitch.specs.declared.by_step.ByStep.{ByStep}
 
@@ -56,3 +57,11 @@ pub record HasMarks (asked : ℕ → Bool) (lines : List LratStep) (t : ByStep) 
 -- the new id of an id: that of a clause of the formula, or what the step has
 abbrev pub named_in : ByStep → ℕ → ℕ
 named_in t id = if nat_le id t.clauses then id else number_at t id
+
+-- ---- what lines name
+
+-- the ids of some lines and of what they cite
+abbrev pub named_ids : List LratStep → List ℕ
+named_ids [] = []
+named_ids (Add id clause hints ∷ lines) = id ∷ (hints ++ named_ids lines)
+named_ids (Del ids ∷ lines) = named_ids lines

@@ -1,5 +1,5 @@
 -- The text of a proof, and what a call makes of the desk that writes it.
-use Rattle.std.specs.Prelude.{◌≡◌, ℕ, List, ◌++◌, length, Result, Ok, Err}
+use Rattle.std.specs.Prelude.{◌≡◌, ℕ, List, length, Result, Ok, Err}
 use Rattle.netlist.specs.Net.{AigPair}
 use Rattle.netlist.specs.Miter.{miter_of}
 use Rattle.lrat_text.specs.declared.step.LratStep.{LratStep}
@@ -8,17 +8,12 @@ use Rattle.desk_port.specs.Desk.{DeskState, Sizes, after_write, and_sizes}
 use Rattle.desk_port.specs.Pieces.{StopsInPieces, piece_sizes}
 use Rattle.desk_port.specs.declared.errors.PutErr.{PutErr}
 use Rattle.desk_port.specs.declared.errors.PutErr.TheVariants as not_put
-use Rattle.proof_stitch.specs.declared.proof_text.ProofText.{ProofText}
 use Rattle.proof_stitch.specs.declared.stitch_err.StitchErr.{StitchErr}
 use Rattle.proof_stitch.specs.declared.stitch_err.StitchErr.TheVariants.{Write, NoMemory}
 
 -- the text of some lines behind the miter's clauses, to the byte
 abbrev pub proof_text : AigPair → List LratStep → List ℕ
 proof_text net lines = text_from (length (miter_of net)) lines
-
--- the text has got those of some lines
-abbrev pub Puts : ProofText → List LratStep → ProofText → Type 0
-Puts old lines new = new.text.items ≡ old.text.items ++ text_from old.last lines
 
 -- why a proof wasn't written, by why the desk didn't write it
 abbrev pub refusal_of : PutErr → StitchErr

@@ -1,35 +1,12 @@
-ghost use Rattle.std.specs.Prelude.{◌≡◌, ◌+◌, ◌<◌, IfOk, IsSome, map};
+ghost use Rattle.std.specs.Prelude.{◌≡◌, IfOk, IsSome, map};
 ghost use Rattle.std.specs.List.{All, slice_index_or};
 ghost use Rattle.netlist.specs.Miter.{numbered, cnf_number_of};
-ghost use Rattle.proof_stitch.specs.Steps.{id_of, addition};
-ghost use Rattle.proof_stitch.specs.Ids.{AreNumbered, HasId, HasIds};
+ghost use Rattle.proof_stitch.specs.Steps.{id_of};
+ghost use Rattle.proof_stitch.specs.Ids.{AreNumbered, HasId};
 
-use lits::{Dim, Listed, Lit, Ref, Step};
-use lrat_text::LratStep;
+use lits::{Dim, Lit, Ref};
 use netlist::Net;
 use std::alloc::{AllocError, Global};
-
-/// The addition of a step under that id. `first` is the id of the first step of its list, and `shown`
-/// has by entry of the book the id of the first of the clauses that the entry shows.
-pub fn addition(
-    alloc: Global,
-    net: &Net,
-    shown: &[u64],
-    first: u64,
-    id: u64,
-    step: &Step,
-) -> Result<LratStep, AllocError>
-    requires { HasIds net.now shown.now first step.now }
-    ensures { IfOk result (λ a. a ≡ addition net.now shown.now first id step.now) }
-{
-    let clause = numbers(alloc, net, step.clause.lits())?;
-    let hints = ids(alloc, net, shown, first, step.hints.as_slice())?;
-    Ok(LratStep::Add {
-        id,
-        clause: Listed::of(clause),
-        hints: Listed::of(hints),
-    })
-}
 
 /// The literals as numbers of the miter.
 pub fn numbers(alloc: Global, net: &Net, lits: &[Lit]) -> Result<Vec<Dim>, AllocError>

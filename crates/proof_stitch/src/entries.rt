@@ -1,8 +1,10 @@
-ghost use Rattle.std.specs.Prelude.{◌≡◌, ℕ, ◌+◌, ◌<◌, ◌≤◌, ◌^◌, ◌∷◌, ◌++◌, Bool, List, All, IfOk, OnOk, length};
+ghost use Rattle.std.specs.Prelude.{◌≡◌, ℕ, ◌+◌, ◌<◌, ◌≤◌, ◌^◌, [], ◌∷◌, ◌++◌, Bool, List, All, IfOk, OnOk, length, if◌then◌else◌};
 ghost use Rattle.netlist.specs.Miter.{miter_of};
 ghost use Rattle.lemma_book.specs.Book.{IsLegal};
+ghost use Rattle.lemma_book.specs.Entry.{has_out};
 ghost use Rattle.lrat_text.specs.declared.step.LratStep.{LratStep};
 ghost use Rattle.proof_stitch.specs.Ids.{HasIds};
+ghost use Rattle.proof_stitch.specs.Derivation.{shown_units};
 ghost use Rattle.proof_stitch.specs.Progress.{IsAtLine};
 ghost use Rattle.proof_stitch.specs.Steps.{addition, additions_from};
 ghost use Rattle.proof_stitch.specs.Stitch.{unit_ids, unit_in};
@@ -16,7 +18,7 @@ use crate::proof_text::ProofText;
 use crate::reach::UNUSED;
 use crate::shown::written_steps;
 use crate::written_step::write_step;
-use lemma_book::{Book, Subject};
+use lemma_book::{Book, Entry, Subject};
 use lits::Step;
 use netlist::Net;
 use std::alloc::{AllocError, Global};
@@ -35,9 +37,8 @@ pub fn push_entries(
     requires shown { shown.now ≡ shown_ids net.now book.now.entries }
     requires start { proof.old.last ≡ length (miter_of net.now) }
     requires marks { marks.now.clauses ≡ length (miter_of net.now) }
-    requires names { names.old.clauses ≡ length (miter_of net.now) }
-    requires all_marks { length marks.now.numbers.items ≡ length (book_additions net.now book.now.entries) }
-    requires all_names { length names.old.numbers.items ≡ length (book_additions net.now book.now.entries) }
+    requires all_marks { length (book_additions net.now book.now.entries) ≤ length marks.now.numbers.items }
+    requires alike { KeepsShape marks.now names.old }
     ensures shape { KeepsShape names.old names.new }
     ensures text { OnOk result ((asked : ℕ → Bool) (all left : List LratStep) →
         HasMarks asked (reached asked all) marks.now →
@@ -46,6 +47,8 @@ pub fn push_entries(
         IsAtLine (length (miter_of net.now)) asked all left (length (miter_of net.now)
         + length (book_additions net.now book.now.entries) + 1) names.new proof.new) }
     ensures room { OnOk result (proof.new.last + 1 < 2 ^ 60) }
+    ensures behind { OnOk result (proof.new.last
+        ≤ length (miter_of net.now) + length (book_additions net.now book.now.entries)) }
 {
     net.clauses();
     book.sweep_budget();
@@ -61,7 +64,7 @@ pub fn push_entries(
 }
 
 /// Adds what is reached of a list of steps, the first of which has that id in the whole proof.
-fn push_steps(
+pub fn push_steps(
     alloc: Global,
     net: &Net,
     shown: &[u64],
@@ -135,6 +138,39 @@ pub fn units(alloc: Global, net: &Net, book: &Book, shown: &[u64]) -> Result<Vec
         units.push(unit(book, shown, output))?;
     }
     Ok(units)
+}
+
+/// Those of the outputs that Out entries show to be equal.
+pub fn shown_units(
+    alloc: Global,
+    net: &Net,
+    book: &Book,
+    shown: &[u64],
+) -> Result<Vec<u64>, AllocError>
+    requires { shown.now ≡ shown_ids net.now book.now.entries }
+    ensures { IfOk result (λ v. v.items ≡ shown_units net.now book.now.entries) }
+{
+    let mut units = Vec::new(alloc);
+    for output in 0..net.outputs() {
+        push_shown(book, shown, output, &mut units)?;
+    }
+    Ok(units)
+}
+
+/// Adds the id of an output's unit, if an Out entry shows the output to be equal.
+fn push_shown(
+    book: &Book,
+    shown: &[u64],
+    output: u32,
+    units: &mut Vec<u64>,
+) -> Result<(), AllocError>
+    ensures { OnOk result (units.new.items ≡ units.old.items
+        ++ (if has_out book.now.entries output then unit_in shown.now book.now.entries output ∷ [] else [])) }
+{
+    if let Some(Entry::Out { .. }) = book.about(output) {
+        units.push(unit(book, shown, output))?;
+    }
+    Ok(())
 }
 
 /// The id of an output's unit.

@@ -4,10 +4,10 @@
 //! merges by entry, and their own earlier steps by place. Here they become one text, the additions under ids
 //! without gaps that go on behind the numbers of the miter's clauses. `refutation` writes the empty clause
 //! from the outputs' units, and before it what it rests on of the steps of the Merge and Out entries, in the
-//! order of the book, each deleted once nothing behind rests on it; `derivation` writes all these steps and
-//! then the logs of the outputs' queries that spent their budgets. The crate promises which lines the text
-//! spells, and that they refute the miter, or derive from it. It goes over the steps of the book twice for a
-//! refutation, from the back and then forward; no clause speaks of time.
+//! order of the book, each deleted once nothing behind rests on it; `derivation` writes the logs of the outputs'
+//! queries that spent their budgets, and before them likewise what they rest on. The crate promises which lines the text
+//! spells, and that they refute the miter, or derive from it. It goes over the steps of the book twice, from the back
+//! and then forward; no clause speaks of time.
 //!
 //! Definitions: `specs/Steps.antt` (the additions that lists of steps make), `specs/Written.antt` (the steps
 //! of a book in order, and the ids of the clauses that entries show), `specs/Trimmed.antt` (which lines of a
@@ -23,7 +23,6 @@ pub use write_derivation::derivation;
 pub use write_refutation::refutation;
 
 mod addition;
-mod all_entries;
 mod by_step;
 mod entries;
 pub mod laws;

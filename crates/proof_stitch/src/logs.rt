@@ -1,14 +1,20 @@
-ghost use Rattle.std.specs.Prelude.{◌≡◌, ◌+◌, ◌<◌, ◌^◌, ◌++◌, IfOk, OnOk, length};
+ghost use Rattle.std.specs.Prelude.{◌≡◌, ◌+◌, ◌<◌, ◌^◌, [], ◌++◌, All, IfOk, OnOk, length};
+ghost use Rattle.netlist.specs.Miter.{miter_of};
 ghost use Rattle.lemma_book.specs.Book.{IsLegal};
-ghost use Rattle.proof_stitch.specs.Steps.{additions_behind};
-ghost use Rattle.proof_stitch.specs.Ids.{HaveIds};
-ghost use Rattle.proof_stitch.specs.Text.{Puts};
-ghost use Rattle.proof_stitch.specs.Written.{shown_ids};
 ghost use Rattle.lemma_book.specs.Entry.{outputs_of};
-ghost use Rattle.proof_stitch.specs.Derivation.{log_lines, spent_log, span_of, spans_from};
+ghost use Rattle.proof_stitch.specs.Derivation.{all_lines, is_for_logs, log_lines, span_of, spans_from, spent_log, written_lines};
+ghost use Rattle.proof_stitch.specs.Ids.{HasIds};
+ghost use Rattle.proof_stitch.specs.Progress.{IsAtLine};
+ghost use Rattle.proof_stitch.specs.Steps.{additions_from};
+ghost use Rattle.proof_stitch.specs.Table.{AreMarked, HasMarks, KeepsShape, always, named_ids};
+ghost use Rattle.proof_stitch.specs.Written.{shown_ids, book_additions};
 
+use crate::by_step::ByStep;
+use crate::entries::push_steps;
 use crate::proof_text::ProofText;
+use crate::reach::{ALWAYS, mark, mark_hints};
 use lemma_book::{Book, Entry};
+use lits::Step;
 use netlist::Net;
 use std::alloc::{AllocError, Global};
 
@@ -20,19 +26,96 @@ pub struct Span {
     pub last: u64,
 }
 
-/// Adds the logs of a book's OutSpent entries, in order of outputs, and gives their ids.
+/// The log of an output's query, if it spent its budget.
+fn spent_log(book: &Book, output: u32) -> &[Step]
+    ensures { result.now ≡ spent_log book.now.entries output }
+{
+    match book.about(output) {
+        Some(Entry::OutSpent { log, .. }) => log.as_slice(),
+        _ => &[],
+    }
+}
+
+/// How many steps all logs have.
+pub fn log_count(net: &Net, book: &Book) -> u64
+    requires { IsLegal net.now book.now }
+    ensures count { result ≡ length (log_lines net.now book.now.entries) }
+    ensures few { result < 2 ^ 60 }
+{
+    net.clauses();
+    book.sweep_budget();
+    book.out_budget();
+    let mut count = 0;
+    for output in 0..net.outputs() {
+        count += spent_log(book, output).len() as u64;
+    }
+    count
+}
+
+/// Marks the steps of all logs, and what they cite, as asked for. `first` is the id of the first of them.
+pub fn ask_logs(marks: &mut ByStep, net: &Net, book: &Book, shown: &[u64], first: u64)
+    requires legal { IsLegal net.now book.now }
+    requires shown { shown.now ≡ shown_ids net.now book.now.entries }
+    requires first { first
+        ≡ length (miter_of net.now) + length (book_additions net.now book.now.entries) + 1 }
+    ensures shape { KeepsShape marks.old marks.new }
+    ensures marked { AreMarked (named_ids (log_lines net.now book.now.entries)) always marks.old marks.new }
+{
+    net.clauses();
+    book.sweep_budget();
+    book.out_budget();
+    let mut next = first;
+    for output in 0..net.outputs() {
+        let log = spent_log(book, output);
+        ask_steps(marks, net, shown, next, log);
+        next += log.len() as u64;
+    }
+}
+
+/// Marks the steps of a list, the first of which has that id, and what they cite, as asked for.
+fn ask_steps(marks: &mut ByStep, net: &Net, shown: &[u64], first: u64, steps: &[Step])
+    requires ids { All (HasIds net.now shown.now first) steps.now }
+    requires small { first + length steps.now < 2 ^ 63 }
+    ensures shape { KeepsShape marks.old marks.new }
+    ensures marked { AreMarked (named_ids (additions_from net.now shown.now first first steps.now)) always
+        marks.old marks.new }
+{
+    let mut id = first;
+    for step in steps {
+        mark(marks, id, ALWAYS);
+        mark_hints(marks, net, shown, first, ALWAYS, step.hints.as_slice());
+        id += 1;
+    }
+}
+
+/// Adds the logs of a book's OutSpent entries, in order of outputs, and gives their ids. `first` is the id of
+/// the first of their steps in the whole proof.
 pub fn push_logs(
     alloc: Global,
     net: &Net,
     book: &Book,
     shown: &[u64],
+    marks: &ByStep,
+    names: &mut ByStep,
+    first: u64,
     proof: &mut ProofText,
 ) -> Result<Vec<Span>, AllocError>
     requires legal { IsLegal net.now book.now }
     requires shown { shown.now ≡ shown_ids net.now book.now.entries }
-    requires room { proof.old.last < 2 ^ 60 }
-    ensures text { OnOk result
-        (Puts proof.old (log_lines net.now book.now.entries proof.old.last) proof.new) }
+    requires first { first
+        ≡ length (miter_of net.now) + length (book_additions net.now book.now.entries) + 1 }
+    requires alike { KeepsShape marks.now names.old }
+    requires clauses { marks.now.clauses ≡ length (miter_of net.now) }
+    requires room { length marks.now.numbers.items
+        ≡ length (book_additions net.now book.now.entries) + length (log_lines net.now book.now.entries) }
+    requires marks { HasMarks (is_for_logs net.now book.now.entries)
+        (written_lines net.now book.now.entries) marks.now }
+    requires at { IsAtLine (length (miter_of net.now)) (is_for_logs net.now book.now.entries)
+        (all_lines net.now book.now.entries) (log_lines net.now book.now.entries) first names.old proof.old }
+    requires behind { proof.old.last < first }
+    ensures text { OnOk result (IsAtLine (length (miter_of net.now))
+        (is_for_logs net.now book.now.entries) (all_lines net.now book.now.entries) []
+        (first + length (log_lines net.now book.now.entries)) names.new proof.new) }
     ensures spans { IfOk result (λ spans. spans.items
         ≡ spans_from book.now.entries (proof.old.last + 1) (outputs_of net.now)) }
 {
@@ -40,38 +123,34 @@ pub fn push_logs(
     book.sweep_budget();
     book.out_budget();
     let mut spans = Vec::new(alloc);
+    let mut next = first;
     for output in 0..net.outputs() {
-        push_log(alloc, net, book, shown, output, proof, &mut spans)?;
+        let log = spent_log(book, output);
+        let begin = proof.last + 1;
+        push_steps(alloc, net, shown, marks, names, next, log, proof)?;
+        next += log.len() as u64;
+        push_span(book, output, begin, proof.last, &mut spans)?;
     }
     Ok(spans)
 }
 
-/// Adds the log of an output, if its query spent its budget.
-fn push_log(
-    alloc: Global,
-    net: &Net,
+/// Adds the span of an output's log from the one id to the other, if its query spent its budget.
+fn push_span(
     book: &Book,
-    shown: &[u64],
     output: u32,
-    proof: &mut ProofText,
+    first: u64,
+    last: u64,
     spans: &mut Vec<Span>,
 ) -> Result<(), AllocError>
-    requires ids { HaveIds net.now shown.now proof.old.last (spent_log book.now.entries output) }
-    requires room { proof.old.last + length (spent_log book.now.entries output) + 1 < 2 ^ 64 }
-    ensures text { OnOk result (Puts proof.old
-        (additions_behind net.now shown.now proof.old.last (spent_log book.now.entries output)) proof.new) }
-    ensures last { OnOk result
-        (proof.new.last ≡ proof.old.last + length (spent_log book.now.entries output)) }
-    ensures spans { OnOk result (spans.new.items
-        ≡ spans.old.items ++ span_of book.now.entries (proof.old.last + 1) output) }
+    requires { last + 1 ≡ first + length (spent_log book.now.entries output) }
+    ensures { OnOk result (spans.new.items
+        ≡ spans.old.items ++ span_of book.now.entries first output) }
 {
-    if let Some(Entry::OutSpent { log, .. }) = book.about(output) {
-        let first = proof.last + 1;
-        proof.push_steps(alloc, net, shown, log.as_slice())?;
+    if let Some(Entry::OutSpent { .. }) = book.about(output) {
         spans.push(Span {
             output,
             first,
-            last: proof.last,
+            last,
         })?;
     }
     Ok(())

@@ -49,7 +49,7 @@ pub fn ask(marks: &mut ByStep, ids: &[u64])
 }
 
 /// Marks what some hints name. `first` is the id of the first step of their list.
-fn mark_hints(marks: &mut ByStep, net: &Net, shown: &[u64], first: u64, by: u64, hints: &[Ref])
+pub fn mark_hints(marks: &mut ByStep, net: &Net, shown: &[u64], first: u64, by: u64, hints: &[Ref])
     requires ids { All (HasId net.now shown.now first) hints.now }
     requires some { 1 ≤ by }
     ensures shape { KeepsShape marks.old marks.new }
@@ -109,8 +109,8 @@ pub fn reach(marks: &mut ByStep, net: &Net, book: &Book, shown: &[u64], last: u6
     requires legal { IsLegal net.now book.now }
     requires shown { shown.now ≡ shown_ids net.now book.now.entries }
     requires clauses { marks.old.clauses ≡ length (miter_of net.now) }
-    requires steps { length marks.old.numbers.items ≡ length (book_additions net.now book.now.entries) }
-    requires last { last ≡ marks.old.clauses + length marks.old.numbers.items }
+    requires steps { length (book_additions net.now book.now.entries) ≤ length marks.old.numbers.items }
+    requires last { last ≡ marks.old.clauses + length (book_additions net.now book.now.entries) }
     ensures shape { KeepsShape marks.old marks.new }
     ensures marks { (asked : ℕ → Bool) (behind : List LratStep) →
         HasMarks asked (reached asked behind) marks.old →

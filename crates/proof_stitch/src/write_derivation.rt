@@ -1,22 +1,28 @@
-ghost use Rattle.std.specs.Prelude.{◌≡◌, IfOk, IsSome};
+ghost use Rattle.std.specs.Prelude.{◌≡◌, ◌+◌, IfOk, IsSome, length};
+ghost use Rattle.netlist.specs.Miter.{miter_of};
 ghost use Rattle.lemma_book.specs.Book.{IsLegal};
 ghost use Rattle.proof_stitch.specs.Text.{proof_text, Stitches};
-ghost use Rattle.proof_stitch.specs.Derivation.{derivation_of, spans_of, IsDerivation, AreSpans, AreWhole};
+ghost use Rattle.proof_stitch.specs.Derivation.{AreSpans, AreWhole, IsDerivation, derivation_of, is_for_logs, log_lines, spans_of, written_lines};
+ghost use Rattle.proof_stitch.specs.Table.{HasMarks};
+ghost use Rattle.proof_stitch.specs.Written.{book_additions, shown_ids};
 
-use crate::all_entries::push_all;
+use crate::by_step::ByStep;
+use crate::entries::{push_entries, shown_units};
 use crate::laws;
-use crate::logs::{Span, push_logs};
+use crate::logs::{Span, ask_logs, log_count, push_logs};
 use crate::proof_text::ProofText;
-use crate::shown::shown_ids;
+use crate::reach::{ask, reach};
+use crate::shown::{shown_ids, written_count};
 use crate::stitch_err::StitchErr;
 use desk_port::Desk;
 use lemma_book::Book;
 use netlist::Net;
 use std::alloc::{AllocError, Global};
 
-/// Writes to the started file what the book derives from the miter: the steps of its Merge and Out
-/// entries in order, and then the logs of its OutSpent entries in order of outputs. It gives the ids of
-/// the logs, output by output.
+/// Writes to the started file what the book derives from the miter: the logs of its OutSpent entries in order
+/// of outputs, and before them what they, and the units of its Out entries, rest on of the steps of its Merge
+/// and Out entries, in order. A step is deleted behind the last of these that cites it, unless a log does or it
+/// is an Out's unit. It gives the ids of the logs, output by output.
 pub fn derivation<D: Desk>(
     alloc: Global,
     net: &Net,
@@ -52,11 +58,53 @@ fn whole_derivation(
     ensures spans { IfOk result (λ p. p.1.items ≡ spans_of net.now book.now.entries) }
     ensures whole { IfOk result (λ p. AreWhole book.now.out_budget p.1.items) }
 {
+    net.clauses();
     book.sweep_budget();
     book.out_budget();
-    let mut proof = ProofText::new(alloc, u64::from(net.clauses()));
     let shown = shown_ids(alloc, net, book)?;
-    push_all(alloc, net, book, shown.as_slice(), &mut proof)?;
-    let spans = push_logs(alloc, net, book, shown.as_slice(), &mut proof)?;
+    let marks = marks_of(alloc, net, book, shown.as_slice())?;
+    let mut names = ByStep::new(alloc, marks.clauses, marks.numbers.len() as u64)?;
+    let mut proof = ProofText::new(alloc, marks.clauses);
+    push_entries(
+        alloc,
+        net,
+        book,
+        shown.as_slice(),
+        &marks,
+        &mut names,
+        &mut proof,
+    )?;
+    let first = marks.clauses + written_count(net, book) + 1;
+    let spans = push_logs(
+        alloc,
+        net,
+        book,
+        shown.as_slice(),
+        &marks,
+        &mut names,
+        first,
+        &mut proof,
+    )?;
     Ok((proof, spans))
+}
+
+/// The marks of all steps, those of the logs too.
+fn marks_of(alloc: Global, net: &Net, book: &Book, shown: &[u64]) -> Result<ByStep, AllocError>
+    requires legal { IsLegal net.now book.now }
+    requires shown { shown.now ≡ shown_ids net.now book.now.entries }
+    ensures clauses { IfOk result (λ t. t.clauses ≡ length (miter_of net.now)) }
+    ensures count { IfOk result (λ t. length t.numbers.items
+        ≡ length (book_additions net.now book.now.entries) + length (log_lines net.now book.now.entries)) }
+    ensures marks { IfOk result (HasMarks (is_for_logs net.now book.now.entries)
+        (written_lines net.now book.now.entries)) }
+{
+    let clauses = u64::from(net.clauses());
+    let steps = written_count(net, book);
+    let logs = log_count(net, book);
+    let mut marks = ByStep::new(alloc, clauses, steps + logs)?;
+    let units = shown_units(alloc, net, book, shown)?;
+    ask(&mut marks, units.as_slice());
+    ask_logs(&mut marks, net, book, shown, clauses + steps + 1);
+    reach(&mut marks, net, book, shown, clauses + steps);
+    Ok(marks)
 }

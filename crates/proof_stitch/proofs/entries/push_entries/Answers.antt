@@ -66,10 +66,7 @@ push_steps-requires-clause-within c =
     )
 
 pub push_steps-requires-clause-alike : goal.push_steps-requires-clause-alike
-push_steps-requires-clause-alike c = record {
-  clauses = omega (arith, c.requires.marks, c.requires.names, c.loop-place.invariant.shape.clauses);
-  steps = omega (arith, c.requires.all_marks, c.requires.all_names, c.loop-place.invariant.shape.steps);
-}
+push_steps-requires-clause-alike c = shape-trans c.args.marks.now c.args.names.now c.loop-place.names c.requires.alike c.loop-place.invariant.shape
 
 pub push_steps-requires-clause-small : goal.push_steps-requires-clause-small
 push_steps-requires-clause-small c =
@@ -167,4 +164,16 @@ returns-clause-room c =
       c.loop-place.invariant.first_is,
       total-past c.args.book.now.entries c.loop-place.place past,
       total-few c.args.net.now c.args.book.now.out_budget c.args.book.now.entries book,
+    )
+
+pub returns-clause-behind : goal.returns-clause-behind
+returns-clause-behind c =
+    let past : length c.args.book.now.entries ≤ c.loop-place.place = omega (arith, c.loop-place-test.false, c.len-place-end.ensures) in
+    omega (
+      arith,
+      c.loop-place.invariant.behind,
+      c.loop-place.invariant.first_is,
+      total-past c.args.book.now.entries c.loop-place.place past,
+      length-additions c.args.net.now (shown_ids c.args.net.now c.args.book.now.entries) (length (miter_of c.args.net.now) + 1)
+          (map written_steps c.args.book.now.entries),
     )

@@ -1,42 +1,112 @@
-use Rattle.std.proofs.Common.{◌≡◌, ◌<◌, ◌^◌, ◌-◌, length, arith, refl, ◌∙◌}
+use Rattle.std.proofs.Common.{◌≡◌, ◌+◌, ◌-◌, ◌<◌, ◌≤◌, ◌^◌, [], ℕ, List, length, map, ap, arith, subst, sym, All, ◌∙◌}
+use Rattle.std.proofs.lemmas.List.{append-nil}
 use Rattle.netlist.specs.Miter.{miter_of}
+use Rattle.lits.specs.declared.step.Step.{Step}
+use Rattle.proof_stitch.specs.Derivation.{all_lines, is_for_logs, log_lines, spent_log}
+use Rattle.proof_stitch.specs.Ids.{HasIds}
+use Rattle.proof_stitch.specs.Progress.{IsAtLine}
 use Rattle.proof_stitch.proofs.BookLemmas.{legal-book}
-use Rattle.proof_stitch.proofs.LogLemmas.{log-start, log-range, log-room, log-ids, log-next, log-done}
+use Rattle.proof_stitch.proofs.DerivationLemmas.{length-log_lines}
+use Rattle.proof_stitch.proofs.LogLemmas.{log-above, log-after, log-done, log-ids, log-last, log-next, log-range, log-small, log-start, log-within}
+use Rattle.proof_stitch.proofs.ReachLemmas.{shape-refl, shape-trans}
 use Rattle.proof_stitch.proofs.logs.push_logs.Goals as goal
 
 pub loop-output-init : goal.loop-output-init
 loop-output-init c =
-    let book = legal-book c.args.net.now c.clauses.ensures.net c.args.book.now.sweep_budget c.args.book.now.out_budget
-    (omega (arith, c.sweep_budget.ensures.budget, c.sweep_budget.ensures.range))
-    (omega (arith, c.out_budget.ensures.budget, c.out_budget.ensures.range)) c.args.book.now.entries c.requires.legal in
     let whole : c.outputs-output-end.result - 0 ≡ length c.args.net.now.a.outputs = omega (arith, c.outputs-output-end.ensures.count) in
-    rw (whole, c.new-spans.ensures.items)
-    (log-start c.args.net.now c.args.book.now.out_budget c.args.proof.now.text.items c.args.proof.now.last c.args.book.now.entries book
-    c.requires.room c.args.shown.now)
+    record {
+      shape = shape-refl c.args.names.now;
+      at =
+          rw (whole, c.new-spans.ensures.items)
+          (log-start c.args.net.now c.args.book.now.entries c.args.first c.args.names.now c.args.proof.now c.requires.first c.requires.at c.requires.behind);
+    }
 
-pub push_log-requires-clause-ids : goal.push_log-requires-clause-ids
-push_log-requires-clause-ids c =
+pub overflow_add-begin : goal.overflow_add-begin
+overflow_add-begin c =
     let book = legal-book c.args.net.now c.clauses.ensures.net c.args.book.now.sweep_budget c.args.book.now.out_budget
     (omega (arith, c.sweep_budget.ensures.budget, c.sweep_budget.ensures.range))
     (omega (arith, c.out_budget.ensures.budget, c.out_budget.ensures.range)) c.args.book.now.entries c.requires.legal in
     let few : length (miter_of c.args.net.now) < 2 ^ 32 = omega (arith, c.clauses.ensures.count) in
-    log-ids (log-range c.loop-output.output c.outputs-output-end.result c.loop-output-test.true c.loop-output.invariant)
-    c.args.book.now.out_budget book few c.requires.shown
+    let at = log-range c.loop-output.output c.outputs-output-end.result c.loop-output-test.true c.loop-output.invariant.at in
+    omega (arith, at.behind, log-small at c.args.book.now.out_budget book few c.requires.first)
 
-pub push_log-requires-clause-room : goal.push_log-requires-clause-room
-push_log-requires-clause-room c =
-    log-room (log-range c.loop-output.output c.outputs-output-end.result c.loop-output-test.true c.loop-output.invariant)
+pub push_steps-requires-clause-ids : goal.push_steps-requires-clause-ids
+push_steps-requires-clause-ids c =
+    let book = legal-book c.args.net.now c.clauses.ensures.net c.args.book.now.sweep_budget c.args.book.now.out_budget
+    (omega (arith, c.sweep_budget.ensures.budget, c.sweep_budget.ensures.range))
+    (omega (arith, c.out_budget.ensures.budget, c.out_budget.ensures.range)) c.args.book.now.entries c.requires.legal in
+    let few : length (miter_of c.args.net.now) < 2 ^ 32 = omega (arith, c.clauses.ensures.count) in
+    let at = log-range c.loop-output.output c.outputs-output-end.result c.loop-output-test.true c.loop-output.invariant.at in
+    subst (λ (l : List Step). All (HasIds c.args.net.now c.args.shown.now c.loop-output.next) l) (sym c.spent_log-log.ensures)
+    (log-ids at c.args.book.now.out_budget book few c.requires.first c.args.shown.now c.requires.shown)
+
+pub push_steps-requires-clause-above : goal.push_steps-requires-clause-above
+push_steps-requires-clause-above c =
+    let at = log-range c.loop-output.output c.outputs-output-end.result c.loop-output-test.true c.loop-output.invariant.at in
+    omega (arith, log-above at, c.requires.clauses)
+
+pub push_steps-requires-clause-within : goal.push_steps-requires-clause-within
+push_steps-requires-clause-within c =
+    let at = log-range c.loop-output.output c.outputs-output-end.result c.loop-output-test.true c.loop-output.invariant.at in
+    omega (arith, log-within at c.requires.first, c.requires.clauses, c.requires.room, ap length c.spent_log-log.ensures)
+
+pub push_steps-requires-clause-alike : goal.push_steps-requires-clause-alike
+push_steps-requires-clause-alike c = shape-trans c.args.marks.now c.args.names.now c.loop-output.names c.requires.alike c.loop-output.invariant.shape
+
+pub push_steps-requires-clause-small : goal.push_steps-requires-clause-small
+push_steps-requires-clause-small c =
+    let book = legal-book c.args.net.now c.clauses.ensures.net c.args.book.now.sweep_budget c.args.book.now.out_budget
+    (omega (arith, c.sweep_budget.ensures.budget, c.sweep_budget.ensures.range))
+    (omega (arith, c.out_budget.ensures.budget, c.out_budget.ensures.range)) c.args.book.now.entries c.requires.legal in
+    let few : length (miter_of c.args.net.now) < 2 ^ 32 = omega (arith, c.clauses.ensures.count) in
+    let at = log-range c.loop-output.output c.outputs-output-end.result c.loop-output-test.true c.loop-output.invariant.at in
+    omega (arith, log-small at c.args.book.now.out_budget book few c.requires.first, ap length c.spent_log-log.ensures)
+
+pub push_steps-requires-clause-behind : goal.push_steps-requires-clause-behind
+push_steps-requires-clause-behind c = c.loop-output.invariant.at.behind
+
+pub overflow_add-next : goal.overflow_add-next
+overflow_add-next c =
+    let book = legal-book c.args.net.now c.clauses.ensures.net c.args.book.now.sweep_budget c.args.book.now.out_budget
+    (omega (arith, c.sweep_budget.ensures.budget, c.sweep_budget.ensures.range))
+    (omega (arith, c.out_budget.ensures.budget, c.out_budget.ensures.range)) c.args.book.now.entries c.requires.legal in
+    let few : length (miter_of c.args.net.now) < 2 ^ 32 = omega (arith, c.clauses.ensures.count) in
+    let at = log-range c.loop-output.output c.outputs-output-end.result c.loop-output-test.true c.loop-output.invariant.at in
+    omega (arith, log-small at c.args.book.now.out_budget book few c.requires.first, ap length c.spent_log-log.ensures)
+
+pub push_span-requires : goal.push_span-requires
+push_span-requires c =
+    let at = log-range c.loop-output.output c.outputs-output-end.result c.loop-output-test.true c.loop-output.invariant.at in
+    let asked = is_for_logs c.args.net.now c.args.book.now.entries in
+    let all = all_lines c.args.net.now c.args.book.now.entries in
+    let after = log-after at c.args.marks.now.clauses c.args.shown.now c.spent_log-log.result.now c.push_steps.new.names c.push_steps.new.proof
+    c.requires.clauses c.requires.shown c.spent_log-log.ensures
+    (λ left here. c.in_ok-push_steps.ensures.text asked all left c.requires.marks here) in
+    omega (arith, log-last at after)
 
 pub loop-output-preserved : goal.loop-output-preserved
 loop-output-preserved c =
-    log-next (log-range c.loop-output.output c.outputs-output-end.result c.loop-output-test.true c.loop-output.invariant)
-    c.push_log.new.proof.text.items c.push_log.new.proof.last c.push_log.new.spans.items
-    c.in_ok-push_log.ensures.text c.in_ok-push_log.ensures.last c.in_ok-push_log.ensures.spans
+    let at = log-range c.loop-output.output c.outputs-output-end.result c.loop-output-test.true c.loop-output.invariant.at in
+    let asked = is_for_logs c.args.net.now c.args.book.now.entries in
+    let all = all_lines c.args.net.now c.args.book.now.entries in
+    let after = log-after at c.args.marks.now.clauses c.args.shown.now c.spent_log-log.result.now c.push_steps.new.names c.push_steps.new.proof
+    c.requires.clauses c.requires.shown c.spent_log-log.ensures
+    (λ left here. c.in_ok-push_steps.ensures.text asked all left c.requires.marks here) in
+    let count : length c.spent_log-log.result.now ≡ length (spent_log c.args.book.now.entries c.loop-output.output) = ap length c.spent_log-log.ensures in
+    record {
+      shape = shape-trans c.args.names.now c.loop-output.names c.push_steps.new.names c.loop-output.invariant.shape c.push_steps.ensures.shape;
+      at = rw count (log-next at after c.push_span.new.spans.items c.in_ok-push_span.ensures (omega (arith, c.in_ok-push_steps.ensures.behind, count)));
+    }
 
 pub returns-clause-text : goal.returns-clause-text
 returns-clause-text c =
-    (log-done c.loop-output.output c.outputs-output-end.result c.loop-output-test.false c.loop-output.invariant).0
-    ∙ rw c.requires.shown refl
+    let done = log-done c.loop-output.output c.outputs-output-end.result c.loop-output-test.false c.loop-output.invariant.at in
+    let end : c.loop-output.next ≡ c.args.first + length (log_lines c.args.net.now c.args.book.now.entries) =
+    omega (arith, done.next_is, length-log_lines c.args.net.now c.args.book.now.entries) in
+    subst (λ (n : ℕ). IsAtLine (length (miter_of c.args.net.now)) (is_for_logs c.args.net.now c.args.book.now.entries)
+    (all_lines c.args.net.now c.args.book.now.entries) [] n c.loop-output.names c.loop-output.proof) end done.at
 
 pub returns-clause-spans : goal.returns-clause-spans
-returns-clause-spans c = (log-done c.loop-output.output c.outputs-output-end.result c.loop-output-test.false c.loop-output.invariant).1
+returns-clause-spans c =
+    let done = log-done c.loop-output.output c.outputs-output-end.result c.loop-output-test.false c.loop-output.invariant.at in
+    sym (append-nil c.loop-output.spans.items) ∙ done.spans_is
