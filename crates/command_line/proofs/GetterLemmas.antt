@@ -7,7 +7,7 @@ use Rattle.clap.specs.ValueTests.{is_unsigned_in}
 use Rattle.clap.specs.Walk.{Row, Text, first_of}
 use Rattle.clap.specs.declared.builder.value_parser.ValueParser.TheVariants.{Unsigned}
 use Rattle.command_line.specs.Commands.{budget_option, seed_option, sweep_budget_option, words_option, workers_option}
-use Rattle.command_line.specs.Words.{CheckCommand, FraigCommand, Outcome, check_given, check_in, fraig_given, fraig_in, number_in, number_or, matched, plain_check, plain_fraig, with_fraig_options, with_options, written}
+use Rattle.command_line.specs.Words.{CheckCommand, FraigCommand, Outcome, check_given, check_in, fraig_given, fraig_in, is_set, number_in, number_or, matched, plain_check, plain_fraig, with_fraig_options, with_options, written}
 
 -- an answer that shows as some text is some answer
 pub shown_is_there : {X Y : Type 0} (f : X → Y) (o : Option X) (v w : Option Y) → option_map f o ≡ v → v ≡ w → is_some w ≡ true → IsSome o
@@ -74,25 +74,29 @@ check_matched rows word c o word_is given is =
     ap₂ (λ (w : Option Text) (d : Option CheckCommand). option_map (matched w) d) word_is given ∙ ap Some (sym is)
 
 -- options that are given set their fields
-pub options_given : (rows : List Row) (c : CheckCommand) (edits out load save : Option Text) (workers seed words sweep_budget budget : ℕ)
+pub options_given : (rows : List Row) (c : CheckCommand) (edits out load save witness : Option Text) (workers seed words sweep_budget budget : ℕ)
+    (stats : Bool)
     → first_of (codes "edits") rows ≡ edits → first_of (codes "out") rows ≡ out
-    → first_of (codes "load") rows ≡ load → first_of (codes "save") rows ≡ save
+    → first_of (codes "load") rows ≡ load → first_of (codes "save") rows ≡ save → first_of (codes "witness") rows ≡ witness
     → workers ≡ number_or c.workers workers_option rows → seed ≡ number_or c.seed seed_option rows → words ≡ number_or c.words words_option rows
     → sweep_budget ≡ number_or c.sweep_budget sweep_budget_option rows → budget ≡ number_or c.budget budget_option rows
+    → stats ≡ is_set (codes "stats") rows
     → with_options rows c
     ≡ record c {
       edits = edits;
       out = out;
       load = load;
       save = save;
+      witness = witness;
       workers = workers;
       seed = seed;
       words = words;
       sweep_budget = sweep_budget;
       budget = budget;
+      stats = stats;
     }
-options_given rows c edits out load save workers seed words sweep_budget budget edits_is out_is load_is save_is workers_is seed_is words_is sweep_is budget_is =
-    rw (edits_is, out_is, load_is, save_is, workers_is, seed_is, words_is, sweep_is, budget_is) refl
+options_given rows c edits out load save witness workers seed words sweep_budget budget stats edits_is out_is load_is save_is witness_is workers_is seed_is words_is sweep_is budget_is stats_is =
+    rw (edits_is, out_is, load_is, save_is, witness_is, workers_is, seed_is, words_is, sweep_is, budget_is, stats_is) refl
 
 -- the same of a reduced circuit
 pub fraig_made : (rows : List Row) (a reduced : Text)

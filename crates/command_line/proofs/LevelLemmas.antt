@@ -5,31 +5,22 @@ use Rattle.std.specs.Option.{option_map_or}
 use Rattle.std.specs.Str.{bytes_eq}
 use Rattle.std.proofs.lemmas.Bool.{and_parts, ne_eqb, not-false}
 use Rattle.std.proofs.lemmas.Slice.Eq.{bytes_eq-Decides}
-use Rattle.clap.specs.Kinds.{check_kinds, or_else, request_kinds, values_kinds}
+use Rattle.clap.specs.Kinds.{check_kinds, or_else, request_kinds}
 use Rattle.clap.specs.Facts.{explicit_source, parser_of_value}
 use Rattle.clap.specs.Faults.{check_fault, default_fault, defaults_fault, level_fault, settle_fault, values_fault, walk_fault}
 use Rattle.clap.specs.Simple.{Shape}
 use Rattle.clap.specs.Takes.{is_given}
 use Rattle.clap.specs.ValueTests.{is_unsigned_in}
 use Rattle.clap.specs.Walk.{Held, Row, Rule, Text, action_of, arg_by_id, default_rows, finished, first_of, has_row, is_empty, nothing_held, reading_by, rows_after, settled, walk, walk_from, with_default}
-use Rattle.clap.specs.declared.builder.value_parser.ValueParser.{ValueParser}
 use Rattle.clap.specs.declared.parser.matches.ValueSource.TheVariants.{DefaultValue}
 use Rattle.command_line.proofs.FoundLemmas.{found_fails, found_holds, found_test}
-use Rattle.command_line.proofs.RowLemmas.{AreFilled, IsFilled, accepted, first_passed, has_range, in_range, range_of, second_passed, takes_one, with_values_filled}
+use Rattle.command_line.proofs.RowLemmas.{AreFilled, IsFilled, all_in_range, first_passed, range_of, second_passed, takes_one, with_values_filled}
 use Rattle.command_line.proofs.WalkingLemmas.{settled_filled, walk_filled}
 
 -- ---- defaults
 
 some_values : (v : Text) (vs : List Text) → is_empty (v ∷ vs) ≡ false
 some_values v vs = ne_eqb _ _ (λ e. omega arith)
-
-all_in_range : (case : Bool) (least most : ℕ) (parser : ValueParser) (values : List Text) → has_range least most parser ≡ true
-    → values_kinds case parser values ≡ [] → list_all (is_unsigned_in least most) values ≡ true
-all_in_range case least most parser [] is none = refl
-all_in_range case least most parser (v ∷ vs) is none =
-    let first : is_unsigned_in least most v ≡ true = in_range case least most parser v is (accepted case parser v (first_passed _ _ none)) in
-    let others : list_all (is_unsigned_in least most) vs ≡ true = all_in_range case least most parser vs is (second_passed _ _ none) in
-    rw (first, others) refl
 
 module _ (id : Text) (least most : ℕ) where
   default_filled : (rows : List Row) (a : Rule) → takes_one id least most a ≡ true → default_fault rows a ≡ []

@@ -20,7 +20,7 @@ use Rattle.workload_gen.specs.declared.kind.Kind.TheVariants.{Adder, Parity, Com
 use Rattle.workload_gen.specs.declared.workload.TheConstants.{MOST_BITS}
 use Rattle.command_line.specs.declared.asked.TheConstants.{BUDGET_LIMIT, WORDS_LIMIT, WORKERS_LIMIT}
 use Rattle.command_line.specs.Words.{CheckIt, FraigIt, LratIt, SelfIt, CheckCommand, FraigCommand, Misnames, Misuses, Outcome, Request, saved, Requested, faults, misnamed_pairing, number_in, outcome_in, outcome_of, matched_by, pairing_named, plain_check, plain_fraig, self_of, written}
-use Rattle.command_line.specs.Plain.{IsPlain, SetsFraigNumber, SetsName, SetsNumber, SetsText, Writes, kind_name}
+use Rattle.command_line.specs.Plain.{IsPlain, SetsFlag, SetsFraigNumber, SetsName, SetsNumber, SetsText, Writes, kind_name}
 
 no_end : (word : Text) → IsPlain word → bytes_eq word (45 ∷ 45 ∷ []) ≡ false
 no_end [] plain = refl
@@ -259,6 +259,17 @@ sets-save a b f plain_a plain_b plain_f program =
     outcome-marked (completed check_command) (plain a ∷ plain b ∷ flag (codes "--save") ∷ plain f ∷ [])
     (plain_a, refl, (plain_b, refl, (plain_f, refl, tt)))
 
+pub sets-witness : SetsText (codes "--witness") (λ c f. record c { witness = Some f })
+unfolding outcome_of faults walked walk_fault defaults_fault
+sets-witness a b f plain_a plain_b plain_f program =
+    outcome-marked (completed check_command) (plain a ∷ plain b ∷ flag (codes "--witness") ∷ plain f ∷ [])
+    (plain_a, refl, (plain_b, refl, (plain_f, refl, tt)))
+
+pub sets-stats : SetsFlag (codes "--stats") (λ c. record c { stats = true })
+unfolding outcome_of faults walked walk_fault defaults_fault
+sets-stats a b plain_a plain_b program =
+    outcome-marked (completed check_command) (plain a ∷ plain b ∷ flag (codes "--stats") ∷ []) (plain_a, refl, (plain_b, refl, tt))
+
 -- both name files that are written
 pub saves-behind : (program a b p word : Text) → IsPlain a → IsPlain b → IsPlain p → IsPlain word
     → outcome_of (program ∷ codes "check" ∷ a ∷ b ∷ codes "--out" ∷ p ∷ codes "--save" ∷ word ∷ [])
@@ -268,6 +279,24 @@ saves-behind program a b p word plain_a plain_b plain_p plain_word =
     outcome-marked (completed check_command)
     (plain a ∷ plain b ∷ flag (codes "--out") ∷ plain p ∷ flag (codes "--save") ∷ plain word ∷ [])
     (plain_a, refl, (plain_b, refl, (plain_p, refl, (plain_word, refl, tt))))
+
+pub witness-behind : (program a b p word : Text) → IsPlain a → IsPlain b → IsPlain p → IsPlain word
+    → outcome_of (program ∷ codes "check" ∷ a ∷ b ∷ codes "--out" ∷ p ∷ codes "--witness" ∷ word ∷ [])
+    ≡ Some (saved (record (plain_check a b) { out = Some p; witness = Some word }))
+unfolding outcome_of faults walked walk_fault defaults_fault
+witness-behind program a b p word plain_a plain_b plain_p plain_word =
+    outcome-marked (completed check_command)
+    (plain a ∷ plain b ∷ flag (codes "--out") ∷ plain p ∷ flag (codes "--witness") ∷ plain word ∷ [])
+    (plain_a, refl, (plain_b, refl, (plain_p, refl, (plain_word, refl, tt))))
+
+pub witness-beside : (program a b f word : Text) → IsPlain a → IsPlain b → IsPlain f → IsPlain word
+    → outcome_of (program ∷ codes "check" ∷ a ∷ b ∷ codes "--save" ∷ f ∷ codes "--witness" ∷ word ∷ [])
+    ≡ Some (saved (record (plain_check a b) { save = Some f; witness = Some word }))
+unfolding outcome_of faults walked walk_fault defaults_fault
+witness-beside program a b f word plain_a plain_b plain_f plain_word =
+    outcome-marked (completed check_command)
+    (plain a ∷ plain b ∷ flag (codes "--save") ∷ plain f ∷ flag (codes "--witness") ∷ plain word ∷ [])
+    (plain_a, refl, (plain_b, refl, (plain_f, refl, (plain_word, refl, tt))))
 
 pub sets-workers : SetsNumber (codes "--workers") 1 WORKERS_LIMIT (λ c n. record c { workers = n })
 unfolding outcome_of faults walked walk_fault defaults_fault

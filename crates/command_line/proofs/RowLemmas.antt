@@ -8,7 +8,7 @@ use Rattle.std.proofs.lemmas.Bool.{and_parts, eqb-true, ne_eqb}
 use Rattle.std.proofs.lemmas.List.{length-append}
 use Rattle.std.proofs.lemmas.List.Folds.{list_all-append}
 use Rattle.std.proofs.lemmas.Slice.Eq.{bytes_eq-Decides}
-use Rattle.clap.specs.Kinds.{Kinds, or_else, range_kinds, value_kinds}
+use Rattle.clap.specs.Kinds.{Kinds, or_else, range_kinds, value_kinds, values_kinds}
 use Rattle.clap.specs.Facts.{parser_of_value, unwrap_or_range}
 use Rattle.clap.specs.Faults.{action_fault, use_fault}
 use Rattle.clap.specs.ValueTests.{accepts, is_unsigned_in}
@@ -40,11 +40,16 @@ accepted case parser text none = go (accepts case parser text) refl
 
 -- ---- the tests of an argument
 
--- the argument takes one value in a use, or is a call for help
-abbrev pub one_value : ArgAction → ValueRange → Bool
-one_value action.Set range = range.start_inclusive == 1 && range.end_inclusive == 1
-one_value action.Help range = true
-one_value other range = false
+abbrev is_text : List Text → Bool
+is_text [] = false
+is_text (t ∷ ts) = true
+
+-- the argument takes one value in a use, or it is a flag, for whose use a value stands, or a call for help
+abbrev pub one_value : ArgAction → ValueRange → List Text → Bool
+one_value action.Set range missing = range.start_inclusive == 1 && range.end_inclusive == 1
+one_value action.SetTrue range missing = (range.start_inclusive == 0 && range.end_inclusive == 0) && is_text missing
+one_value action.Help range missing = true
+one_value other range missing = false
 
 abbrev pub has_range : ℕ → ℕ → ValueParser → Bool
 has_range least most (Unsigned low high) = low == least && high == most
@@ -52,13 +57,13 @@ has_range least most other = false
 
 -- and where it has this id, its values are numbers in the range
 abbrev pub takes_one : Text → ℕ → ℕ → Rule → Bool
-takes_one id least most a = one_value (action_of a) (unwrap_or_range a.range)
+takes_one id least most a = one_value (action_of a) (unwrap_or_range a.range) a.missing
     && (not (bytes_eq a.id id) || has_range least most (parser_of_value a.parser))
 
 pub range_of : (id : Text) (least most : ℕ) (a : Rule) → takes_one id least most a ≡ true → bytes_eq a.id id ≡ true
     → has_range least most (parser_of_value a.parser) ≡ true
 range_of id least most a takes same =
-    let both = and_parts (one_value (action_of a) (unwrap_or_range a.range)) (not (bytes_eq a.id id) || has_range least most (parser_of_value a.parser)) takes in
+    let both = and_parts (one_value (action_of a) (unwrap_or_range a.range) a.missing) (not (bytes_eq a.id id) || has_range least most (parser_of_value a.parser)) takes in
     rw same at both.1
 
 pub in_range : (case : Bool) (least most : ℕ) (parser : ValueParser) (text : Text) → has_range least most parser ≡ true
@@ -67,6 +72,15 @@ in_range case least most (Unsigned low high) text is passes =
     let both = and_parts _ _ is in
     rw (← eqb-true low least both.0, ← eqb-true high most both.1) passes
 in_range case least most other text is passes = cc
+
+-- of each of some values
+pub all_in_range : (case : Bool) (least most : ℕ) (parser : ValueParser) (values : List Text) → has_range least most parser ≡ true
+    → values_kinds case parser values ≡ [] → list_all (is_unsigned_in least most) values ≡ true
+all_in_range case least most parser [] is none = refl
+all_in_range case least most parser (v ∷ vs) is none =
+    let first : is_unsigned_in least most v ≡ true = in_range case least most parser v is (accepted case parser v (first_passed _ _ none)) in
+    let others : list_all (is_unsigned_in least most) vs ≡ true = all_in_range case least most parser vs is (second_passed _ _ none) in
+    rw (first, others) refl
 
 -- ---- rows
 
@@ -135,6 +149,18 @@ one_given (v ∷ w ∷ vs) none =
     let bad = rw (some, not_one) at none in
     cc
 
+-- no value was given
+none_given : (values : List Text) → range_kinds 0 0 (length values) ≡ [] → values ≡ []
+none_given [] none = refl
+none_given (v ∷ vs) none =
+    let not_none : (0 == length (v ∷ vs)) ≡ false = ne_eqb _ _ (λ e. omega arith) in
+    let bad = rw not_none at none in
+    cc
+
+some_there : (texts : List Text) → is_text texts ≡ true → 0 < length texts
+some_there [] some = cc
+some_there (t ∷ ts) some = omega arith
+
 module _ (id : Text) (least most : ℕ) where
   -- a use of an argument that takes one value
   set_filled : (again : Bool) (a : Rule) (values : List Text) (rows : List Row) → action_of a ≡ action.Set
@@ -152,16 +178,33 @@ module _ (id : Text) (least most : ℕ) where
       (λ at. rw (in_range a.ignore_case least most (parser_of_value a.parser) one.0 (range_of id least most a takes at) passes) refl)
       (without_filled id least most a.id rows h))
 
+  -- a use of a flag
+  flag_filled : (again : Bool) (a : Rule) (values : List Text) (rows : List Row) → action_of a ≡ action.SetTrue
+      → (unwrap_or_range a.range).start_inclusive ≡ 0 → (unwrap_or_range a.range).end_inclusive ≡ 0 → is_text a.missing ≡ true
+      → takes_one id least most a ≡ true → use_fault again a values rows ≡ [] → AreFilled id least most rows → AreFilled id least most (used a values rows)
+  flag_filled again a values rows is start end some takes passed h =
+      let none : values ≡ [] = none_given values (rw (start, end) at (count_passed again a values rows passed)) in
+      let given : values_or_missing a values ≡ a.missing = ap (values_or_missing a) none in
+      let acts : action_fault action.SetTrue again a a.missing rows ≡ [] = rw (is, given) at (action_passed again a values rows passed) in
+      rw (is, given)
+      (with_values_filled id least most a.id _ _ a.missing (without a.id rows) (some_there a.missing some)
+      (λ at. all_in_range a.ignore_case least most (parser_of_value a.parser) a.missing (range_of id least most a takes at) (second_passed _ _ acts))
+      (without_filled id least most a.id rows h))
+
   pub used_filled : (again : Bool) (a : Rule) (values : List Text) (rows : List Row) → takes_one id least most a ≡ true
       → use_fault again a values rows ≡ [] → AreFilled id least most rows → AreFilled id least most (used a values rows)
   used_filled again a values rows takes passed h =
       go (action_of a) refl (and_parts _ _ takes).0
     where
-      go : (x : ArgAction) → action_of a ≡ x → one_value x (unwrap_or_range a.range) ≡ true
+      go : (x : ArgAction) → action_of a ≡ x → one_value x (unwrap_or_range a.range) a.missing ≡ true
           → AreFilled id least most (used a values rows)
       go action.Set is one =
           let ends = and_parts _ _ one in
           set_filled again a values rows is (eqb-true _ 1 ends.0) (eqb-true _ 1 ends.1) takes passed h
+      go action.SetTrue is one =
+          let parts = and_parts _ _ one in
+          let ends = and_parts _ _ parts.0 in
+          flag_filled again a values rows is (eqb-true _ 0 ends.0) (eqb-true _ 0 ends.1) parts.1 takes passed h
       go action.Help is one =
           let bad = rw is at (action_passed again a values rows passed) in
           cc

@@ -1,6 +1,6 @@
 -- Which names are those of files that a check leaves.
 use Rattle.std.proofs.Common.{◌≡◌, ◌∙◌, ◌&&◌, ◌||◌, ℕ, Bool, true, false, eqb, inl, inr, refl, sym, ap, ap₂, subst, codes, List, [], ◌∷◌, ◌++◌, Option, Some, None, append_assoc}
-use Rattle.std.specs.Prelude.{◌⊎◌, not, option_and_then, option_map, if◌then◌else◌}
+use Rattle.std.specs.Prelude.{◌⊎◌, ◌≢◌, not, option_and_then, option_map, if◌then◌else◌}
 use Rattle.std.specs.Char.{is_ascii_digit}
 use Rattle.std.specs.Option.{option_map_or}
 use Rattle.std.specs.Str.{all_ascii_digits, bytes_eq}
@@ -9,9 +9,9 @@ use Rattle.std.proofs.lemmas.Option.{none-some, same_Some}
 use Rattle.std.proofs.lemmas.Slice.Eq.{bytes_eq-Decides}
 use Rattle.clap.specs.Simple.{subcommand_of}
 use Rattle.clap.specs.Walk.{Row, Text, first_of, is_empty}
-use Rattle.command_line.specs.Saved.{IsFirstUnder, IsLeftUnder, are_digits, behind, behind_digits, is_ending, is_first_under, is_left_under, is_numbered, saves_over, writes_over}
+use Rattle.command_line.specs.Saved.{IsFirstUnder, IsLeftUnder, are_digits, behind, behind_digits, is_ending, is_first_under, is_left_under, is_numbered, names_left, names_one, writes_over}
 use Rattle.command_line.specs.Commands.{cec_app}
-use Rattle.command_line.specs.Words.{Asks, CheckCommand, CheckIt, FraigCommand, FraigIt, Misnames, Misuses, Outcome, Requested, SavesOver, WritesOver, check_given, check_in, faults, fraig_given, fraig_in, kind_named, lrat_in, lrat_of, matched, matched_by, misnamed_pairing, names_help, number_of, outcome_in, outcome_of, pairing_named, saved, self_in, self_of, workload_of, written}
+use Rattle.command_line.specs.Words.{Asks, CheckCommand, CheckIt, FraigCommand, FraigIt, Misnames, Misuses, Outcome, Requested, SavesOver, WritesOver, WitnessOver, WitnessSaved, check_given, check_in, faults, fraig_given, fraig_in, kind_named, lrat_in, lrat_of, matched, matched_by, misnamed_pairing, names_help, number_of, outcome_in, outcome_of, pairing_named, saved, self_in, self_of, workload_of, written}
 use Rattle.workload_gen.specs.declared.kind.Kind.{Kind}
 use Rattle.workload_gen.specs.declared.workload.TheConstants.{MOST_BITS}
 
@@ -232,25 +232,31 @@ abbrev check_or : CheckCommand → Outcome → CheckCommand
 check_or d (Requested (CheckIt c)) = c
 check_or d other = d
 
-saved-apart : (d c : CheckCommand) → asks_for (saved d) c → saves_over c.out c.save ≡ false
-saved-apart d c asks = go (saves_over d.out d.save) refl
-  where
-    go : (t : Bool) → saves_over d.out d.save ≡ t → saves_over c.out c.save ≡ false
-    go true over = let bad : Misuses SavesOver ≡ Requested (CheckIt c) = rw over at asks in cc
-    go false apart =
-        let same : Requested (CheckIt d) ≡ Requested (CheckIt c) = rw apart at asks in
-        subst (λ (x : CheckCommand). saves_over x.out x.save ≡ false) (ap (check_or d) same) apart
+-- the files that it writes are apart: the lemmas and the witness from those that it leaves, and from each other
+abbrev AreApart : CheckCommand → Type 0
+AreApart c = (names_left c.out c.save ≡ false) × (names_left c.out c.witness ≡ false) × (names_one c.save c.witness ≡ false)
 
-matched-apart : (word : Option Text) (d c : CheckCommand) → asks_for (matched word d) c → saves_over c.out c.save ≡ false
+saved-apart : (d c : CheckCommand) → asks_for (saved d) c → AreApart c
+saved-apart d c asks = go (names_left d.out d.save) (names_left d.out d.witness) (names_one d.save d.witness) refl refl refl
+  where
+    go : (s t u : Bool) → names_left d.out d.save ≡ s → names_left d.out d.witness ≡ t → names_one d.save d.witness ≡ u → AreApart c
+    go true t u over left one = let bad : Misuses SavesOver ≡ Requested (CheckIt c) = rw over at asks in cc
+    go false true u apart over one = let bad : Misuses WitnessOver ≡ Requested (CheckIt c) = rw (apart, over) at asks in cc
+    go false false true apart left over = let bad : Misuses WitnessSaved ≡ Requested (CheckIt c) = rw (apart, left, over) at asks in cc
+    go false false false apart left other =
+        let same : Requested (CheckIt d) ≡ Requested (CheckIt c) = rw (apart, left, other) at asks in
+        subst AreApart (ap (check_or d) same) (apart, left, other)
+
+matched-apart : (word : Option Text) (d c : CheckCommand) → asks_for (matched word d) c → AreApart c
 matched-apart None d c asks = saved-apart d c asks
 matched-apart (Some word) d c asks = go (pairing_named word) asks
   where
-    go : (by : Option Bool) → asks_for (matched_by by word d) c → saves_over c.out c.save ≡ false
+    go : (by : Option Bool) → asks_for (matched_by by word d) c → AreApart c
     go (Some by_name) asks = saved-apart (record d { by_name = by_name }) c asks
     go None asks = let bad : Misuses (Misnames (misnamed_pairing word)) ≡ Requested (CheckIt c) = asks in cc
 
 check-apart : (pairing : Option Text) (given : Option CheckCommand) (c : CheckCommand) → option_map (matched pairing) given ≡ Some (Requested (CheckIt c))
-    → saves_over c.out c.save ≡ false
+    → AreApart c
 check-apart pairing None c asks = absurd (none-some (Requested (CheckIt c)) asks)
 check-apart pairing (Some d) c asks = matched-apart pairing d c (same_Some (matched pairing d) (Requested (CheckIt c)) asks)
 
@@ -276,41 +282,54 @@ self-other (Some word) (Some n) c asks = go (kind_named word) (same_Some (worklo
 self-other (Some word) None c asks = cc
 self-other None n c asks = cc
 
-outcome-apart : (name : Text) (rows : List Row) (c : CheckCommand) → outcome_in name rows ≡ Some (Requested (CheckIt c)) → saves_over c.out c.save ≡ false
+outcome-apart : (name : Text) (rows : List Row) (c : CheckCommand) → outcome_in name rows ≡ Some (Requested (CheckIt c)) → AreApart c
 outcome-apart name rows c asks =
     go (bytes_eq name (codes "check")) (bytes_eq name (codes "fraig")) (bytes_eq name (codes "lrat")) (bytes_eq name (codes "self")) asks
   where
     go : (x f y z : Bool)
         → (if x then check_in rows else if f then fraig_in rows else if y then lrat_in rows else if z then self_in rows else None)
-        ≡ Some (Requested (CheckIt c)) → saves_over c.out c.save ≡ false
+        ≡ Some (Requested (CheckIt c)) → AreApart c
     go true f y z is = check-apart (first_of (codes "match") rows) (check_given rows) c is
     go false true y z is = absurd (fraig-other (fraig_given rows) c is)
     go false false true z is = absurd (lrat-other (first_of (codes "cnf") rows) (first_of (codes "proof") rows) c is)
     go false false false true is = absurd (self-other (first_of (codes "kind") rows) (number_of (codes "n") 1 MOST_BITS rows) c is)
     go false false false false is = absurd (none-some (Requested (CheckIt c)) is)
 
--- it saves over none of the files that it leaves
-asks-apart : (words : List Text) (c : CheckCommand) → Asks words (CheckIt c) → saves_over c.out c.save ≡ false
+-- so they are where it is asked for
+asks-apart : (words : List Text) (c : CheckCommand) → Asks words (CheckIt c) → AreApart c
 unfolding outcome_of
 asks-apart words c asks = go (not (names_help words) && is_empty (faults words)) asks
   where
     found : (given : Option (Text × List Row)) → option_and_then (λ p. outcome_in p.0 p.1) given ≡ Some (Requested (CheckIt c))
-        → saves_over c.out c.save ≡ false
+        → AreApart c
     found None is = absurd (none-some (Requested (CheckIt c)) is)
     found (Some p) is = outcome-apart p.0 p.1 c is
 
     go : (t : Bool) → (if t then option_and_then (λ p. outcome_in p.0 p.1) (subcommand_of cec_app words) else None) ≡ Some (Requested (CheckIt c))
-        → saves_over c.out c.save ≡ false
+        → AreApart c
     go true is = found (subcommand_of cec_app words) is
     go false is = absurd (none-some (Requested (CheckIt c)) is)
 
-pub none-over : (words : List Text) (c : CheckCommand) (prefix name : Text) → Asks words (CheckIt c) → c.out ≡ Some prefix → c.save ≡ Some name
-    → ¬ IsLeftUnder prefix name
-none-over words c prefix name asks out save left =
-    let told : saves_over c.out c.save ≡ true =
-    ap₂ saves_over out save ∙ left-told prefix name left in
-    let bad : false ≡ true = sym (asks-apart words c asks) ∙ told in
-    cc
+module _ (words : List Text) (c : CheckCommand) (asks : Asks words (CheckIt c)) where
+  none-left : (prefix name : Text) (file : Option Text) → names_left c.out file ≡ false → c.out ≡ Some prefix → file ≡ Some name
+      → ¬ IsLeftUnder prefix name
+  none-left prefix name file apart out is left =
+      let told : names_left c.out file ≡ true = ap₂ names_left out is ∙ left-told prefix name left in
+      let bad : false ≡ true = sym apart ∙ told in
+      cc
+
+  pub none-over : (prefix name : Text) → c.out ≡ Some prefix → c.save ≡ Some name → ¬ IsLeftUnder prefix name
+  none-over prefix name = none-left prefix name c.save (asks-apart words c asks).0
+
+  -- its witness neither, nor its lemmas
+  pub none-shown : (prefix name : Text) → c.out ≡ Some prefix → c.witness ≡ Some name → ¬ IsLeftUnder prefix name
+  none-shown prefix name = none-left prefix name c.witness (asks-apart words c asks).1
+
+  pub none-saved : (name lemmas : Text) → c.witness ≡ Some name → c.save ≡ Some lemmas → name ≢ lemmas
+  none-saved name lemmas witness save same =
+      let told : names_one c.save c.witness ≡ true = ap₂ names_one save witness ∙ (bytes_eq-Decides lemmas name).1 (sym same) in
+      let bad : false ≡ true = sym (asks-apart words c asks).2 ∙ told in
+      cc
 
 -- ---- a reduced circuit that is asked for
 
@@ -335,11 +354,15 @@ fraig-apart (Some d) c asks = written-apart d c (same_Some (written d) (Requeste
 
 -- no other command asks for one
 saved-other : (d : CheckCommand) (c : FraigCommand) → saved d ≡ Requested (FraigIt c) → ⊥
-saved-other d c = go (saves_over d.out d.save)
+saved-other d c = go (names_left d.out d.save) (names_left d.out d.witness) (names_one d.save d.witness)
   where
-    go : (t : Bool) → (if t then Misuses SavesOver else Requested (CheckIt d)) ≡ Requested (FraigIt c) → ⊥
-    go true is = cc
-    go false is = cc
+    go : (s t u : Bool)
+        → (if s then Misuses SavesOver else if t then Misuses WitnessOver else if u then Misuses WitnessSaved else Requested (CheckIt d))
+        ≡ Requested (FraigIt c) → ⊥
+    go true t u is = cc
+    go false true u is = cc
+    go false false true is = cc
+    go false false false is = cc
 
 matched-other : (word : Option Text) (d : CheckCommand) (c : FraigCommand) → matched word d ≡ Requested (FraigIt c) → ⊥
 matched-other None d c asks = saved-other d c asks

@@ -1,7 +1,7 @@
 -- What `read` answers to words.
 use Rattle.std.specs.Prelude.{◌≡◌, ℕ, true, List, ◌++◌, codes, option_map, string_bytes}
 use Rattle.clap.specs.Walk.{Text}
-use Rattle.command_line.specs.Words.{CheckCommand, FraigCommand, LratCommand, SelfCommand, Request, CheckIt, FraigIt, LratIt, SelfIt, WantInfo, WantVersion, AreRefused, Misnamed, Misuse, Misnames, SavesOver, WritesOver, AskAmiss, names_help}
+use Rattle.command_line.specs.Words.{CheckCommand, FraigCommand, LratCommand, SelfCommand, Request, CheckIt, FraigIt, LratIt, SelfIt, WantInfo, WantVersion, AreRefused, Misnamed, Misuse, Misnames, SavesOver, WritesOver, WitnessOver, WitnessSaved, AskAmiss, names_help}
 use Rattle.command_line.specs.declared.asked.Asked.{Asked}
 use Rattle.command_line.specs.declared.asked.Asked.TheVariants.{Check, Fraig, Lrat, SelfCheck}
 use Rattle.command_line.specs.declared.asked.CheckWords.{CheckWords}
@@ -19,12 +19,14 @@ check_texts c = record {
   out = option_map (λ out. out.now) c.out;
   load = option_map (λ load. load.now) c.load;
   save = option_map (λ save. save.now) c.save;
+  witness = option_map (λ witness. witness.now) c.witness;
   workers = c.workers;
   seed = c.seed;
   words = c.words;
   sweep_budget = c.sweep_budget;
   budget = c.budget;
   by_name = c.by_name;
+  stats = c.stats;
 }
 
 abbrev pub fraig_texts : FraigWords → FraigCommand
@@ -68,11 +70,21 @@ saves_over_text = codes "cec: --save names a file of --out\n"
 abbrev pub writes_over_text : List ℕ
 writes_over_text = codes "cec: OUT is a file of --out\n"
 
+-- where the witness would be
+abbrev pub witness_over_text : List ℕ
+witness_over_text = codes "cec: --witness names a file of --out\n"
+
+-- and where it would be saved over
+abbrev pub witness_saved_text : List ℕ
+witness_saved_text = codes "cec: --witness and --save name one file\n"
+
 -- what is said of values that ask for nothing
 abbrev pub misuse_text : Misuse → List ℕ
 misuse_text (Misnames m) = misnamed_text m
 misuse_text SavesOver = saves_over_text
 misuse_text WritesOver = writes_over_text
+misuse_text WitnessOver = witness_over_text
+misuse_text WitnessSaved = witness_saved_text
 
 -- the command `help`, or why values ask for nothing, is told by its own text
 pub record Names (words : List Text) (text : List ℕ) : Type 0 where

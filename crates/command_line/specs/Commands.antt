@@ -3,6 +3,7 @@ use Rattle.std.specs.Prelude.{ℕ, true, List, [], ◌∷◌, Some, codes}
 use Rattle.clap.specs.Walk.{Rule, Text, is_empty}
 use Rattle.clap.specs.Simple.{App, Shape, new_rule, new_shape}
 use Rattle.command_line.specs.declared.asked.TheConstants.{BUDGET_LIMIT, WORDS_LIMIT, WORKERS_LIMIT}
+use Rattle.clap.specs.declared.builder.action.ArgAction.TheVariants.{SetTrue}
 use Rattle.clap.specs.declared.builder.value_parser.ValueParser.TheVariants.{Unsigned}
 use Rattle.workload_gen.specs.declared.workload.TheConstants.{MOST_BITS}
 
@@ -21,6 +22,10 @@ number_place id least most = record (place id) { parser = Some (Unsigned least m
 -- `--ID` with any text, which may be left out
 abbrev pub text_option : Text → Rule
 text_option id = record (new_rule id) { long = Some id; value_names = 1 }
+
+-- `--ID` without a value, which may be left out
+abbrev pub flag_option : Text → Rule
+flag_option id = record (new_rule id) { long = Some id; action = Some SetTrue }
 
 -- an option that is a number: its name and the numbers that it takes
 pub record NumberOption : Type 0 where
@@ -51,13 +56,14 @@ budget_option = record { id = codes "budget"; least = 1; most = BUDGET_LIMIT }
 abbrev pub command : Text → List Rule → Shape
 command name rules = record (new_shape name) { rules = rules }
 
--- `cec check A B [--edits F] [--out PREFIX] [--load FILE] [--save FILE] [--workers N] [--seed N] [--words N]
--- [--sweep-budget N] [--budget N] [--match BY]`
+-- `cec check A B [--edits F] [--out PREFIX] [--load FILE] [--save FILE] [--witness FILE] [--workers N] [--seed N] [--words N]
+-- [--sweep-budget N] [--budget N] [--match BY] [--stats]`
 abbrev pub check_command : Shape
 check_command = command (codes "check")
     (place (codes "a") ∷ place (codes "b") ∷ text_option (codes "edits") ∷ text_option (codes "out")
-    ∷ text_option (codes "load") ∷ text_option (codes "save") ∷ number_option workers_option ∷ number_option seed_option ∷ number_option words_option
-    ∷ number_option sweep_budget_option ∷ number_option budget_option ∷ text_option (codes "match") ∷ [])
+    ∷ text_option (codes "load") ∷ text_option (codes "save") ∷ text_option (codes "witness") ∷ number_option workers_option
+    ∷ number_option seed_option ∷ number_option words_option ∷ number_option sweep_budget_option ∷ number_option budget_option
+    ∷ text_option (codes "match") ∷ flag_option (codes "stats") ∷ [])
 
 -- `cec fraig A OUT [--out PREFIX] [--workers N] [--seed N] [--words N] [--sweep-budget N]`
 abbrev pub fraig_command : Shape

@@ -5,11 +5,11 @@ use Rattle.clap.specs.declared.error.kind.ErrorKind.{ErrorKind}
 use Rattle.clap.specs.declared.error.kind.ErrorKind.TheVariants.{DisplayHelp, DisplayVersion, OutOfMemory}
 use Rattle.clap.specs.declared.parser.matches.ArgMatches.{ArgMatches}
 use Rattle.command_line.specs.Answers.{misuse_text, no_help_text, request, version_text}
-use Rattle.command_line.specs.Words.{Misnamed as Word, Misuse, Misnames, SavesOver, WritesOver, Misuses, Outcome, Requested, is_info, outcome_in}
+use Rattle.command_line.specs.Words.{Misnamed as Word, Misuse, Misnames, SavesOver, WritesOver, WitnessOver, WitnessSaved, Misuses, Outcome, Requested, is_info, outcome_in}
 use Rattle.command_line.specs.declared.asked.Asked.{Asked}
 use Rattle.command_line.specs.declared.asked.MisnamedWord.{MisnamedWord}
 use Rattle.command_line.specs.declared.asked.Unfit.{Unfit}
-use Rattle.command_line.specs.declared.asked.Unfit.TheVariants.{Misnamed, SavesOver as Over, WritesOver as Written}
+use Rattle.command_line.specs.declared.asked.Unfit.TheVariants.{Misnamed, SavesOver as Over, WritesOver as Written, WitnessOver as Witnessed, WitnessSaved as Lost}
 use Rattle.command_line.specs.declared.reading.Refusal.{Refusal}
 use Rattle.command_line.specs.declared.reading.Refusal.TheVariants.{Help, Usage, NoMemory}
 
@@ -57,6 +57,8 @@ abbrev pub misuse : Unfit → Misuse
 misuse (Misnamed word) = Misnames (misnamed_texts word)
 misuse Over = SavesOver
 misuse Written = WritesOver
+misuse Witnessed = WitnessOver
+misuse Lost = WitnessSaved
 
 -- what was made of them: a request, or such values
 abbrev pub outcome : Result Asked Unfit → Outcome

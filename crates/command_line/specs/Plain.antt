@@ -31,8 +31,8 @@ pub record Writes (least most : ℕ) (word : List ℕ) (n : ℕ) : Type 0 where
 abbrev pub AskCheck : List (List ℕ) → CheckCommand → Type 0
 AskCheck words command = (program : List ℕ) → Asks (program ∷ words) (CheckIt command)
 
--- an option behind the names of two files sets its own field and no other, from a text, from a number in its range or from a
--- name
+-- an option behind the names of two files sets its own field and no other, from a text, from a number in its range, from a name or
+-- from nothing
 abbrev pub SetsText : List ℕ → (CheckCommand → List ℕ → CheckCommand) → Type 0
 SetsText flag set = (a b word : List ℕ) → IsPlain a → IsPlain b → IsPlain word
     → AskCheck (codes "check" ∷ a ∷ b ∷ flag ∷ word ∷ []) (set (plain_check a b) word)
@@ -44,6 +44,9 @@ SetsNumber flag least most set = (a b word : List ℕ) (n : ℕ) → IsPlain a �
 abbrev pub SetsName : List ℕ → List ℕ → (CheckCommand → CheckCommand) → Type 0
 SetsName flag name set = (a b : List ℕ) → IsPlain a → IsPlain b
     → AskCheck (codes "check" ∷ a ∷ b ∷ flag ∷ name ∷ []) (set (plain_check a b))
+
+abbrev pub SetsFlag : List ℕ → (CheckCommand → CheckCommand) → Type 0
+SetsFlag flag set = (a b : List ℕ) → IsPlain a → IsPlain b → AskCheck (codes "check" ∷ a ∷ b ∷ flag ∷ []) (set (plain_check a b))
 
 -- the same of a reduced circuit
 abbrev pub AskFraig : List (List ℕ) → FraigCommand → Type 0

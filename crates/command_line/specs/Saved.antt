@@ -1,5 +1,5 @@
--- Which files a command leaves whose names begin with the prefix of `--out`, and that none of them is written over: `--save` of
--- `check` may name no check's files, and OUT of `fraig` not those of its only check.
+-- Which files a command leaves whose names begin with the prefix of `--out`, and that none of them is written over: `--save` and
+-- `--witness` of `check` may name no check's files, nor one file, and OUT of `fraig` not those of its only check.
 use Rattle.std.specs.Prelude.{◌≡◌, ◌⊎◌, ◌==◌, Bool, true, false, ◌&&◌, ◌||◌, [], ◌∷◌, ◌++◌, Option, Some, None, codes, if◌then◌else◌}
 use Rattle.std.specs.Char.{is_ascii_digit}
 use Rattle.std.specs.Option.{option_map_or}
@@ -44,11 +44,17 @@ is_numbered (b ∷ bs) = is_ascii_digit b && is_ending (behind_digits bs)
 unfoldable pub is_left_under : Text → Text → Bool
 is_left_under prefix name = option_map_or is_numbered (behind (prefix ++ codes ".") name) false
 
--- the file that is saved is one of those that are left
-abbrev pub saves_over : Option Text → Option Text → Bool
-saves_over None save = false
-saves_over (Some prefix) None = false
-saves_over (Some prefix) (Some name) = is_left_under prefix name
+-- a file is one of those that are left, where there is a prefix and the file has a name
+abbrev pub names_left : Option Text → Option Text → Bool
+names_left None file = false
+names_left (Some prefix) None = false
+names_left (Some prefix) (Some name) = is_left_under prefix name
+
+-- two files are one, where both have a name
+abbrev pub names_one : Option Text → Option Text → Bool
+names_one None file = false
+names_one (Some name) None = false
+names_one (Some name) (Some other) = bytes_eq name other
 
 -- ---- the files of a command's only check
 

@@ -5,7 +5,7 @@ use Rattle.clap.specs.Simple.{App, Shape}
 use Rattle.clap.specs.Words.{app_of}
 use Rattle.clap.specs.declared.builder.command.Command.{Command}
 use Rattle.clap.specs.declared.builder.command.Command.TheViews.{out-Command as fields_of}
-use Rattle.command_line.specs.Commands.{command, number_option, number_place, place, text_option}
+use Rattle.command_line.specs.Commands.{command, flag_option, number_option, number_place, place, text_option}
 use Rattle.command_line.specs.declared.table.ArgumentRow.{ArgumentRow}
 use Rattle.command_line.specs.declared.table.CommandRow.{CommandRow}
 use Rattle.command_line.specs.declared.table.Takes.{Takes}
@@ -16,6 +16,7 @@ rule_of_takes takes.Place id = place id
 rule_of_takes (takes.Count least most) id = number_place id least most
 rule_of_takes takes.Text id = text_option id
 rule_of_takes (takes.Number least most) id = number_option (record { id = id; least = least; most = most })
+rule_of_takes takes.Flag id = flag_option id
 
 abbrev pub rule_in : ArgumentRow → Rule
 rule_in row = rule_of_takes row.takes row.name.now

@@ -2,6 +2,7 @@
 -- first word is the program's name.
 use Rattle.std.specs.Prelude.{◌≡◌, ◌⊎◌, ℕ, Bool, true, false, not, ◌&&◌, List, [], ◌∷◌, Option, Some, None, option_and_then, option_map, codes, unwrap_or, if◌then◌else◌}
 use Rattle.std.specs.List.{list_any}
+use Rattle.std.specs.Option.{option_map_or}
 use Rattle.std.specs.Str.{bytes_eq}
 use Rattle.std.specs.Str.Parse.{digits_value, without_leading_plus}
 use Rattle.clap.specs.Faults.{fault_of}
@@ -11,17 +12,17 @@ use Rattle.clap.specs.ValueTests.{is_unsigned_in}
 use Rattle.clap.specs.Walk.{Row, Text, first_of, is_empty}
 use Rattle.clap.specs.declared.error.kind.ErrorKind.{ErrorKind}
 use Rattle.clap.specs.declared.error.kind.ErrorKind.TheVariants.{DisplayHelp, DisplayVersion}
-use Rattle.command_line.specs.Saved.{saves_over, writes_over}
+use Rattle.command_line.specs.Saved.{names_left, names_one, writes_over}
 use Rattle.command_line.specs.Commands.{NumberOption, budget_option, cec_app, seed_option, sweep_budget_option, words_option, workers_option}
 use Rattle.workload_gen.specs.declared.kind.Kind.{Kind}
 use Rattle.workload_gen.specs.declared.kind.Kind.TheVariants.{Adder, Parity, Comparator}
 use Rattle.workload_gen.specs.declared.workload.TheConstants.{MOST_BITS}
 
 -- `check A B`: the names of the two circuits' files and of an edit script's, if there is one, what the names of the written
--- files begin with, if any are to be written, the names of the files from which lemmas are loaded and to which they are saved,
--- if there are such, how many workers settle pairs and outputs, from which seed how many words of 64
--- patterns are drawn, and how many clauses a solver may learn for a pair of nodes and for an output, and whether inputs and
--- outputs are paired by their names, and not by their positions
+-- files begin with, if any are to be written, the names of the files from which lemmas are loaded, to which they are saved and to
+-- which an input is written that tells the circuits apart, if there are such, how many workers settle pairs and outputs, from which
+-- seed how many words of 64 patterns are drawn, how many clauses a solver may learn for a pair of nodes and for an output, whether
+-- inputs and outputs are paired by their names, and not by their positions, and whether it is told what was done
 pub record CheckCommand : Type 0 where
   pub a : List ℕ
   pub b : List ℕ
@@ -29,12 +30,14 @@ pub record CheckCommand : Type 0 where
   pub out : Option (List ℕ)
   pub load : Option (List ℕ)
   pub save : Option (List ℕ)
+  pub witness : Option (List ℕ)
   pub workers : ℕ
   pub seed : ℕ
   pub words : ℕ
   pub sweep_budget : ℕ
   pub budget : ℕ
   pub by_name : Bool
+  pub stats : Bool
 
 -- `fraig A OUT`: the names of the files of the circuit and of the reduced one, what the names of the other written files begin
 -- with, if any are to be written, how many workers settle pairs, from which seed how many words of 64 patterns are drawn, and
@@ -73,11 +76,14 @@ pub record Misnamed : Type 0 where
   pub word : Text
 
 -- why the values of arguments ask for nothing, each of which may be given: a word is none of the names that its argument takes,
--- or the file of `--save` is one of those of `--out`, or that of the reduced circuit is
+-- or the file of `--save` is one of those of `--out`, or that of the reduced circuit is, or that of `--witness` is, or that is the
+-- file of `--save`
 pub data Misuse : Type 0 where
   Misnames : Misnamed → Misuse
   SavesOver : Misuse
   WritesOver : Misuse
+  WitnessOver : Misuse
+  WitnessSaved : Misuse
 
 -- what the values of arguments come to: what the program is asked to do, or why it is asked for nothing
 pub data Outcome : Type 0 where
@@ -126,30 +132,38 @@ plain_check a b = record {
   out = None;
   load = None;
   save = None;
+  witness = None;
   workers = 4;
   seed = 1;
   words = 4;
   sweep_budget = 100;
   budget = 100000;
   by_name = false;
+  stats = false;
 }
 
 -- the number that is given for an option, or else its default; a given one is in the range where the words have no fault
 abbrev pub number_or : ℕ → NumberOption → List Row → ℕ
 number_or default o rows = unwrap_or (number_of o.id o.least o.most rows) default
 
--- the check with the numbers and texts of the options that are given, each of which sets a field of its own
+-- whether a flag is given: each has a value
+abbrev pub is_set : Text → List Row → Bool
+is_set id rows = option_map_or (λ text. bytes_eq text (codes "true")) (first_of id rows) false
+
+-- the check with the numbers, texts and flags of the options that are given, each of which sets a field of its own
 abbrev pub with_options : List Row → CheckCommand → CheckCommand
 with_options rows c = record c {
   edits = first_of (codes "edits") rows;
   out = first_of (codes "out") rows;
   load = first_of (codes "load") rows;
   save = first_of (codes "save") rows;
+  witness = first_of (codes "witness") rows;
   workers = number_or c.workers workers_option rows;
   seed = number_or c.seed seed_option rows;
   words = number_or c.words words_option rows;
   sweep_budget = number_or c.sweep_budget sweep_budget_option rows;
   budget = number_or c.budget budget_option rows;
+  stats = is_set (codes "stats") rows;
 }
 
 -- the reduced circuit without an option: the default of each
@@ -194,9 +208,14 @@ pairing_named text =
 abbrev pub misnamed_pairing : Text → Misnamed
 misnamed_pairing word = record { argument = codes "--match <BY>"; names = codes "position, names"; word = word }
 
--- the check, unless it would save over a file that it leaves
+-- the check, unless its witness would stand in the place of a file that it leaves, or of its lemmas
+abbrev pub witnessed : CheckCommand → Outcome
+witnessed c = if names_left c.out c.witness then Misuses WitnessOver
+    else if names_one c.save c.witness then Misuses WitnessSaved else Requested (CheckIt c)
+
+-- and unless it would save over such a file
 abbrev pub saved : CheckCommand → Outcome
-saved c = if saves_over c.out c.save then Misuses SavesOver else Requested (CheckIt c)
+saved c = if names_left c.out c.save then Misuses SavesOver else witnessed c
 
 -- the check by the pairing that the word names, if it names one
 abbrev pub matched_by : Option Bool → Text → CheckCommand → Outcome
@@ -279,8 +298,7 @@ abbrev pub AskAmiss : List Text → Misuse → Type 0
 AskAmiss words misuse = outcome_of words ≡ Some (Misuses misuse)
 
 -- the words ask neither for help or the version nor for what the program does: they name the command `help`, or have another
--- fault than that they ask for help or the version, or name no kind of workload or no pairing, or would save or write over a
--- file that is left
+-- fault than that they ask for help or the version, or name no kind of workload or no pairing, or a file that is left for another one
 abbrev pub AreRefused : List Text → Type 0
 AreRefused words = (names_help words ≡ true)
     ⊎ ((is_empty (faults words) ≡ false) × (list_any is_info (faults words) ≡ false))

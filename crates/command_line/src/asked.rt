@@ -28,6 +28,8 @@ pub struct CheckWords<'a> {
     pub load: Option<&'a str>,
     /// The name of the file to which the lemmas of the last check are saved, if they are to be.
     pub save: Option<&'a str>,
+    /// The name of the file to which an input is written that tells the circuits apart, if there is to be one.
+    pub witness: Option<&'a str>,
     /// How many workers settle pairs of nodes and outputs.
     pub workers: u64,
     /// What the patterns are drawn from.
@@ -40,6 +42,8 @@ pub struct CheckWords<'a> {
     pub budget: u64,
     /// Whether inputs and outputs are paired by their names, and not by their positions.
     pub by_name: bool,
+    /// Whether it is told what was done.
+    pub stats: bool,
     pub ghost least_workers: { 1 ≤ workers },
     pub ghost most_workers: { workers ≤ WORKERS_LIMIT },
     pub ghost least_words: { 1 ≤ words },
@@ -115,6 +119,10 @@ pub(crate) enum Unfit<'a> {
     SavesOver,
     /// That of the reduced circuit is.
     WritesOver,
+    /// That of `--witness` is.
+    WitnessOver,
+    /// That of `--witness` is the file of `--save`.
+    WitnessSaved,
 }
 
 /// What the words ask for.

@@ -8,7 +8,7 @@ use crate::table::{
     ArgumentRow, COMMANDS, CommandRow, PROGRAM_HELP, PROGRAM_NOTES, Takes, VERSION,
 };
 use clap::builder::ValueParser;
-use clap::{Arg, Command};
+use clap::{Arg, ArgAction, Command};
 use std::alloc::{AllocError, Global};
 
 /// The program's command, with all that the table has.
@@ -70,17 +70,18 @@ fn argument_of<'a>(alloc: Global, row: &ArgumentRow) -> Arg<'a>
     ensures rule { rule_of result ≡ rule_in row.now }
     ensures local { result.global ≡ false }
 {
-    let arg = Arg::new(alloc, row.name)
-        .value_name(row.value_name)
-        .help(row.help);
+    let arg = Arg::new(alloc, row.name).help(row.help);
     match row.takes {
-        Takes::Place => arg.required(true),
+        Takes::Place => arg.value_name(row.value_name).required(true),
         Takes::Count { least, most } => arg
+            .value_name(row.value_name)
             .required(true)
             .value_parser(ValueParser::Unsigned(least, most)),
-        Takes::Text => arg.long(row.name),
+        Takes::Text => arg.value_name(row.value_name).long(row.name),
         Takes::Number { least, most } => arg
+            .value_name(row.value_name)
             .long(row.name)
             .value_parser(ValueParser::Unsigned(least, most)),
+        Takes::Flag => arg.long(row.name).action(ArgAction::SetTrue),
     }
 }

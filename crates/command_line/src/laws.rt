@@ -1,9 +1,9 @@
 ghost use Rattle.std.specs.Prelude.{◌≡◌, ◌≢◌, ◌⊎◌, ◌↔◌, ℕ, List, [], ◌∷◌, Some, codes, false, true};
 ghost use Rattle.command_line.specs.Commands.{budget_option, most_seed, seed_option, sweep_budget_option, words_option, workers_option};
-ghost use Rattle.command_line.specs.Plain.{AskCheck, AskFraig, IsInRange, IsPlain, SetsFraigNumber, SetsName, SetsNumber, SetsText, Writes, kind_name};
+ghost use Rattle.command_line.specs.Plain.{AskCheck, AskFraig, IsInRange, IsPlain, SetsFlag, SetsFraigNumber, SetsName, SetsNumber, SetsText, Writes, kind_name};
 ghost use Rattle.command_line.specs.declared.asked.TheConstants.{BUDGET_LIMIT, WORDS_LIMIT, WORKERS_LIMIT};
 ghost use Rattle.command_line.specs.Saved.{IsFirstUnder, IsLeftUnder, is_first_under, is_left_under};
-ghost use Rattle.command_line.specs.Words.{AreRefused, AskAmiss, Asks, CheckCommand, CheckIt, FraigCommand, FraigIt, LratIt, Misnames, SavesOver, WritesOver, Request, SelfIt, WantHelp, WantInfo, WantVersion, misnamed_pairing, plain_check, plain_fraig};
+ghost use Rattle.command_line.specs.Words.{AreRefused, AskAmiss, Asks, CheckCommand, CheckIt, FraigCommand, FraigIt, LratIt, Misnames, SavesOver, WritesOver, WitnessOver, WitnessSaved, Request, SelfIt, WantHelp, WantInfo, WantVersion, misnamed_pairing, plain_check, plain_fraig};
 ghost use Rattle.workload_gen.specs.declared.kind.Kind.{Kind};
 ghost use Rattle.workload_gen.specs.declared.workload.TheConstants.{MOST_BITS};
 
@@ -27,6 +27,14 @@ pub fn left_names()
 pub fn saved_is_apart()
     ensures { (words : List (List ℕ)) (c : CheckCommand) (prefix name : List ℕ) → Asks words (CheckIt c)
         → c.out ≡ Some prefix → c.save ≡ Some name → ¬ IsLeftUnder prefix name }
+{}
+
+/// The file to which an input is written is none of those either, nor the one that a check saves.
+pub fn witness_is_apart()
+    ensures left { (words : List (List ℕ)) (c : CheckCommand) (prefix name : List ℕ) → Asks words (CheckIt c)
+        → c.out ≡ Some prefix → c.witness ≡ Some name → ¬ IsLeftUnder prefix name }
+    ensures saved { (words : List (List ℕ)) (c : CheckCommand) (name lemmas : List ℕ) → Asks words (CheckIt c)
+        → c.witness ≡ Some name → c.save ≡ Some lemmas → name ≢ lemmas }
 {}
 
 /// The file to which a reduced circuit is written is none of those that are left beside it.
@@ -57,6 +65,7 @@ pub fn plain_words()
     ensures out { SetsText (codes "--out") (λ c p. record c { out = Some p }) }
     ensures load { SetsText (codes "--load") (λ c f. record c { load = Some f }) }
     ensures save { SetsText (codes "--save") (λ c f. record c { save = Some f }) }
+    ensures witness { SetsText (codes "--witness") (λ c f. record c { witness = Some f }) }
     ensures workers { SetsNumber (codes "--workers") 1 WORKERS_LIMIT (λ c n. record c { workers = n }) }
     ensures seed { SetsNumber (codes "--seed") 0 most_seed (λ c n. record c { seed = n }) }
     ensures words { SetsNumber (codes "--words") 1 WORDS_LIMIT (λ c n. record c { words = n }) }
@@ -67,6 +76,7 @@ pub fn plain_words()
         (λ c. record c { by_name = false }) }
     ensures match_names { SetsName (codes "--match") (codes "names")
         (λ c. record c { by_name = true }) }
+    ensures stats { SetsFlag (codes "--stats") (λ c. record c { stats = true }) }
     ensures no_pairing { (program a b word : List ℕ) → IsPlain a → IsPlain b → IsPlain word
         → word ≢ codes "position" → word ≢ codes "names"
         → AskAmiss (program ∷ codes "check" ∷ a ∷ b ∷ codes "--match" ∷ word ∷ [])
@@ -79,6 +89,20 @@ pub fn plain_words()
         → ¬ IsLeftUnder p word
         → AskCheck (codes "check" ∷ a ∷ b ∷ codes "--out" ∷ p ∷ codes "--save" ∷ word ∷ [])
         (record (plain_check a b) { out = Some p; save = Some word }) }
+    ensures witness_over { (program a b p word : List ℕ) → IsPlain a → IsPlain b → IsPlain p → IsPlain word
+        → IsLeftUnder p word
+        → AskAmiss (program ∷ codes "check" ∷ a ∷ b ∷ codes "--out" ∷ p ∷ codes "--witness" ∷ word ∷ [])
+        WitnessOver }
+    ensures out_witness { (a b p word : List ℕ) → IsPlain a → IsPlain b → IsPlain p → IsPlain word
+        → ¬ IsLeftUnder p word
+        → AskCheck (codes "check" ∷ a ∷ b ∷ codes "--out" ∷ p ∷ codes "--witness" ∷ word ∷ [])
+        (record (plain_check a b) { out = Some p; witness = Some word }) }
+    ensures witness_saved { (program a b word : List ℕ) → IsPlain a → IsPlain b → IsPlain word
+        → AskAmiss (program ∷ codes "check" ∷ a ∷ b ∷ codes "--save" ∷ word ∷ codes "--witness" ∷ word ∷ [])
+        WitnessSaved }
+    ensures save_witness { (a b f word : List ℕ) → IsPlain a → IsPlain b → IsPlain f → IsPlain word → f ≢ word
+        → AskCheck (codes "check" ∷ a ∷ b ∷ codes "--save" ∷ f ∷ codes "--witness" ∷ word ∷ [])
+        (record (plain_check a b) { save = Some f; witness = Some word }) }
     ensures out_budget { (a b p word : List ℕ) (n : ℕ) → IsPlain a → IsPlain b → IsPlain p
         → Writes 1 BUDGET_LIMIT word n
         → AskCheck (codes "check" ∷ a ∷ b ∷ codes "--out" ∷ p ∷ codes "--budget" ∷ word ∷ [])

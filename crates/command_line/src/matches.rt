@@ -1,6 +1,6 @@
 ghost use Rattle.std.specs.Prelude.{◌≡◌, ◌≤◌, IfSome, Some, true, is_some, unwrap_or};
 ghost use Rattle.clap.specs.Words.{first_of, found_of, rows_of};
-ghost use Rattle.command_line.specs.Words.{LratIt, Requested, check_given, check_in, fraig_given, fraig_in, kind_named, lrat_in, misnamed_kind, misnamed_pairing, number_in, number_of, outcome_in, matched, pairing_named, plain_check, plain_fraig, saved, self_in};
+ghost use Rattle.command_line.specs.Words.{LratIt, Requested, check_given, check_in, fraig_given, fraig_in, is_set, kind_named, lrat_in, misnamed_kind, misnamed_pairing, number_in, number_of, outcome_in, matched, pairing_named, plain_check, plain_fraig, saved, self_in, witnessed};
 ghost use Rattle.command_line.specs.Answers.{check_texts, fraig_texts, lrat_texts};
 ghost use Rattle.command_line.specs.Parsing.{found, misnamed_texts, outcome};
 
@@ -8,7 +8,7 @@ use crate::asked::{
     Asked, BUDGET_LIMIT, CheckWords, FraigWords, LratWords, MisnamedWord, SelfWords, Unfit,
     WORDS_LIMIT, WORKERS_LIMIT,
 };
-use crate::saved::{saves_over, writes_over};
+use crate::saved::{names_left, names_one, writes_over};
 use clap::ArgMatches;
 use workload_gen::{Kind, MOST_BITS};
 
@@ -55,12 +55,14 @@ impl<'a> CheckWords<'a> {
             out: None,
             load: None,
             save: None,
+            witness: None,
             workers: 4,
             seed: 1,
             words: 4,
             sweep_budget: 100,
             budget: 100_000,
             by_name: false,
+            stats: false,
         }
     }
 }
@@ -89,12 +91,14 @@ fn matched<'a>(check: CheckWords<'a>, word: &'a str) -> Result<Asked<'a>, Unfit<
             out: check.out,
             load: check.load,
             save: check.save,
+            witness: check.witness,
             workers: check.workers,
             seed: check.seed,
             words: check.words,
             sweep_budget: check.sweep_budget,
             budget: check.budget,
             by_name,
+            stats: check.stats,
         }),
         None => Err(Unfit::Misnamed(misnamed_pairing(word))),
     }
@@ -104,8 +108,21 @@ fn matched<'a>(check: CheckWords<'a>, word: &'a str) -> Result<Asked<'a>, Unfit<
 fn saved<'a>(check: CheckWords<'a>) -> Result<Asked<'a>, Unfit<'a>>
     ensures { outcome result ≡ saved (check_texts check.entry) }
 {
-    if saves_over(check.out, check.save) {
+    if names_left(check.out, check.save) {
         Err(Unfit::SavesOver)
+    } else {
+        witnessed(check)
+    }
+}
+
+/// The same, unless its witness would stand in the place of such a file, or of its lemmas.
+fn witnessed<'a>(check: CheckWords<'a>) -> Result<Asked<'a>, Unfit<'a>>
+    ensures { outcome result ≡ witnessed (check_texts check.entry) }
+{
+    if names_left(check.out, check.witness) {
+        Err(Unfit::WitnessOver)
+    } else if names_one(check.save, check.witness) {
+        Err(Unfit::WitnessSaved)
     } else {
         Ok(Asked::Check(check))
     }
@@ -146,12 +163,14 @@ fn check_words<'a>(matches: &ArgMatches<'a>) -> CheckWords<'a>
         out: matches.get_str("out"),
         load: matches.get_str("load"),
         save: matches.get_str("save"),
+        witness: matches.get_str("witness"),
         workers: number_or(matches, "workers", 1, WORKERS_LIMIT, plain.workers),
         seed: number_or(matches, "seed", 0, u64::MAX, plain.seed),
         words: number_or(matches, "words", 1, WORDS_LIMIT, plain.words),
         sweep_budget: number_or(matches, "sweep-budget", 1, BUDGET_LIMIT, plain.sweep_budget),
         budget: number_or(matches, "budget", 1, BUDGET_LIMIT, plain.budget),
         by_name: plain.by_name,
+        stats: is_set(matches, "stats"),
     }
 }
 
@@ -280,6 +299,16 @@ fn number_in(text: &str, least: u64, most: u64) -> Option<u64>
     match text.parse::<u64>() {
         Ok(n) if least <= n && n <= most => Some(n),
         _ => None,
+    }
+}
+
+/// Whether a flag is given. `clap` has a value for each: `true` where it is, and `false` where it isn't.
+fn is_set(matches: &ArgMatches<'_>, id: &str) -> bool
+    ensures { result ≡ is_set id.now (rows_of (found_of matches.now)) }
+{
+    match matches.get_str(id) {
+        Some(text) => text == "true",
+        None => false,
     }
 }
 

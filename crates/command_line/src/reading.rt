@@ -89,6 +89,10 @@ fn unfit_text(alloc: Global, unfit: &Unfit<'_>) -> Result<String, AllocError>
         Unfit::Misnamed(word) => misnamed_text(alloc, word),
         Unfit::SavesOver => String::from_str(alloc, "cec: --save names a file of --out\n"),
         Unfit::WritesOver => String::from_str(alloc, "cec: OUT is a file of --out\n"),
+        Unfit::WitnessOver => String::from_str(alloc, "cec: --witness names a file of --out\n"),
+        Unfit::WitnessSaved => {
+            String::from_str(alloc, "cec: --witness and --save name one file\n")
+        }
     }
 }
 

@@ -1,14 +1,27 @@
 ghost use Rattle.std.specs.Prelude.{◌≡◌, option_map};
-ghost use Rattle.command_line.specs.Saved.{behind_digits, is_ending, is_first_ending, is_first_under, is_left_under, is_numbered, saves_over, writes_over};
+ghost use Rattle.command_line.specs.Saved.{behind_digits, is_ending, is_first_ending, is_first_under, is_left_under, is_numbered, names_left, names_one, writes_over};
 
-/// Whether the file that is saved is one of those that are left under the prefix. It would be written last, and
-/// so stand in the place of a check's CNF or proof, of which the verdict speaks.
-pub(crate) fn saves_over(out: Option<&str>, save: Option<&str>) -> bool
-    ensures { result ≡ saves_over (option_map (λ s. s.now) out.entry) (option_map (λ s. s.now) save.entry) }
+/// Whether a file is one of those that are left under the prefix. The lemmas and the witness are written behind
+/// these, and would so stand in the place of a check's CNF or proof, of which the verdict speaks.
+pub(crate) fn names_left(out: Option<&str>, file: Option<&str>) -> bool
+    ensures { result ≡ names_left (option_map (λ s. s.now) out.entry) (option_map (λ s. s.now) file.entry) }
 {
     match out {
-        Some(prefix) => match save {
+        Some(prefix) => match file {
             Some(name) => is_left_under(prefix, name),
+            None => false,
+        },
+        None => false,
+    }
+}
+
+/// Whether two files are one. The lemmas are written last, and would so stand in the place of the witness.
+pub(crate) fn names_one(file: Option<&str>, other: Option<&str>) -> bool
+    ensures { result ≡ names_one (option_map (λ s. s.now) file.entry) (option_map (λ s. s.now) other.entry) }
+{
+    match file {
+        Some(name) => match other {
+            Some(other) => name == other,
             None => false,
         },
         None => false,

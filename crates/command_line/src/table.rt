@@ -16,6 +16,8 @@ pub(crate) enum Takes {
     Text,
     /// A number from `least` to `most` behind `--NAME`, which may be left out.
     Number { least: u64, most: u64 },
+    /// Nothing: `--NAME` stands alone, and may be left out.
+    Flag,
 }
 
 /// An argument of a command.
@@ -23,7 +25,7 @@ pub(crate) enum Takes {
 pub(crate) struct ArgumentRow {
     /// The name of an option, and what the value is asked for by.
     pub(crate) name: &'static str,
-    /// What help calls the value.
+    /// What help calls the value, of which a flag has none.
     pub(crate) value_name: &'static str,
     pub(crate) takes: Takes,
     pub(crate) help: &'static str,
@@ -91,6 +93,12 @@ pub(crate) static COMMANDS: [CommandRow; 4] = [
                 help: "Leave the lemmas of the last check in FILE, for --load",
             },
             ArgumentRow {
+                name: "witness",
+                value_name: "FILE",
+                takes: Takes::Text,
+                help: "Leave an input that tells the circuits apart in FILE, for aigsim",
+            },
+            ArgumentRow {
                 name: "workers",
                 value_name: "N",
                 takes: Takes::Number {
@@ -143,6 +151,12 @@ pub(crate) static COMMANDS: [CommandRow; 4] = [
                 takes: Takes::Text,
                 help: "Pair inputs and outputs by their position, \
                        or by the names that the files give them: position or names [default: position]",
+            },
+            ArgumentRow {
+                name: "stats",
+                value_name: "",
+                takes: Takes::Flag,
+                help: "Warn what was done behind each verdict, in lines of a name and a number",
             },
         ],
     },
@@ -287,7 +301,21 @@ A line that is refused ends the program, and what was said and left before it st
 With --load, says before check 0 how many of the lemmas in FILE hold, of how many:
   lemmas N of M
 With --save, leaves FILE behind the last check, unless a line of the script is refused.
-FILE can't be PREFIX.K.cnf or PREFIX.K.lrat of --out.";
+
+With --witness, leaves FILE before DIFFERENT is said, as aigsim takes it:
+  1
+  b0
+                 an empty line, for the latches that there aren't
+  INPUT          a digit for each input of A, in A's order
+  .
+  c NAME DIGIT   a line for each input to which A gives a name
+At another verdict FILE stays as it was.
+
+No FILE that is left can be PREFIX.K.cnf or PREFIX.K.lrat of --out, nor another one.
+
+With --stats, warns behind each verdict of what was done, a line 'cec: NAME VALUE' each: gates, levels,
+clauses, patterns, rounds, merges, pairs and outputs left open, steps of proof, seconds. What is said and
+left stays the same.";
 
 const FRAIG_NOTES: &str = "\
 Says how many gates either circuit has, and ends with the status before what it says of both:

@@ -45,6 +45,7 @@ Options:
       --out <PREFIX>      Leave the question and its proof in files whose names begin with PREFIX
       --load <FILE>       Begin with those lemmas in FILE that hold, as --save leaves them
       --save <FILE>       Leave the lemmas of the last check in FILE, for --load
+      --witness <FILE>    Leave an input that tells the circuits apart in FILE, for aigsim
       --workers <N>       Settle pairs of nodes and outputs by N workers, from 1 to 64 [default: 4]
       --seed <N>          Draw the first patterns from N, from 0 to 18446744073709551615 [default: 1]
       --words <N>         Draw 64 times N first patterns, N from 1 to 64 [default: 4]
@@ -53,6 +54,7 @@ Options:
       --budget <N>        Give up on an output after N learned clauses, from 1 to 1000000000 [default: 100000]
       --match <BY>        Pair inputs and outputs by their position, \
       or by the names that the files give them: position or names [default: position]
+      --stats             Warn what was done behind each verdict, in lines of a name and a number
   -h, --help              Print help
 
 Says of each check, and ends with the status before what it says of the last one:
@@ -78,7 +80,21 @@ A line that is refused ends the program, and what was said and left before it st
 With --load, says before check 0 how many of the lemmas in FILE hold, of how many:
   lemmas N of M
 With --save, leaves FILE behind the last check, unless a line of the script is refused.
-FILE can't be PREFIX.K.cnf or PREFIX.K.lrat of --out.
+
+With --witness, leaves FILE before DIFFERENT is said, as aigsim takes it:
+  1
+  b0
+                 an empty line, for the latches that there aren't
+  INPUT          a digit for each input of A, in A's order
+  .
+  c NAME DIGIT   a line for each input to which A gives a name
+At another verdict FILE stays as it was.
+
+No FILE that is left can be PREFIX.K.cnf or PREFIX.K.lrat of --out, nor another one.
+
+With --stats, warns behind each verdict of what was done, a line 'cec: NAME VALUE' each: gates, levels,
+clauses, patterns, rounds, merges, pairs and outputs left open, steps of proof, seconds. What is said and
+left stays the same.
 ";
 
 const FRAIG_HELP: &str = "help: \
@@ -183,12 +199,16 @@ For more information, try '--help'.
 
 const SAVED_OVER: &str = "usage: cec: --save names a file of --out\n";
 
+const WITNESS_OVER: &str = "usage: cec: --witness names a file of --out\n";
+
+const WITNESS_SAVED: &str = "usage: cec: --witness and --save name one file\n";
+
 const NO_HELP: &str = "usage: cec: no command help\n";
 
 const WRITTEN_OVER: &str = "usage: cec: OUT is a file of --out\n";
 
 /// Words, and what they are told.
-static TOLD: [(&str, &str); 18] = [
+static TOLD: [(&str, &str); 21] = [
     ("cec --help", PROGRAM_HELP),
     ("cec -h", PROGRAM_HELP),
     ("cec check --help", CHECK_HELP),
@@ -204,6 +224,12 @@ static TOLD: [(&str, &str); 18] = [
     ("cec self help 1", NO_KIND),
     ("cec check x y --match by", NO_PAIRING),
     ("cec check x y --out p --save p.0.cnf", SAVED_OVER),
+    ("cec check x y --out p --witness p.0.cnf", WITNESS_OVER),
+    (
+        "cec check x y --witness p.01.lrat --save f --out p",
+        WITNESS_OVER,
+    ),
+    ("cec check x y --save f --witness f", WITNESS_SAVED),
     ("cec fraig x p.0.lrat --out p", WRITTEN_OVER),
     ("cec help", NO_HELP),
     ("cec help check", NO_HELP),
@@ -239,6 +265,11 @@ const TAKEN: &str = concat!(
     "cec check --save=l x y --out p => x and y with lemmas to l, to p, by 4 from 1, 4, 100 and 100000;",
     "cec check x y --out p --save p.x.cnf --load p.0.cnf => \
         x and y with lemmas from p.0.cnf with lemmas to p.x.cnf, to p, by 4 from 1, 4, 100 and 100000;",
+    "cec check x y --witness w => x and y with a witness to w, to nowhere, by 4 from 1, 4, 100 and 100000;",
+    "cec check x --witness=p.cnf y --out p --save l => \
+        x and y with lemmas to l with a witness to p.cnf, to p, by 4 from 1, 4, 100 and 100000;",
+    "cec check x y --stats => x and y with statistics, to nowhere, by 4 from 1, 4, 100 and 100000;",
+    "cec check --stats x y --budget 7 => x and y with statistics, to nowhere, by 4 from 1, 4, 100 and 7;",
     "cec check x y --workers 1 => x and y, to nowhere, by 1 from 1, 4, 100 and 100000;",
     "cec check --workers=64 x y --seed 2 => x and y, to nowhere, by 64 from 2, 4, 100 and 100000;",
     "cec fraig x y => what is left of x in y, to nowhere, by 4 from 1, 4 and 100;",
@@ -268,6 +299,11 @@ const REFUSED: &str = concat!(
     "cec check x y --edits s --edits s => \
         the argument '--edits <F>' cannot be used multiple times\n;",
     "cec check x y --save => a value is required for '--save <FILE>' but none was supplied\n;",
+    "cec check x y --witness => a value is required for '--witness <FILE>' but none was supplied\n;",
+    "cec check x y --stats --stats => the argument '--stats' cannot be used multiple times\n;",
+    "cec check x y --stats=7 => unexpected value '7' for '--stats' found; no more were expected\n;",
+    "cec fraig x y --stats => unexpected argument '--stats' found\n;",
+    "cec self adder 1 --witness w => unexpected argument '--witness' found\n;",
     "cec check x y --load l --load l => \
         the argument '--load <FILE>' cannot be used multiple times\n;",
     "cec self adder 1 --edits s => unexpected argument '--edits' found\n;",
@@ -324,16 +360,18 @@ fn named(alloc: Global, words: &str, name: Option<&str>) -> Result<String, Alloc
     }
 }
 
-/// The files that a check was given, how they are paired and edited, what it loads and saves, and where its
-/// proof goes.
+/// The files that a check was given, how they are paired and edited, what it loads, saves and leaves, whether it
+/// tells what was done, and where its proof goes.
 fn files_of(alloc: Global, check: &CheckWords<'_>) -> Result<String, AllocError> {
     let out = check.out.unwrap_or("nowhere");
     let pairing = if check.by_name { " by name" } else { "" };
     let edits = named(alloc, "edited by", check.edits)?;
     let load = named(alloc, "with lemmas from", check.load)?;
     let save = named(alloc, "with lemmas to", check.save)?;
+    let witness = named(alloc, "with a witness to", check.witness)?;
+    let stats = if check.stats { " with statistics" } else { "" };
     format!(in alloc;
-        "{} and {}{pairing}{edits}{load}{save}, to {out}",
+        "{} and {}{pairing}{edits}{load}{save}{witness}{stats}, to {out}",
         check.a, check.b
     )
 }
