@@ -3,11 +3,12 @@ ghost use Rattle.std.specs.Prelude.{◌≡◌, None};
 use cec_top::run;
 use desk_port::{Desk, OpenGate, PutErr};
 use std::alloc::Global;
+use std::rt::Clock;
 use std::sync::Wait;
 use std::thread::Threads;
 
 /// The commands of the page, in its order.
-pub(crate) const EXAMPLES: [&[&str]; 19] = [
+pub(crate) const EXAMPLES: [&[&str]; 20] = [
     &[
         "check",
         "adder_ripple.aag",
@@ -42,6 +43,13 @@ pub(crate) const EXAMPLES: [&[&str]; 19] = [
         "names",
     ],
     &["check", "subtract_ab.aag", "subtract_ba.aag"],
+    &[
+        "check",
+        "subtract_ab.aag",
+        "subtract_ba.aag",
+        "--witness",
+        "subtract.witness",
+    ],
     &[
         "check",
         "digit_full.aag",
@@ -102,7 +110,7 @@ fn line_of(alloc: Global, words: &[String]) -> Result<String, PutErr> {
 
 /// Says the command, runs it, and says the status that it ends with.
 pub(crate) fn show<D: Desk>(
-    rt: &(impl Threads + Wait + Sync),
+    rt: &(impl Threads + Wait + Clock + Sync),
     alloc: Global,
     example: &[&str],
     desk: &mut D,

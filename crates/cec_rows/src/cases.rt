@@ -11,6 +11,7 @@ use crate::proofs::check_swapped;
 use cec_top::Status;
 use std::alloc::AllocError;
 use std::process::Abort;
+use std::rt::Clock;
 use std::sync::Wait;
 use std::test::*;
 use std::thread::Threads;
@@ -354,7 +355,7 @@ fn is_told(ran: Result<Ran, AllocError>, status: Status) -> bool {
 
 /// Runs the program on each of these words.
 fn check_words(
-    rt: &(impl Threads + Wait + Sync + Abort + AllocGlobal),
+    rt: &(impl Threads + Wait + Clock + Sync + Abort + AllocGlobal),
     rows: &[&[&str]],
     status: Status,
 ) {

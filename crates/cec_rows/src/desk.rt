@@ -5,6 +5,7 @@ use desk_port::{Gate, MemDesk, OpenGate};
 use std::alloc::{AllocError, Global};
 use std::collections::BTreeMap;
 use std::process::Abort;
+use std::rt::Clock;
 use std::sync::Wait;
 use std::thread::Threads;
 
@@ -95,7 +96,7 @@ fn words_with_program(alloc: Global, words: &[&str]) -> Result<Vec<String>, Allo
 
 /// Runs the program on these words behind its name, over a desk with these files that fails at these calls.
 pub(crate) fn run_words(
-    rt: &(impl Threads + Wait + Sync + AllocGlobal),
+    rt: &(impl Threads + Wait + Clock + Sync + AllocGlobal),
     files: &[(&str, &[u8])],
     words: &[&str],
     fails: &[u64],
@@ -105,7 +106,7 @@ pub(crate) fn run_words(
 
 /// The same where the workers pass this gate.
 pub(crate) fn run_by<G: Gate + Sync>(
-    rt: &(impl Threads + Wait + Sync + AllocGlobal),
+    rt: &(impl Threads + Wait + Clock + Sync + AllocGlobal),
     files: &[(&str, &[u8])],
     words: &[&str],
     fails: &[u64],
@@ -185,7 +186,7 @@ fn words_by<'a>(
 
 /// Runs a case over these files by so many workers, and asks how it ends and what it leaves.
 fn check_by(
-    rt: &(impl Threads + Wait + Sync + Abort + AllocGlobal),
+    rt: &(impl Threads + Wait + Clock + Sync + Abort + AllocGlobal),
     files: &[(&str, &[u8])],
     case: &Case<'_>,
     many: &str,
@@ -202,7 +203,7 @@ const NUMBERS_OF_WORKERS: [&str; 4] = ["1", "2", "4", "64"];
 
 /// Runs a case over these files by each number of workers, and asks how it ends and what it leaves.
 pub(crate) fn check_over(
-    rt: &(impl Threads + Wait + Sync + Abort + AllocGlobal),
+    rt: &(impl Threads + Wait + Clock + Sync + Abort + AllocGlobal),
     files: &[(&str, &[u8])],
     case: &Case<'_>,
 ) {
@@ -212,12 +213,15 @@ pub(crate) fn check_over(
 }
 
 /// The same over the files of the case.
-pub(crate) fn check_case(rt: &(impl Threads + Wait + Sync + Abort + AllocGlobal), case: &Case<'_>) {
+pub(crate) fn check_case(
+    rt: &(impl Threads + Wait + Clock + Sync + Abort + AllocGlobal),
+    case: &Case<'_>,
+) {
     check_over(rt, case.files, case);
 }
 
 pub(crate) fn check_cases(
-    rt: &(impl Threads + Wait + Sync + Abort + AllocGlobal),
+    rt: &(impl Threads + Wait + Clock + Sync + Abort + AllocGlobal),
     cases: &[Case<'_>],
 ) {
     for case in cases {

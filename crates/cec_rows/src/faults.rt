@@ -5,6 +5,7 @@ use crate::files::{AGAINST_FALSE, SWAPPED, TIGHT, WORDS, XORS};
 use cec_top::Status;
 use std::alloc::AllocError;
 use std::process::Abort;
+use std::rt::Clock;
 use std::sync::Wait;
 use std::test::*;
 use std::thread::Threads;
@@ -110,7 +111,7 @@ fn ends_so(ran: &Ran, whole: &Ran, call: &str, end: &str) -> bool {
 
 /// Runs the check with the call failing, and asks how it ends.
 fn is_so(
-    rt: &(impl Threads + Wait + Sync + AllocGlobal),
+    rt: &(impl Threads + Wait + Clock + Sync + AllocGlobal),
     check: &Check<'_>,
     whole: &Ran,
     line: &str,
@@ -122,7 +123,7 @@ fn is_so(
 
 /// Asks it of each call, beside the run in which none fails.
 fn check_calls(
-    rt: &(impl Threads + Wait + Sync + Abort + AllocGlobal),
+    rt: &(impl Threads + Wait + Clock + Sync + Abort + AllocGlobal),
     check: &Check<'_>,
     whole: &Ran,
 ) {
@@ -133,7 +134,7 @@ fn check_calls(
     }
 }
 
-fn check_all(rt: &(impl Threads + Wait + Sync + Abort + AllocGlobal), check: &Check<'_>) {
+fn check_all(rt: &(impl Threads + Wait + Clock + Sync + Abort + AllocGlobal), check: &Check<'_>) {
     match run_words(rt, check.files, check.words, &[]) {
         Ok(whole) => check_calls(rt, check, &whole),
         Err(AllocError) => expect(rt, "memory", false),

@@ -23,11 +23,11 @@ pub(crate) const XOR_X: &[u8] = b"aag 5 2 0 1 3\n2\n4\n11\n6 2 5\n8 3 4\n10 7 9\
 /// Their XOR by other gates.
 pub(crate) const XOR_Y: &[u8] = b"aag 5 2 0 1 3\n2\n4\n10\n6 2 4\n8 3 5\n10 7 9\n";
 
+/// The constant false over two inputs.
+pub(crate) const FALSE: &[u8] = b"aag 2 2 0 1 0\n2\n4\n0\n";
+
 /// The AND against the constant false, as the files of a check.
-pub(crate) const AGAINST_FALSE: [(&str, &[u8]); 2] = [
-    ("A", SWAPPED_A),
-    ("B", b"aag 2 2 0 1 0\n2\n4\n0\n"),
-];
+pub(crate) const AGAINST_FALSE: [(&str, &[u8]); 2] = [("A", SWAPPED_A), ("B", FALSE)];
 
 /// Gates that are an input and false, and a circuit of both without gates.
 pub(crate) const FOLDS: [(&str, &[u8]); 2] = [

@@ -6,6 +6,7 @@ use crate::files::{SWAPPED, SWAPPED_A, SWAPPED_B, SWAPPED_CNF};
 use cec_top::Status;
 use std::alloc::AllocError;
 use std::process::Abort;
+use std::rt::Clock;
 use std::sync::Wait;
 use std::test::*;
 use std::thread::Threads;
@@ -232,7 +233,7 @@ fn names_of_out(rt: HostRuntime) {
 
 /// What one run saves the next one takes, all of it.
 fn taken_again(
-    rt: &(impl Threads + Wait + Sync + AllocGlobal),
+    rt: &(impl Threads + Wait + Clock + Sync + AllocGlobal),
     words: &[&str],
     said: &str,
 ) -> Result<bool, AllocError> {
@@ -275,7 +276,7 @@ fn said_before(call: u64) -> &'static [u8] {
 /// Whether a run in which the call fails ends so: nothing but whole lines before the call is said, but for a
 /// first part of the line that the call says.
 fn ends_so(
-    rt: &(impl Threads + Wait + Sync + AllocGlobal),
+    rt: &(impl Threads + Wait + Clock + Sync + AllocGlobal),
     call: u64,
     status: u8,
 ) -> Result<bool, AllocError> {

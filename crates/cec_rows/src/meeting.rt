@@ -2,6 +2,7 @@
 use crate::desk::{Ran, expect, run_by};
 use desk_port::Gate;
 use std::process::Abort;
+use std::rt::Clock;
 use std::sync::Wait;
 use std::sync::atomic::{AtomicBool, AtomicU64, Ordering};
 use std::test::*;
@@ -61,7 +62,7 @@ const PAIRS_OF_XORS: [(&str, &[u8]); 2] = [
 ];
 
 /// Runs the check by so many workers behind a gate of its own, where two have to meet.
-fn meet(rt: &(impl Threads + Wait + Sync + Abort + AllocGlobal), many: &str) {
+fn meet(rt: &(impl Threads + Wait + Clock + Sync + Abort + AllocGlobal), many: &str) {
     let meeting = Meeting::new();
     let words = ["check", "A", "B", "--workers", many];
     let ran: Option<Ran> = run_by(rt, &PAIRS_OF_XORS, &words, &[], &meeting).ok();

@@ -7,6 +7,7 @@ use crate::files::{EMPTY_CNF, SWAPPED, SWAPPED_CNF, TIGHT, WORDS, XORS};
 use cec_top::Status;
 use std::alloc::AllocError;
 use std::process::Abort;
+use std::rt::Clock;
 use std::sync::Wait;
 use std::test::Fail;
 use std::thread::Threads;
@@ -63,7 +64,7 @@ fn hand_written_proofs(rt: HostRuntime) -> Result<(), Fail> {
 
 /// Checks the proof that a check left, and asks how that ends.
 fn check_left(
-    rt: &(impl Threads + Wait + Sync + Abort + AllocGlobal),
+    rt: &(impl Threads + Wait + Clock + Sync + Abort + AllocGlobal),
     ran: Result<Ran, AllocError>,
     end: &Case<'_>,
 ) {
@@ -85,7 +86,7 @@ static AS_SWAPPED: Case<'_> = Case {
 /// Checks files whose circuits are the two ANDs, in whatever form: they are equivalent, their CNF is the
 /// worked one, and their proof is verified.
 pub(crate) fn check_swapped(
-    rt: &(impl Threads + Wait + Sync + Abort + AllocGlobal),
+    rt: &(impl Threads + Wait + Clock + Sync + Abort + AllocGlobal),
     files: &[(&str, &[u8])],
 ) {
     check_over(rt, files, &AS_SWAPPED);
@@ -94,7 +95,7 @@ pub(crate) fn check_swapped(
 
 /// Checks files whose circuits are equivalent: their proof is verified.
 pub(crate) fn check_refuted(
-    rt: &(impl Threads + Wait + Sync + Abort + AllocGlobal),
+    rt: &(impl Threads + Wait + Clock + Sync + Abort + AllocGlobal),
     files: &[(&str, &[u8])],
 ) {
     check_left(rt, run_words(rt, files, &WORDS, &[]), &REFUTATION);
@@ -141,7 +142,7 @@ fn is_told(ran: Result<Ran, AllocError>, told: &str) -> bool {
 
 /// Checks the proof against the formula, and asks what is told of it.
 fn check_told(
-    rt: &(impl Threads + Wait + Sync + Abort + AllocGlobal),
+    rt: &(impl Threads + Wait + Clock + Sync + Abort + AllocGlobal),
     cnf: &[u8],
     proof: &[u8],
     told: &str,
@@ -151,7 +152,11 @@ fn check_told(
 }
 
 /// Asks it of each row of a table: a proof, an arrow, and what is told of it. Rows end in semicolons.
-fn check_rows(rt: &(impl Threads + Wait + Sync + Abort + AllocGlobal), cnf: &[u8], rows: &str) {
+fn check_rows(
+    rt: &(impl Threads + Wait + Clock + Sync + Abort + AllocGlobal),
+    cnf: &[u8],
+    rows: &str,
+) {
     for row in rows.split_terminator(';') {
         let (proof, told) = row.split_once(" => ").unwrap_or((row, ""));
         check_told(rt, cnf, proof.as_bytes(), told);

@@ -8,6 +8,7 @@ use crate::files::{SWAPPED_A, SWAPPED_B, SWAPPED_BINARY, WORDS};
 use crate::proofs::check_swapped;
 use cec_top::Status;
 use std::alloc::{AllocError, Global};
+use std::rt::Clock;
 use std::sync::Wait;
 use std::test::*;
 use std::thread::Threads;
@@ -112,7 +113,7 @@ fn is_refused(ran: &Ran, line: &str) -> bool {
 
 /// Whether the file with so many bytes left is refused for what is missing.
 fn is_cut(
-    rt: &(impl Threads + Wait + Sync + AllocGlobal),
+    rt: &(impl Threads + Wait + Clock + Sync + AllocGlobal),
     file: &[u8],
     bytes: usize,
 ) -> Result<bool, AllocError>

@@ -7,6 +7,7 @@ use cec_top::{Kept, Status};
 use lemma_book::{Book, Entry};
 use std::alloc::AllocError;
 use std::process::Abort;
+use std::rt::Clock;
 use std::sync::Wait;
 use std::test::*;
 use std::thread::Threads;
@@ -204,7 +205,9 @@ fn are_of_sweep(kept: &[Kept]) -> bool {
 
 /// Whether a run hands back the book of the sweep, and not the one by which both circuits are shown equal; and what
 /// it wrote is equivalent to what it read, by a proof that is verified.
-fn is_read_back(rt: &(impl Threads + Wait + Sync + AllocGlobal)) -> Result<bool, AllocError> {
+fn is_read_back(
+    rt: &(impl Threads + Wait + Clock + Sync + AllocGlobal),
+) -> Result<bool, AllocError> {
     let Ran { desk, kept, .. } = run_words(rt, &TWICE_ALONE, REDUCED.words, &[])?;
     let files = [
         ("A", TWICE),
@@ -267,7 +270,7 @@ fn stand(ran: &Ran, whole: &Ran, what: [&str; 3]) -> bool {
 /// Whether a run in which the call fails ends so: nothing is said but by the last call, whose text is said in part,
 /// and the book is handed back once the circuit was reduced.
 fn ends_so(
-    rt: &(impl Threads + Wait + Sync + AllocGlobal),
+    rt: &(impl Threads + Wait + Clock + Sync + AllocGlobal),
     whole: &Ran,
     call: u64,
     status: u8,

@@ -3,6 +3,7 @@ use crate::desk::{Ran, expect, run_words};
 use crate::files::{SWAPPED_A, SWAPPED_B};
 use crate::scripts::{LEFT, SAID};
 use std::alloc::AllocError;
+use std::rt::Clock;
 use std::sync::Wait;
 use std::test::*;
 use std::thread::Threads;
@@ -111,7 +112,7 @@ fn has_told(ran: &Ran, told: usize) -> bool {
 
 /// Whether a run on this script ends so.
 fn ends_so(
-    rt: &(impl Threads + Wait + Sync + AllocGlobal),
+    rt: &(impl Threads + Wait + Clock + Sync + AllocGlobal),
     cut: Cut,
     script: &[u8],
 ) -> Result<bool, AllocError> {

@@ -3,6 +3,7 @@ use crate::desk::{Ran, expect, run_words};
 use crate::scripts::{LEFT, SAID, THERE_AND_BACK};
 use std::alloc::AllocError;
 use std::process::Abort;
+use std::rt::Clock;
 use std::sync::Wait;
 use std::test::*;
 use std::thread::Threads;
@@ -123,7 +124,7 @@ fn books_of(status: u8) -> usize {
 
 /// Whether a run in which the call fails ends so.
 fn ends_so(
-    rt: &(impl Threads + Wait + Sync + AllocGlobal),
+    rt: &(impl Threads + Wait + Clock + Sync + AllocGlobal),
     all: &Ran,
     calls: Calls,
     call: u64,
@@ -138,7 +139,7 @@ fn ends_so(
     )
 }
 
-fn check_calls(rt: &(impl Threads + Wait + Sync + Abort + AllocGlobal), all: &Ran) {
+fn check_calls(rt: &(impl Threads + Wait + Clock + Sync + Abort + AllocGlobal), all: &Ran) {
     for calls in &CALLS {
         for call in calls.first..=calls.last {
             expect(

@@ -5,6 +5,7 @@ use crate::files::{SWAPPED, SWAPPED_A, SWAPPED_B, SWAPPED_CNF};
 use cec_top::Status;
 use std::alloc::AllocError;
 use std::process::Abort;
+use std::rt::Clock;
 use std::sync::Wait;
 use std::test::*;
 use std::thread::Threads;
@@ -241,7 +242,7 @@ static FAULTS: [(&str, &str); 31] = [
 
 /// Whether check 0 is told, and the line of the script is warned of by this text.
 fn is_refused(
-    rt: &(impl Threads + Wait + Sync + AllocGlobal),
+    rt: &(impl Threads + Wait + Clock + Sync + AllocGlobal),
     line: &str,
     fault: &str,
 ) -> Result<bool, AllocError> {

@@ -86,7 +86,7 @@ static OPEN_OUTPUT_OVER_A_MERGE: Case<'_> = Case {
     words: &TIGHT,
     status: Status::Undecided,
     said: "UNDECIDED\noutput 0 lines 39-39\n",
-    left: &[("p.0.lrat", Begins(b"34 -8 7 0 ")), ("p.0.lrat", Lines(6))],
+    left: &[("p.0.lrat", Begins(b"34 -8 7 0 ")), ("p.0.lrat", Lines(7))],
     ..EQUIVALENT
 };
 
@@ -95,7 +95,8 @@ static OPEN_OUTPUT_OVER_A_MERGE: Case<'_> = Case {
 /// Output 2 is input 0.
 ///
 /// The miter has 33 clauses. The proof has the two steps of the merge, two of output 1, since from its XOR
-/// alone unit propagation goes nowhere, one of output 2, and output 0's log of one clause.
+/// alone unit propagation goes nowhere, with a deletion behind them, one of output 2, and output 0's log of one
+/// clause.
 #[test]
 fn open_output_over_a_merge(rt: HostRuntime) {
     check_case(&rt, &OPEN_OUTPUT_OVER_A_MERGE);

@@ -19,15 +19,16 @@ use Rattle.check_session.specs.Files.{files_of, LeavesAll, WritesFiles, TellsSpa
 use Rattle.cec_top.specs.declared.kept.Kept.{Kept}
 use Rattle.cec_top.specs.Script.{Due, due_behind}
 use Rattle.cec_top.specs.Check.{Made, IsMade, IsProof, due_of, kept_of}
-use Rattle.cec_top.specs.Steps.{Settles, TellsStatus, ToldWhole, ToldInPart, due_in, how_in, made_in}
+use Rattle.cec_top.specs.Stats.{Reports}
+use Rattle.cec_top.specs.Steps.{SaysStatus, Settles, ToldWhole, ToldInPart, Wanted, due_in, how_in, made_in}
 
 -- ---- one check
 
 -- a check that was found is right, whatever files it leaves
 pub is-made : (due : Due) (t : State) (begun : Begun) (v : Verdict) → IsFound t.net t.options begun t.pool t.book v
     → ((f : Finding) → Finds t.net t.book.entries f → IsProof t.net t.book.entries f)
-    → (out : Option (List ℕ)) → IsMade (how_in t out) (made_in due t v)
-is-made due t begun v found proves out = record {
+    → (wanted : Wanted) → IsMade (how_in t wanted) (made_in due t v)
+is-made due t begun v found proves wanted = record {
   settled = found.settled;
   proof = proves (finding_of v) found.settled.finds;
 }
@@ -45,25 +46,26 @@ pub due-now : (s t : State) → t.net ≡ s.net → t.edits ≡ [] → due_in t 
 due-now s t net none = ap₂ (λ (n : AigPair) (es : List Edit). let d : Due = record { net = n; edits = es } in d) net none
 
 -- a check of the session as it is
-module _ (s t : State) (out : Option (List ℕ)) (number : ℕ) (v : Verdict) (settles : Settles s t v) where
+module _ (s t : State) (wanted : Wanted) (number : ℕ) (v : Verdict) (settles : Settles s t v) where
   abbrev check_made : Made
   check_made = made_in (due_in s) t v
 
-  made : IsMade (how_in s out) check_made
-  made = subst (λ (o : Options). IsMade (record { options = o; out = out }) check_made) settles.options_are (settles.is_made out)
+  made : IsMade (how_in s wanted) check_made
+  made = subst (λ (o : Options). IsMade (record { options = o; out = wanted.out; witness = wanted.witness; stats = wanted.stats }) check_made) settles.options_are
+      (settles.is_made wanted)
 
   due-is : due_of check_made ≡ due_in s
   due-is = ap (λ (n : AigPair). record { net = n; edits = s.edits }) settles.net_is
 
   module _ (old new : DeskState) (before after : List Kept) where
     -- it is told whole, and its status is its own
-    pub told-whole : (status : Status) → after ≡ before → TellsStatus (how_in t out) number check_made old new (Ok status)
-        → ToldWhole (how_in s out) number s t old new before after status
-    told-whole status keeps p = record {
+    pub told-whole : (mid : DeskState) (status : Status) → after ≡ before → SaysStatus wanted number check_made old mid (Ok status)
+        → Reports wanted.stats mid new → ToldWhole (how_in s wanted) number s t old new before after status
+    told-whole mid status keeps p reports = record {
       made = check_made;
       due_is = due-is;
       begins = settles.begins;
-      told = (new, made, p.0, refl);
+      told = (new, made, (mid, p.0, reports), refl);
       status_is = p.1;
       keeps = keeps;
       holds = record { last_is = settles.last_is ∙ sym settles.net_is; book_is = refl };
@@ -73,8 +75,8 @@ module _ (s t : State) (out : Option (List ℕ)) (number : ℕ) (v : Verdict) (s
 
     -- or in part, and its book is kept
     pub told-in-part : (stop : Stop) → after ≡ before ++ kept_of number check_made ∷ []
-        → TellsStatus (how_in t out) number check_made old new (Err stop)
-        → ToldInPart (how_in s out) number s old new before after stop
+        → SaysStatus wanted number check_made old new (Err stop)
+        → ToldInPart (how_in s wanted) number s old new before after stop
     told-in-part stop keeps p = record {
       half = check_made;
       due_is = due-is;

@@ -20,13 +20,14 @@ use Rattle.command_line.specs.declared.reading.Refusal.{Refusal}
 use Rattle.command_line.specs.declared.reading.Refusal.TheVariants.{Help, Usage, NoMemory}
 use Rattle.cec_top.specs.declared.kept.Kept.{Kept}
 use Rattle.cec_top.specs.Script.{Plan, plan_of}
-use Rattle.cec_top.specs.Check.{How, Made, Opening, AreTold, StopsChecks, outputs_of, saved_of, text_of_check}
+use Rattle.cec_top.specs.Check.{How, Made, Opening, AreTold, StopsChecks, left_of, saved_of, text_of_check}
 use Rattle.cec_top.specs.Answers.{AnswersCheck, OpensNot, Stops, StopsLater, SaysHelp, lemmas_of, pair_of, script_of, after_lemmas, after_pair, at_start, how_of}
 use Rattle.cec_top.specs.SelfCheck.{AnswersSelf, StopsSelf, after_workload, only, own_how, own_opening}
 use Rattle.cec_top.specs.Texts.{workload_text}
 use Rattle.cec_top.specs.Steps.{AnswersRefusal}
 use Rattle.cec_top.proofs.SavingLemmas.{start-keeps}
 use Rattle.cec_top.proofs.TellLemmas.{stops-among}
+use Rattle.cec_top.proofs.StatsLemmas.{reports-else}
 use Rattle.cec_top.proofs.ToldLemmas.{left-whole}
 
 -- no file is started
@@ -50,10 +51,11 @@ after-files-closed (o ∷ os) s none = after-files-closed os (after_file s o) re
 pub told-closed : (how : How) (number : ℕ) (made : List Made) (old new : DeskState) → AreTold how number made old new → IsClosed old → IsClosed new
 told-closed how number [] old new told none = ap (λ (s : DeskState). s.started) told ∙ none
 told-closed how number (m ∷ ms) old new told none =
-    let os = outputs_of how.out number m in
+    let os = left_of how.out how.witness number m in
     let text = text_of_check how.out m in
     told-closed how (number + 1) ms told.0 new told.3
-    (ap (λ (s : DeskState). s.started) (left-whole os text old told.0 told.2) ∙ after-files-closed os old none)
+    ((reports-else how.stats told.2.0 told.0 told.2.2).started
+    ∙ ap (λ (s : DeskState). s.started) (left-whole os text old told.2.0 told.2.1) ∙ after-files-closed os old none)
 
 -- leaving files and saying a verdict stops for a failed write or for want of memory
 pub leaves-code : (os : List Output) (text : List ℕ) (s t : DeskState) (stop : Stop) → Leaves os text s t (Err stop)

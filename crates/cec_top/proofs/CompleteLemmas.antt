@@ -30,7 +30,7 @@ use Rattle.cec_top.specs.Headline.{AreLemmas, SpellPair, IsScript}
 use Rattle.cec_top.specs.Script.{Due, Plan, plan_of}
 use Rattle.check_session.specs.Finding.{Finding, Equivalent, Different, Undecided}
 use Rattle.check_session.specs.Check.{IsWithinFor}
-use Rattle.cec_top.specs.Check.{How, Opening, status_of_finding, BreaksOff, due_of, saved_of, StopsChecks, outputs_of as files_of, text_of_check}
+use Rattle.cec_top.specs.Check.{How, Opening, status_of_finding, BreaksOff, due_of, saved_of, StopsChecks, left_of, text_of_check}
 use Rattle.cec_top.specs.Answers.{Answers, AnswersCheck, AreUnlike, AsksFor, OpensNot, Stops, StopsLater, IsAtOnce, pair_of, lemmas_of, how_of, after_lemmas, after_pair, at_start, opening_text}
 use Rattle.cec_top.specs.Inputs.{fault_in, lemma_fault_in, circuit_file, script_file}
 use Rattle.cec_top.specs.Complete.{NoFault, IsWithinLimit, CanCheck, IsAmple, HasVerdict}
@@ -73,7 +73,7 @@ leaves-stops (o ∷ os) text s t (NotAlike why) (inl p) = absurd p
 -- what stops the checks that are asked for, where no line is refused
 module _ (how : How) (from : Opening) (plan : Plan) (accepted : plan.refused ≡ None) (old new : DeskState) (kept : List Kept) (stop : Stop) where
   breaks-stop : BreaksOff how from plan old new kept stop → (stop ≡ OutOfMemory) ⊎ Rose old.write_faults new.write_faults
-  breaks-stop p = go (leaves-stops (files_of how.out (length p.made) p.half) (text_of_check how.out p.half) p.mid new stop p.breaks)
+  breaks-stop p = go (leaves-stops (left_of how.out how.witness (length p.made) p.half) (text_of_check how.out p.half) p.mid new stop p.breaks)
     where
       go : (stop ≡ OutOfMemory) ⊎ Rose p.mid.write_faults new.write_faults → (stop ≡ OutOfMemory) ⊎ Rose old.write_faults new.write_faults
       go (inl e) = inl e

@@ -21,7 +21,7 @@ use Rattle.cec_top.specs.Script.{plan_of}
 use Rattle.cec_top.specs.Check.{Opening, Ends}
 use Rattle.cec_top.specs.Answers.{AsksFor, EndsCheck, IsOpening, ReadsLemmas, Stops, after_lemmas, after_opening, after_pair, after_script, at_start, how_of, lemmas_of, opening_text, script_of}
 use Rattle.cec_top.specs.Inputs.{script_file}
-use Rattle.cec_top.specs.Steps.{LoadsLemmas, LoadsWhole, ReadsScript, ReadsSession, RunsPlan, SavesLemmas, how_in, lemmas_place, opening_in}
+use Rattle.cec_top.specs.Steps.{LoadsLemmas, LoadsWhole, ReadsScript, ReadsSession, RunsPlan, SavesLemmas, how_in, lemmas_place, opening_in, wanted_of}
 use Rattle.cec_top.proofs.ClosedLemmas.{told-closed}
 use Rattle.cec_top.proofs.SavingLemmas.{more-reads, start-keeps}
 
@@ -168,19 +168,19 @@ module _ (c : CheckCommand) (old mid after : DeskState) (s : State) (reads : Rea
       pub loads-unedited : t.edits ≡ []
       loads-unedited = ap (λ (x : State). x.edits) loads.session ∙ ap (λ (x : State). x.edits) reads.1
 
-      at-start : (r : Result Status Stop) → RunsPlan (how_in t c.out) from (plan_of t.net (script_lines text)) loaded new kept r
+      at-start : (r : Result Status Stop) → RunsPlan (how_in t (wanted_of c)) from (plan_of t.net (script_lines text)) loaded new kept r
           → RunsPlan (how_of c) from (plan_of s.net (script_lines script.items)) (at_start c old loads.lemmas from) new kept r
       at-start r p =
           let net : t.net ≡ s.net = ap (λ (x : State). x.net) loads.session in
           let same : t.options ≡ (how_of c).options = ap (λ (x : State). x.options) loads.session ∙ options in
-          subst (λ (o : Options). RunsPlan (record { options = o; out = c.out }) from (plan_of s.net (script_lines script.items))
+          subst (λ (o : Options). RunsPlan (record { options = o; out = c.out; witness = c.witness; stats = c.stats }) from (plan_of s.net (script_lines script.items))
           (at_start c old loads.lemmas from) new kept r) same
-          (subst (λ (d : DeskState). RunsPlan (how_in t c.out) from (plan_of s.net (script_lines script.items)) d new kept r) at
-          (subst (λ (bytes : List ℕ). RunsPlan (how_in t c.out) from (plan_of s.net (script_lines bytes)) loaded new kept r) text_is
-          (subst (λ (n : AigPair). RunsPlan (how_in t c.out) from (plan_of n (script_lines text)) loaded new kept r) net p)))
+          (subst (λ (d : DeskState). RunsPlan (how_in t (wanted_of c)) from (plan_of s.net (script_lines script.items)) d new kept r) at
+          (subst (λ (bytes : List ℕ). RunsPlan (how_in t (wanted_of c)) from (plan_of s.net (script_lines bytes)) loaded new kept r) text_is
+          (subst (λ (n : AigPair). RunsPlan (how_in t (wanted_of c)) from (plan_of n (script_lines text)) loaded new kept r) net p)))
 
       -- the checks aren't all told
-      pub checks-stop : (stop : Stop) → RunsPlan (how_in t c.out) from (plan_of t.net (script_lines text)) loaded new kept (Err stop)
+      pub checks-stop : (stop : Stop) → RunsPlan (how_in t (wanted_of c)) from (plan_of t.net (script_lines text)) loaded new kept (Err stop)
           → Stops c old kept new stop
       checks-stop stop p = inr (inr (inr (inr (record {
         net = s.net;
@@ -193,7 +193,7 @@ module _ (c : CheckCommand) (old mid after : DeskState) (s : State) (reads : Rea
       }))))
 
       -- they are
-      module _ (status : Status) (p : RunsPlan (how_in t c.out) from (plan_of t.net (script_lines text)) loaded new kept (Ok status)) where
+      module _ (status : Status) (p : RunsPlan (how_in t (wanted_of c)) from (plan_of t.net (script_lines text)) loaded new kept (Ok status)) where
         ends : Ends (how_of c) from (plan_of s.net (script_lines script.items)) (at_start c old loads.lemmas from) new status kept
         ends = at-start (Ok status) p
 

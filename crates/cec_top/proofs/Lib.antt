@@ -6,7 +6,11 @@ mod RunLemmas
 mod ScanLemmas
 mod ClosedLemmas
 mod HelpLemmas
+mod StatsLemmas
 mod ToldLemmas
+mod WrittenLemmas
+mod NamedLemmas
+mod WitnessLemmas
 mod PlanLemmas
 mod KeptLemmas
 mod HeadlineLemmas

@@ -1,5 +1,5 @@
 -- What each status promises where a reduced circuit is asked for, from what the program answers.
-use Rattle.std.proofs.Common.{◌≡◌, ◌≢◌, ℕ, ◌<◌, ◌≤◌, inl, inr, List, [], ◌∷◌, ◌++◌, option_map, Option, Some, None, Err, refl, sym, ap, ◌∙◌, subst, arith, append-nil, append_assoc}
+use Rattle.std.proofs.Common.{◌≡◌, ◌≢◌, ℕ, ◌<◌, ◌≤◌, inl, inr, false, List, [], ◌∷◌, ◌++◌, option_map, Option, Some, None, Err, refl, sym, ap, ◌∙◌, subst, arith, append-nil, append_assoc}
 use Rattle.std.specs.Prelude.{◌⊎◌, IfSome, codes, decimal}
 use Rattle.std.specs.List.{AllByRecursion}
 use Rattle.std.proofs.lemmas.Fmt.{decimal_digit}
@@ -30,7 +30,7 @@ use Rattle.cec_top.proofs.ClosedLemmas.{leaves-code}
 use Rattle.cec_top.proofs.CompleteLemmas.{IsExcused, excused-read, excused-verdict, leaves-stops, stops-file}
 use Rattle.cec_top.proofs.HeadlineLemmas.{ends-code, file-spells, reads-keep}
 use Rattle.cec_top.proofs.RefusedLemmas.{fault-at}
-use Rattle.cec_top.proofs.SavingLemmas.{files-saved, put-other, put-there, with_saved}
+use Rattle.cec_top.proofs.WrittenLemmas.{files-saved, put-other, put-there, with_saved}
 use Rattle.cec_top.proofs.StoppedLemmas.{half-left, none-left, reads-silent}
 use Rattle.cec_top.proofs.TellLemmas.{stops-among}
 use Rattle.cec_top.proofs.ToldLemmas.{cnf-no-proof, left-whole}
@@ -79,7 +79,7 @@ module _ (c : FraigCommand) (apart : IsApartFrom c) (r : Reduction) (is_right : 
   has-proof : (out : Option (List ℕ)) → IfSome out (λ prefix. HasProof prefix (ended out) r.net)
   has-proof None = tt
   has-proof (Some prefix) =
-      let how : How = record { options = (fraig_how c).options; out = Some prefix } in
+      let how : How = record { options = (fraig_how c).options; out = Some prefix; witness = None; stats = false } in
       let made : IsMade how (both r) = record { settled = is_right.settled; proof = is_right.proof } in
       record {
         cnf = put-other (proof_name prefix 0) proof (cnf_name prefix 0) (put (cnf_name prefix 0) (cnf_text_of r.net) start) (cnf-no-proof prefix 0 0)
@@ -223,7 +223,7 @@ module _ (c : FraigCommand) (old new : DeskState) (status : Status) (kept : List
   ]
 
   pub reduced-to : IsApartFrom c → ((x : Aig) → IsCircuit x → IsInSequence x → SpellsAiger (binary_text x) x) → code_of status ≡ 0
-      → Shows (IsReducedTo c kept) old new
+      → Shows false (IsReducedTo c kept) old new
   reduced-to apart written code before earlier told heard =
       let p = ends-whole (omega (arith, code)) in
       let r = p.made in
@@ -239,7 +239,10 @@ module _ (c : FraigCommand) (old new : DeskState) (status : Status) (kept : List
         heard =
             ap (λ (s : DeskState). s.said) whole
             ∙ ap (option_map (λ (x : List ℕ). x ++ reduced_text r.net)) (saved.said ∙ read.said ∙ heard);
-        quiet = ap (λ (s : DeskState). s.warned) whole ∙ saved.warned ∙ read.warned;
+        quiet = (
+          ap (λ (s : DeskState). s.warned) whole ∙ saved.warned ∙ read.warned,
+          ap (λ (s : DeskState). s.warn_faults) whole ∙ saved.warns ∙ read.warns,
+        );
         closed = λ none. ap (λ (s : DeskState). s.started) whole ∙ saved.closed (read.started ∙ none);
         promise = record {
           net = r.net;

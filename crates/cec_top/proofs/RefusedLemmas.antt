@@ -25,12 +25,14 @@ use Rattle.cec_top.specs.Answers.{AnswersCheck, AreUnlike, AsksFor, IsOpening, N
 use Rattle.cec_top.specs.Inputs.{circuit_file, fault_in, lemma_fault_in, lemma_file, script_file}
 use Rattle.cec_top.specs.Headline.{Told, SpellPair, IsScript, KeepsPromise}
 use Rattle.cec_top.specs.Lines.{unlike_text, refused_text}
+use Rattle.cec_top.specs.Stats.{WarnsOnly}
 use Rattle.cec_top.specs.Refused.{HasFault, HasLemmaFault, HasNone, HaveNone, IsDue, IsScriptWithin, Refuses, RefusesLine}
 use Rattle.cec_top.proofs.ClosedLemmas.{among-code, leaves-code, memory-code}
 use Rattle.cec_top.proofs.CompleteLemmas.{finding-code}
 use Rattle.cec_top.proofs.HeadlineLemmas.{file-spells, spells-pair, spells-script, within-script}
-use Rattle.cec_top.proofs.SavingLemmas.{IsStarted, loads-are, start-keeps}
-use Rattle.cec_top.proofs.ToldLemmas.{IsLeft, left_all, tolds}
+use Rattle.cec_top.proofs.SavingLemmas.{IsApart, IsStarted, loads-are, start-keeps}
+use Rattle.cec_top.proofs.StatsLemmas.{warns-none, warns-then}
+use Rattle.cec_top.proofs.ToldLemmas.{IsLeft, shown_all, tolds}
 use Rattle.cec_top.proofs.VerdictLemmas.{HasParts, some-parts, is-last, is-left, promise-last, tells-checks}
 
 module _ (before : Files) (s : DeskState) (told : s.files ≡ Some before) (name : List ℕ) where
@@ -81,7 +83,7 @@ unlike-line names u (BadFile file text) is = absurd is
 unlike-line names u CannotWrite is = absurd is
 unlike-line names u OutOfMemory is = absurd is
 
-module _ (c : CheckCommand) (old : DeskState) (before : Files) (told : old.files ≡ Some before) (kept : List Kept) where
+module _ (c : CheckCommand) (apart : IsApart c) (old : DeskState) (before : Files) (told : old.files ≡ Some before) (kept : List Kept) where
   -- what the cause leaves where a file or the pair is refused, and its line
   record IsTold (mid : DeskState) (stop : Stop) : Type 0 where
     none : kept ≡ []
@@ -94,8 +96,7 @@ module _ (c : CheckCommand) (old : DeskState) (before : Files) (told : old.files
   -- and where a line of the script is
   record IsLineTold (mid : DeskState) (stop : Stop) : Type 0 where
     line : RefusesLine c old mid kept before (stop_line (names_of c) stop)
-    silent : mid.warned ≡ old.warned
-    faults : mid.warn_faults ≡ old.warn_faults
+    silent : WarnsOnly c.stats old mid
 
   -- files that were read have no fault
   have-none : (first second : Aig) → ReadsCircuits c old first second → HaveNone c before
@@ -295,13 +296,12 @@ module _ (c : CheckCommand) (old : DeskState) (before : Files) (told : old.files
       keeps : kept ≡ kept_from 0 (parts.earlier ++ parts.last ∷ [])
       keeps = p.keeps ∙ ap (kept_from 0) parts.made_is
 
-      left : IsLeft c.out (tolds c.out 0 (parts.earlier ++ parts.last ∷ [])) start mid
+      left : IsLeft c.stats c.out c.witness (tolds c.out 0 (parts.earlier ++ parts.last ∷ [])) start mid
       left = is-left c kept from net lines script.1 start mid parts.earlier parts.last whole keeps
 
       at : (name : List ℕ) → c.edits ≡ Some name → IsLineTold mid stop
       at name is = record {
-        silent = left.quiet ∙ k.warned;
-        faults = left.warns ∙ k.warns;
+        silent = warns-then c.stats old start mid (warns-none c.stats old start k.warned k.warns) left.quiet;
         line = record {
           no_fault = have-none net.a asks.pair.second asks.pair.reads;
           net = net;
@@ -317,7 +317,7 @@ module _ (c : CheckCommand) (old : DeskState) (before : Files) (told : old.files
           refused = p.line;
           refused_is = p.refused;
           line_is = named name is stop p.stop_is;
-          after = left_all c.out (tolds c.out 0 (parts.earlier ++ parts.last ∷ [])) before;
+          after = shown_all c.out c.witness (tolds c.out 0 (parts.earlier ++ parts.last ∷ [])) before;
           said = opening_text lemmas from ++ flat_map (λ (t : Told). t.said) (tolds c.out 0 (parts.earlier ++ parts.last ∷ []));
           files = left.files before (k.files ∙ told);
           heard = λ earlier heard.
@@ -325,7 +325,7 @@ module _ (c : CheckCommand) (old : DeskState) (before : Files) (told : old.files
               ∙ ap (λ (x : List ℕ). Some x)
               (append_assoc earlier (opening_text lemmas from)
               (flat_map (λ (t : Told). t.said) (tolds c.out 0 (parts.earlier ++ parts.last ∷ []))));
-          told = tells-checks c kept from net lines script.1 start mid parts.earlier parts.last whole keeps (KeepsPromise (how_of c) kept)
+          told = tells-checks c kept from net lines script.1 start mid parts.earlier parts.last whole keeps apart (KeepsPromise (how_of c) kept)
               (opening_text lemmas from) before (promise-last c kept from net lines script.1 start mid parts.earlier parts.last whole keeps);
         };
       }
@@ -373,8 +373,7 @@ module _ (c : CheckCommand) (old : DeskState) (before : Files) (told : old.files
           record {
             line = stop_line (names_of c) p.stop;
             mid = p.mid;
-            silent = t.warned;
-            faults = t.faults;
+            silent = warns-none c.stats old p.mid t.warned t.faults;
             warned = w;
             what = inl (record { due = t.due; files = same.0 ∙ t.files; said = same.1 ∙ t.said; none = t.none });
           }
@@ -384,7 +383,6 @@ module _ (c : CheckCommand) (old : DeskState) (before : Files) (told : old.files
             line = stop_line (names_of c) p.stop;
             mid = p.mid;
             silent = t.silent;
-            faults = t.faults;
             warned = w;
             what = inr (record {
               no_fault = t.line.no_fault;

@@ -7,10 +7,10 @@ use Rattle.std.specs.Option.{option_to_list}
 use Rattle.std.specs.Str.{all_ascii_digits}
 use Rattle.std.proofs.lemmas.Fmt.{decimal_nonempty, digits_decimal}
 use Rattle.std.proofs.lemmas.Str.Parse.{numerals_by_value, tells_all_ascii_digits}
-use Rattle.desk_port.specs.Desk.{DeskState, Files, after_read, after_say, put}
+use Rattle.desk_port.specs.Desk.{DeskState, Files, after_read, after_say}
 use Rattle.netlist.specs.Net.{AigPair}
 use Rattle.endings.specs.Reading.{Input, AreRead, ReadsAs, ReadsUpTo}
-use Rattle.endings.specs.Writing.{Output, Says, StopsAmong, after_file, after_files}
+use Rattle.endings.specs.Writing.{Output, Says, StopsAmong, after_files}
 use Rattle.endings.specs.declared.stop.Stop.{Stop}
 use Rattle.endings.specs.declared.stop.Stop.TheVariants.{OutOfMemory}
 use Rattle.check_session.specs.Check.{State, Loads, opened}
@@ -19,16 +19,17 @@ use Rattle.lemma_book.specs.declared.entry.Entry.{Entry}
 use Rattle.book_file.specs.Reading.{SpellsBook}
 use Rattle.check_session.specs.Files.{cnf_name, proof_name}
 use Rattle.command_line.specs.Saved.{IsLeftUnder, are_digits}
-use Rattle.command_line.specs.Words.{CheckCommand}
+use Rattle.command_line.specs.Words.{Asks, CheckCommand, CheckIt}
 use Rattle.cec_top.specs.declared.kept.Kept.{Kept}
-use Rattle.cec_top.specs.Headline.{AreLemmas, HasFiles, Loads as LoadsFrom, SavesUnder, StillStand}
+use Rattle.cec_top.specs.Headline.{AreLemmas, HasFiles, Loads as LoadsFrom, SavesUnder, StillShown, StillStand, Told}
 use Rattle.cec_top.specs.Check.{Made, Opening, last_book, saved_file, saved_of}
 use Rattle.cec_top.specs.Answers.{AreSpelled, AsksFor, IsOpening, ReadsLemmas, after_lemmas, after_opening, after_pair, after_script, at_start, how_of, lemmas_of, opening_text, script_of}
 use Rattle.cec_top.specs.Inputs.{lemma_file}
 use Rattle.cec_top.specs.Steps.{LoadsLemmas, SavesLemmas, opening_in}
 use Rattle.cec_top.specs.Texts.{lemmas_line}
 use Rattle.cec_top.proofs.HeadlineLemmas.{IsRead, reads-keep}
-use Rattle.cec_top.proofs.ToldLemmas.{eq-other, eq-same, tolds}
+use Rattle.cec_top.proofs.ToldLemmas.{tolds}
+use Rattle.cec_top.proofs.WrittenLemmas.{put-other, put-there, with_saved}
 
 -- ---- the desk as checks begin
 
@@ -116,38 +117,10 @@ more-reads k earlier (i ∷ is) js old new stop (inr p) =
 
 -- ---- what is saved
 
-abbrev pub with_saved : List Output → Files → Files
-with_saved [] before = before
-with_saved (o ∷ os) before = with_saved os (put o.name o.bytes before)
-
--- what writing files leaves
-pub record IsSaved (os : List Output) (old new : DeskState) : Type 0 where
-  pub files : (before : Files) → old.files ≡ Some before → new.files ≡ Some (with_saved os before)
-  pub said : new.said ≡ old.said
-  pub warned : new.warned ≡ old.warned
-  pub closed : old.started ≡ None → new.started ≡ None
-
-pub files-saved : (os : List Output) (s : DeskState) → IsSaved os s (after_files s os)
-files-saved [] s = record { files = λ before told. told; said = refl; warned = refl; closed = λ none. none }
-files-saved (o ∷ os) s =
-    let k = files-saved os (after_file s o) in
-    record {
-      files = λ before told. k.files (put o.name o.bytes before) (ap (option_map (put o.name o.bytes)) told);
-      said = k.said;
-      warned = k.warned;
-      closed = λ none. k.closed refl;
-    }
-
 -- the file that is saved
 pub saved-is : (name : List ℕ) (kept : List Kept) (book : Entries) → last_book kept ≡ Some book
     → saved_of (Some name) kept ≡ saved_file name book ∷ []
 saved-is name kept book is = ap (λ (o : Option Entries). option_to_list (option_map (saved_file name) o)) is
-
-pub put-other : (name bytes q : List ℕ) (files : Files) → q ≢ name → put name bytes files q ≡ files q
-put-other name bytes q files other = rw (eq-other name q other) refl
-
-pub put-there : (name bytes : List ℕ) (files : Files) → put name bytes files name ≡ Some bytes
-put-there name bytes files = rw (eq-same name) refl
 
 pub saves-under : (save : Option (List ℕ)) (kept : List Kept) (book : Entries) → last_book kept ≡ Some book → (before : Files)
     → SavesUnder save kept before (with_saved (saved_of save kept) before)
@@ -160,9 +133,26 @@ saves-under (Some name) kept book is before =
       others = λ q other. put-other name (saved_file name book).bytes q before other;
     })
 
--- it is none of the files of checks
-abbrev pub IsApart : CheckCommand → Type 0
-IsApart c = (prefix name : List ℕ) → c.out ≡ Some prefix → c.save ≡ Some name → ¬ IsLeftUnder prefix name
+-- the lemmas and the witness are none of the files of checks, nor one file
+pub record IsApart (c : CheckCommand) : Type 0 where
+  pub save : (prefix name : List ℕ) → c.out ≡ Some prefix → c.save ≡ Some name → ¬ IsLeftUnder prefix name
+  pub witness : (prefix name : List ℕ) → c.out ≡ Some prefix → c.witness ≡ Some name → ¬ IsLeftUnder prefix name
+  pub beside : (name lemmas : List ℕ) → c.witness ≡ Some name → c.save ≡ Some lemmas → name ≢ lemmas
+
+-- where the command is asked for
+pub apart : (words : List (List ℕ)) (c : CheckCommand) → Asks words (CheckIt c)
+    → ((words : List (List ℕ)) (c : CheckCommand) (prefix name : List ℕ) → Asks words (CheckIt c) → c.out ≡ Some prefix → c.save ≡ Some name
+    → ¬ IsLeftUnder prefix name)
+    → ((words : List (List ℕ)) (c : CheckCommand) (prefix name : List ℕ) → Asks words (CheckIt c) → c.out ≡ Some prefix → c.witness ≡ Some name
+    → ¬ IsLeftUnder prefix name)
+    → ((words : List (List ℕ)) (c : CheckCommand) (name lemmas : List ℕ) → Asks words (CheckIt c) → c.witness ≡ Some name → c.save ≡ Some lemmas
+    → name ≢ lemmas)
+    → IsApart c
+apart words c asks save witness beside = record {
+  save = λ prefix name. save words c prefix name asks;
+  witness = λ prefix name. witness words c prefix name asks;
+  beside = λ name lemmas. beside words c name lemmas asks;
+}
 
 digits-are : (k : ℕ) → k < 2 ^ 64 → are_digits (decimal k) ≡ true
 digits-are k small = go (decimal k) (digits_decimal (numerals_by_value (λ ds. all_ascii_digits ds ≡ true) tells_all_ascii_digits) k small) (decimal_nonempty k small)
@@ -171,7 +161,7 @@ digits-are k small = go (decimal k) (digits_decimal (numerals_by_value (λ ds. a
     go [] all some = absurd (omega (arith, some))
     go (d ∷ ds) all some = all
 
-cnf-left : (prefix : List ℕ) (k : ℕ) → k < 2 ^ 64 → IsLeftUnder prefix (cnf_name prefix k)
+pub cnf-left : (prefix : List ℕ) (k : ℕ) → k < 2 ^ 64 → IsLeftUnder prefix (cnf_name prefix k)
 cnf-left prefix k small = record {
   digits = decimal k;
   are = digits-are k small;
@@ -180,7 +170,7 @@ cnf-left prefix k small = record {
   name_is = refl;
 }
 
-proof-left : (prefix : List ℕ) (k : ℕ) → k < 2 ^ 64 → IsLeftUnder prefix (proof_name prefix k)
+pub proof-left : (prefix : List ℕ) (k : ℕ) → k < 2 ^ 64 → IsLeftUnder prefix (proof_name prefix k)
 proof-left prefix k small = record {
   digits = decimal k;
   are = digits-are k small;
@@ -199,9 +189,9 @@ module _ (c : CheckCommand) (apart : IsApart c) (prefix : List ℕ) (out : c.out
       let below : number < 2 ^ 64 = omega (arith, small) in (
         (
           same (cnf_name prefix number)
-              (λ name save e. apart prefix name out save (subst (IsLeftUnder prefix) e (cnf-left prefix number below))) ∙ each.0.0,
+              (λ name save e. apart.save prefix name out save (subst (IsLeftUnder prefix) e (cnf-left prefix number below))) ∙ each.0.0,
           same (proof_name prefix number)
-              (λ name save e. apart prefix name out save (subst (IsLeftUnder prefix) e (proof-left prefix number below))) ∙ each.0.1,
+              (λ name save e. apart.save prefix name out save (subst (IsLeftUnder prefix) e (proof-left prefix number below))) ∙ each.0.1,
         ),
         still (number + 1) ms (omega (arith, small)) each.1,
       )
@@ -223,6 +213,15 @@ still-saved c apart kept book is ms before small each = go c.out refl each
     go None out each = tt
     go (Some prefix) out each =
         still c apart prefix out before (with_saved (saved_of c.save kept) before) (with-other c.save kept book is before) 0 ms (omega (arith, small)) each
+
+-- and the witness stands
+pub still-shown : (c : CheckCommand) → IsApart c → (kept : List Kept) (book : Entries) → last_book kept ≡ Some book → (ts : List Told) (before mid : Files)
+    → StillShown c.witness ts before mid → StillShown c.witness ts before (with_saved (saved_of c.save kept) mid)
+still-shown c apart kept book is ts before mid shown = go c.witness refl shown
+  where
+    go : (w : Option (List ℕ)) → c.witness ≡ w → StillShown w ts before mid → StillShown w ts before (with_saved (saved_of c.save kept) mid)
+    go None none shown = tt
+    go (Some name) named shown = with-other c.save kept book is mid name (λ lemmas save. apart.beside name lemmas named save) ∙ shown
 
 -- ---- the session goes on from lemmas
 

@@ -1,13 +1,16 @@
 -- What stands where a check of files ends with status 6 or 7: the checks that were told whole.
-use Rattle.std.proofs.Common.{◌≡◌, ◌≢◌, ℕ, ◌+◌, ◌<◌, ◌≤◌, ◌^◌, lit<, inl, inr, List, [], ◌∷◌, ◌++◌, length, map, option_map, Option, Some, None, Err, refl, sym, ap, ◌∙◌, subst, arith, append-nil, length-append}
-use Rattle.std.specs.Prelude.{◌⊎◌}
+use Rattle.std.proofs.Common.{◌≡◌, ◌≢◌, ℕ, ◌+◌, ◌<◌, ◌≤◌, ◌^◌, lit<, inl, inr, Bool, true, false, List, [], ◌∷◌, ◌++◌, length, map, option_map, Option, Some, None, Err, refl, sym, ap, ◌∙◌, subst, arith, append-nil, length-append}
+use Rattle.std.specs.Prelude.{◌⊎◌, if◌then◌else◌}
 use Rattle.std.specs.List.{AllByRecursion, flat_map}
 use Rattle.std.specs.Option.{option_to_list}
+use Rattle.std.specs.Str.{bytes_eq}
+use Rattle.std.proofs.lemmas.Slice.Eq.{bytes_eq-Decides}
 use Rattle.lemma_book.specs.declared.entry.Entry.{Entry}
 use Rattle.std.proofs.lemmas.List.{length-map}
 use Rattle.desk_port.specs.Desk.{DeskState, Files, after_read, put}
 use Rattle.netlist.specs.Net.{AigPair}
 use Rattle.check_session.specs.Files.{cnf_name, proof_name}
+use Rattle.check_session.specs.Finding.{Finding, Equivalent, Different, Undecided}
 use Rattle.endings.specs.declared.status.Status.{Status}
 use Rattle.endings.specs.Status.{code_of}
 use Rattle.endings.specs.declared.stop.Stop.{Stop}
@@ -18,20 +21,22 @@ use Rattle.endings.specs.Stops.{EndsBy, Warns, status_of, stop_line}
 use Rattle.command_line.specs.Words.{CheckCommand, Request, CheckIt, FraigIt, LratIt, SelfIt, Asks, WantInfo, AreRefused}
 use Rattle.cec_top.specs.declared.kept.Kept.{Kept}
 use Rattle.cec_top.specs.Answers.{Answers, AnswersCheck, AsksFor, IsAtOnce, IsOpening, OpensNot, Stops, how_of, lemmas_of, names_of, opening_text, pair_of, script_of, after_lemmas, after_pair, at_start}
-use Rattle.cec_top.specs.Check.{How, Made, Opening, IsMade, GoesOn, AreSome, KeepsOn, BreaksOff, NotSaved, StopsChecks, due_of, kept_from, outputs_of, saved_file, saved_of, text_of_check}
+use Rattle.cec_top.specs.Check.{How, Made, Opening, IsMade, GoesOn, AreSome, KeepsOn, BreaksOff, NotSaved, StopsChecks, due_of, kept_from, left_of, outputs_of, saved_file, saved_of, text_of_check, witness_files}
 use Rattle.cec_top.specs.Headline.{Told, IsScript, Loads, KeepsPromise, HasFiles, LeavesUnder}
 use Rattle.cec_top.specs.Script.{Due, Refused, plan_of}
-use Rattle.cec_top.specs.Stopped.{IsNoFile, StandUnder, Stopped, saved_behind}
+use Rattle.cec_top.specs.Stopped.{IsNoFile, StandAll, StandUnder, Stopped, saved_behind}
 use Rattle.cec_top.proofs.CompleteLemmas.{finding-code}
 use Rattle.cec_top.proofs.HeadlineLemmas.{spells-pair, spells-script}
-use Rattle.cec_top.proofs.SavingLemmas.{IsApart, lemmas-keep, loads-are, put-other, saved-is, start-keeps, still}
+use Rattle.cec_top.proofs.SavingLemmas.{IsApart, lemmas-keep, loads-are, saved-is, start-keeps, still}
 use Rattle.cec_top.proofs.TellLemmas.{stops-among}
 use Rattle.cec_top.proofs.KeptLemmas.{has-last, has-open}
 use Rattle.cec_top.proofs.PlanLemmas.{plan-count}
 use Rattle.cec_top.proofs.RunLemmas.{some-all}
-use Rattle.cec_top.proofs.ToldLemmas.{all-left, cnf-no-proof, cnf-number, leaves-under, left_all, proof-number, told_of, tolds, tolds-due, tolds-last, tolds-numbered}
+use Rattle.cec_top.proofs.ToldLemmas.{all-left, cnf-no-proof, cnf-number, leaves-under, left_all, proof-number, shown_all, told_of, tolds, tolds-due, tolds-last, tolds-numbered}
 use Rattle.cec_top.proofs.VerdictLemmas.{HasParts, all-front, all-last, book-last, few-told, is-last, is-left, promise-all, promise-one, some-parts, told-made}
+use Rattle.cec_top.proofs.WitnessLemmas.{IsOutside, none-shown, others-same, witness-there}
 use Rattle.cec_top.proofs.WordsLemmas.{check_or, same_request}
+use Rattle.cec_top.proofs.WrittenLemmas.{eq-other, put-other}
 
 -- ---- what is left and said in part
 
@@ -253,26 +258,55 @@ stand-all out ms names before small = go out names (leaves-under out ms before s
     go None (name ∷ names) same = λ q others. ap (λ (f : Files). f q) same
     go (Some prefix) names l = record { each = l.each; others = λ q none next others. l.others q none }
 
+-- and with a witness
+stand-whole : (out witness : Option (List ℕ)) → IsOutside out witness → (ms : List Made) (dues : List Due) (names : List (List ℕ)) (before : Files)
+    → length ms < 2 ^ 64 → StandAll out witness (tolds out 0 ms) dues names before (shown_all out witness (tolds out 0 ms) before)
+stand-whole out None outside ms dues names before small =
+    subst (StandUnder out (tolds out 0 ms) names before) (sym (none-shown out (tolds out 0 ms) before)) (stand-all out ms names before small)
+stand-whole out (Some name) outside ms dues names before small = record {
+  without = left_all out (tolds out 0 ms) before;
+  under = stand-all out ms names before small;
+  there = inl (witness-there out name outside ms before small);
+  others = λ q other. others-same out name (tolds out 0 ms) before before q other refl;
+}
+
+-- files that hold this under one name
+abbrev with_at : List ℕ → Option (List ℕ) → Files → Files
+with_at name held files q = if bytes_eq name q then held else files q
+
+at-other : (name : List ℕ) (held : Option (List ℕ)) (files : Files) (q : List ℕ) → q ≢ name → with_at name held files q ≡ files q
+at-other name held files q other = rw (eq-other name q other) refl
+
+-- which others hold there, and everywhere else where the first do
+at-same : (name : List ℕ) (files others : Files) (q : List ℕ) → (q ≢ name → files q ≡ others q) → with_at name (others name) files q ≡ others q
+at-same name files others q same = go (bytes_eq name q) refl
+  where
+    go : (b : Bool) → bytes_eq name q ≡ b → with_at name (others name) files q ≡ others q
+    go true is = rw is (ap others ((bytes_eq-Decides name q).0 is))
+    go false is =
+        rw is (same (λ e. let t : bytes_eq name q ≡ true = (bytes_eq-Decides name q).1 (sym e) in cc))
+
 -- where the next check was told in part
-record HalfStands (out : Option (List ℕ)) (ts : List Told) (before : Files) (now : Option Files) : Type 0 where
+record HalfStands (out witness : Option (List ℕ)) (ts : List Told) (dues : List Due) (before : Files) (now : Option Files) : Type 0 where
   after : Files
   are : now ≡ Some after
-  stand : StandUnder out ts [] before after
+  stand : StandAll out witness ts dues [] before after
 
-stand-half : (out : Option (List ℕ)) (ms : List Made) (half : Made) (before : Files) (mid new : DeskState) (stop : Stop) → length ms < 2 ^ 64
+-- it left no witness
+stand-half : (out : Option (List ℕ)) (ms : List Made) (half : Made) (dues : List Due) (before : Files) (mid new : DeskState) (stop : Stop) → length ms < 2 ^ 64
     → mid.files ≡ Some (left_all out (tolds out 0 ms) before)
-    → Leaves (outputs_of out (length ms) half) (text_of_check out half) mid new (Err stop)
-    → HalfStands out (tolds out 0 ms) before new.files
-stand-half None ms half before mid new stop small told p =
+    → Leaves (left_of out None (length ms) half) (text_of_check out half) mid new (Err stop)
+    → HalfStands out None (tolds out 0 ms) dues before new.files
+stand-half None ms half dues before mid new stop small told p =
     record {
       after = left_all None (tolds None 0 ms) before;
       are = none-left (text_of_check None half) mid new stop p ∙ told;
       stand = leaves-under None ms before small;
     }
-stand-half (Some prefix) ms half before mid new stop small told p =
+stand-half (Some prefix) ms half dues before mid new stop small told p =
     let ts : List Told = tolds (Some prefix) 0 ms in
     let there : Files = left_all (Some prefix) ts before in
-    let f = (half-left (outputs_of (Some prefix) (length ms) half) (text_of_check (Some prefix) half) mid new stop p).files there told in
+    let f = (half-left (left_of (Some prefix) None (length ms) half) (text_of_check (Some prefix) half) mid new stop p).files there told in
     let l = leaves-under (Some prefix) ms before small in
     let count : length ts ≡ length ms = tolds-length (Some prefix) 0 ms in
     record {
@@ -285,6 +319,73 @@ stand-half (Some prefix) ms half before mid new stop small told p =
             f.others q (behind.0, (behind.1, tt)) ∙ l.others q none;
       };
     }
+
+-- or it did, or may have
+no-witness : (name : List ℕ) (net : AigPair) (found : Finding) (q : List ℕ) → q ≢ name → AllByRecursion (λ o. q ≢ o.name) (witness_files name net found)
+no-witness name net Equivalent q other = tt
+no-witness name net (Different j input) q other = (other, tt)
+no-witness name net Undecided q other = tt
+
+all-both : {A : Type 0} (P : A → Type 0) (xs ys : List A) → AllByRecursion P xs → AllByRecursion P ys → AllByRecursion P (xs ++ ys)
+all-both P [] ys first later = later
+all-both P (x ∷ xs) ys first later = (first.0, all-both P xs ys first.1 later)
+
+module _ (name : List ℕ) (ms : List Made) (half : Made) (before : Files) (mid new : DeskState) (stop : Stop) (small : length ms < 2 ^ 64) where
+  abbrev Half : Option (List ℕ) → Type 0
+  Half out = HalfFiles (left_of out (Some name) (length ms) half) (shown_all out (Some name) (tolds out 0 ms) before) new.files
+
+  half-other : (out : Option (List ℕ)) (f : Half out) (q : List ℕ) → AllByRecursion (λ o. q ≢ o.name) (outputs_of out (length ms) half) → q ≢ name
+      → f.after q ≡ left_all out (tolds out 0 ms) before q
+  half-other out f q none other =
+      f.others q (all-both (λ o. q ≢ o.name) (outputs_of out (length ms) half) (witness_files name half.net half.finding) none
+      (no-witness name half.net half.finding q other))
+      ∙ others-same out name (tolds out 0 ms) before before q other refl
+
+  stand-beside : (out : Option (List ℕ)) (due : Due) (dues : List Due) → Half out
+      → HalfStands out (Some name) (tolds out 0 ms) (due ∷ dues) before new.files
+  stand-beside None due dues f = record {
+    after = f.after;
+    are = f.are;
+    stand = record {
+      without = left_all None (tolds None 0 ms) before;
+      under = leaves-under None ms before small;
+      there = inr (λ none. cc);
+      others = λ q other. half-other None f q tt other;
+    };
+  }
+  stand-beside (Some prefix) due dues f =
+      let ts : List Told = tolds (Some prefix) 0 ms in
+      let there : Files = left_all (Some prefix) ts before in
+      let without : Files = with_at name (there name) f.after in
+      let l = leaves-under (Some prefix) ms before small in
+      let count : length ts ≡ length ms = tolds-length (Some prefix) 0 ms in
+      let same : (q : List ℕ) → IsNoFile prefix (length ms) q → without q ≡ there q =
+      λ q none. at-same name f.after there q (λ other. half-other (Some prefix) f q (none.0, (none.1, tt)) other) in
+      record {
+        after = f.after;
+        are = f.are;
+        stand = record {
+          without = without;
+          under = record {
+            each = still-each prefix 0 (length ms) ms there without (omega arith) small same l.each;
+            others = λ q none next others.
+                same q (subst (λ (n : ℕ). IsNoFile prefix n q) count next) ∙ l.others q none;
+          };
+          there = inr (λ none. cc);
+          others = λ q other. sym (at-other name (there name) f.after q other);
+        };
+      }
+
+stand-next : (out witness : Option (List ℕ)) (ms : List Made) (half : Made) (due : Due) (dues : List Due) (before : Files) (mid new : DeskState) (stop : Stop)
+    → length ms < 2 ^ 64 → mid.files ≡ Some (shown_all out witness (tolds out 0 ms) before)
+    → Leaves (left_of out witness (length ms) half) (text_of_check out half) mid new (Err stop)
+    → HalfStands out witness (tolds out 0 ms) (due ∷ dues) before new.files
+stand-next out None ms half due dues before mid new stop small told p =
+    stand-half out ms half (due ∷ dues) before mid new stop small (told ∙ ap (λ (f : Files). Some f) (none-shown out (tolds out 0 ms) before)) p
+stand-next out (Some name) ms half due dues before mid new stop small told p =
+    stand-beside name ms half before mid new stop small out due dues
+    ((half-left (left_of out (Some name) (length ms) half) (text_of_check out half) mid new stop p).files
+    (shown_all out (Some name) (tolds out 0 ms) before) told)
 
 -- no lemmas are saved before the last check was told
 none-saved : (save : Option (List ℕ)) (refused : Option Refused) (due : Due) (dues : List Due) → saved_behind save refused (due ∷ dues) ≡ []
@@ -304,6 +405,30 @@ stand-saved c apart name save ms before after small same = go c.out refl same (l
       each = still c apart prefix out (left_all (Some prefix) (tolds (Some prefix) 0 ms) before) after (λ q other. same q (other name save))
           0 ms (omega (arith, small)) l.each;
       others = λ q none next others. same q others.0 ∙ l.others q none;
+    }
+
+-- what they leave without a witness
+abbrev unshown : CheckCommand → List Made → Files → Files
+unshown c ms before = left_all c.out (tolds c.out 0 ms) before
+
+-- and with a witness
+stand-behind : (c : CheckCommand) (apart : IsApart c) (name : List ℕ) → c.save ≡ Some name → (ms : List Made) (before after : Files) → length ms < 2 ^ 64
+    → ((q : List ℕ) → q ≢ name → after q ≡ shown_all c.out c.witness (tolds c.out 0 ms) before q)
+    → StandAll c.out c.witness (tolds c.out 0 ms) [] (name ∷ []) before after
+stand-behind c apart name save ms before after small same = go c.witness refl apart.witness same
+  where
+    go : (w : Option (List ℕ)) → c.witness ≡ w → IsOutside c.out w
+        → ((q : List ℕ) → q ≢ name → after q ≡ shown_all c.out w (tolds c.out 0 ms) before q)
+        → StandAll c.out w (tolds c.out 0 ms) [] (name ∷ []) before after
+    go None named outside same =
+        stand-saved c apart name save ms before after small
+        (λ q other. same q other ∙ ap (λ (f : Files). f q) (none-shown c.out (tolds c.out 0 ms) before))
+    go (Some w) named outside same = record {
+      without = with_at w (unshown c ms before w) after;
+      under = stand-saved c apart name save ms before (with_at w (unshown c ms before w) after) small
+          (λ q other. at-same w after (unshown c ms before) q (λ beside. same q other ∙ others-same c.out w (tolds c.out 0 ms) before before q beside refl));
+      there = inl (same w (apart.beside w name named save) ∙ witness-there c.out w outside ms before small);
+      others = λ q other. sym (at-other w (unshown c ms before w) after q other);
     }
 
 -- in the file that is named
@@ -408,9 +533,9 @@ module _ (c : CheckCommand) (apart : IsApart c) (old new : DeskState) (before : 
               let texts : List ℕ = flat_map (λ (t : Told). t.said) (tolds c.out 0 ms) in
               line.said ∙ left.said (earlier ++ text) (k.said earlier heard)
               ∙ ap (λ (x : List ℕ). Some x) (sym (append-nil ((earlier ++ text) ++ texts)));
-          after = left_all c.out (tolds c.out 0 ms) before;
+          after = shown_all c.out c.witness (tolds c.out 0 ms) before;
           files = line.files ∙ left.files before (k.files ∙ told);
-          stand = stand-all c.out ms (saved_behind c.save (plan_of net lines).refused others) before small;
+          stand = stand-whole c.out c.witness apart.witness ms others (saved_behind c.save (plan_of net lines).refused others) before small;
         })
 
     -- and the next one in part
@@ -421,9 +546,9 @@ module _ (c : CheckCommand) (apart : IsApart c) (old new : DeskState) (before : 
         let ms : List Made = p.made in
         let left = all-left (how_of c) 0 ms start p.mid p.before.told in
         let small = few-made net lines ms (due_of p.half ∷ p.others) script.1 p.before.checks in
-        let there : p.mid.files ≡ Some (left_all c.out (tolds c.out 0 ms) before) = left.files before (k.files ∙ told) in
-        let half = half-left (outputs_of c.out (length ms) p.half) (text_of_check c.out p.half) p.mid mid stop p.breaks in
-        let stands = stand-half c.out ms p.half before p.mid mid stop small there p.breaks in
+        let there : p.mid.files ≡ Some (shown_all c.out c.witness (tolds c.out 0 ms) before) = left.files before (k.files ∙ told) in
+        let half = half-left (left_of c.out c.witness (length ms) p.half) (text_of_check c.out p.half) p.mid mid stop p.breaks in
+        let stands = stand-next c.out c.witness ms p.half (due_of p.half) p.others before p.mid mid stop small there p.breaks in
         let both = promise-parts (how_of c) ms p.half (told-made (how_of c) 0 ms start p.mid p.before.told) p.is_made in
         let keeps = keeps-some stop kept (kept_from 0 (ms ++ p.half ∷ [])) p.keeps in
         inr (record {
@@ -457,7 +582,8 @@ module _ (c : CheckCommand) (apart : IsApart c) (old new : DeskState) (before : 
               line.said ∙ half.said ((earlier ++ text) ++ texts) (left.said (earlier ++ text) (k.said earlier heard));
           after = stands.after;
           files = line.files ∙ stands.are;
-          stand = subst (λ (names : List (List ℕ)). StandUnder c.out (tolds c.out 0 ms) names before stands.after)
+          stand = subst
+              (λ (names : List (List ℕ)). StandAll c.out c.witness (tolds c.out 0 ms) (due_of p.half ∷ p.others) names before stands.after)
               (sym (none-saved c.save (plan_of net lines).refused (due_of p.half) p.others)) stands.stand;
         })
 
@@ -470,11 +596,11 @@ module _ (c : CheckCommand) (apart : IsApart c) (old new : DeskState) (before : 
         let left = is-left c kept from net lines script.1 start p.mid l.earlier l.last l.whole l.keeps in
         let small = few-told c kept from net lines script.1 start p.mid l.earlier l.last l.whole l.keeps in
         let book = book-last c kept from net lines script.1 start p.mid l.earlier l.last l.whole l.keeps in
-        let there : p.mid.files ≡ Some (left_all c.out (tolds c.out 0 ms) before) = left.files before (k.files ∙ told) in
+        let there : p.mid.files ≡ Some (shown_all c.out c.witness (tolds c.out 0 ms) before) = left.files before (k.files ∙ told) in
         let os : List Output = saved_of c.save kept in
         let half = half-left os [] p.mid mid stop (stops-among os p.mid mid stop p.stops []) in
         let none : half.part ≡ [] = nil-front half.part half.rest half.is_part in
-        let f = half.files (left_all c.out (tolds c.out 0 ms) before) there in
+        let f = half.files (shown_all c.out c.witness (tolds c.out 0 ms) before) there in
         let named = save-named c.save kept p.mid mid stop p.stops in
         let file : os ≡ saved_file named.0 l.last.book ∷ [] =
         ap (λ (o : Option (List ℕ)). saved_of o kept) named.1 ∙ saved-is named.0 kept l.last.book book in
@@ -504,8 +630,8 @@ module _ (c : CheckCommand) (apart : IsApart c) (old new : DeskState) (before : 
               ∙ ap (λ (x : List ℕ). Some (((earlier ++ text) ++ texts) ++ x)) none;
           after = f.after;
           files = line.files ∙ f.are;
-          stand = subst (λ (ns : List (List ℕ)). StandUnder c.out (tolds c.out 0 ms) ns before f.after) (sym names)
-              (stand-saved c apart named.0 named.1 ms before f.after small
+          stand = subst (λ (ns : List (List ℕ)). StandAll c.out c.witness (tolds c.out 0 ms) [] ns before f.after) (sym names)
+              (stand-behind c apart named.0 named.1 ms before f.after small
               (λ q other. f.others q (subst (λ (xs : List Output). AllByRecursion (λ o. q ≢ o.name) xs) (sym file) (other, tt))));
         })
 

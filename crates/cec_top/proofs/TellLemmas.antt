@@ -1,5 +1,5 @@
 -- How a check goes on from its files to its verdict.
-use Rattle.std.proofs.Common.{◌≡◌, ℕ, inl, inr, List, [], ◌∷◌, Option, Some, None, Ok, Err, Result, refl, sym, ap, subst}
+use Rattle.std.proofs.Common.{◌≡◌, ℕ, inl, inr, List, [], ◌∷◌, ◌++◌, Ok, Err, Result, refl, sym, ap, ◌∙◌, subst}
 use Rattle.desk_port.specs.Desk.{DeskState}
 use Rattle.endings.specs.declared.stop.Stop.{Stop}
 use Rattle.endings.specs.declared.stop.Stop.TheVariants.{OutOfMemory}
@@ -14,8 +14,10 @@ use Rattle.check_session.specs.Finding.{Finding, Equivalent, Different, Undecide
 use Rattle.check_session.specs.Outputs.{ListsOpen, finding_of}
 use Rattle.check_session.specs.Files.{AreSpansIn}
 use Rattle.cec_top.specs.Texts.{open_text, open_text_with}
-use Rattle.cec_top.specs.Check.{Made, outputs_of, text_of, text_of_check}
-use Rattle.cec_top.specs.Steps.{opens_in}
+use Rattle.cec_top.specs.Check.{Made, left_of, outputs_of, text_of, text_of_check, witness_in}
+use Rattle.std.specs.Global.{Vec}
+use Rattle.cec_top.proofs.WrittenLemmas.{after-append}
+use Rattle.cec_top.specs.Steps.{WritesOutputs, LeavesText, SaysStatus, Wanted, opens_in}
 
 -- memory runs out behind all files
 pub runs-out : (os : List Output) (old new : DeskState) → new ≡ after_files old os
@@ -37,37 +39,56 @@ says-behind [] text old mid new result at p = subst (λ (s : DeskState). Says te
 says-behind (o ∷ os) text old mid new (Ok u) at p = says-behind os text (after_file old o) mid new (Ok u) at p
 says-behind (o ∷ os) text old mid new (Err stop) at p = inr (says-behind os text (after_file old o) mid new (Err stop) at p)
 
-module _ (out : Option (List ℕ)) (number : ℕ) (m : Made) (old mid new : DeskState) where
-  abbrev AreLeft : Option (List ℕ) → Result (Unit {0}) Stop → Type 0
-  AreLeft o result = Leaves (outputs_of o number m) (text_of_check o m) old new result
+-- ---- files, and behind them others
 
-  -- nothing is left, and the verdict is said
-  pub told-plain : out ≡ None → (said : List ℕ) → said ≡ text_of_check None m → mid ≡ old
-      → (result : Result (Unit {0}) Stop) → Says said mid new result → AreLeft out result
-  told-plain none said is at result p = subst (λ (o : Option (List ℕ)). AreLeft o result) (sym none)
-      (says-behind [] (text_of_check None m) old mid new result at (subst (λ (text : List ℕ). Says text mid new result) is p))
+-- memory runs out behind the first ones
+runs-between : (os ps : List Output) (old new : DeskState) → new ≡ after_files old os
+    → (any : List ℕ) → Leaves (os ++ ps) any old new (Err OutOfMemory)
+runs-between [] [] old new at any = at
+runs-between [] (p ∷ ps) old new at any = inl (inl at)
+runs-between (o ∷ os) ps old new at any = inr (runs-between os ps (after_file old o) new at any)
 
-  -- nothing is left, and memory runs out
-  pub untold-plain : out ≡ None → new ≡ old → AreLeft out (Err OutOfMemory)
-  untold-plain none at = subst (λ (o : Option (List ℕ)). AreLeft o (Err OutOfMemory)) (sym none) at
+-- one of them isn't written whole
+stops-first : (os ps : List Output) (old new : DeskState) (stop : Stop) → StopsAmong os old new stop → StopsAmong (os ++ ps) old new stop
+stops-first [] ps old new stop p = absurd p
+stops-first (o ∷ os) ps old new stop (inl p) = inl p
+stops-first (o ∷ os) ps old new stop (inr p) = inr (stops-first os ps (after_file old o) new stop p)
 
-  module _ (prefix : List ℕ) (some : out ≡ Some prefix) where
-    -- the files are left, and the verdict is said
-    pub told-files : (said : List ℕ) → said ≡ text_of_check (Some prefix) m → mid ≡ after_files old (outputs_of (Some prefix) number m)
-        → (result : Result (Unit {0}) Stop) → Says said mid new result → AreLeft out result
-    told-files said is at result p = subst (λ (o : Option (List ℕ)). AreLeft o result) (sym some)
-        (says-behind (outputs_of (Some prefix) number m) (text_of_check (Some prefix) m) old mid new result at
-        (subst (λ (text : List ℕ). Says text mid new result) is p))
+-- or one of the others isn't
+stops-behind : (os ps : List Output) (old new : DeskState) (stop : Stop) → StopsAmong ps (after_files old os) new stop → StopsAmong (os ++ ps) old new stop
+stops-behind [] ps old new stop p = p
+stops-behind (o ∷ os) ps old new stop p = inr (stops-behind os ps (after_file old o) new stop p)
 
-    -- memory runs out behind them
-    pub untold-files : new ≡ after_files old (outputs_of (Some prefix) number m) → AreLeft out (Err OutOfMemory)
-    untold-files at = subst (λ (o : Option (List ℕ)). AreLeft o (Err OutOfMemory)) (sym some)
-        (runs-out (outputs_of (Some prefix) number m) old new at (text_of_check (Some prefix) m))
+module _ (w : Wanted) (number : ℕ) (m : Made) (old mid new : DeskState) where
+  abbrev files : List Output
+  files = outputs_of w.out number m
 
-    -- leaving them stops
-    pub stops-files : (stop : Stop) → StopsAmong (outputs_of (Some prefix) number m) old new stop → AreLeft out (Err stop)
-    stops-files stop p = subst (λ (o : Option (List ℕ)). AreLeft o (Err stop)) (sym some)
-        (stops-among (outputs_of (Some prefix) number m) old new stop p (text_of_check (Some prefix) m))
+  abbrev shown : List Output
+  shown = witness_in w.witness m.net m.finding
+
+  abbrev text : List ℕ
+  text = text_of_check w.out m
+
+  -- the files aren't left, or memory runs out behind them
+  pub not-left : (stop : Stop) → LeavesText files text old new (Err stop) → SaysStatus w number m old new (Err stop)
+  not-left stop (inl p) = stops-among (files ++ shown) old new stop (stops-first files shown old new stop p) text
+  not-left stop (inr p) =
+      subst (λ (s : Stop). SaysStatus w number m old new (Err s)) (sym p.0) (runs-between files shown old new p.1 text)
+
+  module _ (v : Vec ℕ) (left : LeavesText files text old mid (Ok v)) where
+    -- they are, but the witness isn't
+    pub not-shown : (stop : Stop) → WritesOutputs shown mid new (Err stop) → SaysStatus w number m old new (Err stop)
+    not-shown stop p =
+        stops-among (files ++ shown) old new stop
+        (stops-behind files shown old new stop (subst (λ (s : DeskState). StopsAmong shown s new stop) left.0 p)) text
+
+    -- it is too, and the verdict is said, or not
+    pub is-said : (behind : DeskState) → WritesOutputs shown mid behind (Ok tt) → (said : List ℕ) → said ≡ v.items → (r : Result (Unit {0}) Stop)
+        → Says said behind new r → Leaves (left_of w.out w.witness number m) text old new r
+    is-said behind p said said_is r says =
+        says-behind (files ++ shown) text old behind new r
+        (p ∙ ap (λ (s : DeskState). after_files s shown) left.0 ∙ sym (after-append files shown old))
+        (subst (λ (x : List ℕ). Says x behind new r) (said_is ∙ left.1) says)
 
 -- a verdict names the outputs that are open
 pub plain-text : (net : AigPair) (entries : List Entry) (v : Verdict) → ListsOpen net entries v

@@ -1,16 +1,20 @@
 -- What stands on the desk once checks were told, one after another.
-use Rattle.std.proofs.Common.{◌≡◌, ◌≢◌, ℕ, ◌+◌, ◌<◌, ◌^◌, Bool, true, false, List, [], ◌∷◌, ◌++◌, length, option_map, Option, Some, None, Ok, refl, sym, ap, ◌∙◌, subst, arith, append_assoc, append-nil}
+use Rattle.std.proofs.Common.{◌≡◌, ◌≢◌, ℕ, ◌+◌, ◌<◌, ◌^◌, Bool, List, [], ◌∷◌, ◌++◌, length, option_map, Option, Some, None, Ok, refl, sym, ap, ◌∙◌, subst, arith, append_assoc, append-nil}
 use Rattle.std.specs.Prelude.{codes, decimal, map}
 use Rattle.std.specs.List.{AllByRecursion, flat_map}
-use Rattle.std.specs.Str.{bytes_eq}
 use Rattle.std.proofs.lemmas.Fmt.{decimal_injective}
 use Rattle.std.proofs.lemmas.List.{append_cancel_left, append_cancel_right}
-use Rattle.std.proofs.lemmas.Slice.Eq.{bytes_eq-Decides}
 use Rattle.desk_port.specs.Desk.{Files, DeskState, put, after_say}
 use Rattle.check_session.specs.Files.{cnf_name, proof_name, cnf_text_of, proof_bytes}
 use Rattle.endings.specs.Writing.{Output, Leaves, after_files}
+use Rattle.cec_top.specs.Stats.{Reports, WarnsOnly}
 use Rattle.cec_top.specs.Headline.{Told, AreNumbered, HasFiles, LeavesUnder, due_of_told}
-use Rattle.cec_top.specs.Check.{How, Made, AreTold, due_of, outputs_of, text_of_check}
+use Rattle.cec_top.specs.Check.{How, Made, AreTold, due_of, left_of, outputs_of, text_of_check, witness_files, witness_in}
+use Rattle.cec_top.specs.Witness.{witness_text}
+use Rattle.netlist.specs.Net.{AigPair}
+use Rattle.check_session.specs.Finding.{Finding, Equivalent, Different, Undecided}
+use Rattle.cec_top.proofs.WrittenLemmas.{eq-other, eq-same, files-saved, saved-append, with_saved}
+use Rattle.cec_top.proofs.StatsLemmas.{reports-else, reports-warn, warns-none, warns-then}
 
 -- what is left and said whole
 pub left-whole : (os : List Output) (text : List ℕ) (old new : DeskState) → Leaves os text old new (Ok tt)
@@ -53,16 +57,6 @@ cnf-number prefix i j small little same =
 pub proof-number : (prefix : List ℕ) (i j : ℕ) → i < 2 ^ 64 → j < 2 ^ 64 → proof_name prefix i ≡ proof_name prefix j → i ≡ j
 proof-number prefix i j small little same =
     stem-number prefix i j small little (append_cancel_right (stem prefix i) (stem prefix j) (codes ".lrat") same)
-
-pub eq-same : (q : List ℕ) → bytes_eq q q ≡ true
-eq-same q = (bytes_eq-Decides q q).1 refl
-
-pub eq-other : (n q : List ℕ) → q ≢ n → bytes_eq n q ≡ false
-eq-other n q other = go (bytes_eq n q) refl
-  where
-    go : (b : Bool) → bytes_eq n q ≡ b → b ≡ false
-    go false e = refl
-    go true e = absurd (other (sym ((bytes_eq-Decides n q).0 e)))
 
 -- ---- checks as they were told
 
@@ -108,23 +102,23 @@ tolds-due out number (m ∷ ms) = ap (λ ds. due_of m ∷ ds) (tolds-due out (nu
 -- ---- their files
 
 -- the files after a check's two were written
-abbrev with_both : List ℕ → Told → Files → Files
+abbrev pub with_both : List ℕ → Told → Files → Files
 with_both prefix t before = put (proof_name prefix t.number) t.proof (put (cnf_name prefix t.number) (cnf_text_of t.net) before)
 
 -- the files after one check, and after checks
-abbrev left_by : Option (List ℕ) → Told → Files → Files
-left_by None t before = before
-left_by (Some prefix) t before = with_both prefix t before
+abbrev pub under_by : Option (List ℕ) → Told → Files → Files
+under_by None t before = before
+under_by (Some prefix) t before = with_both prefix t before
 
 abbrev pub left_all : Option (List ℕ) → List Told → Files → Files
 left_all out [] before = before
-left_all out (t ∷ ts) before = left_all out ts (left_by out t before)
+left_all out (t ∷ ts) before = left_all out ts (under_by out t before)
 
 -- a name that is none of a check's
-abbrev IsOther : List ℕ → List ℕ → Told → Type 0
+abbrev pub IsOther : List ℕ → List ℕ → Told → Type 0
 IsOther prefix q t = (q ≢ cnf_name prefix t.number) × (q ≢ proof_name prefix t.number)
 
-both-other : (prefix : List ℕ) (t : Told) (before : Files) (q : List ℕ) → IsOther prefix q t → with_both prefix t before q ≡ before q
+pub both-other : (prefix : List ℕ) (t : Told) (before : Files) (q : List ℕ) → IsOther prefix q t → with_both prefix t before q ≡ before q
 both-other prefix t before q other =
     rw (eq-other (proof_name prefix t.number) q other.1, eq-other (cnf_name prefix t.number) q other.0) refl
 
@@ -182,6 +176,23 @@ all-files prefix number (m ∷ ms) before after small is =
       all-files prefix (number + 1) ms both after (omega (arith, small)) is,
     )
 
+-- ---- and their witness
+
+-- the files after the witness of one check
+abbrev pub shown_in : List ℕ → AigPair → Finding → Files → Files
+shown_in name net Equivalent before = before
+shown_in name net (Different j input) before = put name (witness_text net.a input) before
+shown_in name net Undecided before = before
+
+abbrev pub with_witness : Option (List ℕ) → Told → Files → Files
+with_witness None t before = before
+with_witness (Some name) t before = shown_in name t.net t.finding before
+
+-- after all files of checks
+abbrev pub shown_all : Option (List ℕ) → Option (List ℕ) → List Told → Files → Files
+shown_all out witness [] before = before
+shown_all out witness (t ∷ ts) before = shown_all out witness ts (with_witness witness t (under_by out t before))
+
 none-left : (ts : List Told) (before : Files) → left_all None ts before ≡ before
 none-left [] before = refl
 none-left (t ∷ ts) before = none-left ts before
@@ -200,74 +211,97 @@ abbrev texts : List Told → List ℕ
 texts ts = flat_map (λ (t : Told). t.said) ts
 
 -- what stands on the desk after these checks
-pub record IsLeft (out : Option (List ℕ)) (ts : List Told) (old new : DeskState) : Type 0 where
-  pub files : (before : Files) → old.files ≡ Some before → new.files ≡ Some (left_all out ts before)
+pub record IsLeft (stats : Bool) (out witness : Option (List ℕ)) (ts : List Told) (old new : DeskState) : Type 0 where
+  pub files : (before : Files) → old.files ≡ Some before → new.files ≡ Some (shown_all out witness ts before)
   pub said : (earlier : List ℕ) → old.said ≡ Some earlier → new.said ≡ Some (earlier ++ texts ts)
-  pub quiet : new.warned ≡ old.warned
+  pub quiet : WarnsOnly stats old new
   pub closed : old.started ≡ None → new.started ≡ None
   pub reads : new.read_faults ≡ old.read_faults
   pub writes : new.write_faults ≡ old.write_faults
-  pub warns : new.warn_faults ≡ old.warn_faults
 
 -- after one
-one-left : (out : Option (List ℕ)) (number : ℕ) (m : Made) (old new : DeskState) (text : List ℕ) → text ≡ text_of_check out m
-    → new ≡ after_say (after_files old (outputs_of out number m)) text → IsLeft out (told_of out number m ∷ []) old new
-one-left None number m old new text text_is e = record {
-  files = λ before told. ap (λ (s : DeskState). s.files) e ∙ told;
-  said = λ earlier heard.
-      ap (λ (s : DeskState). s.said) e ∙ ap (option_map (λ x. x ++ text)) heard
-      ∙ ap (λ (x : List ℕ). Some (earlier ++ x)) (text_is ∙ sym (append-nil (text_of_check None m)));
-  quiet = ap (λ (s : DeskState). s.warned) e;
-  closed = λ none. ap (λ (s : DeskState). s.started) e ∙ none;
-  reads = ap (λ (s : DeskState). s.read_faults) e;
-  writes = ap (λ (s : DeskState). s.write_faults) e;
-  warns = ap (λ (s : DeskState). s.warn_faults) e;
-}
-one-left (Some prefix) number m old new text text_is e = record {
-  files = λ before told.
-      ap (λ (s : DeskState). s.files) e
-      ∙ ap (λ (o : Option Files). option_map (put (proof_name prefix number) (proof_bytes m.net m.book.entries m.finding))
-      (option_map (put (cnf_name prefix number) (cnf_text_of m.net)) o)) told;
-  said = λ earlier heard.
-      ap (λ (s : DeskState). s.said) e ∙ ap (option_map (λ x. x ++ text)) heard
-      ∙ ap (λ (x : List ℕ). Some (earlier ++ x)) (text_is ∙ sym (append-nil (text_of_check (Some prefix) m)));
-  quiet = ap (λ (s : DeskState). s.warned) e;
-  closed = λ none. ap (λ (s : DeskState). s.started) e;
-  reads = ap (λ (s : DeskState). s.read_faults) e;
-  writes = ap (λ (s : DeskState). s.write_faults) e;
-  warns = ap (λ (s : DeskState). s.warn_faults) e;
-}
+saved-witness : (name : List ℕ) (net : AigPair) (f : Finding) (before : Files) → with_saved (witness_files name net f) before ≡ shown_in name net f before
+saved-witness name net Equivalent before = refl
+saved-witness name net (Different j input) before = refl
+saved-witness name net Undecided before = refl
 
-both-left : (out : Option (List ℕ)) (t : Told) (ts : List Told) (old mid new : DeskState) → IsLeft out (t ∷ []) old mid
-    → IsLeft out ts mid new → IsLeft out (t ∷ ts) old new
-both-left out t ts old mid new first later = record {
-  files = λ before told. later.files (left_by out t before) (first.files before told);
+saved-behind : (witness : Option (List ℕ)) (out : Option (List ℕ)) (number : ℕ) (m : Made) (before : Files)
+    → with_saved (witness_in witness m.net m.finding) before ≡ with_witness witness (told_of out number m) before
+saved-behind None out number m before = refl
+saved-behind (Some name) out number m before = saved-witness name m.net m.finding before
+
+saved-under : (out : Option (List ℕ)) (number : ℕ) (m : Made) (before : Files)
+    → with_saved (outputs_of out number m) before ≡ under_by out (told_of out number m) before
+saved-under None number m before = refl
+saved-under (Some prefix) number m before = refl
+
+saved-all : (out witness : Option (List ℕ)) (number : ℕ) (m : Made) (before : Files)
+    → with_saved (left_of out witness number m) before ≡ shown_all out witness (told_of out number m ∷ []) before
+saved-all out witness number m before =
+    saved-append (outputs_of out number m) (witness_in witness m.net m.finding) before
+    ∙ ap (with_saved (witness_in witness m.net m.finding)) (saved-under out number m before)
+    ∙ saved-behind witness out number m (under_by out (told_of out number m) before)
+
+one-left : (stats : Bool) (out witness : Option (List ℕ)) (number : ℕ) (m : Made) (old new : DeskState)
+    → new ≡ after_say (after_files old (left_of out witness number m)) (text_of_check out m) → IsLeft stats out witness (told_of out number m ∷ []) old new
+one-left stats out witness number m old new e =
+    let k = files-saved (left_of out witness number m) old in
+    record {
+      files = λ before told.
+          ap (λ (s : DeskState). s.files) e ∙ k.files before told ∙ ap (λ (f : Files). Some f) (saved-all out witness number m before);
+      said = λ earlier heard.
+          ap (λ (s : DeskState). s.said) e ∙ ap (option_map (λ x. x ++ text_of_check out m)) (k.said ∙ heard)
+          ∙ ap (λ (x : List ℕ). Some (earlier ++ x)) (sym (append-nil (text_of_check out m)));
+      quiet = warns-none stats old new (ap (λ (s : DeskState). s.warned) e ∙ k.warned) (ap (λ (s : DeskState). s.warn_faults) e ∙ k.warns);
+      closed = λ none. ap (λ (s : DeskState). s.started) e ∙ k.closed none;
+      reads = ap (λ (s : DeskState). s.read_faults) e ∙ k.reads;
+      writes = ap (λ (s : DeskState). s.write_faults) e ∙ k.writes;
+    }
+
+-- and then its statistics
+reported-left : (stats : Bool) (out witness : Option (List ℕ)) (ts : List Told) (old mid new : DeskState) → IsLeft stats out witness ts old mid
+    → Reports stats mid new → IsLeft stats out witness ts old new
+reported-left stats out witness ts old mid new left reports =
+    let k = reports-else stats mid new reports in
+    record {
+      files = λ before told. k.files ∙ left.files before told;
+      said = λ earlier heard. k.said ∙ left.said earlier heard;
+      quiet = warns-then stats old mid new left.quiet (reports-warn stats mid new reports);
+      closed = λ none. k.started ∙ left.closed none;
+      reads = k.reads ∙ left.reads;
+      writes = k.writes ∙ left.writes;
+    }
+
+both-left : (stats : Bool) (out witness : Option (List ℕ)) (t : Told) (ts : List Told) (old mid new : DeskState)
+    → IsLeft stats out witness (t ∷ []) old mid → IsLeft stats out witness ts mid new → IsLeft stats out witness (t ∷ ts) old new
+both-left stats out witness t ts old mid new first later = record {
+  files = λ before told. later.files (with_witness witness t (under_by out t before)) (first.files before told);
   said = λ earlier heard.
       later.said (earlier ++ texts (t ∷ [])) (first.said earlier heard)
       ∙ ap (λ (x : List ℕ). Some ((earlier ++ x) ++ texts ts)) (append-nil t.said)
       ∙ ap (λ (x : List ℕ). Some x) (append_assoc earlier t.said (texts ts));
-  quiet = later.quiet ∙ first.quiet;
+  quiet = warns-then stats old mid new first.quiet later.quiet;
   closed = λ none. later.closed (first.closed none);
   reads = later.reads ∙ first.reads;
   writes = later.writes ∙ first.writes;
-  warns = later.warns ∙ first.warns;
 }
 
 -- after all
 pub all-left : (how : How) (number : ℕ) (ms : List Made) (old new : DeskState) → AreTold how number ms old new
-    → IsLeft how.out (tolds how.out number ms) old new
+    → IsLeft how.stats how.out how.witness (tolds how.out number ms) old new
 all-left how number [] old new told =
-    subst (λ (s : DeskState). IsLeft how.out [] old s) (sym told) (record {
+    subst (λ (s : DeskState). IsLeft how.stats how.out how.witness [] old s) (sym told) (record {
       files = λ before told. told;
       said = λ earlier heard. heard ∙ ap (λ (x : List ℕ). Some x) (sym (append-nil earlier));
-      quiet = refl;
+      quiet = warns-none how.stats old old refl refl;
       closed = λ none. none;
       reads = refl;
       writes = refl;
-      warns = refl;
     })
 all-left how number (m ∷ ms) old new told =
-    both-left how.out (told_of how.out number m) (tolds how.out (number + 1) ms) old told.0 new
-    (one-left how.out number m old told.0 (text_of_check how.out m) refl
-    (left-whole (outputs_of how.out number m) (text_of_check how.out m) old told.0 told.2))
+    let told_m : List Told = told_of how.out number m ∷ [] in
+    both-left how.stats how.out how.witness (told_of how.out number m) (tolds how.out (number + 1) ms) old told.0 new
+    (reported-left how.stats how.out how.witness told_m old told.2.0 told.0
+    (one-left how.stats how.out how.witness number m old told.2.0
+    (left-whole (left_of how.out how.witness number m) (text_of_check how.out m) old told.2.0 told.2.1)) told.2.2)
     (all-left how (number + 1) ms told.0 new told.3)

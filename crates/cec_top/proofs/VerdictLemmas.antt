@@ -21,21 +21,25 @@ use Rattle.lrat_text.specs.declared.step.LratStep.{LratStep}
 use Rattle.lrat_text.specs.Writing.{numbered}
 use Rattle.proof_stitch.specs.declared.logs.Span.{Span}
 use Rattle.proof_stitch.specs.Stitch.{refutation_of}
-use Rattle.proof_stitch.specs.Derivation.{spent_log, derivation_of, spans_of, with_ids, AreSpans}
+use Rattle.proof_stitch.specs.Derivation.{AreSpans, clause_in, derivation_of, spans_of, spent_log, with_ids}
 use Rattle.command_line.specs.Words.{CheckCommand}
 use Rattle.endings.specs.declared.status.Status.{Status}
 use Rattle.endings.specs.Status.{code_of}
 use Rattle.endings.specs.Writing.{after_files}
 use Rattle.cec_top.specs.declared.kept.Kept.{Kept}
-use Rattle.cec_top.specs.Headline.{Told, StillStand, OfFiles, IsEquivalent, IsDifferent, IsUndecided, AreEquivalent, AreDifferent, AreUndecided, RefutesMiter, SaysOpen, SpendsBudget, HasLog, KeepsPromise, LeavesUnder, AreNumbered, AreInRow, TellsChecks, Shows, due_of_told}
+use Rattle.cec_top.specs.Headline.{StillShown, LeavesBoth, Told, StillStand, OfFiles, IsEquivalent, IsDifferent, IsUndecided, AreEquivalent, AreDifferent, AreUndecided, RefutesMiter, SaysOpen, SpendsBudget, HasLog, KeepsPromise, LeavesUnder, AreNumbered, AreInRow, TellsChecks, Shows, due_of_told}
 use Rattle.check_session.specs.Finding.{Finding, Equivalent, Different, Undecided, open_outputs}
 use Rattle.check_session.specs.Files.{proof_bytes}
 use Rattle.cec_top.specs.Script.{Due, Plan, asked_from, due_behind, plan_of}
-use Rattle.cec_top.specs.Check.{How, Made, Opening, IsMade, AreTold, Ends, GoesOn, due_of, is_undecided, status_of_finding, outputs_of as files_of, text_of_check, last_book, last_finding, kept_of, kept_from, saved_of}
+use Rattle.cec_top.specs.Check.{How, Made, Opening, IsMade, AreTold, Ends, GoesOn, due_of, is_undecided, status_of_finding, left_of, text_of_check, last_book, last_finding, kept_of, kept_from, saved_of}
 use Rattle.cec_top.specs.Answers.{EndsCheck, AnswersCheck, how_of, at_start, opening_text}
+use Rattle.cec_top.specs.Stats.{Reports}
 use Rattle.cec_top.proofs.HeadlineLemmas.{ends-code, spells-pair, spells-script, has-book, hands-back}
-use Rattle.cec_top.proofs.SavingLemmas.{IsApart, files-saved, loads-are, saves-under, start-keeps, still-saved, with_saved}
-use Rattle.cec_top.proofs.ToldLemmas.{IsLeft, all-left, leaves-under, left_all, left-whole, told_of, tolds, tolds-due, tolds-last, tolds-numbered}
+use Rattle.cec_top.proofs.SavingLemmas.{IsApart, loads-are, saves-under, start-keeps, still-saved, still-shown}
+use Rattle.cec_top.proofs.WitnessLemmas.{IsOutside, leaves-all, shown-same, still-beside, witness-there}
+use Rattle.cec_top.proofs.WrittenLemmas.{files-saved, with_saved}
+use Rattle.cec_top.proofs.StatsLemmas.{warns-none, warns-then}
+use Rattle.cec_top.proofs.ToldLemmas.{IsLeft, all-left, leaves-under, left_all, left-whole, shown_all, told_of, tolds, tolds-due, tolds-last, tolds-numbered}
 use Rattle.cec_top.proofs.KeptLemmas.{HasOpen, IsOf, begins-on, has-last, has-open, in-row, kept-of, last-kept}
 use Rattle.cec_top.proofs.PlanLemmas.{AreChained, plan-chained, plan-count}
 use Rattle.cec_top.proofs.RunLemmas.{finding-last}
@@ -140,7 +144,7 @@ module _ (net : AigPair) (book : Entries) (legal : IsLegal net book) where
       record {
         log = spent_log es span.output;
         spends = spends;
-        there = ap (with_ids span.first span.last) (steps-numbered 1 (derivation_of net es)) ∙ is.lines;
+        there = ap (λ (l : List LratStep). map clause_in (with_ids span.first span.last l)) (steps-numbered 1 (derivation_of net es)) ∙ is.lines;
         whole = is.count ∙ ap (λ (n : ℕ). span.first + n) (spends.good Count);
       }
 
@@ -290,7 +294,7 @@ module _ (c : CheckCommand) (kept : List Kept) (from : Opening) (net : AigPair) 
       sym (length-map (ms ++ last ∷ []) due_of) ∙ ap (λ (ds : List Due). length ds) dues in
       omega (arith, count, plan-count net lines, few, lit< {m = 1073741826} {n = 2 ^ 64} tt)
 
-  pub is-left : IsLeft c.out all old new
+  pub is-left : IsLeft c.stats c.out c.witness all old new
   is-left = all-left (how_of c) 0 (ms ++ last ∷ []) old new whole.told
 
   pub has-the-last : Contains kept (kept_of (length ms) last)
@@ -307,26 +311,39 @@ module _ (c : CheckCommand) (kept : List Kept) (from : Opening) (net : AigPair) 
   pub book-last : last_book kept ≡ Some last.book
   book-last = ap last_book keeps ∙ last-kept ms last
 
-  -- their files stand
-  pub stand-all : (before : Files) → StillStand c.out all (left_all c.out all before)
-  stand-all before = go c.out (leaves-under c.out (ms ++ last ∷ []) before few-told)
+  -- their files stand, and beside a witness too
+  pub stand-all : IsApart c → (before : Files) → StillStand c.out all (shown_all c.out c.witness all before)
+  stand-all apart before = go c.out refl (leaves-under c.out (ms ++ last ∷ []) before few-told)
     where
-      go : (o : Option (List ℕ)) → LeavesUnder o (tolds o 0 (ms ++ last ∷ [])) before (left_all o (tolds o 0 (ms ++ last ∷ [])) before)
-          → StillStand o (tolds o 0 (ms ++ last ∷ [])) (left_all o (tolds o 0 (ms ++ last ∷ [])) before)
-      go None l = tt
-      go (Some prefix) l = l.each
+      go : (o : Option (List ℕ)) → c.out ≡ o → LeavesUnder o (tolds o 0 (ms ++ last ∷ [])) before (left_all o (tolds o 0 (ms ++ last ∷ [])) before)
+          → StillStand o (tolds o 0 (ms ++ last ∷ [])) (shown_all o c.witness (tolds o 0 (ms ++ last ∷ [])) before)
+      go None out l = tt
+      go (Some prefix) out l =
+          still-beside c.out c.witness apart.witness prefix out (left_all (Some prefix) (tolds (Some prefix) 0 (ms ++ last ∷ [])) before)
+          (shown_all (Some prefix) c.witness (tolds (Some prefix) 0 (ms ++ last ∷ [])) before)
+          (shown-same (Some prefix) c.witness (tolds (Some prefix) 0 (ms ++ last ∷ [])) before)
+          0 (ms ++ last ∷ []) (omega (arith, few-told)) l.each
 
-  pub tells-checks : (Holds : Told → Type 0) (text : List ℕ) (before : Files) → Holds (told_of c.out (length ms) last)
-      → TellsChecks c kept Holds from (plan_of net lines) text before (left_all c.out all before) (text ++ flat_map (λ (t : Told). t.said) all)
-  tells-checks Holds text before holds = record {
+  -- the witness does
+  pub show-all : IsApart c → (before : Files) → StillShown c.witness all before (shown_all c.out c.witness all before)
+  show-all apart before = go c.witness apart.witness
+    where
+      go : (w : Option (List ℕ)) → IsOutside c.out w → StillShown w all before (shown_all c.out w all before)
+      go None outside = tt
+      go (Some name) outside = witness-there c.out name outside (ms ++ last ∷ []) before few-told
+
+  pub tells-checks : IsApart c → (Holds : Told → Type 0) (text : List ℕ) (before : Files) → Holds (told_of c.out (length ms) last)
+      → TellsChecks c kept Holds from (plan_of net lines) text before (shown_all c.out c.witness all before)
+      (text ++ flat_map (λ (t : Told). t.said) all)
+  tells-checks apart Holds text before holds = record {
     earlier = tolds c.out 0 ms;
     last = told_of c.out (length ms) last;
     checks = ap (map due_of_told) (sym parts) ∙ tolds-due c.out 0 (ms ++ last ∷ []) ∙ dues;
     numbers = subst (AreNumbered 0) parts (tolds-numbered c.out 0 (ms ++ last ∷ []));
     says = ap (λ (ts : List Told). text ++ flat_map (λ (t : Told). t.said) ts) parts;
     begins = begins-on kept (ms ++ last ∷ []) (λ k above has. of-check k has) from whole.in_turn (asked_from 1 (due_behind net) lines).checks net dues;
-    files = subst (λ (ts : List Told). LeavesUnder c.out ts before (left_all c.out all before)) parts
-        (leaves-under c.out (ms ++ last ∷ []) before few-told);
+    files = subst (λ (ts : List Told). LeavesBoth c.out c.witness ts before (shown_all c.out c.witness all before)) parts
+        (leaves-all c.out c.witness apart.witness (ms ++ last ∷ []) before few-told);
     in_row = subst (AreInRow kept) parts
         (in-row c.out kept 0 (ms ++ last ∷ [])
         (λ k above has. of-check k has) from whole.in_turn net
@@ -340,12 +357,14 @@ module _ (c : CheckCommand) (kept : List Kept) (from : Opening) (net : AigPair) 
 -- ---- the one check of circuits that the program makes
 
 module _ (how : How) (from : Opening) (net : AigPair) (old new : DeskState) (status : Status) (kept : List Kept) where
-  -- of checks that end with a verdict: this one is the only one, and it is told whole
+  -- of checks that end with a verdict: this one is the only one, and it is told whole, up to its statistics
   pub record IsOnly : Type 0 where
     pub check : Made
     pub same : check.net ≡ net
     pub is_made : IsMade how check
-    pub whole : new ≡ after_say (after_files old (files_of how.out 0 check)) (text_of_check how.out check)
+    pub mid : DeskState
+    pub whole : mid ≡ after_say (after_files old (left_of how.out how.witness 0 check)) (text_of_check how.out check)
+    pub reports : Reports how.stats mid new
     pub status_is : status_of_finding check.finding ≡ status
     pub keeps : kept ≡ kept_of 0 check ∷ []
 
@@ -359,7 +378,9 @@ module _ (how : How) (from : Opening) (net : AigPair) (old new : DeskState) (sta
         check = m;
         same = ap (λ (d : Due). d.net) (head-equal (due_of m) (due_behind net) [] [] checks);
         is_made = told.1;
-        whole = told.3 ∙ left-whole (files_of how.out 0 m) (text_of_check how.out m) old told.0 told.2;
+        mid = told.2.0;
+        whole = left-whole (left_of how.out how.witness 0 m) (text_of_check how.out m) old told.2.0 told.2.1;
+        reports = subst (λ (s : DeskState). Reports how.stats told.2.0 s) (sym told.3) told.2.2;
         status_is = same_Some (status_of_finding m.finding) status status_is;
         keeps = keeps;
       }
@@ -401,7 +422,7 @@ module _ (c : CheckCommand) (old new : DeskState) (status : Status) (kept : List
   shows : IsApart c → (Holds : Told → Type 0) (code : ℕ) → code_of status ≡ code → code < 4
       → ((number : ℕ) (m : Made) → IsMade (how_of c) m → Contains kept (kept_of number m) → code_of (status_of_finding m.finding) ≡ code
       → Holds (told_of c.out number m))
-      → Shows (OfFiles c kept Holds) old new
+      → Shows c.stats (OfFiles c kept Holds) old new
   unfolding tells-checks
   shows apart Holds code is below holds before earlier told heard =
       let p = verdict-ends (omega (arith, is, below)) in
@@ -416,9 +437,10 @@ module _ (c : CheckCommand) (old new : DeskState) (status : Status) (kept : List
       let has = has-the-last c kept p.from p.net p.lines script.1 start p.mid l.earlier l.last l.whole l.keeps in
       let book = book-last c kept p.from p.net p.lines script.1 start p.mid l.earlier l.last l.whole l.keeps in
       let small = few-told c kept p.from p.net p.lines script.1 start p.mid l.earlier l.last l.whole l.keeps in
-      let stand = stand-all c kept p.from p.net p.lines script.1 start p.mid l.earlier l.last l.whole l.keeps before in
+      let stand = stand-all c kept p.from p.net p.lines script.1 start p.mid l.earlier l.last l.whole l.keeps apart before in
+      let shown = show-all c kept p.from p.net p.lines script.1 start p.mid l.earlier l.last l.whole l.keeps apart before in
       let saved = files-saved (saved_of c.save kept) p.mid in
-      let mid : Files = left_all c.out ts before in
+      let mid : Files = shown_all c.out c.witness ts before in
       record {
         after = with_saved (saved_of c.save kept) mid;
         said = text ++ flat_map (λ (t : Told). t.said) ts;
@@ -426,7 +448,10 @@ module _ (c : CheckCommand) (old new : DeskState) (status : Status) (kept : List
         heard =
             ap (λ (s : DeskState). s.said) p.saved ∙ saved.said ∙ left.said (earlier ++ text) (k.said earlier heard)
             ∙ ap (λ (x : List ℕ). Some x) (append_assoc earlier text (flat_map (λ (t : Told). t.said) ts));
-        quiet = ap (λ (s : DeskState). s.warned) p.saved ∙ saved.warned ∙ left.quiet ∙ k.warned;
+        quiet =
+            warns-then c.stats old p.mid new (warns-then c.stats old start p.mid (warns-none c.stats old start k.warned k.warns) left.quiet)
+            (warns-none c.stats p.mid new (ap (λ (s : DeskState). s.warned) p.saved ∙ saved.warned)
+            (ap (λ (s : DeskState). s.warn_faults) p.saved ∙ saved.warns));
         closed = λ none. ap (λ (s : DeskState). s.started) p.saved ∙ saved.closed (left.closed (k.started ∙ none));
         promise = record {
           net = p.net;
@@ -438,23 +463,26 @@ module _ (c : CheckCommand) (old new : DeskState) (status : Status) (kept : List
           from = p.from;
           loads = loads-are c old before told p.net p.lines p.lemmas p.asks p.from p.opens;
           mid = mid;
-          told = tells-checks c kept p.from p.net p.lines script.1 start p.mid l.earlier l.last l.whole l.keeps Holds text before
+          told = tells-checks c kept p.from p.net p.lines script.1 start p.mid l.earlier l.last l.whole l.keeps apart Holds text before
               (holds (length l.earlier) l.last made has (ap code_of l.status_is ∙ is));
           saved = saves-under c.save kept l.last.book book mid;
           stand = subst (λ (ms : List Told). StillStand c.out ms (with_saved (saved_of c.save kept) mid))
               (tolds-last c.out l.earlier l.last)
               (still-saved c apart kept l.last.book book (l.earlier ++ l.last ∷ []) mid small stand);
+          shown = subst (λ (ms : List Told). StillShown c.witness ms before (with_saved (saved_of c.save kept) mid))
+              (tolds-last c.out l.earlier l.last)
+              (still-shown c apart kept l.last.book book ts before mid shown);
         };
       }
 
-  pub equivalent : IsApart c → code_of status ≡ 0 → Shows (IsEquivalent c kept) old new
+  pub equivalent : IsApart c → code_of status ≡ 0 → Shows c.stats (IsEquivalent c kept) old new
   equivalent apart is = shows apart (AreEquivalent c.out) 0 is (omega arith)
       (λ number m made has code. are-equivalent (how_of c) number m.net m.edits m.book m.finding made code)
 
-  pub different : IsApart c → code_of status ≡ 1 → Shows (IsDifferent c kept) old new
+  pub different : IsApart c → code_of status ≡ 1 → Shows c.stats (IsDifferent c kept) old new
   different apart is = shows apart (AreDifferent c.out) 1 is (omega arith)
       (λ number m made has code. are-different (how_of c) number m.net m.edits m.book m.finding made code)
 
-  pub undecided : IsApart c → code_of status ≡ 2 → Shows (IsUndecided c kept) old new
+  pub undecided : IsApart c → code_of status ≡ 2 → Shows c.stats (IsUndecided c kept) old new
   undecided apart is = shows apart (AreUndecided (how_of c) kept) 2 is (omega arith)
       (λ number m made has code. are-undecided (how_of c) number m.net m.edits m.book kept m.finding has made code)

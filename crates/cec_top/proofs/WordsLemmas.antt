@@ -1,5 +1,5 @@
 -- What the program answers to arguments that ask for a check, of files or of its own, or for the check of a proof.
-use Rattle.std.proofs.Common.{◌≡◌, ℕ, ◌<◌, inl, inr, List, [], Some, Option, refl, sym, ap, ◌∙◌, subst, arith}
+use Rattle.std.proofs.Common.{◌≡◌, ℕ, ◌<◌, inl, inr, false, List, [], Some, Option, refl, sym, ap, ◌∙◌, subst, arith}
 use Rattle.std.specs.Prelude.{◌⊎◌, IfSome, IsSomeAnd, codes, option_map, ◌++◌}
 use Rattle.std.proofs.lemmas.Option.{same_Some}
 use Rattle.desk_port.specs.Desk.{Files, DeskState}
@@ -130,13 +130,13 @@ file-has s files told name bytes P is holds =
     subst (λ (o : Option (List ℕ)). IsSomeAnd o P) (sym there) holds
 
 pub verified : (c : LratCommand) (old new : DeskState) (status : Status) → AnswersLrat c.cnf c.proof old new status → code_of status ≡ 0
-    → Shows (IsVerified c) old new
+    → Shows false (IsVerified c) old new
 verified c old new ends.Done p code before earlier told heard = record {
   after = before;
   said = codes "VERIFIED\n";
   left = ap (λ (s : DeskState). s.files) p.says ∙ told;
   heard = ap (λ (s : DeskState). s.said) p.says ∙ ap (option_map (λ x. x ++ codes "VERIFIED\n")) heard;
-  quiet = ap (λ (s : DeskState). s.warned) p.says;
+  quiet = (ap (λ (s : DeskState). s.warned) p.says, ap (λ (s : DeskState). s.warn_faults) p.says);
   closed = λ none. ap (λ (s : DeskState). s.started) p.says ∙ none;
   promise = record {
     formula = p.judged.formula;

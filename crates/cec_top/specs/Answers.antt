@@ -49,7 +49,8 @@ lemmas_of load = option_to_list (option_map lemma_file load)
 abbrev pub names_of : CheckCommand → List (List ℕ)
 names_of c = c.a ∷ c.b ∷ (option_to_list c.edits ++ option_to_list c.load)
 
--- under which numbers the command makes its checks, how it matches inputs and outputs, and with which prefix for their files
+-- under which numbers the command makes its checks, how it matches inputs and outputs, with which prefix for their files and which
+-- file for their witness, and whether their statistics are warned
 abbrev pub how_of : CheckCommand → How
 how_of c = record {
   options = record {
@@ -61,6 +62,8 @@ how_of c = record {
     by_name = c.by_name;
   };
   out = c.out;
+  witness = c.witness;
+  stats = c.stats;
 }
 
 -- the pair is read, and the files spell these circuits

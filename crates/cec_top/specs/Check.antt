@@ -25,6 +25,8 @@ use Rattle.cec_top.specs.declared.kept.Kept.{Kept}
 use Rattle.cec_top.specs.Script.{Due, Plan, Refused}
 use Rattle.cec_top.specs.Lines.{refused_text}
 use Rattle.cec_top.specs.Texts.{different_text, open_text, open_text_with}
+use Rattle.cec_top.specs.Stats.{Reports}
+use Rattle.cec_top.specs.Witness.{witness_text}
 
 -- the status with which the program ends where the finding was said
 abbrev pub status_of_finding : Finding → Status
@@ -32,10 +34,13 @@ status_of_finding Equivalent = Done
 status_of_finding (Different j input) = No
 status_of_finding Undecided = Open
 
--- how checks are made: under which numbers, and with which prefix for the names of their files, if they leave any
+-- how checks are made: under which numbers, with which prefix for the names of their files, if they leave any, with which file for an
+-- input on which circuits differ, if one is named, and whether their statistics are warned
 pub record How : Type 0 where
   pub options : Options
   pub out : Option (List ℕ)
+  pub witness : Option (List ℕ)
+  pub stats : Bool
 
 -- a check that has its verdict: its circuits and the edits since the check before it, its book and what that shows
 pub record Made : Type 0 where
@@ -79,10 +84,26 @@ abbrev pub outputs_of : Option (List ℕ) → ℕ → Made → List Output
 outputs_of None number m = []
 outputs_of (Some prefix) number m = files_of prefix number m.net m.book.entries m.finding
 
--- its files are left and closed, and then its verdict is said; or that stops, as the result says
+-- the file of its witness, which is left where an output differs, and nowhere else; and none, if none is named
+abbrev pub witness_files : List ℕ → AigPair → Finding → List Output
+witness_files name net Equivalent = []
+witness_files name net (Different j input) = record { name = name; bytes = witness_text net.a input } ∷ []
+witness_files name net Undecided = []
+
+abbrev pub witness_in : Option (List ℕ) → AigPair → Finding → List Output
+witness_in None net found = []
+witness_in (Some name) net found = witness_files name net found
+
+-- all files that it leaves, in the order in which they are written
+abbrev pub left_of : Option (List ℕ) → Option (List ℕ) → ℕ → Made → List Output
+left_of out witness number m = outputs_of out number m ++ witness_in witness m.net m.finding
+
+-- its files are left and closed, then its verdict is said, and then its statistics are warned, if they are asked for; or that stops
+-- before the verdict is said whole, as the result says
 abbrev pub Tells : How → ℕ → Made → DeskState → DeskState → Result (Unit {0}) Stop → Type 0
-Tells how number m old new result =
-    Leaves (outputs_of how.out number m) (text_of_check how.out m) old new result
+Tells how number m old new (Ok u) =
+    (mid : DeskState) × Leaves (left_of how.out how.witness number m) (text_of_check how.out m) old mid (Ok u) × Reports how.stats mid new
+Tells how number m old new (Err stop) = Leaves (left_of how.out how.witness number m) (text_of_check how.out m) old new (Err stop)
 
 -- the checks from this number on are right, and each is told whole before the next begins
 abbrev pub AreTold : How → ℕ → List Made → DeskState → DeskState → Type 0

@@ -1,6 +1,6 @@
 -- What the program answers to arguments that ask for a reduced circuit: it reads a circuit, sweeps it, writes what is left of it,
 -- with a proof that both compute the same, if one is wanted, and says how many gates either has.
-use Rattle.std.specs.Prelude.{◌≡◌, ◌⊎◌, ℕ, false, List, [], ◌∷◌, ◌++◌, length, codes, decimal, Ok, Err, Result}
+use Rattle.std.specs.Prelude.{None, ◌≡◌, ◌⊎◌, ℕ, false, List, [], ◌∷◌, ◌++◌, length, codes, decimal, Ok, Err, Result}
 use Rattle.desk_port.specs.Desk.{DeskState}
 use Rattle.netlist.specs.Circuit.{Aig, IsCircuit}
 use Rattle.netlist.specs.Net.{AigPair}
@@ -36,6 +36,8 @@ fraig_how c = record {
     by_name = false;
   };
   out = c.out;
+  witness = None;
+  stats = false;
 }
 
 -- What is made of a circuit: the reduced one, which stands beside it in a net; the book of the sweep that it is reduced by; and

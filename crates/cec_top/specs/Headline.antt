@@ -25,9 +25,7 @@ use Rattle.keep_lemmas.specs.Kept.{kept as kept_lemmas}
 use Rattle.lrat_text.specs.declared.step.Line.{Line}
 use Rattle.lrat_text.specs.Reading.{SpellsLrat}
 use Rattle.lrat_text.specs.Derivation.{Derives, Refutes}
-use Rattle.proof_stitch.specs.Steps.{additions_from}
-use Rattle.proof_stitch.specs.Written.{shown_ids}
-use Rattle.proof_stitch.specs.Derivation.{derivation_of, with_ids}
+use Rattle.proof_stitch.specs.Derivation.{clause_in, derivation_of, log_clauses, with_ids}
 use Rattle.proof_stitch.specs.declared.logs.Span.{Span}
 use Rattle.sig_classes.specs.Leader.{IsSwept}
 use Rattle.check_session.specs.Finding.{Finding, Equivalent, Different, Undecided, Finds}
@@ -41,6 +39,8 @@ use Rattle.book_file.specs.Writing.{book_text}
 use Rattle.cec_top.specs.Check.{How, Opening, is_undecided, last_book}
 use Rattle.cec_top.specs.Answers.{IsOpening, how_of, opening_text}
 use Rattle.cec_top.specs.SelfCheck.{own_how}
+use Rattle.cec_top.specs.Stats.{WarnsOnly}
+use Rattle.cec_top.specs.Witness.{witness_behind}
 use Rattle.cec_top.specs.Texts.{different_text, open_text, open_text_with, workload_text}
 
 -- ---- a check that was told
@@ -70,6 +70,29 @@ pub record LeavesFiles (prefix : List ℕ) (told : List Told) (before after : Fi
 abbrev pub LeavesUnder : Option (List ℕ) → List Told → Files → Files → Type 0
 LeavesUnder None told before after = after ≡ before
 LeavesUnder (Some prefix) told before after = LeavesFiles prefix told before after
+
+-- ---- an input on which circuits differ
+
+-- what its file holds behind these checks, where it held that before: what the last one left there that found a difference
+abbrev pub witness_left : List Told → Option (List ℕ) → Option (List ℕ)
+witness_left [] before = before
+witness_left (t ∷ ts) before = witness_left ts (witness_behind t.net.a t.finding before)
+
+-- that stands there, and every other file is as the checks leave it without a witness
+pub record LeavesWitness (out : Option (List ℕ)) (name : List ℕ) (told : List Told) (before after : Files) : Type 0 where
+  pub without : Files
+  pub under : LeavesUnder out told before without
+  pub there : after name ≡ witness_left told (before name)
+  pub others : (q : List ℕ) → q ≢ name → after q ≡ without q
+
+-- all files that these checks leave
+abbrev pub LeavesBoth : Option (List ℕ) → Option (List ℕ) → List Told → Files → Files → Type 0
+LeavesBoth out None told before after = LeavesUnder out told before after
+LeavesBoth out (Some name) told before after = LeavesWitness out name told before after
+
+-- the witness of these checks stands, if its file is named: the lemmas aren't saved over it
+abbrev pub StillShown : Option (List ℕ) → List Told → Files → Files → Type 0
+StillShown witness told before after = IfSome witness (λ name. after name ≡ witness_left told (before name))
 
 -- ---- lemmas that are saved
 
@@ -139,16 +162,15 @@ pub record SpendsBudget (net : AigPair) (book : Entries) (j : ℕ) (log : List S
   pub there : book.entries ≡ before ++ OutSpent j seen log ∷ behind
   pub good : IsGood net (record book { entries = before }) (OutSpent j seen log)
 
--- the lines with the ids from the first to the last are the additions of such a log, which cites entries by the ids of the
--- clauses that these show
+-- the lines with the ids from the first to the last add the clauses of such a log, one after the other, by the miter's numbers
 pub record HasLog (net : AigPair) (book : Entries) (lines : List Line) (s : Span) : Type 0 where
   pub log : List Step
   pub spends : SpendsBudget net book s.output log
-  pub there : with_ids s.first s.last (map (λ line. line.step) lines) ≡ additions_from net (shown_ids net book.entries) s.first s.first log
+  pub there : map clause_in (with_ids s.first s.last (map (λ line. line.step) lines)) ≡ log_clauses net log
   pub whole : s.last + 1 ≡ s.first + book.out_budget
 
--- the proof of UNDECIDED: it spells lines that derive from the CNF, which are the book's entries, and the logs among them
--- stand where it is said
+-- the proof of UNDECIDED: it spells lines that derive from the CNF, which are the logs and what they, and the outputs that are
+-- shown to be equal, rest on of the book's entries, and the logs stand where it is said
 pub record LeavesDerivation (book : Entries) (opens : List ℕ) (t : Told) : Type 0 where
   pub lines : List Line
   pub spells : SpellsLrat (length (miter_of t.net)) t.proof lines
@@ -255,7 +277,7 @@ pub record TellsChecks (c : CheckCommand) (kept : List Kept) (Holds : Told → T
   pub checks : map due_of_told (earlier ++ last ∷ []) ≡ plan.checks
   pub numbers : AreNumbered 0 (earlier ++ last ∷ [])
   pub says : said ≡ text ++ flat_map (λ t. t.said) (earlier ++ last ∷ [])
-  pub files : LeavesUnder c.out (earlier ++ last ∷ []) before after
+  pub files : LeavesBoth c.out c.witness (earlier ++ last ∷ []) before after
   pub begins : BeginsOn kept from
   pub in_row : AreInRow kept (earlier ++ last ∷ [])
   pub promises : AllByRecursion (KeepsPromise (how_of c) kept) earlier
@@ -279,6 +301,7 @@ pub record OfFiles (c : CheckCommand) (kept : List Kept) (Holds : Told → Type 
   pub told : TellsChecks c kept Holds from (plan_of net lines) (opening_text lemmas from) before mid said
   pub saved : SavesUnder c.save kept mid after
   pub stand : StillStand c.out (told.earlier ++ told.last ∷ []) after
+  pub shown : StillShown c.witness (told.earlier ++ told.last ∷ []) before after
 
 -- EQUIVALENT, DIFFERENT, UNDECIDED: the last check is of circuits of which that is so
 abbrev pub IsEquivalent : CheckCommand → List Kept → Files → Files → List ℕ → Type 0
@@ -319,18 +342,18 @@ pub record IsVerified (c : LratCommand) (before after : Files) (said : List ℕ)
 
 -- ---- what a run shows
 
--- what a run left and said, from these files and from what had been said earlier; nothing was warned, and no file is left
--- started, if none was
-pub record Left (Promise : Files → Files → List ℕ → Type 0) (old new : DeskState) (before : Files) (earlier : List ℕ) : Type 0 where
+-- what a run left and said, from these files and from what had been said earlier; nothing was warned, but for statistics where they
+-- are asked for, and no file is left started, if none was
+pub record Left (stats : Bool) (Promise : Files → Files → List ℕ → Type 0) (old new : DeskState) (before : Files) (earlier : List ℕ) : Type 0 where
   pub after : Files
   pub said : List ℕ
   pub left : new.files ≡ Some after
   pub heard : new.said ≡ Some (earlier ++ said)
-  pub quiet : new.warned ≡ old.warned
+  pub quiet : WarnsOnly stats old new
   pub closed : old.started ≡ None → new.started ≡ None
   pub promise : Promise before after said
 
 -- the promise is kept wherever the desk tells its files and what was said
-abbrev pub Shows : (Files → Files → List ℕ → Type 0) → DeskState → DeskState → Type 0
-Shows Promise old new =
-    (before : Files) (earlier : List ℕ) → old.files ≡ Some before → old.said ≡ Some earlier → Left Promise old new before earlier
+abbrev pub Shows : Bool → (Files → Files → List ℕ → Type 0) → DeskState → DeskState → Type 0
+Shows stats Promise old new =
+    (before : Files) (earlier : List ℕ) → old.files ≡ Some before → old.said ≡ Some earlier → Left stats Promise old new before earlier

@@ -2,6 +2,8 @@ pub mod Lines
 pub mod Script
 pub mod Headline
 pub mod Texts
+pub mod Stats
+pub mod Witness
 pub mod Check
 pub mod SelfCheck
 pub mod Inputs

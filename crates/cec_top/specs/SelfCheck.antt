@@ -21,6 +21,8 @@ abbrev pub own_how : How
 own_how = record {
   options = record { workers = 4; seed = 1; words = 4; sweep_budget = 100; out_budget = 100000; by_name = false };
   out = None;
+  witness = None;
+  stats = false;
 }
 
 -- the generator's bytes spell them

@@ -1,5 +1,5 @@
 -- How the program goes about a check, for the crate's own functions.
-use Rattle.std.specs.Prelude.{◌≡◌, ◌≢◌, ◌⊎◌, ℕ, Bool, true, false, List, [], ◌∷◌, ◌++◌, ◌+◌, Option, None, Some, Result, Ok, Err, string_bytes, if◌then◌else◌}
+use Rattle.std.specs.Prelude.{◌≡◌, ◌≢◌, ◌⊎◌, ℕ, Bool, true, false, List, [], ◌∷◌, ◌++◌, ◌+◌, Option, None, Some, option_map, slice_get, Result, Ok, Err, string_bytes, if◌then◌else◌}
 use Rattle.std.specs.Global.{Vec}
 use Rattle.desk_port.specs.Desk.{DeskState}
 use Rattle.netlist.specs.Circuit.{Aig}
@@ -8,7 +8,7 @@ use Rattle.netlist.specs.declared.unlike.Unlike.{Unlike}
 use Rattle.netlist.specs.declared.unlike.Unlike.TheVariants.{NoMemory as Memory}
 use Rattle.aiger_file.specs.File.{SpellsAiger}
 use Rattle.endings.specs.Reading.{ReadsBytes, ReadsUpTo, after_reads}
-use Rattle.endings.specs.Writing.{Says, StopsAmong, after_files}
+use Rattle.endings.specs.Writing.{Output, Leaves, Says, StopsAmong, after_files}
 use Rattle.endings.specs.declared.stop.Stop.{Stop}
 use Rattle.endings.specs.declared.stop.Stop.TheVariants.{OutOfMemory}
 use Rattle.endings.specs.Stops.{EndsBy, Warns}
@@ -28,8 +28,12 @@ use Rattle.keep_lemmas.specs.Kept.{kept}
 use Rattle.lemma_book.specs.declared.entry.Entry.{Entry}
 use Rattle.lemma_book.specs.Entry.{Entries}
 use Rattle.cec_top.specs.declared.kept.Kept.{Kept}
+use Rattle.cec_top.specs.declared.wants.Wants.{Wants}
+use Rattle.cec_top.specs.Witness.{named_line}
+use Rattle.std.specs.Option.{option_map_or}
+use Rattle.symbol_names.specs.NameList.{name_at}
 use Rattle.cec_top.specs.Script.{Due, Plan, Refused, Turn, Passes, Makes, AsksCheck, Fails, due_behind}
-use Rattle.cec_top.specs.Check.{How, Made, Opening, IsMade, Tells, AreTold, Ends, StopsChecks, SaysFault, status_of_finding, kept_of, due_of, saved_of, script_place}
+use Rattle.cec_top.specs.Check.{How, Made, Opening, IsMade, Tells, AreTold, Ends, StopsChecks, SaysFault, status_of_finding, kept_of, due_of, left_of, outputs_of, saved_of, script_place, text_of_check}
 use Rattle.cec_top.specs.SelfCheck.{AreWorkload, own_how}
 use Rattle.cec_top.specs.Answers.{IsOpening, ReadsLemmas, after_opening, lemmas_of, opening_text, AreAlike, AreUnlike, NamesUnlike, SaysHelp, IsAtOnce, pair_of, after_pair, how_of}
 
@@ -103,9 +107,26 @@ opens_in verdict.Equivalent = []
 opens_in (verdict.Different output input) = []
 opens_in (verdict.Undecided outputs) = outputs
 
--- how the checks of a session are made that leave their files under the prefix, if there is one
-abbrev pub how_in : State → Option (List ℕ) → How
-how_in s out = record { options = s.options; out = out }
+-- what is wanted of the checks besides their verdicts: files under a prefix, a witness's file, and statistics
+pub record Wanted : Type 0 where
+  pub out : Option (List ℕ)
+  pub witness : Option (List ℕ)
+  pub stats : Bool
+
+abbrev pub wanted_of : CheckCommand → Wanted
+wanted_of c = record { out = c.out; witness = c.witness; stats = c.stats }
+
+-- by the texts of the code's values
+abbrev pub wanted_in : Wants → Wanted
+wanted_in w = record {
+  out = option_map (λ out. out.now) w.out;
+  witness = option_map (λ witness. witness.now) w.witness;
+  stats = w.stats;
+}
+
+-- how the checks of a session are made of which that is wanted
+abbrev pub how_in : State → Wanted → How
+how_in s w = record { options = s.options; out = w.out; witness = w.witness; stats = w.stats }
 
 -- what a check of the session as it is would be of
 abbrev pub due_in : State → Due
@@ -124,12 +145,30 @@ pub record Settles (s t : State) (v : Verdict) : Type 0 where
   pub begins : StartsWith t.book (kept s.last s.edits s.book)
   pub found_is : t.found ≡ Some (finding_of v)
   pub open_are : ListsOpen t.net t.book.entries v
-  pub is_made : (out : Option (List ℕ)) → IsMade (how_in t out) (made_in (due_in s) t v)
+  pub is_made : (wanted : Wanted) → IsMade (how_in t wanted) (made_in (due_in s) t v)
 
--- the check is told whole, and the status is that of its verdict; or in part
-abbrev pub TellsStatus : How → ℕ → Made → DeskState → DeskState → Result Status Stop → Type 0
-TellsStatus how number m old new (Ok status) = Tells how number m old new (Ok tt) × (status ≡ status_of_finding m.finding)
-TellsStatus how number m old new (Err stop) = Tells how number m old new (Err stop)
+-- the check's files are left and its verdict is said, and the status is that of the verdict; or in part
+abbrev pub SaysStatus : Wanted → ℕ → Made → DeskState → DeskState → Result Status Stop → Type 0
+SaysStatus w number m old new (Ok status) =
+    Leaves (left_of w.out w.witness number m) (text_of_check w.out m) old new (Ok tt) × (status ≡ status_of_finding m.finding)
+SaysStatus w number m old new (Err stop) = Leaves (left_of w.out w.witness number m) (text_of_check w.out m) old new (Err stop)
+
+-- files are written whole and closed, and this text is to be said behind them; or that stops
+abbrev pub LeavesText : List Output → List ℕ → DeskState → DeskState → Result (Vec ℕ) Stop → Type 0
+LeavesText os text old new (Ok v) = (new ≡ after_files old os) × (v.items ≡ text)
+LeavesText os text old new (Err stop) = StopsAmong os old new stop ⊎ ((stop ≡ OutOfMemory) × (new ≡ after_files old os))
+
+abbrev pub LeavesTextOf : Option (List ℕ) → ℕ → Made → DeskState → DeskState → Result (Vec ℕ) Stop → Type 0
+LeavesTextOf out number m old new result = LeavesText (outputs_of out number m) (text_of_check out m) old new result
+
+-- files are written whole and closed, or not
+abbrev pub WritesOutputs : List Output → DeskState → DeskState → Result (Unit {0}) Stop → Type 0
+WritesOutputs os old new (Ok u) = new ≡ after_files old os
+WritesOutputs os old new (Err stop) = StopsAmong os old new stop
+
+-- the line of input k of a witness, if it has a name and a truth value
+abbrev pub line_at : List (Option (List ℕ)) → List Bool → ℕ → List ℕ
+line_at names bits k = option_map_or (λ bit. named_line (name_at names k) bit) (slice_get bits k) []
 
 -- the session has the circuits and the book of its last check, which is this one
 pub record Holds (s : State) (m : Made) : Type 0 where

@@ -13,7 +13,7 @@ use Rattle.cec_top.specs.declared.kept.Kept.{Kept}
 use Rattle.lemma_book.specs.declared.entry.Entry.{Entry}
 use Rattle.cec_top.specs.Answers.{how_of, opening_text}
 use Rattle.cec_top.specs.Check.{How, Opening, AreSome}
-use Rattle.cec_top.specs.Headline.{Told, Loads, SpellPair, IsScript, KeepsPromise, HasFiles, AreNumbered, due_of_told}
+use Rattle.cec_top.specs.Headline.{Told, Loads, SpellPair, IsScript, KeepsPromise, HasFiles, AreNumbered, due_of_told, witness_left}
 use Rattle.cec_top.specs.Script.{Due, Refused, plan_of}
 
 -- the files spell what they should, and this first part is said of how many lemmas check 0 goes on from
@@ -61,6 +61,19 @@ StandUnder None told [] before after = after ≡ before
 StandUnder None told (name ∷ names) before after = (q : List ℕ) → AreOthers (name ∷ names) q → after q ≡ before q
 StandUnder (Some prefix) told saved before after = StandFiles prefix told saved before after
 
+-- The witness stands as the last of these checks left it that found a difference, unless another check is left, which may have one of
+-- its own under way; and every other file is as above.
+pub record StandsWitness (out : Option (List ℕ)) (name : List ℕ) (told : List Told) (dues : List Due) (saved : List (List ℕ))
+    (before after : Files) : Type 0 where
+  pub without : Files
+  pub under : StandUnder out told saved before without
+  pub there : (after name ≡ witness_left told (before name)) ⊎ (dues ≢ [])
+  pub others : (q : List ℕ) → q ≢ name → after q ≡ without q
+
+abbrev pub StandAll : Option (List ℕ) → Option (List ℕ) → List Told → List Due → List (List ℕ) → Files → Files → Type 0
+StandAll out None told dues saved before after = StandUnder out told saved before after
+StandAll out (Some name) told dues saved before after = StandsWitness out name told dues saved before after
+
 -- the check with this number, the first of those that are left, has its verdict, of which this first part is said
 pub record SaysPart (how : How) (books : List Kept) (number : ℕ) (others : List Due) (part : List ℕ) : Type 0 where
   pub next : Told
@@ -96,7 +109,7 @@ pub record TellsSome (c : CheckCommand) (old new : DeskState) (status : Status) 
   pub heard : (earlier : List ℕ) → old.said ≡ Some earlier → new.said ≡ Some (earlier ++ opening_text lemmas from ++ flat_map (λ t. t.said) told ++ part)
   pub after : Files
   pub files : new.files ≡ Some after
-  pub stand : StandUnder c.out told (saved_behind c.save (plan_of net lines).refused others) before after
+  pub stand : StandAll c.out c.witness told others (saved_behind c.save (plan_of net lines).refused others) before after
 
 abbrev pub Stopped : CheckCommand → DeskState → DeskState → Status → List Kept → Files → Type 0
 Stopped c old new status kept before = TellsNothing c old new kept before ⊎ TellsSome c old new status kept before

@@ -4,40 +4,56 @@ ghost use Rattle.check_session.specs.Files.{stop_of_stitch};
 ghost use Rattle.check_session.specs.Outputs.{ListsOpen, finding_of};
 ghost use Rattle.cec_top.specs.Check.{status_of_finding};
 ghost use Rattle.cec_top.specs.Script.{Due};
-ghost use Rattle.cec_top.specs.Steps.{Checks, Settles, TellsStatus, how_in, made_in};
+ghost use Rattle.cec_top.specs.Steps.{Checks, LeavesTextOf, SaysStatus, Settles, how_in, made_in, wanted_in};
 
 use crate::kept::Kept;
 use crate::laws::proves;
+use crate::stats::{Marks, look, report};
 use crate::texts::{plain_text, text_with_lines};
+use crate::wants::Wants;
+use crate::witness::leave_witness;
 use check_session::{Session, Verdict};
 use desk_port::{Desk, Gate};
 use endings::{Status, Stop, say};
 use proof_stitch::StitchErr;
 use std::alloc::Global;
+use std::rt::Clock;
 use std::sync::Wait;
 use std::thread::Threads;
 
-/// Makes the check with this number, of a session's pair as it is: settles it, leaves its files if there is
-/// a prefix for them, and says its verdict. The session then has its book, from which the next check goes on;
-/// where the check is told in part no other follows it, and its book is kept.
+/// Makes the check with this number, of a session's pair as it is: settles it, leaves its files if there is a
+/// prefix for them, and its witness if one is wanted, says its verdict, and warns of its statistics if these
+/// are. The session then has its book, from which the next check goes on; where the check is told in part no
+/// other follows it, and its book is kept.
 pub(crate) fn check<D: Desk, G: Gate + Sync>(
-    rt: &(impl Threads + Wait + Sync),
+    rt: &(impl Threads + Wait + Clock + Sync),
     alloc: Global,
     desk: &mut D,
     gate: &G,
     session: &mut Session,
-    out: Option<&str>,
+    wants: Wants<'_>,
     number: u64,
     kept: &mut Vec<Kept>,
 ) -> Result<Status, Stop>
     requires started { (D.state desk.old).started ≡ None }
-    ensures { Checks (how_in session.old (option_map (λ s. s.now) out.entry)) number session.old session.new
+    ensures { Checks (how_in session.old (wanted_in wants.entry)) number session.old session.new
         (D.state desk.old) (D.state desk.new) kept.old.items kept.new.items result }
 {
     kept.reserve(1)?;
+    let read = look(rt, wants.stats);
     let verdict = settle(rt, alloc, gate, session)?;
-    match tell(alloc, desk, session, &verdict, out, number) {
-        Ok(status) => Ok(status),
+    let checked = look(rt, wants.stats);
+    match tell(alloc, desk, session, &verdict, wants, number) {
+        Ok(status) => {
+            let marks = Marks {
+                begun: if number == 0 { wants.begun } else { None },
+                read,
+                checked,
+                told: look(rt, wants.stats),
+            };
+            report(alloc, desk, session, wants.stats, marks);
+            Ok(status)
+        }
         Err(stop) => {
             kept.push_reserved(Kept {
                 check: number,
@@ -63,31 +79,52 @@ fn settle<G: Gate + Sync>(
     Ok(verdict)
 }
 
-/// Leaves the files of the session's last check, which has this number, if there is a prefix for them, and
-/// says its verdict.
+/// Leaves the files of the session's last check, which has this number, if there is a prefix for them, and its
+/// witness, if one is wanted, and says its verdict. What a verdict speaks of stands before it is said.
 fn tell<D: Desk>(
+    alloc: Global,
+    desk: &mut D,
+    session: &Session,
+    verdict: &Verdict,
+    wants: Wants<'_>,
+    number: u64,
+) -> Result<Status, Stop>
+    requires started { (D.state desk.old).started ≡ None }
+    requires found { session.now.found ≡ Some (finding_of verdict.now) }
+    requires open { ListsOpen session.now.net session.now.book.entries verdict.now }
+    ensures { (due : Due) → SaysStatus (wanted_in wants.entry) number
+        (made_in due session.now verdict.now) (D.state desk.old) (D.state desk.new) result }
+{
+    let text = leave_files(alloc, desk, session, verdict, wants.out, number)?;
+    leave_witness(alloc, desk, session.net(), verdict, wants.witness)?;
+    say(desk, text.as_slice())?;
+    Ok(status_of(verdict))
+}
+
+/// Leaves the CNF and the proof of the session's last check, which has this number, if there is a prefix for
+/// them, and gives the text of its verdict.
+fn leave_files<D: Desk>(
     alloc: Global,
     desk: &mut D,
     session: &Session,
     verdict: &Verdict,
     out: Option<&str>,
     number: u64,
-) -> Result<Status, Stop>
+) -> Result<Vec<u8>, Stop>
     requires started { (D.state desk.old).started ≡ None }
     requires found { session.now.found ≡ Some (finding_of verdict.now) }
     requires open { ListsOpen session.now.net session.now.book.entries verdict.now }
-    ensures { (due : Due) → TellsStatus (how_in session.now (option_map (λ s. s.now) out.entry)) number
+    ensures files { (due : Due) → LeavesTextOf (option_map (λ s. s.now) out.entry) number
         (made_in due session.now verdict.now) (D.state desk.old) (D.state desk.new) result }
+    ensures started { IfOk result (λ _. (D.state desk.new).started ≡ None) }
 {
-    let text = match out {
-        None => plain_text(alloc, verdict)?,
+    match out {
+        None => Ok(plain_text(alloc, verdict)?),
         Some(prefix) => match session.write(alloc, desk, prefix, number) {
-            Ok(spans) => text_with_lines(alloc, spans.as_slice(), verdict)?,
-            Err(fault) => return Err(stop_of(fault)),
+            Ok(spans) => Ok(text_with_lines(alloc, spans.as_slice(), verdict)?),
+            Err(fault) => Err(stop_of(fault)),
         },
-    };
-    say(desk, text.as_slice())?;
-    Ok(status_of(verdict))
+    }
 }
 
 /// What ends the program where a check's files can't be left.

@@ -11,6 +11,7 @@ ghost use Rattle.cec_top.specs.Steps.{MakesSession, ReadsBack};
 use crate::kept::Kept;
 use crate::script::run_script;
 use crate::texts::workload_text;
+use crate::wants::Wants;
 use byte_scan::AigerErr;
 use check_session::{Options, Session};
 use command_line::SelfWords;
@@ -18,12 +19,13 @@ use desk_port::{Desk, Gate};
 use endings::{Status, Stop, say};
 use netlist::{Circuit, Net, Unlike};
 use std::alloc::Global;
+use std::rt::Clock;
 use std::sync::Wait;
 use std::thread::Threads;
 
 /// Makes two circuits, says which they are, settles them and says the verdict.
 pub(crate) fn check_own<D: Desk, G: Gate + Sync>(
-    rt: &(impl Threads + Wait + Sync),
+    rt: &(impl Threads + Wait + Clock + Sync),
     alloc: Global,
     desk: &mut D,
     gate: &G,
@@ -43,7 +45,7 @@ pub(crate) fn check_own<D: Desk, G: Gate + Sync>(
 
 /// Says which circuits the session has, settles them and says the verdict.
 fn say_and_settle<D: Desk, G: Gate + Sync>(
-    rt: &(impl Threads + Wait + Sync),
+    rt: &(impl Threads + Wait + Clock + Sync),
     alloc: Global,
     desk: &mut D,
     gate: &G,
@@ -60,7 +62,13 @@ fn say_and_settle<D: Desk, G: Gate + Sync>(
         (StopsSelf (self_texts words) (D.state desk.old) kept.new.items (D.state desk.new)) }
 {
     say_workload(alloc, desk, words, session.net())?;
-    run_script(rt, alloc, desk, gate, session, None, b"", kept)
+    let wants = Wants {
+        out: None,
+        witness: None,
+        stats: false,
+        begun: None,
+    };
+    run_script(rt, alloc, desk, gate, session, wants, b"", kept)
 }
 
 /// Says which circuits were made.

@@ -12,10 +12,13 @@ use crate::lemmas::{lemmas_place, load_lemmas, save_lemmas};
 use crate::own::check_own;
 use crate::reading::{read_script, read_session};
 use crate::script::run_script;
+use crate::stats::look;
+use crate::wants::Wants;
 use command_line::{Asked, CheckWords, Refusal, SelfWords};
 use desk_port::{Desk, Gate, PutErr};
 use endings::{Status, Stop, end, warn};
 use std::alloc::Global;
+use std::rt::Clock;
 use std::sync::Wait;
 use std::thread::Threads;
 
@@ -25,7 +28,7 @@ use std::thread::Threads;
 /// The first argument is the program's name. A fault is warned of as one line before the status is
 /// answered, and refused arguments with the text of `clap`; where the warning fails the status stays.
 pub fn run<D: Desk, G: Gate + Sync>(
-    rt: &(impl Threads + Wait + Sync),
+    rt: &(impl Threads + Wait + Clock + Sync),
     alloc: Global,
     words: &[String],
     desk: &mut D,
@@ -53,7 +56,7 @@ pub fn run<D: Desk, G: Gate + Sync>(
 /// Makes the checks that are asked for of two files' circuits, and warns of what ends them without the last
 /// verdict, or with more than it.
 fn check_files<D: Desk, G: Gate + Sync>(
-    rt: &(impl Threads + Wait + Sync),
+    rt: &(impl Threads + Wait + Clock + Sync),
     alloc: Global,
     desk: &mut D,
     gate: &G,
@@ -74,7 +77,7 @@ fn check_files<D: Desk, G: Gate + Sync>(
 /// and those that the script asks for. Behind them it saves the lemmas of the last one. Nothing is saved behind a
 /// line that is refused, nor where a check isn't told whole.
 fn read_and_check<D: Desk, G: Gate + Sync>(
-    rt: &(impl Threads + Wait + Sync),
+    rt: &(impl Threads + Wait + Clock + Sync),
     alloc: Global,
     desk: &mut D,
     gate: &G,
@@ -88,6 +91,12 @@ fn read_and_check<D: Desk, G: Gate + Sync>(
     ensures err { IfErr result
         (Stops (check_texts words.entry) (D.state desk.old) kept.new.items (D.state desk.new)) }
 {
+    let wants = Wants {
+        out: words.out,
+        witness: words.witness,
+        stats: words.stats,
+        begun: look(rt, words.stats),
+    };
     let mut session = read_session(alloc, desk, words)?;
     let script = read_script(alloc, desk, words.edits)?;
     let place = lemmas_place(words.edits);
@@ -98,7 +107,7 @@ fn read_and_check<D: Desk, G: Gate + Sync>(
         desk,
         gate,
         &mut session,
-        words.out,
+        wants,
         script.as_slice(),
         kept,
     )?;
@@ -126,7 +135,7 @@ fn end_check<D: Desk>(alloc: Global, desk: &mut D, words: CheckWords<'_>, stop: 
 
 /// Makes the check of two circuits that the program makes, and warns of what ends it without a verdict.
 fn check_workload<D: Desk, G: Gate + Sync>(
-    rt: &(impl Threads + Wait + Sync),
+    rt: &(impl Threads + Wait + Clock + Sync),
     alloc: Global,
     desk: &mut D,
     gate: &G,

@@ -1,17 +1,19 @@
-ghost use Rattle.std.specs.Prelude.{◌≡◌, ◌++◌, ◌∷◌, [], None, OnOk, OnErr, option_map};
+ghost use Rattle.std.specs.Prelude.{◌≡◌, ◌++◌, ◌∷◌, [], None, OnOk, OnErr};
 ghost use Rattle.netlist_edits.specs.Script.{script_lines};
 ghost use Rattle.cec_top.specs.Script.{plan_of, turn_of};
-ghost use Rattle.cec_top.specs.Steps.{DoesTurn, KeepsOpen, RunsPlan, StopsAtLine, how_in, opening_in};
+ghost use Rattle.cec_top.specs.Steps.{DoesTurn, KeepsOpen, RunsPlan, StopsAtLine, how_in, opening_in, wanted_in};
 
 use crate::checking::check;
 use crate::kept::Kept;
 use crate::lines::refused_fault;
+use crate::wants::Wants;
 use byte_scan::Scan;
 use check_session::Session;
 use desk_port::{Desk, Gate};
 use endings::{Status, Stop};
 use netlist_edits::{Command, EditErr, read_line};
 use std::alloc::{AllocError, Global};
+use std::rt::Clock;
 use std::sync::Wait;
 use std::thread::Threads;
 
@@ -26,23 +28,23 @@ pub(crate) const SCRIPT_PLACE: usize = 2;
 /// lines which check was the last, so an earlier one's book is copied right before the next check is made,
 /// which goes on from it.
 pub(crate) fn run_script<D: Desk, G: Gate + Sync>(
-    rt: &(impl Threads + Wait + Sync),
+    rt: &(impl Threads + Wait + Clock + Sync),
     alloc: Global,
     desk: &mut D,
     gate: &G,
     session: &mut Session,
-    out: Option<&str>,
+    wants: Wants<'_>,
     script: &[u8],
     kept: &mut Vec<Kept>,
 ) -> Result<Status, Stop>
     requires started { (D.state desk.old).started ≡ None }
     requires unedited { session.old.edits ≡ [] }
     requires empty { kept.old.items ≡ [] }
-    ensures { RunsPlan (how_in session.old (option_map (λ s. s.now) out.entry)) (opening_in session.old)
+    ensures { RunsPlan (how_in session.old (wanted_in wants.entry)) (opening_in session.old)
         (plan_of session.old.net (script_lines script.now))
         (D.state desk.old) (D.state desk.new) kept.new.items result }
 {
-    let mut status = check(rt, alloc, desk, gate, session, out, 0, kept)?;
+    let mut status = check(rt, alloc, desk, gate, session, wants, 0, kept)?;
     let mut number = 0;
     let mut at = 0;
     let mut scan = Scan::new(script);
@@ -53,7 +55,7 @@ pub(crate) fn run_script<D: Desk, G: Gate + Sync>(
             Ok(true) => {
                 keep_open(alloc, session, number, status, kept)?;
                 number += 1;
-                status = check(rt, alloc, desk, gate, session, out, number, kept)?;
+                status = check(rt, alloc, desk, gate, session, wants, number, kept)?;
             }
             Err(fault) => {
                 keep(alloc, session, number, kept)?;

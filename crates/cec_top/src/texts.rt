@@ -134,7 +134,7 @@ fn push_input(text: &mut Vec<u8>, input: &[bool]) -> Result<(), AllocError>
 }
 
 /// Appends an input as digits, input 0 first.
-fn push_digits(text: &mut Vec<u8>, input: &[bool]) -> Result<(), AllocError>
+pub(crate) fn push_digits(text: &mut Vec<u8>, input: &[bool]) -> Result<(), AllocError>
     ensures { OnOk result (text.new.items ≡ text.old.items ++ map digit_of input.now) }
 {
     for bit in input {
@@ -143,7 +143,7 @@ fn push_digits(text: &mut Vec<u8>, input: &[bool]) -> Result<(), AllocError>
     Ok(())
 }
 
-fn digit_of(bit: bool) -> u8
+pub(crate) fn digit_of(bit: bool) -> u8
     ensures { result ≡ digit_of bit }
 {
     if bit { b'1' } else { b'0' }

@@ -15,6 +15,8 @@
 //! apart and the book is reduced, and so swept. `write` then leaves the check's two files: the CNF of the
 //! circuits' miter, and its proof.
 //!
+//! `Session::counts` tells what the last check did, in numbers of which nothing is claimed (`counts`).
+//!
 //! `reduce` takes one circuit, which it sweeps by itself, and gives the circuit that is left where each literal
 //! gives way to its root, with a session that shows the two equal (`reduction`).
 //!
@@ -26,6 +28,7 @@
 //! `session.rt`, then `begin.rt`, `sweep.rt`, `patterns.rt`, `write.rt`, `miter_text.rt` and `reduction.rt`.
 #![tactic(auto)]
 
+pub use counts::Counts;
 pub use options::Options;
 pub use reduction::reduce;
 pub use session::Session;
@@ -33,6 +36,7 @@ pub use verdict::Verdict;
 
 mod admitted;
 mod begin;
+mod counts;
 mod laws;
 mod miter_text;
 mod options;

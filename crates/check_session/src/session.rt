@@ -10,6 +10,7 @@ ghost use Rattle.check_session.specs.Files.{HasSizes, TellsSpans, WritesFiles};
 ghost use Rattle.check_session.specs.Outputs.{finding_of};
 
 use crate::begin::{Past, begin};
+use crate::counts::{Counts, Work, counts_of};
 use crate::options::Options;
 use crate::sweep::{Checked, run};
 use crate::verdict::Verdict;
@@ -41,8 +42,8 @@ fn net_of(alloc: Global, a: Circuit, b: Circuit, by_name: bool) -> Result<Net, U
     }
 }
 
-/// Checks a pair, beginning with what is kept of the check before. Gives what the check leaves, and the
-/// verdict once more.
+/// Checks a pair, beginning with what is kept of the check before. Gives what the check leaves, the verdict once
+/// more, and what the check did.
 fn make_check<T: Threads + Wait + Sync, G: Gate + Sync>(
     rt: &T,
     alloc: Global,
@@ -50,7 +51,7 @@ fn make_check<T: Threads + Wait + Sync, G: Gate + Sync>(
     options: Options,
     gate: &G,
     past: Past,
-) -> Result<(Checked, Verdict), AllocError>
+) -> Result<(Checked, Verdict, Work), AllocError>
     requires range { AreInRange options }
     requires past { IsPastOf net.now options past }
     ensures goes_on { IfOk result (λ r. GoesOn (begun_after net.now options past) r.0.book r.0.pool) }
@@ -59,9 +60,11 @@ fn make_check<T: Threads + Wait + Sync, G: Gate + Sync>(
     ensures copy { IfOk result (λ r. r.1 ≡ r.0.verdict) }
 {
     let (book, pool) = begin(alloc, net, options, past)?;
+    let kept = book.len();
     let checked = run(rt, alloc, net, options, gate, book, pool)?;
     let found = checked.verdict.copied(alloc)?;
-    Ok((checked, found))
+    let work = checked.work.behind(kept);
+    Ok((checked, found, work))
 }
 
 /// Copies the pair as it stands, unless the one of the last check is remembered already.
@@ -94,6 +97,8 @@ pub struct Session {
     last: Option<Net>,
     /// The edits since the last check, in order.
     edits: Vec<Edit>,
+    /// What the last check did.
+    work: Work,
 }
 
 // Written out, so that a drop is one call and not one for each field at each exit of a function.
@@ -107,6 +112,7 @@ impl Drop for Session {
             found: _,
             last: _,
             edits: _,
+            work: _,
         } = self;
     }
 }
@@ -161,6 +167,7 @@ impl Session {
             found: None,
             last: None,
             edits: Vec::new(alloc),
+            work: Work::none(0),
         })
     }
 
@@ -179,6 +186,7 @@ impl Session {
             found: Some(Verdict::Equivalent),
             last: None,
             edits: Vec::new(alloc),
+            work: Work::none(0),
         }
     }
 
@@ -251,10 +259,11 @@ impl Session {
         ensures refused { OnErr result (self.new ≡ opened self.old.net self.old.options) }
     {
         let past = self.part(alloc);
-        let (checked, found) = make_check(rt, alloc, &self.net, self.options, gate, past)?;
+        let (checked, found, work) = make_check(rt, alloc, &self.net, self.options, gate, past)?;
         self.pool = Some(checked.pool);
         self.book = checked.book;
         self.found = Some(found);
+        self.work = work;
         Ok(checked.verdict)
     }
 
@@ -319,6 +328,15 @@ impl Session {
         ensures { result.now ≡ self.now.book }
     {
         &self.book
+    }
+
+    /// What the last check did, in numbers.
+    pub fn counts(&self) -> Counts {
+        let patterns = match &self.pool {
+            Some(pool) => pool.patterns(),
+            None => 0,
+        };
+        counts_of(self.work, patterns, &self.book)
     }
 
     /// Takes the book of the last check out of the session, which keeps an empty one, and counts as not

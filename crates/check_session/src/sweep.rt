@@ -10,6 +10,7 @@ ghost use Rattle.check_session.specs.Check.{AreInRange, IsFound};
 ghost use Rattle.check_session.specs.Pool.{Extends, IsAmongOrJoins, IsFirstApart, IsPoolOf, NoneApart};
 ghost use Rattle.check_session.specs.Sweep.{IsSettledFrom};
 
+use crate::counts::Work;
 use crate::laws::{is_swept, is_within, means};
 use crate::options::Options;
 use crate::patterns::{Difference, difference_in, own_difference};
@@ -33,6 +34,7 @@ pub(crate) struct Checked {
     pub(crate) pool: Pool,
     pub(crate) book: Book,
     pub(crate) verdict: Verdict,
+    pub(crate) work: Work,
 }
 
 /// Checks a pair, beginning with this book and these patterns: what a pattern shows at once, or else what is
@@ -140,6 +142,7 @@ fn verdict_at_once(
 {
     // So the book has no entry of an output that differs.
     entries_are_true(net, &book);
+    let work = Work::none(book.len());
     let mut book = book;
     let Difference { output, input } = difference;
     let told = Listed::of(Vec::from_slice(alloc, input.as_slice())?);
@@ -153,6 +156,7 @@ fn verdict_at_once(
         pool,
         book,
         verdict,
+        work,
     })
 }
 
@@ -174,16 +178,19 @@ fn verdict_of_sweep<T: Threads + Wait + Sync, G: Gate + Sync>(
         → MayBegin net.now options (record { book = old; pool = first }) → Extends first begun.pool
         → IsFound net.now options (record { book = old; pool = first }) (Some c.pool) c.book c.verdict) }
 {
+    let behind_structure = begun.book.len();
     let mut workers = workers(alloc, options.workers)?;
     let (book, pool) = settled(rt, alloc, net, gate, begun, workers.as_mut_slice())?;
     let verdict = Verdict::of(alloc, net, &book)?;
     means(net, &book);
     is_within(net, &book);
     is_swept(net);
+    let work = Work::of(behind_structure, workers.as_slice());
     Ok(Checked {
         pool,
         book,
         verdict,
+        work,
     })
 }
 

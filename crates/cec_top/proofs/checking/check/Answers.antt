@@ -1,25 +1,21 @@
-use Rattle.std.proofs.Common.{ℕ, List, [], ◌∷◌, ◌++◌, Bor, Option, inl, option_map, ap₂, ◌∙◌}
+use Rattle.std.proofs.Common.{List, [], ◌∷◌, ◌++◌, inl, ap₂, ◌∙◌}
 use Rattle.lemma_book.specs.Entry.{Entries}
 use Rattle.cec_top.specs.declared.kept.Kept.{Kept}
-use Rattle.cec_top.specs.Steps.{due_in}
+use Rattle.cec_top.specs.Steps.{due_in, wanted_in}
 use Rattle.cec_top.proofs.CheckLemmas.{told-whole, told-in-part}
 use Rattle.cec_top.proofs.checking.check.Goals as goal
-
--- the prefix's bytes
-abbrev prefix_in : Option (Bor (List ℕ)) → Option (List ℕ)
-prefix_in out = option_map {T = Bor (List ℕ)} {U = List ℕ} (λ s. s.now) out
 
 pub returns-in-Ok : goal.returns-in-Ok
 returns-in-Ok g c =
     let s = c.args.session.now in
-    told-whole s c.settle.new.session (prefix_in c.args.out) c.args.number c.in_ok-verdict.verdict c.in_ok-verdict.ensures.ok
-    (g.D.Desk.state c.args.desk.now) (g.D.Desk.state c.tell.new.desk) c.args.kept.now.items c.reserve.new.self.items
-    c.in-Ok.status c.in_ok-reserve.ensures.items (c.in-Ok.ensures (due_in s))
+    told-whole s c.settle.new.session (wanted_in c.args.wants) c.args.number c.in_ok-verdict.verdict c.in_ok-verdict.ensures.ok
+    (g.D.Desk.state c.args.desk.now) (g.D.Desk.state c.report.new.desk) c.args.kept.now.items c.reserve.new.self.items
+    (g.D.Desk.state c.tell.new.desk) c.in-Ok.status c.in_ok-reserve.ensures.items (c.in-Ok.ensures (due_in s)) c.report.ensures
 
 pub returns : goal.returns
 returns g c =
     let s = c.args.session.now in
-    inl (told-in-part s c.settle.new.session (prefix_in c.args.out) c.args.number c.in_ok-verdict.verdict c.in_ok-verdict.ensures.ok
+    inl (told-in-part s c.settle.new.session (wanted_in c.args.wants) c.args.number c.in_ok-verdict.verdict c.in_ok-verdict.ensures.ok
     (g.D.Desk.state c.args.desk.now) (g.D.Desk.state c.tell.new.desk) c.args.kept.now.items c.push_reserved.new.self.items
     c.in-Err.stop
     (c.push_reserved.ensures.items

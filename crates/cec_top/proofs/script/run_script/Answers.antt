@@ -1,4 +1,4 @@
-use Rattle.std.proofs.Common.{Bool, Ok, ◌≡◌, ◌∙◌, ◌+◌, ◌∷◌, ℕ, List, length, Bor, Option, option_map, ap, sym, subst, refl, arith}
+use Rattle.std.proofs.Common.{Bool, Ok, ◌≡◌, ◌∙◌, ◌+◌, ◌∷◌, ℕ, List, length, ap, sym, subst, refl, arith}
 use Rattle.std.specs.Prelude.{◌⊎◌}
 use Rattle.endings.specs.declared.stop.Stop.{Stop}
 use Rattle.check_session.specs.declared.options.Options.{Options}
@@ -12,39 +12,39 @@ use Rattle.netlist_edits.specs.Script.{script_lines}
 use Rattle.cec_top.specs.declared.kept.Kept.{Kept}
 use Rattle.cec_top.specs.Script.{plan_of, turn_of}
 use Rattle.cec_top.specs.Check.{How, StopsChecks}
-use Rattle.cec_top.specs.Steps.{DoesTurn, NotMade, ToldInPart, ToldWhole, how_in, opening_in}
+use Rattle.cec_top.specs.Steps.{DoesTurn, NotMade, ToldInPart, ToldWhole, Wanted, how_in, opening_in, wanted_in}
 use Rattle.cec_top.proofs.RunLemmas.{Stands, checked-stops, first-stops, line-stops, stands-asked, stands-checked, stands-closed, stands-end, stands-faulty, stands-first, stands-goes, stands-out-before}
 use Rattle.cec_top.proofs.ScanLemmas.{scan-end, scan-next, scan-start}
 use Rattle.cec_top.proofs.script.run_script.Goals as goal
 
+-- what is wanted of checks that are made so
+abbrev wanted : How → Wanted
+wanted how = record { out = how.out; witness = how.witness; stats = how.stats }
+
 -- a session's options are those of the checks
 how-same : (how : How) (s t : State) (number : ℕ) (old new : DeskState) (before after : List Kept) (stop : Stop) → s.options ≡ how.options
-    → ToldInPart (how_in s how.out) number s old new before after stop ⊎ NotMade old new before after stop
+    → ToldInPart (how_in s (wanted how)) number s old new before after stop ⊎ NotMade old new before after stop
     → ToldInPart how number s old new before after stop ⊎ NotMade old new before after stop
 how-same how s t number old new before after stop same w =
-    subst (λ (o : Options). ToldInPart (record { options = o; out = how.out }) number s old new before after stop ⊎ NotMade old new before after stop) same w
+    subst (λ (o : Options). ToldInPart (record { options = o; out = how.out; witness = how.witness; stats = how.stats }) number s old new before after stop ⊎ NotMade old new before after stop) same w
 
 how-whole : (how : How) (s t : State) (number : ℕ) (old new : DeskState) (before after : List Kept) (status : Status) → s.options ≡ how.options
-    → ToldWhole (how_in s how.out) number s t old new before after status → ToldWhole how number s t old new before after status
+    → ToldWhole (how_in s (wanted how)) number s t old new before after status → ToldWhole how number s t old new before after status
 how-whole how s t number old new before after status same w =
-    subst (λ (o : Options). ToldWhole (record { options = o; out = how.out }) number s t old new before after status) same w
-
--- the prefix's bytes
-abbrev prefix_in : Option (Bor (List ℕ)) → Option (List ℕ)
-prefix_in out = option_map {T = Bor (List ℕ)} {U = List ℕ} (λ s. s.now) out
+    subst (λ (o : Options). ToldWhole (record { options = o; out = how.out; witness = how.witness; stats = how.stats }) number s t old new before after status) same w
 
 pub returns-in_err-status : goal.returns-in_err-status
 returns-in_err-status g c =
     let p = err_from_is_err_and c.from_residual.result c.from_residual.ensures.1 in
     let s = c.args.session.now in
     rw (p.1, p.2)
-    (first-stops (how_in s (prefix_in c.args.out)) s (g.D.Desk.state c.args.desk.now) (g.D.Desk.state c.check.new.desk) c.args.kept.now.items
+    (first-stops (how_in s (wanted_in c.args.wants)) s (g.D.Desk.state c.args.desk.now) (g.D.Desk.state c.check.new.desk) c.args.kept.now.items
     c.check.new.kept.items _ (script_lines c.args.script.now) c.requires.unedited c.requires.empty c.in_err-status.ensures)
 
 pub loop-line-init : goal.loop-line-init
 loop-line-init g c =
     let s = c.args.session.now in
-    let how = how_in s (prefix_in c.args.out) in
+    let how = how_in s (wanted_in c.args.wants) in
     let lines = script_lines c.args.script.now in
     let ahead_is = scan-start c.new-scan.result c.args.script.now c.new-scan.ensures.bytes c.new-scan.ensures.at in
     record {
@@ -62,7 +62,7 @@ pub returns-in_err-keep_open-in-Ok-true : goal.returns-in_err-keep_open-in-Ok-tr
 returns-in_err-keep_open-in-Ok-true g c =
     let p = err_from_is_err_and c.from_residual-in_err-keep_open-in-Ok-true.result c.from_residual-in_err-keep_open-in-Ok-true.ensures.1 in
     let s0 = c.args.session.now in
-    let how = how_in s0 (prefix_in c.args.out) in
+    let how = how_in s0 (wanted_in c.args.wants) in
     let plan = plan_of s0.net (script_lines c.args.script.now) in
     let start = g.D.Desk.state c.args.desk.now in
     let l = c.loop-line in
@@ -81,7 +81,7 @@ returns-in_err-keep_open-in-Ok-true g c =
 pub check-requires-in-Ok-true-clause-started : goal.check-requires-in-Ok-true-clause-started
 check-requires-in-Ok-true-clause-started g c κs within =
     let s0 = c.args.session.now in
-    let how = how_in s0 (prefix_in c.args.out) in
+    let how = how_in s0 (wanted_in c.args.wants) in
     let plan = plan_of s0.net (script_lines c.args.script.now) in
     let start = g.D.Desk.state c.args.desk.now in
     let l = c.loop-line in
@@ -93,7 +93,7 @@ pub returns-in_err-status-in-Ok-true : goal.returns-in_err-status-in-Ok-true
 returns-in_err-status-in-Ok-true g c =
     let p = err_from_is_err_and c.from_residual-in_err-status-in-Ok-true.result c.from_residual-in_err-status-in-Ok-true.ensures.1 in
     let s0 = c.args.session.now in
-    let how = how_in s0 (prefix_in c.args.out) in
+    let how = how_in s0 (wanted_in c.args.wants) in
     let plan = plan_of s0.net (script_lines c.args.script.now) in
     let start = g.D.Desk.state c.args.desk.now in
     let l = c.loop-line in
@@ -113,7 +113,7 @@ returns-in_err-status-in-Ok-true g c =
 pub loop-line-preserved-in-Ok-true : goal.loop-line-preserved-in-Ok-true
 loop-line-preserved-in-Ok-true g c =
     let s0 = c.args.session.now in
-    let how = how_in s0 (prefix_in c.args.out) in
+    let how = how_in s0 (wanted_in c.args.wants) in
     let plan = plan_of s0.net (script_lines c.args.script.now) in
     let start = g.D.Desk.state c.args.desk.now in
     let l = c.loop-line in
@@ -140,7 +140,7 @@ loop-line-preserved-in-Ok-true g c =
 pub loop-line-preserved : goal.loop-line-preserved
 loop-line-preserved g c =
     let s0 = c.args.session.now in
-    let how = how_in s0 (prefix_in c.args.out) in
+    let how = how_in s0 (wanted_in c.args.wants) in
     let plan = plan_of s0.net (script_lines c.args.script.now) in
     let start = g.D.Desk.state c.args.desk.now in
     let l = c.loop-line in
@@ -162,7 +162,7 @@ pub returns-in_err-keep-in-Err : goal.returns-in_err-keep-in-Err
 returns-in_err-keep-in-Err g c =
     let p = err_from_is_err_and c.from_residual-in_err-keep-in-Err.result c.from_residual-in_err-keep-in-Err.ensures.1 in
     let s0 = c.args.session.now in
-    let how = how_in s0 (prefix_in c.args.out) in
+    let how = how_in s0 (wanted_in c.args.wants) in
     let plan = plan_of s0.net (script_lines c.args.script.now) in
     let start = g.D.Desk.state c.args.desk.now in
     let l = c.loop-line in
@@ -181,7 +181,7 @@ returns-in_err-keep-in-Err g c =
 pub returns-in-Err : goal.returns-in-Err
 returns-in-Err g c =
     let s0 = c.args.session.now in
-    let how = how_in s0 (prefix_in c.args.out) in
+    let how = how_in s0 (wanted_in c.args.wants) in
     let plan = plan_of s0.net (script_lines c.args.script.now) in
     let start = g.D.Desk.state c.args.desk.now in
     let l = c.loop-line in
@@ -199,7 +199,7 @@ pub returns-in_err-keep : goal.returns-in_err-keep
 returns-in_err-keep g c =
     let p = err_from_is_err_and c.from_residual-in_err-keep.result c.from_residual-in_err-keep.ensures.1 in
     let s0 = c.args.session.now in
-    let how = how_in s0 (prefix_in c.args.out) in
+    let how = how_in s0 (wanted_in c.args.wants) in
     let plan = plan_of s0.net (script_lines c.args.script.now) in
     let start = g.D.Desk.state c.args.desk.now in
     let l = c.loop-line in
@@ -212,7 +212,7 @@ returns-in_err-keep g c =
 pub returns : goal.returns
 returns g c =
     let s0 = c.args.session.now in
-    let how = how_in s0 (prefix_in c.args.out) in
+    let how = how_in s0 (wanted_in c.args.wants) in
     let plan = plan_of s0.net (script_lines c.args.script.now) in
     let start = g.D.Desk.state c.args.desk.now in
     let l = c.loop-line in

@@ -1,0 +1,88 @@
+-- What is warned of a check behind its verdict, where its statistics are asked for.
+use Rattle.std.specs.Prelude.{◌≡◌, ◌⊎◌, ℕ, ◌≤◌, ◌/◌, ◌%◌, Bool, true, false, List, [], ◌∷◌, ◌++◌, codes, decimal, Option, None, Some}
+use Rattle.std.specs.List.{AllByRecursion}
+use Rattle.desk_port.specs.Desk.{DeskState, Rose, followed_by}
+use Rattle.endings.specs.Stops.{IsWarned}
+use Rattle.check_session.specs.declared.counts.Counts.{Counts}
+use Rattle.cec_top.specs.declared.stats.Numbers.{Numbers}
+use Rattle.cec_top.specs.declared.stats.Sizes.{Sizes}
+use Rattle.cec_top.specs.declared.stats.Times.{Times}
+
+-- the line of a number, by its name
+unfoldable pub count_line : List ℕ → ℕ → List ℕ
+count_line name n = codes "cec: " ++ name ++ codes " " ++ decimal n ++ codes "\n"
+
+-- the line of a time that is given in thousandths of a second: its seconds, with three decimals
+unfoldable pub seconds_line : List ℕ → ℕ → List ℕ
+seconds_line name n =
+    codes "cec: " ++ name ++ codes " " ++ decimal (n / 1000) ++ codes "." ++ decimal ((n / 100) % 10) ++ decimal ((n / 10) % 10)
+    ++ decimal (n % 10) ++ codes "\n"
+
+-- which isn't there where the time isn't known
+abbrev pub time_line : List ℕ → Option ℕ → List ℕ
+time_line name None = []
+time_line name (Some n) = seconds_line name n
+
+-- what was checked
+unfoldable pub sizes_text : Sizes → List ℕ
+sizes_text s =
+    count_line (codes "gates_a") s.gates_a ++ count_line (codes "gates_b") s.gates_b
+    ++ count_line (codes "levels_a") s.levels_a ++ count_line (codes "levels_b") s.levels_b
+    ++ count_line (codes "clauses") s.clauses
+
+-- what was merged
+unfoldable pub merges_text : Counts → List ℕ
+merges_text c =
+    count_line (codes "patterns") c.patterns ++ count_line (codes "rounds") c.rounds
+    ++ count_line (codes "kept") c.kept ++ count_line (codes "merges_by_structure") c.by_structure
+    ++ count_line (codes "merges_by_search") c.by_search ++ count_line (codes "merges_by_cone") c.by_cone
+
+-- and what wasn't
+unfoldable pub others_text : Counts → List ℕ
+others_text c =
+    count_line (codes "pairs_apart") c.apart ++ count_line (codes "pairs_open") c.open_pairs
+    ++ count_line (codes "outputs_open") c.open_outputs ++ count_line (codes "steps") c.steps
+
+-- how long that took
+unfoldable pub times_text : Times → List ℕ
+times_text t =
+    time_line (codes "seconds_reading") t.reading ++ time_line (codes "seconds_check") t.checking
+    ++ time_line (codes "seconds_files") t.telling
+
+-- The lines of a check's statistics: these names in this order, each with its number, but for times that aren't known. Nothing is
+-- claimed of the numbers: they are what the program counted.
+abbrev pub stats_text : Numbers → List ℕ
+stats_text n = sizes_text n.sizes ++ merges_text n.counts ++ others_text n.counts ++ times_text n.times
+
+-- The statistics of a check are warned, if they are asked for; where the warning failed, a first part of them, and nothing where
+-- memory ran out for them. Without being asked for, nothing is warned.
+abbrev pub Reports : Bool → DeskState → DeskState → Type 0
+Reports false old new = new ≡ old
+Reports true old new = (new ≡ old) ⊎ ((n : Numbers) × IsWarned old new (stats_text n))
+
+-- ---- behind several checks
+
+-- the statistics of a check, and a first part of them
+abbrev pub IsReport : List ℕ → Type 0
+IsReport text = (n : Numbers) × (text ≡ stats_text n)
+
+abbrev pub IsReportPart : List ℕ → Type 0
+IsReportPart part = (n : Numbers) × ((rest : List ℕ) × (stats_text n ≡ part ++ rest))
+
+-- texts, one after another
+abbrev pub joined : List (List ℕ) → List ℕ
+joined [] = []
+joined (text ∷ texts) = text ++ joined texts
+
+-- What is warned is statistics of checks, one after another, and nothing else. All are whole, unless a warning failed.
+pub record WarnsReports (old new : DeskState) : Type 0 where
+  pub parts : List (List ℕ)
+  pub warned : new.warned ≡ followed_by old.warned (joined parts)
+  pub each : AllByRecursion IsReportPart parts
+  pub whole : AllByRecursion IsReport parts ⊎ Rose old.warn_faults new.warn_faults
+  pub counts : old.warn_faults ≤ new.warn_faults
+
+-- that where statistics are asked for, and else nothing is warned
+abbrev pub WarnsOnly : Bool → DeskState → DeskState → Type 0
+WarnsOnly false old new = (new.warned ≡ old.warned) × (new.warn_faults ≡ old.warn_faults)
+WarnsOnly true old new = WarnsReports old new
