@@ -1,8 +1,8 @@
 #!/usr/bin/env python3
 """How much a reader must believe: the lines of definitions that a promise of docs/MODEL.md's first page reaches.
 
-    tools/believe.py                     the table of MODEL.md: each promise, and EQUIVALENT without the written files
-    tools/believe.py --list IsEquivalent the definitions that it reaches, file by file
+    tools/believe.py                     what MODEL.md says: each promise, EQUIVALENT without the written files, and that of `fraig`
+    tools/believe.py --list IsEquivalent the definitions that it reaches, file by file (IsReducedTo: those of `fraig`)
     tools/believe.py --check             fails where MODEL.md says other numbers
 
 Counted are the definitions of this repository (crates/NAME/specs), each whole, and beside them the types of the code that they
@@ -20,8 +20,12 @@ FILES = ('LeavesFiles', 'RefutesMiter')
 # that are loaded and saved.
 BESIDES = ('KeepsPromise', 'HandsBack', 'Loads', 'opening_text', 'BeginsOn', 'SavesUnder', 'Opening')
 FORMATS = 'SpellsAiger'
+# The page of a reduced circuit, and what it says of the book by which the circuit is reduced.
+REDUCED_HOME = 'cec_top/specs/Reduced'
+REDUCED = 'IsReducedTo'
+BOOK = ('IsLegal', 'IsSwept', 'IsReducedCircuit')
 SAID = ('EQUIVALENT without the written files {}, of which {} are the two forms of AIGER, and with them {}; DIFFERENT {}; '
-        'UNDECIDED {}; VERIFIED {}.')
+        'UNDECIDED {}; VERIFIED {}; EQUIVALENT of `fraig` {}, and without what it says of the book {}.')
 
 NAME = r"[A-Za-z_][\w'-]*"
 SIGNED = re.compile(rf"^(?:(?:abbrev|unfoldable|pub) )*(?:record |data )?(◌\S+◌|{NAME}) *(?::|\(|\{{)")
@@ -149,9 +153,9 @@ def targets(file, body):
     return [f for f in found if f]
 
 
-def reach(files, root, stops=()):
+def reach(files, root, stops=(), home=HOME):
     """Everything that the root reaches, with its lines."""
-    seen, todo = {}, [('def', HOME, root)]
+    seen, todo = {}, [('def', home, root)]
     while todo:
         at = todo.pop()
         if at in seen or at[2] in stops:
@@ -185,17 +189,19 @@ def lines(seen, kind='def'):
 def main(args):
     files = load()
     if args[:1] == ['--list']:
-        if args[1] not in files[HOME].defs:
-            print(f'{args[1]} is no definition of {HOME}')
+        homes = [home for home in (HOME, REDUCED_HOME) if args[1] in files[home].defs]
+        if not homes:
+            print(f'{args[1]} is no definition of {HOME} or {REDUCED_HOME}')
             return 1
-        seen = reach(files, args[1])
+        seen = reach(files, args[1], home=homes[0])
         for kind, where, name in sorted(k for k in seen if seen[k]):
             print(f'{len(seen[(kind, where, name)]):4} {where} {name}')
         return 0
     without = lines(reach(files, 'IsEquivalent', (*FILES, *BESIDES)))
     formats = without - lines(reach(files, 'IsEquivalent', (*FILES, *BESIDES, FORMATS)))
     stops = {'IsEquivalent': BESIDES, 'IsDifferent': BESIDES}
-    said = SAID.format(without, formats, *(lines(reach(files, root, stops.get(root, ()))) for root in PROMISES))
+    reduced = [lines(reach(files, REDUCED, without_these, REDUCED_HOME)) for without_these in ((), BOOK)]
+    said = SAID.format(without, formats, *(lines(reach(files, root, stops.get(root, ()))) for root in PROMISES), *reduced)
     print(said)
     if args[:1] == ['--check']:
         with open(os.path.join(TOP, 'docs', 'MODEL.md'), encoding='utf-8') as f:
