@@ -1,5 +1,6 @@
 mod CutLemmas
 mod FirstsLemmas
+mod CodesLemmas
 mod SaidLemmas
 mod LineLemmas
 mod LoadLemmas

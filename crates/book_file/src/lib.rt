@@ -10,8 +10,8 @@
 //! `s LITERALS ; HINTS` or more, and a line `.`.
 //!
 //! Begin to read with the grammar, `specs/Reading.antt`. Then, as data flows: `parts.rt` (the lines of a text
-//! and the words of a line), `words.rt` (what a word says), `said.rt` (what a line says), `reading.rt`,
-//! `loading.rt`, `writing.rt`, `laws.rt`, and `error.rt`.
+//! and the words of a line), `words.rt` (what a word says), `clause.rt` (the clause of a step's literals),
+//! `said.rt` (what a line says), `reading.rt`, `loading.rt`, `writing.rt`, `laws.rt`, and `error.rt`.
 //!
 //! Definitions: `specs/Reading.antt` (which entries bytes spell, with the first fault) stands on
 //! `specs/Lines.antt` and `specs/Words.antt`; `specs/Loaded.antt` has the loaded book, and `specs/Writing.antt`
@@ -23,6 +23,7 @@ pub use loading::load;
 pub use reading::read;
 pub use writing::print;
 
+mod clause;
 mod error;
 pub mod laws;
 mod loading;

@@ -3,9 +3,10 @@ ghost use Rattle.std.specs.Prelude.{◌≡◌, Some, None, IfOk, IfSome, IfNone}
 ghost use Rattle.std.specs.Option.{option_map};
 ghost use Rattle.book_file.specs.Lines.{said_in, said_by, is_header, literals_in, names_in, step_in, step_of, ends_in, merge_in, out_in, header_in};
 
+use crate::clause::clause_of;
 use crate::parts::Words;
 use crate::words::{index_in, literal_in, name_in, node_in};
-use lits::{Clause, ClauseErr, Listed, Lit, Node, Ref, Step};
+use lits::{Listed, Lit, Node, Ref, Step};
 use std::alloc::{AllocError, Global};
 
 /// What a line of a lemma file says.
@@ -156,16 +157,11 @@ fn names_in(alloc: Global, words: Words) -> Result<Option<Vec<Ref>>, AllocError>
 fn step_of(alloc: Global, lits: &[Lit], names: Vec<Ref>) -> Result<Option<Step>, AllocError>
     ensures { IfOk result (λ step. step ≡ step_of lits.now names.items) }
 {
-    let clause = match Clause::of(alloc, lits) {
-        Ok(clause) => clause,
-        Err(ClauseErr::Tautology) => return Ok(None),
-        Err(ClauseErr::NoMemory) => return Err(AllocError),
-    };
-    if clause.lits().len() < lits.len() {
-        return Ok(None);
+    match clause_of(alloc, lits)? {
+        Some(clause) => {
+            let hints = Listed::of(names);
+            Ok(Some(Step { clause, hints }))
+        }
+        None => Ok(None),
     }
-    Ok(Some(Step {
-        clause,
-        hints: Listed::of(names),
-    }))
 }

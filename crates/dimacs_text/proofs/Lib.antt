@@ -1,5 +1,6 @@
 mod LineLemmas
 mod FirstsLemmas
 mod ClauseLemmas
+mod DistinctLemmas
 mod EntryLemmas
 mod TextLemmas

@@ -4,10 +4,11 @@ ghost use Rattle.dimacs_text.specs.Words.{words_left};
 ghost use Rattle.dimacs_text.specs.Reading.{entry_in, entries_in, clauses_in, formula_of, Gives};
 
 use crate::cnf::Cnf;
+use crate::distinct::distinct;
 use crate::error::CnfErr;
 use crate::header::Header;
 use crate::words::{Word, Words};
-use lits::{Dim, Listed, LiteralSet};
+use lits::{Dim, Listed};
 use std::alloc::Global;
 use tokens::number_in;
 
@@ -57,8 +58,8 @@ impl Clauses {
         match entry {
             Some(literal) => self.open.push(literal)?,
             None => {
-                let distinct = LiteralSet::of(alloc, self.open.as_slice())?;
-                self.ended.push(Listed::of(distinct.into_vec()))?;
+                let literals = distinct(alloc, self.open.as_slice())?;
+                self.ended.push(Listed::of(literals))?;
                 self.open.clear();
             }
         }

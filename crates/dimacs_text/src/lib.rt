@@ -6,7 +6,8 @@
 //! another. The law says that what is written is read back.
 //!
 //! Begin to read at `cnf.rt` and with the grammar, `specs/Reading.antt`. Then, as data flows: `words.rt` (the
-//! words of a text, without comments), `header.rt`, `clauses.rt`, `writing.rt`, `laws.rt`, and `error.rt`.
+//! words of a text, without comments), `header.rt`, `clauses.rt`, `distinct.rt`, `writing.rt`, `laws.rt`, and
+//! `error.rt`.
 //!
 //! Definitions: `specs/Reading.antt` (the grammar, with the first fault of a text that isn't in it) stands on
 //! `specs/Words.antt` (comments, and the words of a text); `specs/CnfText.antt` has the one text of each list
@@ -20,6 +21,7 @@ pub use writing::{CnfText, print};
 
 mod clauses;
 mod cnf;
+mod distinct;
 mod error;
 mod header;
 mod laws;
