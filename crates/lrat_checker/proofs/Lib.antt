@@ -1,5 +1,6 @@
 mod LiveLemmas
 mod VerdictLemmas
+mod TextLemmas
 mod RenamedSteps
 mod RenamedVerdicts
 mod Numberings

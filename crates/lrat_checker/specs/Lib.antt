@@ -1,3 +1,4 @@
 pub mod Verdict
+pub mod Text
 pub mod Live
 pub mod Renamed

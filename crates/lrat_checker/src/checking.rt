@@ -6,7 +6,7 @@ ghost use Rattle.lrat_text.specs.Derivation.{adds_empty, formula_live};
 ghost use Rattle.lrat_checker.specs.Live.{clauses_of};
 ghost use Rattle.lrat_checker.specs.Verdict.{IsVerdict};
 
-use crate::extent::is_dense;
+use crate::extent::Extent;
 use crate::judging::fault_over;
 use crate::live::LiveClauses;
 use crate::renumber::renumbered;
@@ -34,7 +34,7 @@ fn judge_by_size(alloc: Global, cnf: &Cnf, lines: &[Line]) -> Result<Verdict, Al
     ensures { IfOk result (IsVerdict cnf.now.clauses lines.now) }
 {
     let formula = cnf.clauses.as_slice();
-    if is_dense(cnf, lines) {
+    if Extent::of_lines(cnf, lines).is_dense() {
         judge(alloc, formula, lines)
     } else {
         judge_renumbered(alloc, formula, lines)
@@ -93,7 +93,7 @@ fn judge_all<'a>(
 }
 
 /// Whether the step adds the empty clause, with which a refutation ends.
-fn adds_empty(step: &LratStep) -> bool
+pub(crate) fn adds_empty(step: &LratStep) -> bool
     ensures { result ≡ adds_empty step.now }
 {
     match step {

@@ -1,18 +1,14 @@
 -- The CNF and then the proof are read, and what is found in them.
-use Rattle.std.proofs.Common.{◌≡◌, ℕ, inl, inr, List, [], ◌∷◌, length, Err, Ok, ap, ◌∙◌, subst, refl, sym}
-use Rattle.std.specs.Global.{Vec}
+use Rattle.std.proofs.Common.{◌≡◌, ℕ, inl, inr, List, [], ◌∷◌, length, Err, Ok, ap, ◌∙◌, subst, refl}
 use Rattle.lits.specs.Assignment.{IsSatisfiable}
 use Rattle.lits.specs.Same.{opposite_dim}
 use Rattle.desk_port.specs.Desk.{DeskState, NoCountFalls, after_read, after_say}
 use Rattle.dimacs_text.specs.declared.cnf.Cnf.{Cnf}
 use Rattle.dimacs_text.specs.Reading.{SpellsCnf}
-use Rattle.lrat_text.specs.declared.step.Line.{Line}
-use Rattle.lrat_text.specs.Reading.{SpellsLrat}
 use Rattle.lrat_checker.specs.declared.verdict.Verdict.{Verdict}
 use Rattle.lrat_checker.specs.declared.verdict.Verdict.TheVariants.{Refuted}
-use Rattle.lrat_checker.specs.Verdict.{IsVerdict}
+use Rattle.lrat_checker.specs.Text.{IsVerdictOfText}
 use Rattle.endings.specs.declared.stop.Stop.{Stop}
-use Rattle.endings.specs.declared.stop.Stop.TheVariants.{OutOfMemory}
 use Rattle.endings.specs.Reading.{ReadsAs, StopsAt, after_reads}
 use Rattle.endings.specs.Writing.{Leaves}
 use Rattle.lrat_run.specs.Texts.{verdict_line}
@@ -25,14 +21,14 @@ use Rattle.endings.specs.declared.status.Status.TheVariants as status
 use Rattle.endings.proofs.Facts.{IsOfStop, warned-status, falls-then, falls-reads, falls-read-all, falls-leaves, falls-warns}
 
 -- the CNF is read
-module _ (cnf proof : List ℕ) (old mid : DeskState) (formula : Cnf) (m : ℕ) (count : m ≡ length formula.clauses)
+module _ (cnf proof : List ℕ) (old mid : DeskState) (formula : Cnf)
     (first : ReadsAs SpellsCnf 0 (cnf_input cnf) [] old mid (Ok formula)) where
-  counted : clauses_in (first.0.0 ∷ []) ≡ m
-  counted = ap clauses_of first.0.3 ∙ sym count
+  counted : clauses_in (first.0.0 ∷ []) ≡ length formula.clauses
+  counted = ap clauses_of first.0.3
 
-  -- the proof isn't read
+  -- the proof has no verdict
   pub stops-proof : (new : DeskState) (stop : Stop)
-      → ((earlier : List (List ℕ)) → clauses_in earlier ≡ m → StopsAt 1 (proof_input proof) earlier mid new stop)
+      → ((earlier : List (List ℕ)) → clauses_in earlier ≡ length formula.clauses → StopsAt 1 (proof_input proof) earlier mid new stop)
       → Stops cnf proof old new stop
   stops-proof new stop stops = inl (inr (
     first.0.0,
@@ -43,13 +39,13 @@ module _ (cnf proof : List ℕ) (old mid : DeskState) (formula : Cnf) (m : ℕ) 
         (stops (first.0.0 ∷ []) counted)),
   ))
 
-  -- it is read too
-  module _ (read : DeskState) (lines : Vec Line)
-      (reads : (earlier : List (List ℕ)) → clauses_in earlier ≡ m
-      → ReadsAs (λ bytes lines. SpellsLrat m bytes lines.items) 1 (proof_input proof) earlier mid read (Ok lines)) where
-    second : ReadsAs (λ bytes lines. SpellsLrat m bytes lines.items) 1 (proof_input proof) (first.0.0 ∷ []) old (after_read old proof) (Ok lines)
+  -- it has this one
+  module _ (read : DeskState) (verdict : Verdict)
+      (reads : (earlier : List (List ℕ)) → clauses_in earlier ≡ length formula.clauses
+      → ReadsAs (IsVerdictOfText formula.clauses) 1 (proof_input proof) earlier mid read (Ok verdict)) where
+    second : ReadsAs (IsVerdictOfText formula.clauses) 1 (proof_input proof) (first.0.0 ∷ []) old (after_read old proof) (Ok verdict)
     second = (
-      (subst (λ (s : DeskState). ReadsAs (λ bytes lines. SpellsLrat m bytes lines.items) 1 (proof_input proof) (first.0.0 ∷ []) s read (Ok lines)) first.1
+      (subst (λ (s : DeskState). ReadsAs (IsVerdictOfText formula.clauses) 1 (proof_input proof) (first.0.0 ∷ []) s read (Ok verdict)) first.1
           (reads (first.0.0 ∷ []) counted)).0,
       refl,
     )
@@ -57,39 +53,34 @@ module _ (cnf proof : List ℕ) (old mid : DeskState) (formula : Cnf) (m : ℕ) 
     both_read : read ≡ after_reads old (inputs_of cnf proof)
     both_read = (reads (first.0.0 ∷ []) counted).1 ∙ ap (λ (s : DeskState). after_read s proof) first.1
 
-    pub runs-out : (new : DeskState) → new ≡ read → Stops cnf proof old new OutOfMemory
-    runs-out new same = inl (inr (first.0.0, first.0.1, first.0.2, inl (inr (same ∙ both_read))))
+    judged : IsJudged cnf proof old verdict
+    judged = record {
+      cnf_bytes = first.0.0;
+      proof_bytes = second.0.0;
+      formula = formula;
+      lines = second.0.3.lines;
+      cnf_is = first.0.1;
+      proof_is = second.0.1;
+      spells_formula = first.0.3;
+      spells_lines = second.0.3.spells;
+      right = second.0.3.right;
+    }
 
-    -- and judged
-    module _ (verdict : Verdict) (right : IsVerdict formula.clauses lines.items verdict) where
-      judged : IsJudged cnf proof old verdict
-      judged = record {
-        cnf_bytes = first.0.0;
-        proof_bytes = second.0.0;
-        formula = formula;
-        lines = lines.items;
-        cnf_is = first.0.1;
-        proof_is = second.0.1;
-        spells_formula = first.0.3;
-        spells_lines = subst (λ (n : ℕ). SpellsLrat n second.0.0 lines.items) count second.0.3;
-        right = right;
-      }
+    pub said : (new : DeskState) → (verdict ≡ Refuted → ¬ IsSatisfiable opposite_dim formula.clauses)
+        → new ≡ after_say read (verdict_line verdict) → Says cnf proof old new verdict
+    unfolding judged
+    said new sound says = record {
+      judged = judged;
+      sound = sound;
+      says = says ∙ ap (λ (s : DeskState). after_say s (verdict_line verdict)) both_read;
+    }
 
-      pub said : (new : DeskState) → (verdict ≡ Refuted → ¬ IsSatisfiable opposite_dim formula.clauses)
-          → new ≡ after_say read (verdict_line verdict) → Says cnf proof old new verdict
-      unfolding judged
-      said new sound says = record {
-        judged = judged;
-        sound = sound;
-        says = says ∙ ap (λ (s : DeskState). after_say s (verdict_line verdict)) both_read;
-      }
-
-      pub unsaid : (new : DeskState) (stop : Stop) → Leaves [] (verdict_line verdict) read new (Err stop) → Stops cnf proof old new stop
-      unsaid new stop leaves = inr (record {
-        verdict = verdict;
-        judged = judged;
-        leaves = subst (λ (s : DeskState). Leaves [] (verdict_line verdict) s new (Err stop)) both_read leaves;
-      })
+    pub unsaid : (new : DeskState) (stop : Stop) → Leaves [] (verdict_line verdict) read new (Err stop) → Stops cnf proof old new stop
+    unsaid new stop leaves = inr (record {
+      verdict = verdict;
+      judged = judged;
+      leaves = subst (λ (s : DeskState). Leaves [] (verdict_line verdict) s new (Err stop)) both_read leaves;
+    })
 
 -- a refutation that is said verifies
 pub verifies : (cnf proof : List ℕ) (old new : DeskState) → Says cnf proof old new Refuted → Verifies cnf proof old new

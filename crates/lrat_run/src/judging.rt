@@ -2,7 +2,7 @@ ghost use Rattle.endings.specs.Writing.{Says};
 ghost use Rattle.lrat_run.specs.Answers.{Judges};
 ghost use Rattle.lrat_run.specs.Texts.{verdict_line};
 
-use crate::reading::{read_formula, read_lines};
+use crate::reading::{judge_proof, read_formula};
 use crate::texts::line_of_verdict;
 use desk_port::Desk;
 use endings::{Stop, say};
@@ -17,7 +17,7 @@ fn say_verdict<D: Desk>(alloc: Global, desk: &mut D, verdict: Verdict) -> Result
     say(desk, line.as_bytes())
 }
 
-/// Reads the formula, then the proof, checks it and says the verdict.
+/// Reads the formula, then the proof, which is judged while it is read, and says the verdict.
 pub(crate) fn judge<D: Desk>(
     alloc: Global,
     desk: &mut D,
@@ -27,8 +27,7 @@ pub(crate) fn judge<D: Desk>(
     ensures { Judges cnf.now proof.now (D.state desk.old) (D.state desk.new) result }
 {
     let formula = read_formula(alloc, desk, cnf)?;
-    let lines = read_lines(alloc, desk, proof, formula.clauses.len() as u64)?;
-    let verdict = lrat_checker::check(alloc, &formula, lines.as_slice())?;
+    let verdict = judge_proof(alloc, desk, proof, &formula)?;
     say_verdict(alloc, desk, verdict)?;
     Ok(verdict)
 }

@@ -1,6 +1,8 @@
-ghost use Rattle.std.specs.Prelude.{◌≡◌, ℕ, List, []};
+ghost use Rattle.std.specs.Prelude.{◌≡◌, ℕ, List, [], length, IfOk};
+ghost use Rattle.lits.specs.Assignment.{IsSatisfiable};
+ghost use Rattle.lits.specs.Same.{opposite_dim};
 ghost use Rattle.dimacs_text.specs.Reading.{SpellsCnf};
-ghost use Rattle.lrat_text.specs.Reading.{SpellsLrat};
+ghost use Rattle.lrat_checker.specs.Text.{IsVerdictOfText};
 ghost use Rattle.endings.specs.Reading.{ReadsAs};
 ghost use Rattle.lrat_run.specs.Files.{clauses_in, cnf_input, proof_input};
 
@@ -8,7 +10,8 @@ use crate::texts::{cnf_fault, proof_fault};
 use desk_port::Desk;
 use dimacs_text::{Cnf, CnfErr};
 use endings::{Stop, read_file};
-use lrat_text::{Line, LratErr};
+use lrat_checker::{Verdict, check_text};
+use lrat_text::LratErr;
 use std::alloc::Global;
 
 /// The formula that the CNF's file spells.
@@ -23,20 +26,22 @@ pub(crate) fn read_formula<D: Desk>(alloc: Global, desk: &mut D, name: &str) -> 
     }
 }
 
-/// The lines that the proof's file spells, where the formula has `m` clauses.
-pub(crate) fn read_lines<D: Desk>(
+/// The verdict on the proof that the file holds, for this formula. No list of its lines is made.
+pub(crate) fn judge_proof<D: Desk>(
     alloc: Global,
     desk: &mut D,
     name: &str,
-    m: u64,
-) -> Result<Vec<Line>, Stop>
-    ensures { (earlier : List (List ℕ)) → clauses_in earlier ≡ m →
-        ReadsAs (λ bytes lines. SpellsLrat m bytes lines.items) 1 (proof_input name.now) earlier
+    formula: &Cnf,
+) -> Result<Verdict, Stop>
+    ensures verdict { (earlier : List (List ℕ)) → clauses_in earlier ≡ length formula.now.clauses →
+        ReadsAs (IsVerdictOfText formula.now.clauses) 1 (proof_input name.now) earlier
         (D.state desk.old) (D.state desk.new) result }
+    ensures unsatisfiable { IfOk result (λ v. v ≡ Verdict.Refuted →
+        ¬ IsSatisfiable opposite_dim formula.now.clauses) }
 {
     let bytes = read_file(alloc, desk, name, 1)?;
-    match lrat_text::read(alloc, bytes.as_slice(), m) {
-        Ok(lines) => Ok(lines),
+    match check_text(alloc, formula, bytes.as_slice()) {
+        Ok(verdict) => Ok(verdict),
         Err(LratErr::NoMemory) => Err(Stop::OutOfMemory),
         Err(fault) => Err(Stop::BadFile(1, proof_fault(alloc, fault)?)),
     }

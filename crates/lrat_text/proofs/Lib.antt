@@ -1,3 +1,4 @@
+pub mod Facts
 mod PartLemmas
 mod SplitLemmas
 mod TextLemmas

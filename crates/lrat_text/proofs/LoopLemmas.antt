@@ -1,77 +1,67 @@
 -- The steps of a text, line by line as they are read.
-use Rattle.std.proofs.Common.{◌≡◌, ℕ, ◌+◌, List, [], ◌∷◌, ◌++◌, Option, Some, None, Result, Ok, Err, refl, sym, ap, ◌∙◌, inl, inr, append-nil, append_assoc}
+use Rattle.std.proofs.Common.{◌≡◌, ℕ, ◌+◌, List, [], ◌∷◌, ◌++◌, Option, Some, None, Result, Ok, Err, length, length-drop, refl, sym, ap, ◌∙◌, inl, inr, append-nil, append_assoc, subst, arith}
 use Rattle.byte_scan.specs.Scanning.{Place, ahead}
 use Rattle.tokens.specs.Reading.{◌>>=◌}
-use Rattle.tokens.specs.Words.{lines_in}
 use Rattle.tokens.proofs.Facts.{ReadsLine, gives-fault}
 use Rattle.lrat_text.specs.declared.error.LratErr.{LratErr}
 use Rattle.lrat_text.specs.declared.step.Line.{Line}
-use Rattle.lrat_text.specs.declared.step.LratStep.{LratStep}
-use Rattle.lrat_text.specs.Reading.{step_of, words_in, id_behind, with_step, steps_from, steps_in, is_refusal, Gives}
+use Rattle.lrat_text.specs.Reading.{is_refusal, Gives}
+use Rattle.lrat_text.specs.Lines.{Rest, steps_left, in_front, GivesNext, IsNextLine}
 
--- steps that were read before
-abbrev pub with_front : List Line → Result (List Line) LratErr → Result (List Line) LratErr
+-- ---- one line more
+
+-- a scan that reads a line stands behind it
+pub next-line : (p q : Place) (line : List ℕ) (behind last : ℕ) → ReadsLine p q line
+    → IsNextLine line (record { behind = behind; last = last; bytes = ahead p }) (record { behind = behind + 1; last = last; bytes = ahead q })
+next-line p q line behind last r = record {
+  behind = refl;
+  last = refl;
+  fewer = let same = ap (λ (t : List ℕ). length t) r.whole in omega (arith, length-drop p.at p.bytes, length-drop q.at q.bytes, r.further, r.within, same);
+  lines = elim r.lines [
+    | inl (only, end) ↦ inl (only, end)
+    | inr (others, next) ↦ inr others
+  ];
+}
+
+-- ---- lines that were read before
+
+pub with_front : List Line → Result (List Line) LratErr → Result (List Line) LratErr
 with_front lines read = read >>= λ more. Ok (lines ++ more)
 
--- the text has these steps, and then those of what is left, whose first line is line `at`
-abbrev pub ReadTo : ℕ → List ℕ → List Line → ℕ → ℕ → List ℕ → Type 0
-ReadTo m text lines at last left =
-    steps_in m text ≡ with_front lines (steps_from at last (lines_in left))
+-- none
+pub front-nothing : (read : Result (List Line) LratErr) → read ≡ with_front [] read
+unfolding with_front
+front-nothing (Ok more) = refl
+front-nothing (Err d) = refl
 
--- the steps of a text are those of its first line and of what stands behind that
-steps_from-line : (at last : ℕ) (p q : Place) (line : List ℕ) → ReadsLine p q line
-    → steps_from at last (lines_in (ahead p))
-    ≡ (step_of at last (words_in line) >>= λ step. steps_from (at + 1) (id_behind last step)
-    (lines_in (ahead q)) >>= λ steps. Ok (with_step at step steps))
-steps_from-line at last p q line r = elim r.lines [
-  | inl (only, end) ↦ rw (only, end) refl
-  | inr (others, next) ↦ rw others refl
-]
+-- one more
+pub front-more : (lines : List Line) (line : Line) (read : Result (List Line) LratErr)
+    → with_front lines (in_front line read) ≡ with_front (lines ++ line ∷ []) read
+unfolding with_front
+front-more lines line (Ok more) = ap (λ (l : List Line). Ok l) (sym (append_assoc lines (line ∷ []) more))
+front-more lines line (Err d) = refl
 
-module _ (m : ℕ) (text : List ℕ) (lines : List Line) (at last : ℕ) (p q : Place)
-    (line : List ℕ) where
-  -- a line that says a step, or nothing
-  read-line : ReadsLine p q line → (step : Option LratStep)
-      → step_of at last (words_in line) ≡ Ok step
-      → ReadTo m text lines at last (ahead p)
-      → ReadTo m text (lines ++ with_step at step []) (at + 1) (id_behind last step) (ahead q)
-  read-line r step e so_far =
-      so_far
-      ∙ ap (with_front lines) (steps_from-line at last p q line r ∙ rw e refl)
-      ∙ joined step (steps_from (at + 1) (id_behind last step) (lines_in (ahead q)))
-    where
-      joined : (said : Option LratStep) (read : Result (List Line) LratErr)
-          → with_front lines (read >>= λ steps. Ok (with_step at said steps)) ≡ with_front
-          (lines ++ with_step at said []) read
-      joined said (Err d) = refl
-      joined None (Ok more) = ap (λ (l : List Line). Ok (l ++ more)) (sym (append-nil lines))
-      joined (Some found) (Ok more) =
-          ap (λ (l : List Line). Ok l)
-          (sym (append_assoc lines (record { at = at; step = found } ∷ []) more))
+-- all
+pub front-all : (lines : List Line) → with_front lines (Ok []) ≡ Ok lines
+unfolding with_front
+front-all lines = ap (λ (l : List Line). Ok l) (append-nil lines)
 
-  pub read-step : ReadsLine p q line → (step : LratStep)
-      → step_of at last (words_in line) ≡ Ok (Some step)
-      → ReadTo m text lines at last (ahead p)
-      → ReadTo m text (lines ++ record { at = at; step = step } ∷ []) (at + 1)
-      (id_behind last (Some step)) (ahead q)
-  read-step r step e so_far = read-line r (Some step) e so_far
+-- all, and others behind them
+pub front-rest : (lines more : List Line) → with_front lines (Ok more) ≡ Ok (lines ++ more)
+unfolding with_front
+front-rest lines more = refl
 
-  pub read-blank : ReadsLine p q line → step_of at last (words_in line) ≡ Ok None
-      → ReadTo m text lines at last (ahead p) → ReadTo m text lines (at + 1) last (ahead q)
-  read-blank r e so_far =
-      read-line r None e so_far
-      ∙ ap (λ (l : List Line). with_front l (steps_from (at + 1) last (lines_in (ahead q))))
-      (append-nil lines)
+-- what is left has a fault
+pub front-fault : (lines : List Line) (whole read : Result (List Line) LratErr) (d : LratErr)
+    → whole ≡ with_front lines read → Gives (Err d) read → Gives (Err d) whole
+unfolding with_front
+front-fault lines whole read d e = gives-fault is_refusal d read whole (λ f. e ∙ ap (with_front lines) f)
 
-  -- a line with a fault
-  pub read-fault : ReadsLine p q line → (d : LratErr)
-      → Gives (Err d) (step_of at last (words_in line))
-      → ReadTo m text lines at last (ahead p) → Gives (Err d) (steps_in m text)
-  read-fault r d gives so_far =
-      gives-fault is_refusal d (step_of at last (words_in line)) (steps_in m text) told gives
-    where
-      told : step_of at last (words_in line) ≡ Err d → steps_in m text ≡ Err d
-      told e =
-          let fault : steps_from at last (lines_in (ahead p)) ≡ Err d =
-          steps_from-line at last p q line r ∙ rw e refl in
-          so_far ∙ ap (with_front lines) fault
+-- ---- what the next line is
+
+pub next-some : (found : Option Line) (line : Line) (old new : Rest) → found ≡ Some line → GivesNext (Ok found) old new
+    → steps_left old ≡ in_front line (steps_left new)
+next-some found line old new is gives = (subst (λ (f : Option Line). GivesNext (Ok f) old new) is gives).0
+
+pub next-none : (found : Option Line) (old new : Rest) → found ≡ None → GivesNext (Ok found) old new → steps_left old ≡ Ok []
+next-none found old new is gives = (subst (λ (f : Option Line). GivesNext (Ok f) old new) is gives).0

@@ -1,36 +1,23 @@
 ghost use Rattle.std.specs.Prelude.{◌≡◌};
 ghost use Rattle.lrat_text.specs.Steps.{id_after};
-ghost use Rattle.lrat_text.specs.Reading.{addition_in, deletion_in, step_of, steps_in, words_in, listed, Gives};
+ghost use Rattle.lrat_text.specs.Reading.{addition_in, deletion_in, step_of, words_in, Gives};
 ghost use Rattle.lrat_text.specs.Parts.{addition_of, deletion_of};
 
 use crate::error::LratErr;
 use crate::parts::{Parts, Place};
-use crate::step::{Line, LratStep};
-use byte_scan::{NUMBER_LIMIT, Scan};
+use crate::step::LratStep;
+use byte_scan::NUMBER_LIMIT;
 use lits::Listed;
 use std::alloc::Global;
 use tokens::{Number, Space, first_word, number_in};
 
-/// Reads a proof text, for a formula of `m` clauses. Lines are ended by LF or by the end of the bytes.
-pub fn read(alloc: Global, bytes: &[u8], m: u64) -> Result<Vec<Line>, LratErr>
-    ensures { Gives (listed result) (steps_in m bytes.now) }
-{
-    let mut lines = Vec::new(alloc);
-    let mut scan = Scan::new(bytes);
-    let mut at = 0;
-    let mut last = m;
-    while let Some(line) = scan.line() {
-        at += 1;
-        if let Some(step) = step_of(alloc, at, last, line)? {
-            last = id_after(last, &step);
-            lines.push(Line { at, step })?;
-        }
-    }
-    Ok(lines)
-}
-
 /// The step that line `at` says, if it says one; the additions so far have ids up to `last`.
-fn step_of(alloc: Global, at: u64, last: u64, line: &[u8]) -> Result<Option<LratStep>, LratErr>
+pub(crate) fn step_of(
+    alloc: Global,
+    at: u64,
+    last: u64,
+    line: &[u8],
+) -> Result<Option<LratStep>, LratErr>
     ensures { Gives result (step_of at last (words_in line.now)) }
 {
     let Some((first, rest)) = first_word::<Space>(line) else {
@@ -102,7 +89,7 @@ fn deletion_of(at: u64, parts: Parts) -> Result<LratStep, LratErr>
 }
 
 /// The id of the last addition behind the step, `last` being that before it.
-fn id_after(last: u64, step: &LratStep) -> u64
+pub(crate) fn id_after(last: u64, step: &LratStep) -> u64
     ensures { result ≡ id_after last step.now }
 {
     match step {

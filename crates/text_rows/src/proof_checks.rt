@@ -2,8 +2,8 @@ use crate::checks::check as expect;
 use Want::{Bad, NoEmpty, Refuted};
 use dimacs_text::Cnf;
 use lits::{Dim, Listed};
-use lrat_checker::{Verdict, check};
-use lrat_text::{Line, LratStep};
+use lrat_checker::{Verdict, check, check_text};
+use lrat_text::{Line, LratErr, LratStep};
 use std::alloc::{AllocError, Global};
 use std::slice;
 use std::test::*;
@@ -58,7 +58,7 @@ fn verdict(alloc: Global, formula: &[u8], proof: &str) -> Option<Verdict> {
 /// A formula, a proof text, and what the checker should say.
 type Row = (&'static [u8], &'static str, Want);
 
-static CHECKS: [Row; 35] = [
+static CHECKS: [Row; 37] = [
     (b"p cnf 1 2\n1 0\n0\n", "3 0 2 0\n", Refuted),
     (WITH_EMPTY, "3 0 2 0\n", Refuted),
     // Proofs that were written by hand: whole, with a hint that is doubled, cut, and with a deletion.
@@ -157,6 +157,17 @@ static CHECKS: [Row; 35] = [
         Refuted,
     ),
     (FAR_NEIGHBOURS, "3 0 1 2 0\n", Bad(1, 0, Why::NotFalse)),
+    // The first great variable behind some lines.
+    (
+        ALL_PAIRS,
+        "5 2 0 1 2 0\n6 2000000000 2 0 5 0\n7 0 5 3 4 0\n",
+        Refuted,
+    ),
+    (
+        ALL_PAIRS,
+        "5 2 0 1 2 0\n5 d 5 0\n6 2000000000 2 0 5 0\n",
+        Bad(3, 1, Why::NoClause),
+    ),
 ];
 
 #[test]
@@ -164,6 +175,59 @@ fn lrat_check(rt: HostRuntime) {
     for (formula, proof, want) in &CHECKS {
         let found = verdict(rt.alloc(), formula, proof);
         expect(&rt, proof, found == Some(verdict_of(want)));
+    }
+}
+
+/// What the checker says of a formula and a proof text as it reads that, where the formula can be read.
+fn verdict_of_text(alloc: Global, formula: &[u8], proof: &str) -> Option<Result<Verdict, LratErr>> {
+    let cnf = dimacs_text::read(alloc, formula).ok()?;
+    Some(check_text(alloc, &cnf, proof.as_bytes()))
+}
+
+#[test]
+fn lrat_check_as_it_is_read(rt: HostRuntime) {
+    for (formula, proof, want) in &CHECKS {
+        let found = verdict_of_text(rt.alloc(), formula, proof);
+        expect(&rt, proof, found == Some(Ok(verdict_of(want))));
+    }
+}
+
+/// A formula, a text with a fault of form, and that fault.
+type FaultRow = (&'static [u8], &'static str, LratErr);
+
+static FAULTS: [FaultRow; 9] = [
+    // Behind a line that is no step, at once and further on.
+    (ALL_PAIRS, "5 2 0 9 0\n6 x 0\n", LratErr::BadNumber(2)),
+    (ALL_PAIRS, "5 2 0 9 0\n6 0 -5 0\n", LratErr::Rat(2)),
+    (
+        ALL_PAIRS,
+        "5 2 0 9 0\n\n6 2 0 1 2 0\n7 2 0 1\n",
+        LratErr::Truncated(4),
+    ),
+    (
+        ALL_PAIRS,
+        "5 2 0 1 2 0\n6 0 9 0\n6 0 5 3 4 0\n",
+        LratErr::Order(3),
+    ),
+    // Behind lines that refute the formula, and before a line that is no step.
+    (WITH_EMPTY, "3 0 2 0\n3 1 0 1 0\n", LratErr::Order(2)),
+    (ALL_PAIRS, "4 2 0 1 2 0\n5 0 9 0\n", LratErr::Order(1)),
+    // The first of two.
+    (ALL_PAIRS, "4 2 0 1 2 0\n5 x\n", LratErr::Order(1)),
+    // Where variables are few and great.
+    (FAR_PAIRS, "5 5 0 9 0\n6 0\n", LratErr::Truncated(2)),
+    (
+        ALL_PAIRS,
+        "5 2 2147483647 0 9 0\n6 0\n",
+        LratErr::Truncated(2),
+    ),
+];
+
+#[test]
+fn faults_of_form_come_first(rt: HostRuntime) {
+    for (formula, proof, want) in &FAULTS {
+        let found = verdict_of_text(rt.alloc(), formula, proof);
+        expect(&rt, proof, found == Some(Err(*want)));
     }
 }
 

@@ -1,7 +1,7 @@
 use crate::checks::{check, check_bytes, is_bytes, is_told};
 use crate::tables::{Table, check_rows};
 use lits::{Dim, Listed};
-use lrat_text::{Line, LratErr, LratStep, push_line, read};
+use lrat_text::{Line, Lines, LratErr, LratStep, push_line, read};
 use std::alloc::{AllocError, Global};
 use std::process::Abort;
 use std::test::*;
@@ -185,4 +185,38 @@ fn read_texts(rt: HostRuntime) {
         check_read(&rt, rt.alloc(), 12, text, again, at);
     }
     check_rows::<Faults>(&rt, rt.alloc(), FAULTS);
+}
+
+/// Whether the next line has this number.
+fn is_next(lines: &mut Lines<'_>, alloc: Global, at: u64) -> bool {
+    match lines.next(alloc) {
+        Ok(Some(line)) => line.at == at,
+        _ => false,
+    }
+}
+
+#[test]
+fn lines_come_one_by_one(rt: HostRuntime) {
+    let alloc = rt.alloc();
+    let mut lines = Lines::new(b"5 1 0 1 0\n\n5 d 1 0", 4);
+    check(&rt, "the first line", is_next(&mut lines, alloc, 1));
+    check(
+        &rt,
+        "the line behind an empty one",
+        is_next(&mut lines, alloc, 3),
+    );
+    let is_end = matches!(lines.next(alloc), Ok(None));
+    check(&rt, "no line is left", is_end);
+}
+
+#[test]
+fn lines_that_are_skipped(rt: HostRuntime) {
+    let alloc = rt.alloc();
+    let mut lines = Lines::new(b"5 1 0 1 0\n5 d 1 0\n", 4);
+    check(&rt, "the first line", is_next(&mut lines, alloc, 1));
+    check(&rt, "the rest has a form", lines.skip_rest(alloc) == Ok(()));
+    let mut faulty = Lines::new(b"5 1 0 1 0\n5 2 0 1 0\n", 4);
+    check(&rt, "the first of two", is_next(&mut faulty, alloc, 1));
+    let is_fault = faulty.skip_rest(alloc) == Err(LratErr::Order(2));
+    check(&rt, "the rest has a fault", is_fault);
 }
