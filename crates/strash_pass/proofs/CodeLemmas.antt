@@ -7,7 +7,8 @@ use Rattle.lits.specs.declared.node.Node.{Node}
 use Rattle.lits.specs.Same.{same_node}
 use Rattle.netlist.specs.Net.{AigPair, IsNet, node_at, nodes_of, position_of}
 use Rattle.netlist.proofs.Facts.{at-place, few_gates_of, length-definitions, length-nodes, node-at}
-use Rattle.strash_pass.specs.Codes.{code_of}
+use Rattle.strash_pass.specs.declared.merged.Spot.{Spot}
+use Rattle.strash_pass.specs.Codes.{code_at, code_of}
 
 -- the position and the sign of a literal that has a code
 record HasCode (net : AigPair) (l : Lit) (c : ℕ) : Type 0 where
@@ -60,6 +61,9 @@ code-one net l m c e f = go l.neg m.neg refl refl
         absurd (omega (arith, one, two))
 
 -- the position of a code is one of the net's
+pub coded-at : (net : AigPair) (s : Spot) (c : ℕ) → position_of net s.lit.node ≡ Some s.at → c ≡ code_at s → code_of net s.lit ≡ Some c
+coded-at net s c at e = ap (option_map (λ p. 2 * p + (if s.lit.neg then 1 else 0))) at ∙ ap Some (sym e)
+
 pub code-within : (net : AigPair) (l : Lit) (c : ℕ) → code_of net l ≡ Some c → c / 2 < length (nodes_of net)
 code-within net l c e = go l.neg refl
   where

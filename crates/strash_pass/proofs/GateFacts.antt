@@ -1,7 +1,7 @@
 -- A gate by its number: its position, what defines it, its clauses, and that its fanins stand earlier.
 use Rattle.std.proofs.Common.{◌≡◌, ℕ, ◌+◌, ◌-◌, ◌<◌, ◌≤◌, Bool, true, false, Option, Some, None, List, [], map, length, refl, sym, ap, ◌∙◌, subst, arith}
 use Rattle.std.specs.Prelude.{slice_get, nat_lt}
-use Rattle.std.specs.Option.{option_map, option_map_or}
+use Rattle.std.specs.Option.{is_some, option_map, option_map_or, unwrap_or}
 use Rattle.std.proofs.lemmas.Bool.Decides.{nat_tests}
 use Rattle.std.proofs.lemmas.List.{length-map}
 use Rattle.std.proofs.lemmas.Option.{none-some, same_Some, slice_get-map, slice_get_within}
@@ -12,8 +12,10 @@ use Rattle.lits.specs.declared.node.Node.{Node}
 use Rattle.lits.proofs.Facts.{exact-node}
 use Rattle.netlist.specs.declared.gate.And.{And}
 use Rattle.netlist.specs.declared.gate.Definition.{Definition}
+use Rattle.netlist.specs.declared.gate.Fanins.{Fanins}
+use Rattle.lits.specs.declared.literal.Lit.{Lit}
 use Rattle.netlist.specs.Pair.{first_gate}
-use Rattle.netlist.specs.Net.{AigPair, IsNet, circuit_of, definition_of, definitions, defined_by, gate_at, position_of}
+use Rattle.netlist.specs.Net.{AigPair, IsNet, circuit_of, definition_of, definitions, defined_by, fanins_at, fanins_of, gate_at, placed, position_of}
 use Rattle.netlist.specs.Miter.{axioms_of, gate_clauses, kept}
 use Rattle.netlist.proofs.Facts.{gate-definition, slice_get-left, slice_get-right, position-definition}
 
@@ -96,3 +98,18 @@ module _ (net : AigPair) (is : IsNet net) where
           one B (k - length net.a.gates) (slice_get net.b.gates (k - length net.a.gates)) refl (omega arith)
           (sym (slice_get-map (definition_of B net.b) net.b.gates (k - length net.a.gates))
           ∙ sym (slice_get-right first second (k - length net.a.gates)) ∙ ap (slice_get (definitions net)) place ∙ e)
+
+  -- the positions of its fanins
+  placed-at : (l : Lit) (p : ℕ) → position_of net l.node ≡ Some p → position_of net l.node ≡ Some (placed net l).position
+  placed-at l p e = e ∙ ap Some (sym (ap (λ (o : Option ℕ). unwrap_or o 0) e))
+
+  pub fanins-there : (k : ℕ) (d : Definition) → slice_get (definitions net) k ≡ Some d → is_some (fanins_at net k) ≡ true
+  fanins-there k d at = ap is_some (ap (option_map (fanins_of net)) at)
+
+  pub fanins-known : (k : ℕ) (d : Definition) (f : Fanins) → slice_get (definitions net) k ≡ Some d → fanins_at net k ≡ Some f
+      → (position_of net d.left.node ≡ Some f.left.position) × (position_of net d.right.node ≡ Some f.right.position)
+  fanins-known k d f at e =
+      let gate = is-gate k d at in
+      let same : fanins_of net d ≡ f = same_Some (fanins_of net d) f (sym (ap (option_map (fanins_of net)) at) ∙ e) in
+      subst (λ (g : Fanins). (position_of net d.left.node ≡ Some g.left.position) × (position_of net d.right.node ≡ Some g.right.position)) same
+      (placed-at d.left gate.left.0 gate.left.1, placed-at d.right gate.right.0 gate.right.1)

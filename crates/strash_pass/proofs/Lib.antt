@@ -9,6 +9,7 @@ mod WayLemmas
 mod TwinLemmas
 mod AddsLemmas
 mod PassLemmas
+mod MergedLemmas
 mod PlaceLemmas
 mod CodeLemmas
 mod TwinTable

@@ -43,7 +43,7 @@ last-none test xs x e =
 
 module _ (es : List Entry) (node : Node) (target : Lit) (steps : List Step) where
   -- other nodes stay as they are
-  merge-other : (n : Node) → same_node node n ≡ false → merge_of (es ++ Merge node target steps ∷ []) n ≡ merge_of es n
+  pub merge-other : (n : Node) → same_node node n ≡ false → merge_of (es ++ Merge node target steps ∷ []) n ≡ merge_of es n
   merge-other n apart =
       ap (λ (o : Option ℕ). option_and_then (λ k. option_and_then (merge_in k) (slice_get (es ++ Merge node target steps ∷ []) k)) o)
       (last-none (is_on (Merged n)) es (Merge node target steps) apart)

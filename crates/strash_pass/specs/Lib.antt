@@ -4,3 +4,4 @@ pub mod Coded
 pub mod Words
 pub mod Codes
 pub mod Twins
+pub mod Merged

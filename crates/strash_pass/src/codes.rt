@@ -1,19 +1,29 @@
-ghost use Rattle.std.specs.Prelude.{◌≡◌, Some};
+ghost use Rattle.std.specs.Prelude.{◌≡◌, ◌<◌, ◌^◌, Some};
 ghost use Rattle.std.specs.Option.{IsSome};
-ghost use Rattle.netlist.specs.Net.{IsNet, position_of};
-ghost use Rattle.strash_pass.specs.Codes.{code_of};
+ghost use Rattle.netlist.specs.Net.{fanins_at, position_of};
+ghost use Rattle.strash_pass.specs.Codes.{code_at};
 
+use crate::merged::Spot;
 use lits::{Lit, Node};
-use netlist::Net;
+use netlist::{Fanins, Net, Placed};
 
 /// The code of a literal: twice its node's position, and one more for a negation.
-pub fn code_of(net: &Net, lit: Lit) -> u32
-    requires net { IsNet net.now }
-    requires there { IsSome (position_of net.now lit.node) }
-    ensures { code_of net.now lit ≡ Some result }
+pub fn code_of(spot: Spot) -> u32
+    requires { spot.at < 2 ^ 31 }
+    ensures { result ≡ code_at spot }
 {
-    let position = position_of(net, lit.node);
-    2 * position + if lit.neg { 1 } else { 0 }
+    2 * spot.at + if spot.lit.neg { 1 } else { 0 }
+}
+
+/// A literal by the position of its node, which has one.
+pub fn placed(net: &Net, lit: Lit) -> Placed
+    requires { IsSome (position_of net.now lit.node) }
+    ensures { position_of net.now lit.node ≡ Some result.position }
+{
+    Placed {
+        position: position_of(net, lit.node),
+        neg: lit.neg,
+    }
 }
 
 /// The position of a node that has one.
@@ -23,6 +33,17 @@ pub fn position_of(net: &Net, node: Node) -> u32
 {
     match net.position(node) {
         Some(position) => position,
+        None => unreachable!(),
+    }
+}
+
+/// The positions of the fanins of gate k, which is there.
+pub fn fanins_at(net: &Net, k: u32) -> Fanins
+    requires { IsSome (fanins_at net.now k) }
+    ensures { fanins_at net.now k ≡ Some result }
+{
+    match net.fanins(k) {
+        Some(fanins) => fanins,
         None => unreachable!(),
     }
 }

@@ -5,11 +5,13 @@ ghost use Rattle.lemma_book.specs.Root.{IsRoot};
 ghost use Rattle.strash_pass.specs.Strash.{way_of};
 ghost use Rattle.strash_pass.specs.Pass.{IsTwin, Merges};
 
+use crate::codes::placed;
+use crate::merged::Merged;
 use crate::visit::roots_of;
 use crate::ways::merge_twin;
 use crate::words::Words;
 use lemma_book::Book;
-use netlist::{Definition, Net, laws};
+use netlist::{Definition, Fanins, Net, laws};
 use std::alloc::{AllocError, Global};
 
 /// Merges an unmerged gate to an earlier one over the same two roots, which isn't merged either, by the steps
@@ -34,7 +36,22 @@ pub fn merge_to_twin(
     ensures err { OnErr result (book.new ≡ book.old) }
 {
     laws::is_net(net);
+    let mut merged = Merged::none(alloc);
     let mut way = Vec::new(alloc);
-    let roots = roots_of(book, gate, &mut way)?;
-    merge_twin(alloc, net, book, words, gate, twin, roots, &mut way)
+    let fanins = Fanins {
+        left: placed(net, gate.left),
+        right: placed(net, gate.right),
+    };
+    let roots = roots_of(net, book, &merged, gate, fanins, &mut way)?;
+    merge_twin(
+        alloc,
+        net,
+        book,
+        &mut merged,
+        words,
+        gate,
+        twin,
+        roots,
+        &mut way,
+    )
 }

@@ -15,7 +15,8 @@
 //! Definitions: `specs/Strash.antt` (what is left to merge, and what is merged to what), `specs/Pass.antt`
 //! (what the pass keeps), `specs/Coded.antt` (clauses as words of bits, by which `hints.rt` scans them),
 //! `specs/Words.antt` (those of a few nodes, which `words.rt` makes), `specs/Codes.antt` and
-//! `specs/Twins.antt` (literals as numbers, and the table of gates by two of them).
+//! `specs/Twins.antt` (literals as numbers, and the table of gates by two of them), `specs/Merged.antt` (a
+//! book's merges by the positions of their nodes).
 //! Begin to read at `pass.rt`, then `visit.rt`.
 #![tactic(auto)]
 
@@ -30,6 +31,7 @@ mod hints;
 mod known_twin;
 mod marks;
 mod merge;
+mod merged;
 mod pair;
 mod pass;
 mod twins;

@@ -10,12 +10,15 @@ ghost use Rattle.lemma_book.specs.Root.{IsRoot};
 ghost use Rattle.lemma_book.specs.Cone.{AreThere, clauses_on, nodes_in};
 ghost use Rattle.lemma_book.specs.Good.{ArePlaced, IsEarlier, IsGood};
 ghost use Rattle.lemma_book.specs.Book.{IsLegal};
+ghost use Rattle.strash_pass.specs.Merged.{AreMergesOf};
 ghost use Rattle.strash_pass.specs.Strash.{AreScanned};
 ghost use Rattle.strash_pass.specs.Words.{AreCodedOn};
 ghost use Rattle.strash_pass.specs.Pass.{ShowsMerge, ShowsOver, Merges, AreNotXors};
 
 use crate::coded::Coded;
+use crate::codes::position_of;
 use crate::hints::step_by_words;
+use crate::merged::{Known, Merged};
 use crate::words::Words;
 use lemma_book::{Book, Entry};
 use lits::{Listed, Lit, Literal, Named, Node, Ref, Step};
@@ -32,6 +35,7 @@ pub fn merge(
     alloc: Global,
     net: &Net,
     book: &mut Book,
+    merged: &mut Merged,
     words: &mut Words,
     node: Node,
     target: Lit,
@@ -40,6 +44,7 @@ pub fn merge(
 ) -> Result<(), AllocError>
     requires net { IsNet net.now }
     requires legal { IsLegal net.now book.old }
+    requires merged { AreMergesOf net.now book.old.entries merged.old }
     requires there { AreThere net.now way.now }
     requires no_xors { AreNotXors way.now }
     requires placed { ArePlaced net.now node target }
@@ -48,10 +53,11 @@ pub fn merge(
     requires shows { ShowsMerge net.now book.old.entries way.now node target }
     ensures legal { IsLegal net.now book.new }
     ensures ok { OnOk result (Merges net.now book.old book.new way.now node target) }
+    ensures merged { OnOk result (AreMergesOf net.now book.new.entries merged.new) }
     ensures err { OnErr result (book.new ≡ book.old) }
 {
-    let steps = steps_of(alloc, net, book, words, node, target, way, others)?;
-    put(alloc, net, book, node, target, steps)
+    let steps = steps_of(alloc, net, book, merged, words, node, target, way, others)?;
+    put(alloc, net, book, merged, node, target, steps)
 }
 
 /// The steps that show the two clauses of the merge.
@@ -59,6 +65,7 @@ fn steps_of(
     alloc: Global,
     net: &Net,
     book: &Book,
+    merged: &Merged,
     words: &mut Words,
     node: Node,
     target: Lit,
@@ -67,6 +74,7 @@ fn steps_of(
 ) -> Result<Vec<Step>, AllocError>
     requires net { IsNet net.now }
     requires legal { IsLegal net.now book.now }
+    requires merged { AreMergesOf net.now book.now.entries merged.now }
     requires there { AreThere net.now way.now }
     requires no_xors { AreNotXors way.now }
     requires apart { same_node target.node node ≡ false }
@@ -74,7 +82,7 @@ fn steps_of(
     ensures { IfOk result
         (λ v. AreScanned (clauses_on net.now book.now.entries (nodes_in way.now)) node target v.items) }
 {
-    match steps_by_words(alloc, net, book, words, node, target, way, others)? {
+    match steps_by_words(alloc, net, book, merged, words, node, target, way, others)? {
         Some(steps) => Ok(steps),
         None => steps_by_clauses(alloc, net, book, node, target, way),
     }
@@ -86,6 +94,7 @@ fn steps_by_words(
     alloc: Global,
     net: &Net,
     book: &Book,
+    merged: &Merged,
     words: &mut Words,
     node: Node,
     target: Lit,
@@ -93,12 +102,14 @@ fn steps_by_words(
     others: &[Lit],
 ) -> Result<Option<Vec<Step>>, AllocError>
     requires net { IsNet net.now }
+    requires legal { IsLegal net.now book.now }
+    requires merged { AreMergesOf net.now book.now.entries merged.now }
     requires no_xors { AreNotXors way.now }
     requires apart { same_node target.node node ≡ false }
     ensures { IfOk result (λ r. IfSome r
         (λ v. AreScanned (clauses_on net.now book.now.entries (nodes_in way.now)) node target v.items)) }
 {
-    if words.gather(net, book, way, others)? {
+    if words.gather(net, book, merged, way, others)? {
         both_by_words(
             alloc,
             &words.nodes,
@@ -181,30 +192,39 @@ fn both_steps(
     Ok(steps)
 }
 
-/// Puts the merge by these steps last.
+/// Puts the merge by these steps last, and notes it.
 fn put(
     alloc: Global,
     net: &Net,
     book: &mut Book,
+    merged: &mut Merged,
     node: Node,
     target: Lit,
     steps: Vec<Step>,
 ) -> Result<(), AllocError>
     requires legal { IsLegal net.now book.old }
+    requires merged { AreMergesOf net.now book.old.entries merged.old }
+    requires placed { ArePlaced net.now node target }
     requires unmerged { IsRoot book.old.entries node }
     requires good { IsGood net.now book.old (Entry.Merge node target steps.items) }
     ensures legal { IsLegal net.now book.new }
     ensures ok { OnOk result (book.new ≡ with_last book.old (Entry.Merge node target steps.items)) }
+    ensures merged { OnOk result (AreMergesOf net.now book.new.entries merged.new) }
     ensures err { OnErr result (book.new ≡ book.old) }
 {
+    let own = position_of(net, node);
+    let at = position_of(net, target.node);
     let entry = Entry::Merge {
         node,
         lit: target,
         steps: Listed::of(steps),
     };
-    let known = book.len();
-    match book.append(alloc, net, known, entry) {
-        Ok(_) => Ok(()),
+    let place = book.len();
+    match book.append(alloc, net, place, entry) {
+        Ok(_) => {
+            merged.note(own, Some(Known { place, target, at }));
+            Ok(())
+        }
         Err((_entry, error)) => Err(error),
     }
 }

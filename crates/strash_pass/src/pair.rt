@@ -1,8 +1,8 @@
-use lits::Lit;
+use crate::merged::Spot;
 
 /// The roots of a gate's fanins.
 #[derive(Clone, Copy)]
 pub struct Pair {
-    pub left: Lit,
-    pub right: Lit,
+    pub left: Spot,
+    pub right: Spot,
 }

@@ -1,9 +1,11 @@
 ghost use Rattle.std.specs.Prelude.{◌≡◌, ◌+◌, length, OnOk, OnErr, IfOk};
 ghost use Rattle.netlist.specs.Net.{IsNet, circuit_of, definitions};
 ghost use Rattle.lemma_book.specs.Book.{IsLegal};
+ghost use Rattle.strash_pass.specs.Merged.{AreMergesOf};
 ghost use Rattle.strash_pass.specs.Strash.{AddsFirstPart, AddsMerges, AddsStructural, ArePlain};
 ghost use Rattle.strash_pass.specs.Pass.{gates_before, IsPass};
 
+use crate::merged::Merged;
 use crate::twins::Twins;
 use crate::visit::Pass;
 use crate::words::Words;
@@ -32,6 +34,7 @@ pub fn run(alloc: Global, net: &Net, book: &mut Book) -> Result<u64, AllocError>
     let before = book.len();
     let mut pass = Pass {
         twins: Twins::new(alloc, net.positions() as usize)?,
+        merged: Merged::of(alloc, net, book)?,
         visited: 0,
         way: Vec::new(alloc),
         words: Words::new(alloc),
@@ -45,6 +48,7 @@ fn visit_both(pass: &mut Pass, alloc: Global, net: &Net, book: &mut Book) -> Res
     requires net { IsNet net.now }
     requires legal { IsLegal net.now book.old }
     requires pass { IsPass net.now book.old.entries pass.old.twins pass.old.visited }
+    requires merged { AreMergesOf net.now book.old.entries pass.old.merged }
     requires visited { pass.old.visited ≡ 0 }
     ensures legal { IsLegal net.now book.new }
     ensures grows { AddsStructural net.now 0 (length (definitions net.now)) book.old book.new }
@@ -66,11 +70,13 @@ fn visit_side(
     requires net { IsNet net.now }
     requires legal { IsLegal net.now book.old }
     requires pass { IsPass net.now book.old.entries pass.old.twins pass.old.visited }
+    requires merged { AreMergesOf net.now book.old.entries pass.old.merged }
     requires visited { pass.old.visited ≡ gates_before net.now side }
     ensures legal { IsLegal net.now book.new }
     ensures grows { AddsStructural net.now (gates_before net.now side)
         (gates_before net.now side + length (circuit_of net.now side).gates) book.old book.new }
     ensures pass { OnOk result (IsPass net.now book.new.entries pass.new.twins pass.new.visited) }
+    ensures merged { OnOk result (AreMergesOf net.now book.new.entries pass.new.merged) }
     ensures visited { OnOk result
         (pass.new.visited ≡ gates_before net.now side + length (circuit_of net.now side).gates) }
     ensures stopped { OnErr result

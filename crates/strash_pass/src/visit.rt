@@ -1,26 +1,29 @@
 ghost use Rattle.std.specs.Prelude.{◌≡◌, ◌+◌, ◌∷◌, ◌++◌, None, Some, slice_get, OnOk, OnErr, IfOk};
-ghost use Rattle.netlist.specs.Net.{IsNet, definitions};
+ghost use Rattle.netlist.specs.Net.{IsNet, definitions, position_of};
 ghost use Rattle.netlist.specs.Miter.{positive};
 ghost use Rattle.lemma_book.specs.Book.{IsLegal};
-ghost use Rattle.lemma_book.specs.Root.{passed_by, root_of};
+ghost use Rattle.lemma_book.specs.Root.{passed_by};
+ghost use Rattle.strash_pass.specs.Merged.{AreMergesOf, IsRootAt};
 ghost use Rattle.strash_pass.specs.Strash.{AddsStructural};
 
-use crate::codes::{code_of, position_of};
+use crate::codes::{code_of, fanins_at, position_of};
 use crate::fold::folded;
+use crate::merged::Merged;
 use crate::pair::Pair;
 use crate::twins::Twins;
 use crate::ways::{merge_folded, merge_twin};
 use crate::words::Words;
 use lemma_book::Book;
 use lits::Lit;
-use netlist::{Definition, Net};
+use netlist::{Definition, Fanins, Net};
 use std::alloc::{AllocError, Global};
 
-/// The gates that were visited and stay unmerged, by their fanins' roots, how many gates were visited, and
-/// room for a gate's way and for the clauses that a merge stands on.
+/// The gates that were visited and stay unmerged, by their fanins' roots, the book's merges by positions, how
+/// many gates were visited, and room for a gate's way and for the clauses that a merge stands on.
 #[derive(Drop)]
 pub struct Pass {
     pub twins: Twins,
+    pub merged: Merged,
     pub visited: u64,
     pub way: Vec<Lit>,
     pub words: Words,
@@ -44,10 +47,12 @@ impl Pass {
         requires net { IsNet net.now }
         requires legal { IsLegal net.now book.old }
         requires pass { IsPass net.now book.old.entries self.old.twins self.old.visited }
+        requires merged { AreMergesOf net.now book.old.entries self.old.merged }
         requires gate { slice_get (definitions net.now) self.old.visited ≡ Some gate }
         ensures legal { IsLegal net.now book.new }
         ensures grows { AddsStructural net.now self.old.visited (self.old.visited + 1) book.old book.new }
         ensures pass { OnOk result (IsPass net.now book.new.entries self.new.twins self.new.visited) }
+        ensures merged { OnOk result (AreMergesOf net.now book.new.entries self.new.merged) }
         ensures visited { OnOk result (self.new.visited ≡ self.old.visited + 1) }
         ensures err { OnErr result (book.new ≡ book.old) }
     {
@@ -67,23 +72,28 @@ impl Pass {
         requires net { IsNet net.now }
         requires legal { IsLegal net.now book.old }
         requires pass { IsPass net.now book.old.entries self.old.twins self.old.visited }
+        requires merged { AreMergesOf net.now book.old.entries self.old.merged }
         requires gate { slice_get (definitions net.now) self.old.visited ≡ Some gate }
         ensures legal { IsLegal net.now book.new }
         ensures grows { AddsStructural net.now self.old.visited (self.old.visited + 1) book.old book.new }
         ensures pass { OnOk result (IsPass net.now book.new.entries self.new.twins (self.old.visited + 1)) }
+        ensures merged { OnOk result (AreMergesOf net.now book.new.entries self.new.merged) }
         ensures visited { self.new.visited ≡ self.old.visited }
         ensures err { OnErr result (book.new ≡ book.old) }
     {
-        if book.is_merged(gate.node) {
+        let at = position_of(net, gate.node);
+        if self.merged.is_merged(net, book, gate.node, at) {
             return Ok(());
         }
-        let roots = roots_of(book, gate, &mut self.way)?;
-        match folded(roots.left, roots.right) {
+        let fanins = fanins_at(net, self.visited as u32);
+        let roots = roots_of(net, book, &self.merged, gate, fanins, &mut self.way)?;
+        match folded(roots.left.lit, roots.right.lit) {
             Some(target) => {
                 merge_folded(
                     alloc,
                     net,
                     book,
+                    &mut self.merged,
                     &mut self.words,
                     gate,
                     roots,
@@ -91,12 +101,13 @@ impl Pass {
                     &mut self.way,
                 )
             },
-            None => match self.twin(net, book, gate, roots)? {
+            None => match self.twin(net, book, gate, at, roots)? {
                 Some(twin) => {
                     merge_twin(
                         alloc,
                         net,
                         book,
+                        &mut self.merged,
                         &mut self.words,
                         gate,
                         twin,
@@ -115,6 +126,7 @@ impl Pass {
         net: &Net,
         book: &Book,
         gate: Definition,
+        at: u32,
         roots: Pair,
     ) -> Result<Option<Definition>, AllocError>
         requires net { IsNet net.now }
@@ -122,22 +134,21 @@ impl Pass {
         requires pass { IsPass net.now book.now.entries self.old.twins self.old.visited }
         requires gate { slice_get (definitions net.now) self.old.visited ≡ Some gate }
         requires unmerged { IsRoot book.now.entries gate.node }
-        requires left { roots.left ≡ root_of book.now.entries gate.left }
-        requires right { roots.right ≡ root_of book.now.entries gate.right }
-        requires unfolded { folded roots.left roots.right ≡ None }
+        requires at { position_of net.now gate.node ≡ Some at }
+        requires left { IsRootAt net.now book.now.entries gate.left roots.left }
+        requires right { IsRootAt net.now book.now.entries gate.right roots.right }
+        requires unfolded { folded roots.left.lit roots.right.lit ≡ None }
         ensures twin { IfOk result (λ r. IfSome r (λ c. IsTwin net.now book.now.entries c gate
             × IsPass net.now book.now.entries self.new.twins self.old.visited)) }
         ensures noted { IfOk result (λ r. IfNone r
             (IsPass net.now book.now.entries self.new.twins (self.old.visited + 1))) }
         ensures visited { self.new.visited ≡ self.old.visited }
         ensures way { self.new.way.items ≡ self.old.way.items }
+        ensures merged { self.new.merged ≡ self.old.merged }
     {
-        let left = code_of(net, roots.left);
-        let right = code_of(net, roots.right);
-        match self
-            .twins
-            .twin_or_note(left, right, position_of(net, gate.node))?
-        {
+        let left = code_of(roots.left);
+        let right = code_of(roots.right);
+        match self.twins.twin_or_note(left, right, at)? {
             Some(twin) => Ok(net.definition(net.node(twin))),
             None => Ok(None),
         }
@@ -145,9 +156,20 @@ impl Pass {
 }
 
 /// The roots of a gate's fanins. The list gets its way: the gate, and the merged nodes that its fanins pass.
-pub fn roots_of(book: &Book, gate: Definition, way: &mut Vec<Lit>) -> Result<Pair, AllocError>
-    ensures left { IfOk result (λ r. r.left ≡ root_of book.now.entries gate.left) }
-    ensures right { IfOk result (λ r. r.right ≡ root_of book.now.entries gate.right) }
+pub fn roots_of(
+    net: &Net,
+    book: &Book,
+    merged: &Merged,
+    gate: Definition,
+    fanins: Fanins,
+    way: &mut Vec<Lit>,
+) -> Result<Pair, AllocError>
+    requires legal { IsLegal net.now book.now }
+    requires merged { AreMergesOf net.now book.now.entries merged.now }
+    requires left_at { position_of net.now gate.left.node ≡ Some fanins.left.position }
+    requires right_at { position_of net.now gate.right.node ≡ Some fanins.right.position }
+    ensures left { IfOk result (λ r. IsRootAt net.now book.now.entries gate.left r.left) }
+    ensures right { IfOk result (λ r. IsRootAt net.now book.now.entries gate.right r.right) }
     ensures way { OnOk result (way.new.items ≡ (positive gate.node ∷ passed_by book.now.entries gate.left)
         ++ passed_by book.now.entries gate.right) }
 {
@@ -156,7 +178,7 @@ pub fn roots_of(book: &Book, gate: Definition, way: &mut Vec<Lit>) -> Result<Pai
         node: gate.node,
         neg: false,
     })?;
-    let left = book.root_by(gate.left, way)?;
-    let right = book.root_by(gate.right, way)?;
+    let left = merged.root_by(net, book, gate.left, fanins.left.position, way)?;
+    let right = merged.root_by(net, book, gate.right, fanins.right.position, way)?;
     Ok(Pair { left, right })
 }

@@ -2,11 +2,13 @@ ghost use Rattle.std.specs.Prelude.{◌≡◌, ◌++◌, Some, OnOk, OnErr};
 ghost use Rattle.netlist.specs.Net.{IsNet};
 ghost use Rattle.netlist.specs.Miter.{positive};
 ghost use Rattle.lemma_book.specs.Book.{IsLegal};
-ghost use Rattle.lemma_book.specs.Root.{root_of};
+ghost use Rattle.strash_pass.specs.Merged.{AreMergesOf, IsRootAt};
 ghost use Rattle.strash_pass.specs.Strash.{constant_among, folded, way_of};
 ghost use Rattle.strash_pass.specs.Pass.{HasGate, IsTwin, IsWay, Merges};
 
+use crate::codes::position_of;
 use crate::merge::merge;
+use crate::merged::Merged;
 use crate::pair::Pair;
 use crate::words::Words;
 use lemma_book::Book;
@@ -20,6 +22,7 @@ pub fn merge_folded(
     alloc: Global,
     net: &Net,
     book: &mut Book,
+    merged: &mut Merged,
     words: &mut Words,
     gate: Definition,
     roots: Pair,
@@ -28,19 +31,23 @@ pub fn merge_folded(
 ) -> Result<(), AllocError>
     requires net { IsNet net.now }
     requires legal { IsLegal net.now book.old }
+    requires merged { AreMergesOf net.now book.old.entries merged.old }
     requires gate { HasGate net.now gate }
     requires way { IsWay net.now book.old.entries way.old.items gate }
-    requires left { roots.left ≡ root_of book.old.entries gate.left }
-    requires right { roots.right ≡ root_of book.old.entries gate.right }
-    requires folds { folded roots.left roots.right ≡ Some target }
+    requires left { IsRootAt net.now book.old.entries gate.left roots.left }
+    requires right { IsRootAt net.now book.old.entries gate.right roots.right }
+    requires folds { folded roots.left.lit roots.right.lit ≡ Some target }
     ensures legal { IsLegal net.now book.new }
     ensures ok { OnOk result (Merges net.now book.old book.new
-        (way.old.items ++ constant_among roots.left roots.right target) gate.node target) }
+        (way.old.items ++ constant_among roots.left.lit roots.right.lit target) gate.node target) }
+    ensures merged { OnOk result (AreMergesOf net.now book.new.entries merged.new) }
     ensures err { OnErr result (book.new ≡ book.old) }
 {
-    with_constant(way, roots.left, roots.right, target)?;
-    let others = [gate.left, gate.right, roots.left, roots.right];
-    merge(alloc, net, book, words, gate.node, target, way, &others)
+    with_constant(way, roots.left.lit, roots.right.lit, target)?;
+    let others = [roots.left.lit, roots.right.lit];
+    merge(
+        alloc, net, book, merged, words, gate.node, target, way, &others,
+    )
 }
 
 /// Puts the constant last on the way, where one of the literals is it.
@@ -62,6 +69,7 @@ pub fn merge_twin(
     alloc: Global,
     net: &Net,
     book: &mut Book,
+    merged: &mut Merged,
     words: &mut Words,
     gate: Definition,
     twin: Definition,
@@ -70,11 +78,13 @@ pub fn merge_twin(
 ) -> Result<(), AllocError>
     requires net { IsNet net.now }
     requires legal { IsLegal net.now book.old }
+    requires merged { AreMergesOf net.now book.old.entries merged.old }
     requires way { IsWay net.now book.old.entries way.old.items gate }
     requires twin { IsTwin net.now book.old.entries twin gate }
     ensures legal { IsLegal net.now book.new }
     ensures ok { OnOk result (Merges net.now book.old book.new
         (way.old.items ++ way_of book.old.entries twin) gate.node (positive twin.node)) }
+    ensures merged { OnOk result (AreMergesOf net.now book.new.entries merged.new) }
     ensures err { OnErr result (book.new ≡ book.old) }
 {
     let target = Lit {
@@ -82,15 +92,16 @@ pub fn merge_twin(
         neg: false,
     };
     way.push(target)?;
-    let _left = book.root_by(twin.left, way)?;
-    let _right = book.root_by(twin.right, way)?;
-    let others = [
-        gate.left,
-        gate.right,
-        twin.left,
+    let _left = merged.root_by(net, book, twin.left, position_of(net, twin.left.node), way)?;
+    let _right = merged.root_by(
+        net,
+        book,
         twin.right,
-        roots.left,
-        roots.right,
-    ];
-    merge(alloc, net, book, words, gate.node, target, way, &others)
+        position_of(net, twin.right.node),
+        way,
+    )?;
+    let others = [roots.left.lit, roots.right.lit];
+    merge(
+        alloc, net, book, merged, words, gate.node, target, way, &others,
+    )
 }

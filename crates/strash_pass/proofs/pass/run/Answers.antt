@@ -25,6 +25,10 @@ visit_both-requires-clause-pass c =
     subst (λ (t : Table). IsPass c.args.net.now c.args.book.now.entries t 0) (sym c.in_ok-new.ensures)
     (pass-start c.args.net.now c.args.book.now.entries _ c.positions.ensures)
 
+pub returns-in_err-of-clause-stopped : goal.returns-in_err-of-clause-stopped
+returns-in_err-of-clause-stopped c =
+    stops-so c.args.net.now 0 c.args.book.now c.args.book.now c.from_residual-in_err-of.result (first-none c.args.net.now c.args.book.now)
+
 pub returns-in_err-new-clause-stopped : goal.returns-in_err-new-clause-stopped
 returns-in_err-new-clause-stopped c =
     stops-so c.args.net.now 0 c.args.book.now c.args.book.now c.from_residual.result (first-none c.args.net.now c.args.book.now)

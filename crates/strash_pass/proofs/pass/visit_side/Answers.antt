@@ -33,7 +33,7 @@ unreachable-requires c =
     (gate-at _ _ _ _ no_gate c.gates-gate-items.ensures.gates c.circuit.ensures.circuit c.loop-gate-test.true) (sym c.definition.ensures ∙ c.in-None.is)
 
 pub loop-gate-init : goal.loop-gate-init
-loop-gate-init c = record { legal = c.requires.legal; grows = adds-none _ _ _ _ (omega (arith, c.requires.visited)); pass = c.requires.pass; visited = omega (arith, c.requires.visited) }
+loop-gate-init c = record { legal = c.requires.legal; grows = adds-none _ _ _ _ (omega (arith, c.requires.visited)); pass = c.requires.pass; merged = c.requires.merged; visited = omega (arith, c.requires.visited) }
 
 pub loop-gate-preserved : goal.loop-gate-preserved
 loop-gate-preserved c = record {
@@ -41,6 +41,7 @@ loop-gate-preserved c = record {
   grows = adds-to _ _ _ _ _ _ (omega (arith, c.in_ok-visit-in-Some.ensures.visited))
       (adds-more _ _ _ _ _ _ _ c.loop-gate.invariant.grows c.visit.ensures.grows);
   pass = c.in_ok-visit-in-Some.ensures.pass;
+  merged = c.in_ok-visit-in-Some.ensures.merged;
   visited = omega (arith, c.loop-gate.invariant.visited, c.in_ok-visit-in-Some.ensures.visited);
 }
 

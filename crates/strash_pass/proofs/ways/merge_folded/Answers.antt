@@ -12,34 +12,34 @@ pub merge-requires-clause-there : goal.merge-requires-clause-there
 merge-requires-clause-there c = placed-all c.args.net.now c.deref.result.now
     (subst (ArePlacedAll c.args.net.now) (sym (c.deref.ensures.value ∙ c.in_ok-with_constant.ensures))
     (constant-placed c.args.net.now c.args.book.now c.requires.legal c.args.way.now.items c.requires.gate.place c.args.gate
-    (is-gate c.args.net.now c.requires.net c.requires.gate.place c.args.gate c.requires.gate.at) c.args.roots.left c.args.roots.right c.args.target
-    c.requires.left c.requires.right c.requires.folds c.requires.way.placed))
+    (is-gate c.args.net.now c.requires.net c.requires.gate.place c.args.gate c.requires.gate.at) c.args.roots.left.lit c.args.roots.right.lit c.args.target
+    c.requires.left.root c.requires.right.root c.requires.folds c.requires.way.placed))
 
 pub merge-requires-clause-no_xors : goal.merge-requires-clause-no_xors
 merge-requires-clause-no_xors c = placed-no_xors c.args.net.now c.deref.result.now
     (subst (ArePlacedAll c.args.net.now) (sym (c.deref.ensures.value ∙ c.in_ok-with_constant.ensures))
     (constant-placed c.args.net.now c.args.book.now c.requires.legal c.args.way.now.items c.requires.gate.place c.args.gate
-    (is-gate c.args.net.now c.requires.net c.requires.gate.place c.args.gate c.requires.gate.at) c.args.roots.left c.args.roots.right c.args.target
-    c.requires.left c.requires.right c.requires.folds c.requires.way.placed))
+    (is-gate c.args.net.now c.requires.net c.requires.gate.place c.args.gate c.requires.gate.at) c.args.roots.left.lit c.args.roots.right.lit c.args.target
+    c.requires.left.root c.requires.right.root c.requires.folds c.requires.way.placed))
 
 pub merge-requires-clause-placed : goal.merge-requires-clause-placed
 merge-requires-clause-placed c =
     fold-placed c.args.net.now c.args.book.now c.requires.legal c.args.way.now.items c.requires.gate.place c.args.gate
-    (is-gate c.args.net.now c.requires.net c.requires.gate.place c.args.gate c.requires.gate.at) c.args.roots.left c.args.roots.right c.args.target
-    c.requires.left c.requires.right c.requires.folds
+    (is-gate c.args.net.now c.requires.net c.requires.gate.place c.args.gate c.requires.gate.at) c.args.roots.left.lit c.args.roots.right.lit c.args.target
+    c.requires.left.root c.requires.right.root c.requires.folds
 
 pub merge-requires-clause-earlier : goal.merge-requires-clause-earlier
 merge-requires-clause-earlier c =
     fold-earlier c.args.net.now c.args.book.now c.requires.legal c.args.way.now.items c.requires.gate.place c.args.gate
-    (is-gate c.args.net.now c.requires.net c.requires.gate.place c.args.gate c.requires.gate.at) c.args.roots.left c.args.roots.right c.args.target
-    c.requires.left c.requires.right c.requires.folds
+    (is-gate c.args.net.now c.requires.net c.requires.gate.place c.args.gate c.requires.gate.at) c.args.roots.left.lit c.args.roots.right.lit c.args.target
+    c.requires.left.root c.requires.right.root c.requires.folds
 
 pub merge-requires-clause-shows : goal.merge-requires-clause-shows
 merge-requires-clause-shows c =
     subst (λ (l : List Lit). ShowsMerge c.args.net.now c.args.book.now.entries l c.args.gate.node c.args.target) (sym (c.deref.ensures.value ∙ c.in_ok-with_constant.ensures))
     (fold-way c.args.net.now c.args.book.now c.requires.legal c.args.way.now.items c.requires.gate.place c.args.gate
-    (is-gate c.args.net.now c.requires.net c.requires.gate.place c.args.gate c.requires.gate.at) c.args.roots.left c.args.roots.right c.args.target
-    c.requires.left c.requires.right c.requires.folds c.requires.way.reaches)
+    (is-gate c.args.net.now c.requires.net c.requires.gate.place c.args.gate c.requires.gate.at) c.args.roots.left.lit c.args.roots.right.lit c.args.target
+    c.requires.left.root c.requires.right.root c.requires.folds c.requires.way.reaches)
 
 pub returns-clause-ok : goal.returns-clause-ok
 returns-clause-ok c =

@@ -1,11 +1,13 @@
 -- The twin stands earlier, and the clauses on both gates' ways show that they are equal.
 use Rattle.std.proofs.Common.{◌∙◌, [], ◌∷◌, ◌++◌, List, ap, sym, subst, append_assoc}
+use Rattle.std.specs.Prelude.{is_some}
 use Rattle.std.proofs.lemmas.Result.{on_ok_weaker}
 use Rattle.lits.specs.declared.literal.Lit.{Lit}
 use Rattle.netlist.specs.Miter.{positive}
 use Rattle.lemma_book.specs.Root.{passed_by}
 use Rattle.lemma_book.proofs.Facts.{ArePlacedAll, placed-all}
 use Rattle.strash_pass.specs.Pass.{Merges, ShowsMerge}
+use Rattle.strash_pass.proofs.GateFacts.{is-gate}
 use Rattle.strash_pass.proofs.WayLemmas.{placed-no_xors, twin-placed_all, twin-placed, twin-earlier, twin-way}
 use Rattle.strash_pass.proofs.ways.merge_twin.Goals as goal
 
@@ -54,3 +56,11 @@ returns-clause-ok c =
     on_ok_weaker c.merge.result
     (λ m. subst (λ (l : List Lit). Merges c.args.net.now c.args.book.now c.merge.new.book l c.args.gate.node (positive c.args.twin.node)) way_is m)
     c.merge.ensures.ok
+
+pub position_of-requires : goal.position_of-requires
+position_of-requires c =
+    ap is_some (is-gate c.args.net.now c.requires.net c.requires.twin.first c.args.twin c.requires.twin.at_first).left.1
+
+pub position_of-requires-2 : goal.position_of-requires-2
+position_of-requires-2 c =
+    ap is_some (is-gate c.args.net.now c.requires.net c.requires.twin.first c.args.twin c.requires.twin.at_first).right.1
