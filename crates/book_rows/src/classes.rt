@@ -1,13 +1,15 @@
 ghost use Rattle.std.specs.Prelude.{◌≡◌, length};
+ghost use Rattle.std.specs.List.{AllByRecursion};
 ghost use Rattle.netlist.specs.Net.{nodes_of};
 ghost use Rattle.lemma_book.specs.Book.{IsLegal};
+ghost use Rattle.sig_classes.specs.Kept.{AreKept};
 
 use crate::lemmas::book_of;
 use crate::pairs::{Case, check, expect, net_of, two_xors};
 use lemma_book::{Book, Task};
 use lits::{Lit, Node, Side};
 use netlist::Net;
-use sig_classes::{leader, tasks};
+use sig_classes::{KeptClasses, leader, tasks};
 use std::alloc::Global;
 use std::process::Abort;
 use word_sim::{Pool, Sigs, signatures};
@@ -152,4 +154,51 @@ fn tasks_of_classes(rt: HostRuntime) {
     check(&rt, alloc, two_xors(&rt, alloc), &OF_XORS);
     check(&rt, alloc, two_xors(&rt, alloc), &SPENT);
     check(&rt, alloc, complements(&rt, alloc), &OF_COMPLEMENTS);
+}
+
+/// Whether classes that are kept ask for this over a book.
+fn expect_kept(
+    rt: &impl Abort,
+    alloc: Global,
+    net: &Net,
+    pool: &Pool,
+    kept: &mut KeptClasses,
+    book: &Book,
+    expected: &[Task],
+)
+    requires legal { IsLegal net.now book.now }
+    requires inputs { pool.now.inputs ≡ length net.now.a.inputs }
+    requires whole { AllByRecursion (λ bits. length bits ≡ length net.now.a.inputs) pool.now.patterns }
+    requires kept { AreKept net.now pool.now.patterns kept.old }
+    ensures kept { AreKept net.now pool.now.patterns kept.new }
+{
+    let found = kept.tasks(alloc, net, pool, book).expect(rt, "memory");
+    expect(rt, "the tasks", found.as_slice() == expected);
+}
+
+/// That A's first gate is the input whose negation B's gate is.
+const FIRST_MERGED: &str = "merge a3 i1: -a3 i1 by a3.0; a3 -i1 by a3.2 => Ok(At(0))";
+
+/// Classes that are kept ask for what is left of a book's merges, whichever book comes next.
+struct KeptTasks;
+
+impl Case for KeptTasks {
+    fn check<A: Abort>(&self, rt: &A, alloc: Global, net: &Net) {
+        assert!(rt; net.circuit(Side::A).inputs().len() == 2);
+        let pool = pool(rt, alloc);
+        pool.patterns();
+        let mut kept = KeptClasses::new(alloc, net).expect(rt, "memory");
+        let empty = Book::new(alloc, 1, 1);
+        let merged = book_of(rt, alloc, net, 1, FIRST_MERGED);
+        let all = OF_COMPLEMENTS.1;
+        expect_kept(rt, alloc, net, &pool, &mut kept, &empty, all);
+        expect_kept(rt, alloc, net, &pool, &mut kept, &merged, &all[1..]);
+        expect_kept(rt, alloc, net, &pool, &mut kept, &empty, all);
+    }
+}
+
+#[test]
+fn tasks_of_kept_classes(rt: HostRuntime) {
+    let alloc = rt.alloc();
+    check(&rt, alloc, complements(&rt, alloc), &KeptTasks);
 }

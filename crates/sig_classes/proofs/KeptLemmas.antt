@@ -1,5 +1,5 @@
 -- Classes that are kept: what rows of new patterns part them into, and the tasks that they give.
-use Rattle.std.proofs.Common.{◌≡◌, ◌∙◌, ℕ, ◌+◌, ◌*◌, ◌-◌, ◌/◌, ◌<◌, ◌≤◌, ◌&&◌, ◌++◌, min, nat_lt, Bool, true, false, not, Option, None, Some, List, [], length, take, drop, refl, sym, ap, ap₂, subst, arith, inl, inr, length-append, length-drop, length-take, Result, Ok, Err, IfOk, if◌then◌else◌}
+use Rattle.std.proofs.Common.{◌≡◌, ◌∙◌, ℕ, ◌+◌, ◌*◌, ◌-◌, ◌/◌, ◌<◌, ◌≤◌, ◌&&◌, ◌++◌, nat_lt, Bool, true, false, not, Option, None, Some, List, [], length, take, drop, refl, sym, ap, ap₂, subst, arith, inl, inr, length-append, length-drop, length-take, Result, Ok, Err, IfOk, if◌then◌else◌}
 use Rattle.std.specs.List.{AllByRecursion, slice_index_or}
 use Rattle.std.proofs.lemmas.Bool.{cases_lt, false_from_ne_true}
 use Rattle.std.proofs.lemmas.Bool.Decides.{nat_tests}
@@ -9,7 +9,7 @@ use Rattle.std.proofs.Math.Seq.{take-length}
 use Rattle.lits.specs.declared.literal.Lit.{Lit}
 use Rattle.netlist.specs.Net.{AigPair, IsNet, nodes_of, node_at, value_of, differs}
 use Rattle.netlist.proofs.Facts.{position-node}
-use Rattle.word_sim.specs.Patterns.{Patterns, first_words, part_from}
+use Rattle.word_sim.specs.Patterns.{first_words}
 use Rattle.word_sim.specs.Rows.{Signatures, AreSignatures, turned}
 use Rattle.word_sim.proofs.Facts.{some-signatures}
 use Rattle.lemma_book.specs.declared.entry.Entry.{Entry}
@@ -20,10 +20,11 @@ use Rattle.lemma_book.specs.Book.{IsLegal}
 use Rattle.lemma_book.specs.Agreement.{HaveOneValue}
 use Rattle.sig_classes.specs.Chains.{are_one, class_of, is_first}
 use Rattle.sig_classes.specs.Pass.{root_at, is_gate, lit_between, task_at, IsNextTask}
-use Rattle.sig_classes.specs.Kept.{AreSame, IsLeastSame, AreClasses, Kept, AreKept, AreLeast, HaveSigns, led_at, next_part, next_seen}
+use Rattle.sig_classes.specs.Kept.{AreSame, IsLeastSame, AreClasses, Kept, AreKept, AreLeast, HaveRoots, HaveSigns, counts, led_at, next_part, next_seen}
 use Rattle.sig_classes.proofs.ChainLemmas.{one-parts, one-from, one-none}
 use Rattle.sig_classes.proofs.FirstLemmas.{first-parts, first-from}
 use Rattle.sig_classes.proofs.LeaderLemmas.{first-bit, alike-same, same-alike}
+use Rattle.sig_classes.proofs.CountLemmas.{stays}
 use Rattle.sig_classes.proofs.RootLemmas.{root-alike}
 use Rattle.sig_classes.proofs.TaskLemmas.{next-merged, next-lone, next-found}
 
@@ -115,22 +116,28 @@ module _ (patterns : List (List Bool)) (seen : ℕ) (some : 1 ≤ length pattern
     abbrev IsPosition : ℕ → Type 0
     IsPosition p = p < length (nodes_of net)
 
+    abbrev Counts : ℕ → Type 0
+    Counts p = counts old p ≡ true
+
     -- one class over the first patterns
-    old-same : (q p : ℕ) → IsPosition q → IsPosition p → class_of old q ≡ class_of old p → AreSame net (take seen patterns) q p
-    old-same q p there below own =
-        let first = (classes.each q there).same in
+    old-same : (q p : ℕ) → IsPosition q → IsPosition p → Counts q → Counts p → class_of old q ≡ class_of old p
+        → AreSame net (take seen patterns) q p
+    old-same q p there below one two own =
+        let first = (classes.each q there one).same in
         let second : AreSame net (take seen patterns) (class_of old q) p =
-        subst (λ (l : ℕ). AreSame net (take seen patterns) l p) (sym own) (classes.each p below).same in
+        subst (λ (l : ℕ). AreSame net (take seen patterns) l p) (sym own) (classes.each p below two).same in
         same-join net (take seen patterns) q (class_of old q) p (same-swap net (take seen patterns) (class_of old q) q first) second
 
-    same-old : (q p : ℕ) → IsPosition q → IsPosition p → AreSame net (take seen patterns) q p → class_of old q ≡ class_of old p
-    same-old q p there below same =
-        let a = classes.each q there in
-        let b = classes.each p below in
+    same-old : (q p : ℕ) → IsPosition q → IsPosition p → Counts q → Counts p → AreSame net (take seen patterns) q p
+        → class_of old q ≡ class_of old p
+    same-old q p there below one two same =
+        let a = classes.each q there one in
+        let b = classes.each p below two in
         let not-less : class_of old q < class_of old p → ⊥ = λ less.
-        b.least (class_of old q) less (same-join net (take seen patterns) (class_of old q) q p a.same same) in
+        b.least (class_of old q) less a.own
+        (same-join net (take seen patterns) (class_of old q) q p a.same same) in
         let not-more : class_of old p < class_of old q → ⊥ = λ more.
-        a.least (class_of old p) more
+        a.least (class_of old p) more b.own
         (same-join net (take seen patterns) (class_of old p) p q b.same (same-swap net (take seen patterns) q p same)) in
         omega (arith, not-less, not-more)
 
@@ -138,8 +145,8 @@ module _ (patterns : List (List Bool)) (seen : ℕ) (some : 1 ≤ length pattern
     seen-at k below = get_or-take seen patterns k [] below
 
     -- in one class, and with rows alike: no pattern of the pool tells them apart
-    one-same : (q p : ℕ) → IsPosition q → IsPosition p → are_one old sigs q p ≡ true → AreSame net patterns q p
-    one-same q p there below one k less =
+    one-same : (q p : ℕ) → IsPosition q → IsPosition p → Counts q → Counts p → are_one old sigs q p ≡ true → AreSame net patterns q p
+    one-same q p there below first second one k less =
         let parts = one-parts old sigs q p one in
         let new : AreSame net part q p = alike-same net is entries part sigs are p q below there parts.1 in
         elim (cases_lt k behind) [
@@ -147,17 +154,17 @@ module _ (patterns : List (List Bool)) (seen : ℕ) (some : 1 ≤ length pattern
               let before : k < seen = omega (arith, early) in
               let inside : k < length (take seen patterns) = omega (arith, length-take seen patterns, before, many) in
               same-moved net q p (take seen patterns) patterns k k (seen-at 0 (omega (arith, before))) (seen-at k before)
-              (old-same q p there below parts.0 k inside)
+              (old-same q p there below first second parts.0 k inside)
           | inr late ↦
               let has = part-has k less late in
               same-moved net q p part patterns has.0 k part-first has.2 (new has.0 has.1)
         ]
 
     -- and the other way round
-    same-one : (q p : ℕ) → IsPosition q → IsPosition p → AreSame net patterns q p → are_one old sigs q p ≡ true
-    same-one q p there below same =
+    same-one : (q p : ℕ) → IsPosition q → IsPosition p → Counts q → Counts p → AreSame net patterns q p → are_one old sigs q p ≡ true
+    same-one q p there below first second same =
         one-from old sigs q p
-        (same-old q p there below (λ k less.
+        (same-old q p there below first second (λ k less.
         let before : k < seen = omega (arith, length-take seen patterns, less) in
         same-moved net q p patterns (take seen patterns) k k (sym (seen-at 0 (omega (arith, before)))) (sym (seen-at k before))
         (same k (omega (arith, length-take seen patterns, less)))))
@@ -166,17 +173,23 @@ module _ (patterns : List (List Bool)) (seen : ℕ) (some : 1 ≤ length pattern
         same-moved net q p patterns part of.0 j (sym part-first) of.2 (same of.0 of.1)))
 
     -- the classes over all patterns
-    pub refined-classes : (new : List ℕ) → AreLeast old sigs (length (nodes_of net)) new → AreClasses net patterns new
-    refined-classes new least = record {
+    pub refined-classes : (new : List ℕ) → length (nodes_of net) ≤ 4294967295 → AreLeast old sigs (length (nodes_of net)) new
+        → AreClasses net patterns new
+    refined-classes new few least = record {
       size = least.size;
-      each = λ p below.
-          let l = least.each p below in
+      each = λ p below counting.
+          let before : (r : ℕ) → IsPosition r → counts new r ≡ counts old r = stays old sigs (length (nodes_of net)) new least few in
+          let here : Counts p = sym (before p below) ∙ counting in
+          let l = least.each p below here in
           let there : class_of new p < length (nodes_of net) = omega (arith, l.low, below) in
           record {
             low = l.low;
-            same = one-same (class_of new p) p there below l.one;
-            least = λ r less same.
-                let f : true ≡ false = sym (same-one r p (omega (arith, less, there)) below same) ∙ l.least r less in cc;
+            own = before (class_of new p) there ∙ l.own;
+            same = one-same (class_of new p) p there below l.own here l.one;
+            least = λ r less counts-r same.
+                let inside : r < length (nodes_of net) = omega (arith, less, there) in
+                let own : Counts r = sym (before r inside) ∙ counts-r in
+                let f : true ≡ false = sym (same-one r p inside below own here same) ∙ l.least r less own in cc;
           };
     }
 
@@ -225,17 +238,17 @@ module _ (net : AigPair) (is : IsNet net) (entries : List Entry) (patterns : Lis
       (part-first (cut-of seen patterns) seen cut-some ∙ cut-first patterns seen)
 
   -- the classes that they part are kept
-  pub next-kept : (kept : Kept) → kept.seen ≡ seen → AreKept net patterns kept → (new : List ℕ)
+  pub next-kept : (kept : Kept) → kept.seen ≡ seen → AreKept net patterns kept → (new : List ℕ) → length (nodes_of net) ≤ 4294967295
       → AreLeast kept.leaders sigs (length (nodes_of net)) new
       → AreKept net patterns (record { seen = next_seen seen (length patterns); leaders = new })
-  next-kept kept at old new least =
+  next-kept kept at old new small least =
       let few : seen ≤ length patterns = omega (arith, at, old.some) in
       let before : take seen (cut-of seen patterns) ≡ take kept.seen patterns =
       take-take seen (64 * (seen / 64 + 4)) patterns (omega arith) ∙ ap (λ (n : ℕ). take n patterns) (sym at) in
       let all : take (next_seen seen (length patterns)) patterns ≡ cut-of seen patterns = take_min (64 * (seen / 64 + 4)) patterns in
       let now : AreClasses net (cut-of seen patterns) new =
       refined-classes (cut-of seen patterns) seen cut-some net kept.leaders (omega (arith, few, cut-length patterns seen))
-      (subst (λ (ps : List (List Bool)). AreClasses net ps kept.leaders) (sym before) old.classes) sigs rows-behind is entries new least in
+      (subst (λ (ps : List (List Bool)). AreClasses net ps kept.leaders) (sym before) old.classes) sigs rows-behind is entries new small least in
       record {
         some = omega arith;
         classes = subst (λ (ps : List (List Bool)). AreClasses net ps new) (sym all) now;
@@ -255,6 +268,12 @@ if-ok (Err e) P Q p f = tt
 
 -- ---- tasks
 
+less-is : (q p : ℕ) → nat_lt q p ≡ true → q < p
+less-is q p e = grind (arith, nat_tests, e)
+
+more-is : (q p : ℕ) → nat_lt q p ≡ false → p ≤ q
+more-is q p e = grind (arith, nat_tests, e)
+
 abbrev task-with : AigPair → List Entry → ℕ → Lit → Option Task
 task-with net entries p lit =
     if is_gate (node_at net p) && not (has_spent_on entries (node_at net p) lit) then Some (record { node = node_at net p; lit = lit }) else None
@@ -262,31 +281,37 @@ task-with net entries p lit =
 module _ (net : AigPair) (is : IsNet net) (book : Entries) (legal : IsLegal net book) (patterns : List (List Bool)) (some : 1 ≤ length patterns)
     (whole : AllByRecursion (λ bits. length bits ≡ length net.a.inputs) patterns)
     (keeps : (l : Lit) → HaveOneValue net l (root_of book.entries l)) (leaders : List ℕ) (classes : AreClasses net patterns leaders)
-    (sigs : Signatures) (signs : HaveSigns net patterns sigs) (p : ℕ) (below : p < length (nodes_of net)) where
+    (roots : HaveRoots net book.entries leaders) (sigs : Signatures) (signs : HaveSigns net patterns sigs) (p : ℕ)
+    (below : p < length (nodes_of net)) where
   abbrev q : ℕ
   q = class_of leaders p
 
   abbrev root : ℕ → Bool
   root = root_at net book.entries
 
-  least-p : IsLeastSame net patterns q p
-  least-p = classes.each p below
+  module _ (open-p : root p ≡ true) (all : Signatures) (are : AreSignatures net patterns all) where
+    least-p : IsLeastSame net patterns (counts leaders) q p
+    least-p = classes.each p below (roots p below open-p)
 
-  there : q < length (nodes_of net)
-  there = omega (arith, least-p.low, below)
+    there : q < length (nodes_of net)
+    there = omega (arith, least-p.low, below)
 
-  module _ (all : Signatures) (are : AreSignatures net patterns all) where
     one-is_same : (r s : ℕ) → r < length (nodes_of net) → s < length (nodes_of net) → are_one [] all r s ≡ true → AreSame net patterns r s
     one-is_same r s here next one = alike-same net is book.entries patterns all are s r next here (sym (one-none all r s) ∙ one)
 
-    -- no earlier position is in its class
-    lone-least : (r : ℕ) → r < q → are_one [] all r p ≡ false
-    lone-least r less = false_from_ne_true (are_one [] all r p) (λ one. least-p.least r less (one-is_same r p (omega (arith, less, there)) below one))
+    -- no earlier root is in its class
+    lone-least : (r : ℕ) → r < q → root r ≡ true → are_one [] all r p ≡ false
+    lone-least r less is_root =
+        let inside : r < length (nodes_of net) = omega (arith, less, there) in
+        false_from_ne_true (are_one [] all r p)
+        (λ one. least-p.least r less (roots r inside is_root) (one-is_same r p inside below one))
 
-    lone-q : (r : ℕ) → r < q → are_one [] all r q ≡ false
-    lone-q r less =
+    lone-q : (r : ℕ) → r < q → root r ≡ true → are_one [] all r q ≡ false
+    lone-q r less is_root =
+        let inside : r < length (nodes_of net) = omega (arith, less, there) in
         let other : are_one [] all r q ≡ true → ⊥ = λ one.
-        least-p.least r less (same-join net patterns r q p (one-is_same r q (omega (arith, less, there)) there one) least-p.same) in
+        least-p.least r less (roots r inside is_root)
+        (same-join net patterns r q p (one-is_same r q inside there one) least-p.same) in
         false_from_ne_true (are_one [] all r q) other
 
     -- the least of a class isn't merged, since it would be with an earlier one
@@ -294,7 +319,7 @@ module _ (net : AigPair) (is : IsNet net) (book : Entries) (legal : IsLegal net 
     least-root =
         let earlier = root-alike net is book legal patterns all are whole keeps (node_at net q) q (position-node net is q there) in
         let not-less : earlier.0 < q → ⊥ = λ less.
-        let f : true ≡ false = sym (one-none all earlier.0 q ∙ earlier.3) ∙ lone-q earlier.0 less in cc in
+        let f : true ≡ false = sym (one-none all earlier.0 q ∙ earlier.3) ∙ lone-q earlier.0 less earlier.2 in cc in
         let same : earlier.0 ≡ q = omega (arith, not-less, earlier.4) in
         sym (ap root same) ∙ earlier.2
 
@@ -304,9 +329,9 @@ module _ (net : AigPair) (is : IsNet net) (book : Entries) (legal : IsLegal net 
         (first-bit net is book.entries patterns all are q there ∙ sym (signs q there))
         (first-bit net is book.entries patterns all are p below ∙ sym (signs p below))
 
-    led-task : q < p → root p ≡ true → IsNextTask net book.entries patterns p (task_at net book.entries sigs q p)
-    led-task less open-p =
-        let first : is_first [] all root p q ≡ true = first-from [] all root p q less least-root (λ r before is_root. lone-q r before) in
+    led-task : q < p → IsNextTask net book.entries patterns p (task_at net book.entries sigs q p)
+    led-task less =
+        let first : is_first [] all root p q ≡ true = first-from [] all root p q less least-root lone-q in
         let both : are_one [] all q p ≡ true =
         one-none all q p ∙ same-alike net is book.entries patterns all are p q below there least-p.same in
         subst (λ (l : Lit). IsNextTask net book.entries patterns p (task-with net book.entries p l)) lit-is
@@ -314,8 +339,8 @@ module _ (net : AigPair) (is : IsNet net) (book : Entries) (legal : IsLegal net 
 
     led-lone : p ≤ q → IsNextTask net book.entries patterns p None
     led-lone more =
-        next-lone net is book.entries patterns p below all are
-        (λ r first. lone-least r (omega (arith, more, (first-parts [] all root p r first).0)))
+        next-lone net is book.entries patterns p below all are (λ r first.
+        let parts = first-parts [] all root p r first in lone-least r (omega (arith, more, parts.0)) parts.1)
 
   -- the task that is due of the position
   pub next-led : IsNextTask net book.entries patterns p (led_at net book.entries sigs q p)
@@ -326,6 +351,7 @@ module _ (net : AigPair) (is : IsNet net) (book : Entries) (legal : IsLegal net 
 
       go : (less open-p : Bool) → nat_lt q p ≡ less → root p ≡ open-p
           → IsNextTask net book.entries patterns p (if less && open-p then task_at net book.entries sigs q p else None)
-      go true true e f = led-task full.0 full.1 (grind (arith, nat_tests, e)) f
+      go true true e f = led-task f full.0 full.1 (less-is q p e)
       go true false e f = next-merged net is book.entries patterns p below f
-      go false open-p e f = led-lone full.0 full.1 (grind (arith, nat_tests, e))
+      go false true e f = led-lone f full.0 full.1 (more-is q p e)
+      go false false e f = next-merged net is book.entries patterns p below f

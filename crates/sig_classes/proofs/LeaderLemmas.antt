@@ -75,7 +75,7 @@ turned-left false true false true e = refl
 turned-left false true false false e = cc
 turned-left false false x y e = sym e
 
-turned-right : (x first neg : Bool) → turned first x ≡ turned (if neg then not first else first) (if neg then not x else x)
+pub turned-right : (x first neg : Bool) → turned first x ≡ turned (if neg then not first else first) (if neg then not x else x)
 turned-right true true true = refl
 turned-right true true false = refl
 turned-right true false true = refl

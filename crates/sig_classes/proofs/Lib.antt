@@ -5,5 +5,6 @@ mod LeaderLemmas
 mod TaskLemmas
 mod SweptLemmas
 mod RootLemmas
+mod CountLemmas
 mod KeptLemmas
 mod LeastLemmas

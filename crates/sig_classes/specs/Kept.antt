@@ -1,5 +1,6 @@
--- Classes that are kept while patterns join a pool: a position has the least one of its class.
-use Rattle.std.specs.Prelude.{◌≡◌, ℕ, ◌+◌, ◌*◌, ◌/◌, ◌<◌, ◌≤◌, ◌&&◌, nat_lt, min, Bool, true, false, Option, None, List, length, take, if◌then◌else◌}
+-- Classes that are kept while patterns join a pool: a position has the least one of its class. Merged nodes may be left out,
+-- since the root of one has its value, or its complement, on every input.
+use Rattle.std.specs.Prelude.{◌≡◌, ℕ, ◌+◌, ◌*◌, ◌/◌, ◌<◌, ◌≤◌, ◌==◌, ◌&&◌, nat_lt, min, Bool, true, false, not, Option, None, List, length, take, if◌then◌else◌}
 use Rattle.netlist.specs.Net.{AigPair, nodes_of, node_at}
 use Rattle.word_sim.specs.Patterns.{part_from}
 use Rattle.word_sim.specs.Rows.{Signatures, turned, value_on}
@@ -16,16 +17,31 @@ AreSame net patterns q p = (k : ℕ) → k < length patterns
     → turned (value_on net patterns (node_at net q) 0) (value_on net patterns (node_at net q) k)
     ≡ turned (value_on net patterns (node_at net p) 0) (value_on net patterns (node_at net p) k)
 
--- q is the least position of p's class
-pub record IsLeastSame (net : AigPair) (patterns : List (List Bool)) (q p : ℕ) : Type 0 where
-  pub low : q ≤ p
-  pub same : AreSame net patterns q p
-  pub least : (r : ℕ) → r < q → ¬ AreSame net patterns r p
+-- whether a position counts: one that is left out has a number in the place of its class's least position that no position has
+abbrev pub counts : List ℕ → ℕ → Bool
+counts leaders p = not (class_of leaders p == 4294967295)
 
--- each position has the least one of its class
+-- q is the least of the positions of p's class that count
+pub record IsLeastSame (net : AigPair) (patterns : List (List Bool)) (counting : ℕ → Bool) (q p : ℕ) : Type 0 where
+  pub low : q ≤ p
+  pub own : counting q ≡ true
+  pub same : AreSame net patterns q p
+  pub least : (r : ℕ) → r < q → counting r ≡ true → ¬ AreSame net patterns r p
+
+-- each position that counts has the least one of its class
 pub record AreClasses (net : AigPair) (patterns : List (List Bool)) (leaders : List ℕ) : Type 0 where
   pub size : length leaders ≡ length (nodes_of net)
-  pub each : (p : ℕ) → p < length (nodes_of net) → IsLeastSame net patterns (class_of leaders p) p
+  pub each : (p : ℕ) → p < length (nodes_of net) → counts leaders p ≡ true
+      → IsLeastSame net patterns (counts leaders) (class_of leaders p) p
+
+-- no root of a book is left out
+abbrev pub HaveRoots : AigPair → List Entry → List ℕ → Type 0
+HaveRoots net entries leaders = (p : ℕ) → p < length (nodes_of net) → root_at net entries p ≡ true → counts leaders p ≡ true
+
+-- what the book merges is left out too
+pub record AreWithout (net : AigPair) (entries : List Entry) (n : ℕ) (old new : List ℕ) : Type 0 where
+  pub size : length new ≡ length old
+  pub each : (p : ℕ) → class_of new p ≡ (if nat_lt p n && not (root_at net entries p) then 4294967295 else class_of old p)
 
 -- classes, and over how many of a pool's first patterns
 pub record Kept : Type 0 where
@@ -44,24 +60,22 @@ next_seen seen count = min (64 * (seen / 64 + 4)) count
 abbrev pub next_part : ℕ → List (List Bool) → List (List Bool)
 next_part seen patterns = part_from seen 4 patterns
 
--- q is the least position that shares p's class and has a row alike
+-- q is the least position that counts, shares p's class and has a row alike
 pub record IsLeastOne (classes : List ℕ) (sigs : Signatures) (q p : ℕ) : Type 0 where
   pub low : q ≤ p
+  pub own : counts classes q ≡ true
   pub one : are_one classes sigs q p ≡ true
-  pub least : (r : ℕ) → r < q → are_one classes sigs r p ≡ false
+  pub least : (r : ℕ) → r < q → counts classes r ≡ true → are_one classes sigs r p ≡ false
 
--- each of the first so many positions has its least one
+-- each of the first so many positions that counts has its least one, and those that are left out stay so
 pub record AreLeast (classes : List ℕ) (sigs : Signatures) (n : ℕ) (leaders : List ℕ) : Type 0 where
   pub size : length leaders ≡ n
-  pub each : (p : ℕ) → p < n → IsLeastOne classes sigs (class_of leaders p) p
+  pub each : (p : ℕ) → p < n → counts classes p ≡ true → IsLeastOne classes sigs (class_of leaders p) p
+  pub out : (p : ℕ) → p < n → counts classes p ≡ false → class_of leaders p ≡ 4294967295
 
--- each position counts, merged or not
-abbrev pub every : ℕ → Bool
-every q = true
-
--- the chains have the first members of the classes of all positions before this one
+-- the chains have the first members of the classes of those that count before this position
 abbrev pub HasLeasts : List ℕ → Signatures → ℕ → Chains → Type 0
-HasLeasts classes sigs n t = HasMembers classes sigs (is_first classes sigs every n) t
+HasLeasts classes sigs n t = HasMembers classes sigs (is_first classes sigs (counts classes) n) t
 
 -- each row begins with the node's value on the first pattern
 abbrev pub HaveSigns : AigPair → List (List Bool) → Signatures → Type 0

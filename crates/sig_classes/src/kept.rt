@@ -1,11 +1,12 @@
-ghost use Rattle.std.specs.Prelude.{◌≡◌, ◌<◌, ◌≤◌, ◌+◌, Bool, List, length, IfOk};
+ghost use Rattle.std.specs.Prelude.{◌≡◌, ◌<◌, ◌≤◌, ◌+◌, ℕ, Bool, true, false, List, length, IfOk, OnOk};
+ghost use Rattle.std.specs.Bool.{OnTrue};
 ghost use Rattle.std.specs.List.{AllByRecursion};
 ghost use Rattle.netlist.specs.Net.{nodes_of};
 ghost use Rattle.word_sim.specs.Rows.{AreSignatures};
 ghost use Rattle.lemma_book.specs.Book.{IsLegal};
 ghost use Rattle.sig_classes.specs.Leader.{AreTasks};
 ghost use Rattle.sig_classes.specs.Chains.{AreBefore, class_of};
-ghost use Rattle.sig_classes.specs.Kept.{AreClasses, AreKept, AreLeast, HasLeasts, HaveSigns, IsLeastOne, led_at, next_part, next_seen};
+ghost use Rattle.sig_classes.specs.Kept.{AreClasses, AreKept, AreLeast, AreWithout, HasLeasts, HaveRoots, HaveSigns, IsLeastOne, counts, led_at, next_part, next_seen};
 
 use crate::chains::{Firsts, class_of};
 use crate::classes::open_task;
@@ -20,11 +21,17 @@ use word_sim::{Pool, Sigs, signatures};
 /// first word's, and rows of more words cost memory at each node.
 const BLOCK: u32 = 4;
 
+/// In the place of the class of a node that is left out. No position is so great.
+const LEFT_OUT: u32 = u32::MAX;
+
 /// The classes of a pair's nodes on the patterns of a pool, kept while patterns join it.
 ///
 /// What joined is simulated alone, a few words at a time, beside the pool's first word, which tells as
 /// before which rows are turned; a class breaks up by the rows of that. So a pattern is simulated once,
 /// where `tasks` of all rows would pay for it in each round to come.
+///
+/// Nodes that are merged are left out of the classes, which are led by roots: of two circuits of one structure
+/// half of all nodes are.
 #[derive(Drop)]
 pub struct KeptClasses {
     seen: u64,
@@ -44,7 +51,7 @@ impl KeptClasses {
     pub fn new(alloc: Global, net: &Net) -> Result<KeptClasses, AllocError>
         ensures { IfOk result (λ k. (patterns : List (List Bool)) → AreKept net.now patterns k) }
     {
-        let leaders = vec![in alloc; 0; net.positions() as usize]?;
+        let leaders = one_class(alloc, net)?;
         Ok(KeptClasses { seen: 0, leaders })
     }
 
@@ -61,12 +68,13 @@ impl KeptClasses {
         requires inputs { pool.now.inputs ≡ length net.now.a.inputs }
         requires kept { AreKept net.now pool.now.patterns self.old }
         ensures kept { AreKept net.now pool.now.patterns self.new }
+        ensures counts { (p : ℕ) → p < length (nodes_of net.now)
+            → counts self.new.leaders p ≡ counts self.old.leaders p }
         ensures seen { IfOk result (λ s. self.new.seen ≡ next_seen self.old.seen (length pool.now.patterns)) }
         ensures rows { IfOk result (AreSignatures net.now (next_part self.old.seen pool.now.patterns)) }
     {
         netlist::laws::is_net(net);
-        let part = pool.part(alloc, self.seen, BLOCK)?;
-        let sigs = signatures(alloc, net, &part)?;
+        let sigs = next_rows(alloc, net, pool, self.seen)?;
         self.leaders = refined(alloc, net, self.leaders.as_slice(), &sigs)?;
         self.seen = next_seen(self.seen, pool);
         Ok(sigs)
@@ -88,12 +96,85 @@ impl KeptClasses {
         ensures kept { AreKept net.now pool.now.patterns self.new }
     {
         netlist::laws::is_net(net);
+        self.leave_out(alloc, net, book)?;
         while self.seen / 64 + u64::from(BLOCK) < u64::from(pool.words()) {
             self.refine(alloc, net, pool)?;
         }
         let sigs = self.refine(alloc, net, pool)?;
         due(alloc, net, &sigs, self.leaders.as_slice(), book)
     }
+
+    /// Leaves out what the book merges. Where a root of this book was left out before, the classes begin anew.
+    fn leave_out(&mut self, alloc: Global, net: &Net, book: &Book) -> Result<(), AllocError>
+        requires legal { IsLegal net.now book.now }
+        requires size { length self.old.leaders ≡ length (nodes_of net.now) }
+        ensures kept { (patterns : List (List Bool))
+            → AllByRecursion (λ bits. length bits ≡ length net.now.a.inputs) patterns
+            → AreKept net.now patterns self.old → AreKept net.now patterns self.new }
+        ensures roots { OnOk result (HaveRoots net.now book.now.entries self.new.leaders) }
+    {
+        netlist::laws::is_net(net);
+        lemma_book::laws::roots_keep_values(net, book);
+        if !have_roots(net, book, self.leaders.as_slice()) {
+            self.leaders = one_class(alloc, net)?;
+            self.seen = 0;
+        }
+        drop_merged(net, book, self.leaders.as_mut_slice());
+        Ok(())
+    }
+}
+
+/// One class of all nodes.
+fn one_class(alloc: Global, net: &Net) -> Result<Vec<u32>, AllocError>
+    ensures kept { IfOk result (λ v. (patterns : List (List Bool))
+        → AreKept net.now patterns (record { seen = 0; leaders = v.items })) }
+    ensures all { IfOk result (λ v. (p : ℕ) → counts v.items p ≡ true) }
+{
+    vec![in alloc; 0; net.positions() as usize]
+}
+
+/// Whether no root of the book is left out.
+fn have_roots(net: &Net, book: &Book, leaders: &[u32]) -> bool
+    ensures { OnTrue result (HaveRoots net.now book.now.entries leaders.now) }
+{
+    netlist::laws::is_net(net);
+    for position in 0..net.positions() {
+        if !counts(leaders, position) && !book.is_merged(net.node(position)) {
+            return false;
+        }
+    }
+    true
+}
+
+/// Leaves out what the book merges.
+fn drop_merged(net: &Net, book: &Book, leaders: &mut [u32])
+    requires { length leaders.old ≡ length (nodes_of net.now) }
+    ensures { AreWithout net.now book.now.entries (length (nodes_of net.now)) leaders.old leaders.new }
+{
+    netlist::laws::is_net(net);
+    for position in 0..net.positions() {
+        if book.is_merged(net.node(position)) {
+            leaders[position as usize] = LEFT_OUT;
+        }
+    }
+}
+
+/// Whether a position isn't left out.
+fn counts(leaders: &[u32], position: u32) -> bool
+    ensures { result ≡ counts leaders.now position }
+{
+    class_of(leaders, position) != LEFT_OUT
+}
+
+/// The rows of the next words of patterns, beside the pool's first one. The patterns themselves, a bit an input
+/// each, are given up with it.
+fn next_rows(alloc: Global, net: &Net, pool: &Pool, seen: u64) -> Result<Sigs, AllocError>
+    requires inputs { pool.now.inputs ≡ length net.now.a.inputs }
+    requires seen { seen ≤ length pool.now.patterns }
+    ensures { IfOk result (AreSignatures net.now (next_part seen pool.now.patterns)) }
+{
+    let part = pool.part(alloc, seen, BLOCK)?;
+    signatures(alloc, net, &part)
 }
 
 /// How many patterns were seen after the next block.
@@ -109,7 +190,8 @@ fn next_seen(seen: u64, pool: &Pool) -> u64
 /// The least positions of the classes into which rows part those that are given.
 fn refined(alloc: Global, net: &Net, classes: &[u32], sigs: &Sigs) -> Result<Vec<u32>, AllocError>
     requires { length sigs.now.rows ≡ length (nodes_of net.now) }
-    ensures { IfOk result (λ v. AreLeast classes.now sigs.now (length (nodes_of net.now)) v.items) }
+    ensures least { IfOk result (λ v. AreLeast classes.now sigs.now (length (nodes_of net.now)) v.items) }
+    ensures few { length (nodes_of net.now) ≤ 4294967295 }
 {
     netlist::laws::is_net(net);
     let mut firsts = Firsts::with_room(alloc, net.positions())?;
@@ -120,7 +202,7 @@ fn refined(alloc: Global, net: &Net, classes: &[u32], sigs: &Sigs) -> Result<Vec
     Ok(leaders)
 }
 
-/// Takes the next position into its class, and gives the least one of that.
+/// Takes the next position into its class, and gives the least one of that, unless it is left out.
 fn lead(classes: &[u32], sigs: &Sigs, firsts: &mut Firsts, position: u32) -> u32
     requires room { length sigs.now.rows ≡ length firsts.old.behind }
     requires position { position < length sigs.now.rows }
@@ -130,8 +212,12 @@ fn lead(classes: &[u32], sigs: &Sigs, firsts: &mut Firsts, position: u32) -> u32
     ensures members { HasLeasts classes.now sigs.now position firsts.old
         → HasLeasts classes.now sigs.now (position + 1) firsts.new }
     ensures least { HasLeasts classes.now sigs.now position firsts.old
-        → IsLeastOne classes.now sigs.now result position }
+        → counts classes.now position ≡ true → IsLeastOne classes.now sigs.now result position }
+    ensures out { counts classes.now position ≡ false → result ≡ 4294967295 }
 {
+    if !counts(classes, position) {
+        return LEFT_OUT;
+    }
     match firsts.find(classes, sigs, position) {
         Some(first) => first,
         None => {
@@ -141,7 +227,7 @@ fn lead(classes: &[u32], sigs: &Sigs, firsts: &mut Firsts, position: u32) -> u32
     }
 }
 
-/// The pairs that are due where each position has the least one of its class.
+/// The pairs that are due where each position that counts has the least one of its class, and no root is left out.
 fn due(
     alloc: Global,
     net: &Net,
@@ -152,6 +238,7 @@ fn due(
     requires sigs { length sigs.now.rows ≡ length (nodes_of net.now) }
     requires legal { IsLegal net.now book.now }
     ensures { IfOk result (λ v. (patterns : List (List Bool)) → AreClasses net.now patterns leaders.now
+        → HaveRoots net.now book.now.entries leaders.now
         → HaveSigns net.now patterns sigs.now
         → 1 ≤ length patterns
         → AllByRecursion (λ bits. length bits ≡ length net.now.a.inputs) patterns

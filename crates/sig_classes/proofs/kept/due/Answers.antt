@@ -8,16 +8,16 @@ use Rattle.sig_classes.proofs.kept.due.Goals.{in-Some+in_ok-push, in_default}
 use Rattle.sig_classes.proofs.kept.due.Goals as goal
 
 pub loop-position-preserved : goal.loop-position-preserved
-loop-position-preserved c = λ patterns classes signs some whole.
+loop-position-preserved c = λ patterns classes roots signs some whole.
     let net = c.args.net.now in
     let entries = c.args.book.now.entries in
     let inside : c.loop-position.position < length (nodes_of c.args.net.now) =
     omega (arith, c.loop-position-test.true, c.positions-position-end.ensures) in
-    let old = c.loop-position.invariant patterns classes signs some whole in
+    let old = c.loop-position.invariant patterns classes roots signs some whole in
     let next : IsNextTask net entries patterns c.loop-position.position c.led.result =
     subst (IsNextTask net entries patterns c.loop-position.position) (sym c.led.ensures)
     (next-led net c.is_net.ensures c.args.book.now c.requires.legal patterns some whole c.roots_keep_values.ensures c.args.leaders.now classes
-    c.args.sigs.now signs c.loop-position.position inside) in
+    roots c.args.sigs.now signs c.loop-position.position inside) in
     elim c.match-led.branch [
       | in-Some+in_ok-push w ↦
           let here = subst (IsNextTask net entries patterns c.loop-position.position) w.in-Some.is next in
@@ -30,6 +30,6 @@ loop-position-preserved c = λ patterns classes signs some whole.
     ]
 
 pub returns : goal.returns
-returns c = λ patterns classes signs some whole.
+returns c = λ patterns classes roots signs some whole.
     before-all c.args.net.now c.is_net.ensures c.args.book.now.entries patterns c.loop-position.position c.loop-position.tasks.items
-    (omega (arith, c.loop-position-test.false, c.positions-position-end.ensures)) (c.loop-position.invariant patterns classes signs some whole)
+    (omega (arith, c.loop-position-test.false, c.positions-position-end.ensures)) (c.loop-position.invariant patterns classes roots signs some whole)

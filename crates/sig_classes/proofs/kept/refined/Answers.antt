@@ -12,10 +12,10 @@ loop-position-preserved c =
       order = c.lead.ensures.order;
       firsts = c.lead.ensures.members i.firsts;
       least = least-next c.args.classes.now c.args.sigs.now c.loop-position.position c.loop-position.leaders.items _ c.lead.result
-          i.least c.in_ok-push.ensures.items (c.lead.ensures.least i.firsts);
+          i.least c.in_ok-push.ensures.items (c.lead.ensures.least i.firsts) c.lead.ensures.out;
     }
 
-pub returns : goal.returns
-returns c =
+pub returns-clause-least : goal.returns-clause-least
+returns-clause-least c =
     let end : c.loop-position.position ≡ length (nodes_of c.args.net.now) = omega (arith, c.loop-position-test.false, c.positions-position-end.ensures) in
     subst (λ (n : ℕ). AreLeast c.args.classes.now c.args.sigs.now n c.loop-position.leaders.items) end c.loop-position.invariant.least

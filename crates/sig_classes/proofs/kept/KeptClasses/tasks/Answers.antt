@@ -1,5 +1,5 @@
-use Rattle.std.proofs.Common.{◌≡◌, ◌∙◌, ◌+◌, ◌*◌, ◌/◌, ◌≤◌, ℕ, List, Bool, length, arith, sym, ap, subst}
-use Rattle.sig_classes.specs.Kept.{AreClasses, AreKept, Kept, next_seen}
+use Rattle.std.proofs.Common.{◌≡◌, ◌∙◌, ◌+◌, ◌*◌, ◌/◌, ◌≤◌, ℕ, List, length, arith, sym, ap, subst}
+use Rattle.sig_classes.specs.Kept.{AreClasses, AreKept, HaveRoots, Kept, counts, next_seen}
 use Rattle.sig_classes.proofs.KeptLemmas.{if-ok, last-classes, next-signs, next-some}
 use Rattle.sig_classes.proofs.kept.KeptClasses.tasks.Goals as goal
 
@@ -19,7 +19,11 @@ returns-clause-tasks c =
     subst (λ (k : Kept). AreKept net patterns k) (sym c.self-2.view_is) last.kept in
     let classes : AreClasses c.args.net.now c.args.pool.now.patterns new.leaders.items =
     last-classes c.args.net.now c.args.pool.now.patterns c.loop-self.self.seen (record { seen = new.seen; leaders = new.leaders.items }) kept at end in
+    let roots : HaveRoots c.args.net.now c.args.book.now.entries c.as_slice.result.now = λ p below is_root.
+    ap (λ (xs : List ℕ). counts xs p) c.as_slice.ensures.value ∙ ap (λ (k : Kept). counts k.leaders p) c.self-2.view_is
+    ∙ last.counts p below ∙ c.loop-self.invariant.roots p below is_root in
     if-ok c.due.result _ _ c.due.ensures (λ v due. due c.args.pool.now.patterns
     (subst (λ (ls : List ℕ). AreClasses net patterns ls) (sym c.as_slice.ensures.value) classes)
+    roots
     (next-signs c.args.net.now c.is_net.ensures c.args.book.now.entries c.args.pool.now.patterns c.loop-self.self.seen c.in_ok-sigs.sigs last.rows)
     (next-some c.args.net.now c.args.pool.now.patterns c.loop-self.self.seen c.in_ok-sigs.sigs last.rows) c.requires.whole)
