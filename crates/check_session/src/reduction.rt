@@ -19,7 +19,7 @@ use netlist::{Circuit, Net};
 use std::alloc::{AllocError, Global};
 use std::sync::{Mutex, Wait};
 use std::thread::Threads;
-use sweep_workers::{Swept, sweep_by};
+use sweep_workers::{Swept, Unwatched, sweep_by};
 use symbol_names::Names;
 
 /// Reduces a circuit: sweeps it by itself, makes the reduced circuit of the sweep's book, and shows the two
@@ -112,7 +112,14 @@ fn swept_book<T: Threads + Wait + Sync, G: Gate + Sync>(
     let sieve = Mutex::new(Sieve::new(alloc, options.seed, options.words));
     let mut workers = workers(alloc, options.workers)?;
     let begun = Swept { book, pool, sieve };
-    let swept = sweep_by(rt, alloc, net, begun, gate, workers.as_mut_slice())?;
+    let swept = sweep_by(
+        rt,
+        alloc,
+        net,
+        begun,
+        &Unwatched(gate),
+        workers.as_mut_slice(),
+    )?;
     is_swept(net);
     Ok(swept.book)
 }

@@ -26,6 +26,7 @@ use std::marker::Model;
 use std::mem::replace;
 use std::sync::Wait;
 use std::thread::Threads;
+use sweep_workers::{Unwatched, Watch};
 use word_sim::Pool;
 
 /// The net of two circuits, whose inputs and outputs are matched by name or by position.
@@ -44,7 +45,7 @@ fn net_of(alloc: Global, a: Circuit, b: Circuit, by_name: bool) -> Result<Net, U
 
 /// Checks a pair, beginning with what is kept of the check before. Gives what the check leaves, the verdict once
 /// more, and what the check did.
-fn make_check<T: Threads + Wait + Sync, G: Gate + Sync>(
+fn make_check<T: Threads + Wait + Sync, G: Watch + Sync>(
     rt: &T,
     alloc: Global,
     net: &Net,
@@ -244,6 +245,25 @@ impl Session {
     /// As many workers settle the pairs and then the outputs as the options say, in as many threads, of which
     /// the caller is one; each passes the gate behind each task that it draws.
     pub fn check<T: Threads + Wait + Sync, G: Gate + Sync>(
+        &mut self,
+        rt: &T,
+        alloc: Global,
+        gate: &G,
+    ) -> Result<Verdict, AllocError>
+        ensures net { self.new.net ≡ self.old.net }
+        ensures options { self.new.options ≡ self.old.options }
+        ensures last { (self.new.last ≡ self.old.net) × (self.new.edits ≡ []) }
+        ensures begins { OnOk result (BeginsWith self.old self.new) }
+        ensures found { IfOk result
+            (IsFound self.new.net self.new.options (begun_by self.old) self.new.pool self.new.book) }
+        ensures is_kept { IfOk result (λ v. self.new.found ≡ Some (finding_of v)) }
+        ensures refused { OnErr result (self.new ≡ opened self.old.net self.old.options) }
+    {
+        self.check_watched(rt, alloc, &Unwatched(gate))
+    }
+
+    /// The same, while a gate that watches is told how far the check is.
+    pub fn check_watched<T: Threads + Wait + Sync, G: Watch + Sync>(
         &mut self,
         rt: &T,
         alloc: Global,

@@ -16,7 +16,6 @@ use crate::options::Options;
 use crate::patterns::{Difference, difference_in, own_difference};
 use crate::verdict::Verdict;
 use circuit_search::Sieve;
-use desk_port::Gate;
 use lemma_book::laws::entries_are_true;
 use lemma_book::{Book, Entry};
 use lits::Listed;
@@ -25,7 +24,7 @@ use solver_watch::WatchSolver;
 use std::alloc::{AllocError, Global};
 use std::sync::{Mutex, Wait};
 use std::thread::Threads;
-use sweep_workers::{Swept, Worker, outputs_by, sweep_by};
+use sweep_workers::{Part, Swept, Watch, Worker, outputs_by, sweep_by};
 use word_sim::Pool;
 
 /// What a check found, the book that shows it, and the patterns that it leaves.
@@ -39,7 +38,7 @@ pub(crate) struct Checked {
 
 /// Checks a pair, beginning with this book and these patterns: what a pattern shows at once, or else what is
 /// found behind the structure.
-pub(crate) fn run<T: Threads + Wait + Sync, G: Gate + Sync>(
+pub(crate) fn run<T: Threads + Wait + Sync, G: Watch + Sync>(
     rt: &T,
     alloc: Global,
     net: &Net,
@@ -65,7 +64,7 @@ pub(crate) fn run<T: Threads + Wait + Sync, G: Gate + Sync>(
 ///
 /// The book as it was stays at hand, since a pattern that shows a difference later is told behind that: it
 /// shares its entries, and at the first check of a pair has none.
-fn verdict_by_structure<T: Threads + Wait + Sync, G: Gate + Sync>(
+fn verdict_by_structure<T: Threads + Wait + Sync, G: Watch + Sync>(
     rt: &T,
     alloc: Global,
     net: &Net,
@@ -81,6 +80,7 @@ fn verdict_by_structure<T: Threads + Wait + Sync, G: Gate + Sync>(
     ensures found { IfOk result (λ c.
         IsFound net.now options (record { book = book; pool = pool }) (Some c.pool) c.book c.verdict) }
 {
+    gate.begins(Part::Structure, 0, 0);
     let mut merged = book.copy(alloc)?;
     strash_pass::run(alloc, net, &mut merged)?;
     verdict_of_own(rt, alloc, net, options, gate, book, merged, pool)
@@ -88,7 +88,7 @@ fn verdict_by_structure<T: Threads + Wait + Sync, G: Gate + Sync>(
 
 /// What a pattern shows that isn't in the pool, and then joins it, or else what the sweep finds, behind the
 /// merges that the structure shows.
-fn verdict_of_own<T: Threads + Wait + Sync, G: Gate + Sync>(
+fn verdict_of_own<T: Threads + Wait + Sync, G: Watch + Sync>(
     rt: &T,
     alloc: Global,
     net: &Net,
@@ -161,7 +161,7 @@ fn verdict_at_once(
 }
 
 /// The verdict of the sweep and of what is asked about the outputs, behind merges that the structure shows.
-fn verdict_of_sweep<T: Threads + Wait + Sync, G: Gate + Sync>(
+fn verdict_of_sweep<T: Threads + Wait + Sync, G: Watch + Sync>(
     rt: &T,
     alloc: Global,
     net: &Net,
@@ -207,7 +207,7 @@ pub(crate) fn workers(alloc: Global, many: u32) -> Result<Vec<Worker<WatchSolver
 
 /// Lets workers settle the pairs that simulation leaves, and then the outputs, behind merges that the structure
 /// shows. Gives the book and the patterns.
-fn settled<T: Threads + Wait + Sync, G: Gate + Sync>(
+fn settled<T: Threads + Wait + Sync, G: Watch + Sync>(
     rt: &T,
     alloc: Global,
     net: &Net,

@@ -5,9 +5,9 @@ ghost use Rattle.sweep_workers.specs.Answered.{AreAnswered};
 ghost use Rattle.sweep_workers.specs.Asked.{IsAskable, question_in, questions};
 
 use crate::asked::{Asked, subject_in};
+use crate::watch::Watch;
 use crate::worker::Worker;
 use circuit_search::Sieve;
-use desk_port::Gate;
 use lemma_book::{Book, Entry};
 use netlist::Net;
 use std::alloc::{AllocError, Global};
@@ -22,8 +22,8 @@ const A_STEP: u64 = 32;
 /// How much of a round one worker does alone before the others are called, in steps of its answers.
 ///
 /// A board takes copies of the net and of the book, and the sweep of a large circuit ends in many rounds of a
-/// few questions each: with a board for each of them a circuit of 400,000 gates against itself took 2.5 times
-/// as long. So where the questions are few beside the entries one worker begins. It goes on until it has
+/// few questions each: with a board for each of them a circuit of 400,000 gates against itself took 1.6 times
+/// the processor's time. So where the questions are few beside the entries one worker begins. It goes on until it has
 /// spent what a board costs, since a few questions may be hard.
 pub(crate) fn effort_alone(entries: u64, tasks: usize, workers: usize) -> u64 {
     if workers < 2 || tasks < 2 {
@@ -37,7 +37,7 @@ pub(crate) fn effort_alone(entries: u64, tasks: usize, workers: usize) -> u64 {
 
 /// Lets one worker, in the caller's thread, settle the first tasks over the book itself, until it has spent
 /// that effort. Tells how many it settled.
-pub(crate) fn settle_alone<T: Wait, R: Refuter + Send, G: Gate>(
+pub(crate) fn settle_alone<T: Wait, R: Refuter + Send, G: Watch>(
     rt: &T,
     alloc: Global,
     net: &Net,
@@ -61,7 +61,9 @@ pub(crate) fn settle_alone<T: Wait, R: Refuter + Send, G: Gate>(
             return Ok((book, place));
         }
         gate.pass(worker.number(), place as u64);
+        let open = worker.tally().open;
         let more = answer_in(rt, alloc, net, &mut book, sieve, worker, *asked)?;
+        gate.settles(worker.tally().open > open);
         spent = spent.saturating_add(more);
     }
     Ok((book, tasks.len()))

@@ -5,6 +5,7 @@ ghost use Rattle.sweep_workers.specs.Swept.{IsPoolFor, SettlesOutputs, Sweeps};
 
 use crate::open_outputs::outputs_by;
 use crate::rounds::{Swept, sweep_by};
+use crate::watch::Unwatched;
 use crate::worker::Worker;
 use circuit_search::Sieve;
 use desk_port::Gate;
@@ -45,7 +46,14 @@ pub fn sweep<T: Threads + Wait + Sync, R: Refuter + Send, G: Gate + Sync>(
         book,
         pool,
         sieve: _,
-    } = sweep_by(rt, alloc, net, swept, gate, workers.as_mut_slice())?;
+    } = sweep_by(
+        rt,
+        alloc,
+        net,
+        swept,
+        &Unwatched(gate),
+        workers.as_mut_slice(),
+    )?;
     Ok((book, pool, refuters_of(alloc, workers)?))
 }
 
@@ -66,7 +74,15 @@ pub fn outputs<T: Threads + Wait + Sync, R: Refuter + Send, G: Gate + Sync>(
 {
     let sieve = Mutex::new(Sieve::new(alloc, SEED, 0));
     let mut workers = workers_of(alloc, refuters)?;
-    let (book, _sieve) = outputs_by(rt, alloc, net, book, sieve, gate, workers.as_mut_slice())?;
+    let (book, _sieve) = outputs_by(
+        rt,
+        alloc,
+        net,
+        book,
+        sieve,
+        &Unwatched(gate),
+        workers.as_mut_slice(),
+    )?;
     Ok((book, refuters_of(alloc, workers)?))
 }
 

@@ -4,10 +4,10 @@ ghost use Rattle.board_lock.specs.Pass.{share_of};
 ghost use Rattle.sweep_workers.specs.Asked.{questions};
 ghost use Rattle.sweep_workers.specs.Working.{HasWorked, IsAtEnd, IsRound, Works};
 
+use crate::watch::Watch;
 use crate::work::{Round, work};
 use crate::worker::Worker;
 use board_lock::Pass;
-use desk_port::Gate;
 use netlist::Net;
 use std::alloc::{AllocError, Global};
 use std::sync::Wait;
@@ -19,7 +19,7 @@ const TURNS: u64 = 1 << 40;
 
 /// Lets the workers settle the tasks of a round, each in a thread and with a pass of its own, and gives the
 /// pass that took over all of them. The caller is one of the threads.
-pub(crate) fn fan_out<T: Threads + Wait + Sync, R: Refuter + Send, G: Gate + Sync>(
+pub(crate) fn fan_out<T: Threads + Wait + Sync, R: Refuter + Send, G: Watch + Sync>(
     rt: &T,
     alloc: Global,
     net: &Net,

@@ -12,7 +12,8 @@
 //! inputs were added; after `outputs` each output has an entry, and a query that spent its budget saw at
 //! least the book before.
 //!
-//! `sweep_by` and `outputs_by` are the same two calls for who keeps the workers in between.
+//! `sweep_by` and `outputs_by` are the same two calls for who keeps the workers in between. A `Watch` is told how far
+//! they are, and has no effect in any contract.
 //!
 //! Definitions: `specs/Swept.antt` (what the two calls leave), `specs/Answered.antt` (what a round leaves),
 //! `specs/Asked.antt` (its questions); `specs/Working.antt` says what a worker's pass shows. Begin to read at
@@ -23,6 +24,7 @@
 pub use calls::{outputs, sweep};
 pub use open_outputs::outputs_by;
 pub use rounds::{Swept, sweep_by};
+pub use watch::{Part, Unwatched, Watch};
 pub use worker::{Tally, Worker};
 
 mod alone;
@@ -33,5 +35,6 @@ mod inputs;
 mod open_outputs;
 mod round;
 mod rounds;
+mod watch;
 mod work;
 mod worker;

@@ -6,9 +6,9 @@ ghost use Rattle.sweep_workers.specs.Swept.{SettlesOutputs};
 
 use crate::asked::Asked;
 use crate::round::round;
+use crate::watch::{Part, Watch};
 use crate::worker::Worker;
 use circuit_search::Sieve;
-use desk_port::Gate;
 use lemma_book::Book;
 use netlist::Net;
 use std::alloc::{AllocError, Global};
@@ -17,7 +17,7 @@ use std::thread::Threads;
 use unit_prop::Refuter;
 
 /// Settles each output that has no entry yet: each is a task, which the workers draw.
-pub fn outputs_by<T: Threads + Wait + Sync, R: Refuter + Send, G: Gate + Sync>(
+pub fn outputs_by<T: Threads + Wait + Sync, R: Refuter + Send, G: Watch + Sync>(
     rt: &T,
     alloc: Global,
     net: &Net,
@@ -31,6 +31,7 @@ pub fn outputs_by<T: Threads + Wait + Sync, R: Refuter + Send, G: Gate + Sync>(
     ensures { IfOk result (λ r. SettlesOutputs net.now book r.0) }
 {
     let tasks = open_outputs(alloc, net, &book)?;
+    gate.begins(Part::Outputs, 0, tasks.len() as u64);
     round(rt, alloc, net, book, tasks, sieve, gate, workers)
 }
 

@@ -9,11 +9,11 @@ ghost use Rattle.sweep_workers.specs.Working.{IsRound, Works};
 use crate::alone::{effort_alone, settle_alone};
 use crate::asked::Asked;
 use crate::fan::fan_out;
+use crate::watch::Watch;
 use crate::work::Round;
 use crate::worker::Worker;
 use board_lock::{Board, Pass};
 use circuit_search::Sieve;
-use desk_port::Gate;
 use lemma_book::Book;
 use netlist::Net;
 use std::alloc::{AllocError, Global};
@@ -23,7 +23,7 @@ use unit_prop::Refuter;
 
 /// Lets workers answer what is asked: one of them begins alone where a board would cost more than that, and
 /// what it leaves is shared out.
-pub(crate) fn round<T: Threads + Wait + Sync, R: Refuter + Send, G: Gate + Sync>(
+pub(crate) fn round<T: Threads + Wait + Sync, R: Refuter + Send, G: Watch + Sync>(
     rt: &T,
     alloc: Global,
     net: &Net,
@@ -59,7 +59,7 @@ fn behind(tasks: Vec<Asked>, settled: usize) -> Result<Vec<Asked>, AllocError>
 }
 
 /// Lets workers answer what is asked over a board, no more of them than there are questions.
-fn share_out<T: Threads + Wait + Sync, R: Refuter + Send, G: Gate + Sync>(
+fn share_out<T: Threads + Wait + Sync, R: Refuter + Send, G: Watch + Sync>(
     rt: &T,
     alloc: Global,
     net: &Net,
@@ -90,7 +90,7 @@ fn share_out<T: Threads + Wait + Sync, R: Refuter + Send, G: Gate + Sync>(
 }
 
 /// Lets the workers settle the tasks of a round, and closes its board.
-fn settle_round<T: Threads + Wait + Sync, R: Refuter + Send, G: Gate + Sync>(
+fn settle_round<T: Threads + Wait + Sync, R: Refuter + Send, G: Watch + Sync>(
     rt: &T,
     alloc: Global,
     net: &Net,

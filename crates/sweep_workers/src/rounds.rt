@@ -8,9 +8,9 @@ ghost use Rattle.sweep_workers.specs.declared.asked.Asked.TheVariants.{Pair};
 use crate::asked::Asked;
 use crate::inputs::join_inputs;
 use crate::round::round;
+use crate::watch::{Part, Watch};
 use crate::worker::Worker;
 use circuit_search::Sieve;
-use desk_port::Gate;
 use lemma_book::{Book, Task};
 use netlist::Net;
 use sig_classes::{KeptClasses, laws};
@@ -34,7 +34,7 @@ pub struct Swept {
 /// In a round pairs that are due are tasks, which the workers draw: those that the sieve's patterns tell
 /// apart, where there are any, and else all. Counterexamples join the pool behind the round, so the next one
 /// has other candidates; a pair whose budget was spent is no candidate again.
-pub fn sweep_by<T: Threads + Wait + Sync, R: Refuter + Send, G: Gate + Sync>(
+pub fn sweep_by<T: Threads + Wait + Sync, R: Refuter + Send, G: Watch + Sync>(
     rt: &T,
     alloc: Global,
     net: &Net,
@@ -49,6 +49,7 @@ pub fn sweep_by<T: Threads + Wait + Sync, R: Refuter + Send, G: Gate + Sync>(
     ensures pool { IfOk result (λ s. IsPoolFor net.now s.pool) }
     ensures reduced { IfOk result (λ s. IsReduced net.now s.book.entries s.pool.patterns) }
 {
+    gate.begins(Part::Sweep, 0, 0);
     let mut classes = KeptClasses::new(alloc, net)?;
     let mut swept = swept;
     for _ in 0..u64::MAX {
@@ -65,7 +66,7 @@ pub fn sweep_by<T: Threads + Wait + Sync, R: Refuter + Send, G: Gate + Sync>(
 }
 
 /// A round: settles pairs that are due, and lets the inputs of its counterexamples join the patterns.
-fn settle_due<T: Threads + Wait + Sync, R: Refuter + Send, G: Gate + Sync>(
+fn settle_due<T: Threads + Wait + Sync, R: Refuter + Send, G: Watch + Sync>(
     rt: &T,
     alloc: Global,
     net: &Net,
@@ -86,19 +87,20 @@ fn settle_due<T: Threads + Wait + Sync, R: Refuter + Send, G: Gate + Sync>(
     let part = now.as_slice();
     let tasks = pairs(alloc, part)?;
     let known = book.len();
-    note_round(workers);
+    gate.begins(Part::Sweep, note_round(workers), part.len() as u64);
     let (book, sieve) = round(rt, alloc, net, book, tasks, sieve, gate, workers)?;
     let mut pool = pool;
     join_inputs(net, &book, known, &mut pool)?;
     Ok(Swept { book, pool, sieve })
 }
 
-/// Lets the first worker count one more round.
-fn note_round<R: Refuter + Send>(workers: &mut [Worker<R>])
+/// Lets the first worker count one more round, and gives the number that it counts.
+fn note_round<R: Refuter + Send>(workers: &mut [Worker<R>]) -> u64
     ensures { length workers.new ≡ length workers.old }
 {
-    if let Some(first) = workers.get_mut(0) {
-        first.note_round();
+    match workers.get_mut(0) {
+        Some(first) => first.note_round(),
+        None => 0,
     }
 }
 

@@ -5,10 +5,10 @@ ghost use Rattle.sweep_workers.specs.Asked.{IsAskable, question_in, questions};
 ghost use Rattle.sweep_workers.specs.Working.{HasWorked, IsAtEnd, IsRound, Owes, Told, Works};
 
 use crate::asked::{Asked, claim_of, subject_in};
+use crate::watch::Watch;
 use crate::worker::Worker;
 use board_lock::{Board, Pass};
 use circuit_search::Sieve;
-use desk_port::Gate;
 use netlist::Net;
 use std::alloc::{AllocError, Global};
 use std::sync::{Mutex, Wait};
@@ -27,7 +27,7 @@ pub(crate) struct Round {
 /// It isn't made a part of `fan_out`, which stands six times on the caller's stack where there are 64 workers: with it
 /// each of these took 3 KB, and a stack of 64 KB was too small.
 #[inline(never)]
-pub(crate) fn work<T: Wait, R: Refuter + Send, G: Gate>(
+pub(crate) fn work<T: Wait, R: Refuter + Send, G: Watch>(
     rt: &T,
     alloc: Global,
     net: &Net,
@@ -50,7 +50,7 @@ pub(crate) fn work<T: Wait, R: Refuter + Send, G: Gate>(
 }
 
 /// Draws a task, passes the gate and settles the task. Tells whether there was one.
-fn settle_next<T: Wait, R: Refuter + Send, G: Gate>(
+fn settle_next<T: Wait, R: Refuter + Send, G: Watch>(
     rt: &T,
     alloc: Global,
     net: &Net,
@@ -73,7 +73,9 @@ fn settle_next<T: Wait, R: Refuter + Send, G: Gate>(
         Some(number) => {
             gate.pass(worker.number(), number);
             let asked = round.tasks[number as usize];
+            let open = worker.tally().open;
             settle(rt, alloc, net, round, pass, worker, asked)?;
+            gate.settles(worker.tally().open > open);
             Ok(true)
         }
         None => Ok(false),

@@ -26,6 +26,8 @@ pub struct Tally {
     pub by_search: u64,
     /// The merges that a query of the whole cone found.
     pub by_cone: u64,
+    /// The pairs and outputs whose budget was spent.
+    pub open: u64,
 }
 
 /// One worker's memory, kept from round to round: its search, its solver for queries of whole cones, and the
@@ -66,6 +68,7 @@ impl<R: Refuter + Send> Worker<R> {
                 rounds: 0,
                 by_search: 0,
                 by_cone: 0,
+                open: 0,
             },
         }
     }
@@ -87,9 +90,10 @@ impl<R: Refuter + Send> Worker<R> {
         self.tally
     }
 
-    /// Counts one more round.
-    pub(crate) fn note_round(&mut self) {
+    /// Counts one more round, and gives its number.
+    pub(crate) fn note_round(&mut self) -> u64 {
         self.tally.rounds = self.tally.rounds.saturating_add(1);
+        self.tally.rounds
     }
 
     /// The number by which gates know the worker.
@@ -194,6 +198,7 @@ impl<R: Refuter + Send> Worker<R> {
             None => {
                 let entry = cone_query::pair(alloc, net, seen, task, &mut self.refuter)?;
                 count_merge(&mut self.tally.by_cone, &entry);
+                count_open(&mut self.tally.open, &entry);
                 Ok(entry)
             }
         }
@@ -222,7 +227,11 @@ impl<R: Refuter + Send> Worker<R> {
         let search = made(&mut self.search, alloc, net)?;
         match search.output(alloc, net, seen, output, caps)? {
             Some(entry) => Ok(entry),
-            None => cone_query::output(alloc, net, seen, output, &mut self.refuter),
+            None => {
+                let entry = cone_query::output(alloc, net, seen, output, &mut self.refuter)?;
+                count_open(&mut self.tally.open, &entry);
+                Ok(entry)
+            }
         }
     }
 }
@@ -230,6 +239,13 @@ impl<R: Refuter + Send> Worker<R> {
 /// Counts the entry, if it is a merge.
 fn count_merge(count: &mut u64, entry: &Entry) {
     if let Entry::Merge { .. } = entry {
+        *count = count.saturating_add(1);
+    }
+}
+
+/// Counts the entry, if it leaves open what was asked.
+fn count_open(count: &mut u64, entry: &Entry) {
+    if let Entry::Spent { .. } | Entry::OutSpent { .. } = entry {
         *count = count.saturating_add(1);
     }
 }

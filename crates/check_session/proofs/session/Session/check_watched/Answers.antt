@@ -3,7 +3,7 @@ use Rattle.netlist.specs.Net.{AigPair}
 use Rattle.check_session.specs.declared.options.Options.{Options}
 use Rattle.check_session.specs.Begun.{Begun, GoesOn, begun_after}
 use Rattle.check_session.specs.Check.{IsFound, begun_by}
-use Rattle.check_session.proofs.session.Session.check.Goals as goal
+use Rattle.check_session.proofs.session.Session.check_watched.Goals as goal
 
 pub returns-clause-begins : goal.returns-clause-begins
 returns-clause-begins g c =
