@@ -9,7 +9,7 @@
 //! between, `script_faults.rt` those in which a call fails, `script_cuts.rt` those whose script is cut at
 //! each byte, `reduced.rt` circuits that are reduced, `meeting.rt` a gate at which two workers of a check have to meet, `proofs.rt` the check of
 //! proofs, forged ones among them, `readers.rt` files that are refused, and those that are cut at each byte.
-//! `stats.rt` what is warned of a check on request, `witness.rt` the file of `--witness`.
+//! `stats.rt` and `progress.rt` what is warned of a check on request, `witness.rt` the file of `--witness`.
 //! `files.rt` has the circuits that most of them use, and `desk.rt` runs the program on a table of files and
 //! words. Begin to read at `cases.rt`.
 #![tactic(auto)]
@@ -34,6 +34,8 @@ mod meeting;
 mod names;
 #[cfg(test)]
 mod own;
+#[cfg(test)]
+mod progress;
 #[cfg(test)]
 mod proofs;
 #[cfg(test)]

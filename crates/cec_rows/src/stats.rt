@@ -9,7 +9,7 @@ use std::test::*;
 use std::thread::Threads;
 
 /// The names of the lines, in order.
-const NAMES: [&str; 18] = [
+const NAMES: [&str; 21] = [
     "gates_a",
     "gates_b",
     "levels_a",
@@ -27,6 +27,9 @@ const NAMES: [&str; 18] = [
     "steps",
     "seconds_reading",
     "seconds_check",
+    "seconds_structure",
+    "seconds_sweep",
+    "seconds_outputs",
     "seconds_files",
 ];
 

@@ -1,10 +1,11 @@
 -- How one check answers, from what was found and told.
-use Rattle.std.proofs.Common.{◌≡◌, ℕ, List, [], ◌∷◌, ◌++◌, Option, Some, Ok, Err, refl, sym, ap, ap₂, ◌∙◌, subst}
+use Rattle.std.proofs.Common.{◌≡◌, ℕ, List, [], ◌∷◌, ◌++◌, Bool, Option, Some, Ok, Err, refl, sym, ap, ap₂, ◌∙◌, subst}
 use Rattle.std.specs.Prelude.{Result, IfSome}
 use Rattle.desk_port.specs.Desk.{DeskState}
 use Rattle.netlist.specs.Net.{AigPair}
 use Rattle.endings.specs.declared.status.Status.{Status}
 use Rattle.endings.specs.declared.stop.Stop.{Stop}
+use Rattle.endings.specs.declared.stop.Stop.TheVariants.{OutOfMemory}
 use Rattle.lemma_book.specs.Entry.{Entries}
 use Rattle.proof_stitch.specs.declared.stitch_err.StitchErr.{StitchErr}
 use Rattle.proof_stitch.specs.declared.logs.Span.{Span}
@@ -19,8 +20,10 @@ use Rattle.check_session.specs.Files.{files_of, LeavesAll, WritesFiles, TellsSpa
 use Rattle.cec_top.specs.declared.kept.Kept.{Kept}
 use Rattle.cec_top.specs.Script.{Due, due_behind}
 use Rattle.cec_top.specs.Check.{Made, IsMade, IsProof, due_of, kept_of}
+use Rattle.cec_top.specs.Progress.{WarnsProgress}
 use Rattle.cec_top.specs.Stats.{Reports}
-use Rattle.cec_top.specs.Steps.{SaysStatus, Settles, ToldWhole, ToldInPart, Wanted, due_in, how_in, made_in}
+use Rattle.cec_top.proofs.WarnedLemmas.{progress-none}
+use Rattle.cec_top.specs.Steps.{NotMade, SaysStatus, Settles, ToldWhole, ToldInPart, Wanted, due_in, how_in, made_in}
 
 -- ---- one check
 
@@ -51,7 +54,7 @@ module _ (s t : State) (wanted : Wanted) (number : ℕ) (v : Verdict) (settles :
   check_made = made_in (due_in s) t v
 
   made : IsMade (how_in s wanted) check_made
-  made = subst (λ (o : Options). IsMade (record { options = o; out = wanted.out; witness = wanted.witness; stats = wanted.stats }) check_made) settles.options_are
+  made = subst (λ (o : Options). IsMade (record { options = o; out = wanted.out; witness = wanted.witness; stats = wanted.stats; progress = wanted.progress }) check_made) settles.options_are
       (settles.is_made wanted)
 
   due-is : due_of check_made ≡ due_in s
@@ -59,13 +62,14 @@ module _ (s t : State) (wanted : Wanted) (number : ℕ) (v : Verdict) (settles :
 
   module _ (old new : DeskState) (before after : List Kept) where
     -- it is told whole, and its status is its own
-    pub told-whole : (mid : DeskState) (status : Status) → after ≡ before → SaysStatus wanted number check_made old mid (Ok status)
+    pub told-whole : (begun mid : DeskState) (status : Status) → after ≡ before → WarnsProgress wanted.progress old begun
+        → SaysStatus wanted number check_made begun mid (Ok status)
         → Reports wanted.stats mid new → ToldWhole (how_in s wanted) number s t old new before after status
-    told-whole mid status keeps p reports = record {
+    told-whole begun mid status keeps warns p reports = record {
       made = check_made;
       due_is = due-is;
       begins = settles.begins;
-      told = (new, made, (mid, p.0, reports), refl);
+      told = (new, made, (begun, mid, warns, p.0, reports), refl);
       status_is = p.1;
       keeps = keeps;
       holds = record { last_is = settles.last_is ∙ sym settles.net_is; book_is = refl };
@@ -74,17 +78,21 @@ module _ (s t : State) (wanted : Wanted) (number : ℕ) (v : Verdict) (settles :
     }
 
     -- or in part, and its book is kept
-    pub told-in-part : (stop : Stop) → after ≡ before ++ kept_of number check_made ∷ []
-        → SaysStatus wanted number check_made old new (Err stop)
+    pub told-in-part : (begun : DeskState) (stop : Stop) → after ≡ before ++ kept_of number check_made ∷ []
+        → WarnsProgress wanted.progress old begun → SaysStatus wanted number check_made begun new (Err stop)
         → ToldInPart (how_in s wanted) number s old new before after stop
-    told-in-part stop keeps p = record {
+    told-in-part begun stop keeps warns p = record {
       half = check_made;
       due_is = due-is;
       begins = settles.begins;
       is_made = made;
-      breaks = p;
+      breaks = (begun, warns, p);
       keeps = keeps;
     }
+
+-- memory ran out before the check was begun
+pub not-begun : (progress : Bool) (s : DeskState) (before after : List Kept) → after ≡ before → NotMade progress s s before after OutOfMemory
+not-begun progress s before after keeps = record { out = refl; warns = progress-none progress s; keeps = keeps }
 
 -- behind a check that found something
 module _ (t : State) (v : Verdict) (found_is : t.found ≡ Some (finding_of v)) where

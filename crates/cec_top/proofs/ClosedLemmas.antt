@@ -27,7 +27,7 @@ use Rattle.cec_top.specs.Texts.{workload_text}
 use Rattle.cec_top.specs.Steps.{AnswersRefusal}
 use Rattle.cec_top.proofs.SavingLemmas.{start-keeps}
 use Rattle.cec_top.proofs.TellLemmas.{stops-among}
-use Rattle.cec_top.proofs.StatsLemmas.{reports-else}
+use Rattle.cec_top.proofs.WarnedLemmas.{progress-else, reports-else}
 use Rattle.cec_top.proofs.ToldLemmas.{left-whole}
 
 -- no file is started
@@ -54,8 +54,9 @@ told-closed how number (m ∷ ms) old new told none =
     let os = left_of how.out how.witness number m in
     let text = text_of_check how.out m in
     told-closed how (number + 1) ms told.0 new told.3
-    ((reports-else how.stats told.2.0 told.0 told.2.2).started
-    ∙ ap (λ (s : DeskState). s.started) (left-whole os text old told.2.0 told.2.1) ∙ after-files-closed os old none)
+    ((reports-else how.stats told.2.1 told.0 told.2.4).started
+    ∙ ap (λ (s : DeskState). s.started) (left-whole os text told.2.0 told.2.1 told.2.3)
+    ∙ after-files-closed os told.2.0 ((progress-else how.progress old told.2.0 told.2.2).started ∙ none))
 
 -- leaving files and saying a verdict stops for a failed write or for want of memory
 pub leaves-code : (os : List Output) (text : List ℕ) (s t : DeskState) (stop : Stop) → Leaves os text s t (Err stop)
@@ -112,14 +113,14 @@ reads-closed k earlier (i ∷ is) old new CannotWrite (inl p) other none = absur
 
 checks-closed : (how : How) (from : Opening) (plan : Plan) (old new : DeskState) (kept : List Kept) (stop : Stop) → StopsChecks how from plan old kept new stop
     → IsOther stop → IsClosed old → IsClosed new
-checks-closed how from plan old new kept stop (inl p) other none = absurd (omega (arith, other, leaves-code _ _ p.mid new stop p.breaks))
+checks-closed how from plan old new kept stop (inl p) other none = absurd (omega (arith, other, leaves-code _ _ p.breaks.0 new stop p.breaks.2))
 checks-closed how from plan old new kept stop (inr (inl p)) other none = absurd (omega (arith, other, memory-code stop p.out))
 checks-closed how from plan old new kept stop (inr (inr p)) other none = told-closed how 0 p.made old new p.whole.told none
 
 -- where no line is refused, checks stop for those causes alone
 pub checks-code : (how : How) (from : Opening) (net : AigPair) (old new : DeskState) (kept : List Kept) (stop : Stop)
     → StopsChecks how from (plan_of net []) old kept new stop → 6 ≤ code_of (status_of stop)
-checks-code how from net old new kept stop (inl p) = leaves-code _ _ p.mid new stop p.breaks
+checks-code how from net old new kept stop (inl p) = leaves-code _ _ p.breaks.0 new stop p.breaks.2
 checks-code how from net old new kept stop (inr (inl p)) = memory-code stop p.out
 checks-code how from net old new kept stop (inr (inr p)) = absurd (none-some p.line p.refused)
 

@@ -38,6 +38,7 @@ use Rattle.cec_top.proofs.VerdictLemmas.{all-last, is-last, made-last}
 use Rattle.cec_top.proofs.HeadlineLemmas.{FileSpells, ends-code, spells-pair, spells-script}
 use Rattle.cec_top.proofs.SavingLemmas.{lemmas-keep, start-keeps}
 use Rattle.cec_top.proofs.TellLemmas.{stops-among}
+use Rattle.cec_top.proofs.WarnedLemmas.{progress-else}
 use Rattle.cec_top.proofs.ToldLemmas.{all-left}
 use Rattle.cec_top.proofs.WordsLemmas.{check_or, same_request}
 
@@ -73,11 +74,13 @@ leaves-stops (o ∷ os) text s t (NotAlike why) (inl p) = absurd p
 -- what stops the checks that are asked for, where no line is refused
 module _ (how : How) (from : Opening) (plan : Plan) (accepted : plan.refused ≡ None) (old new : DeskState) (kept : List Kept) (stop : Stop) where
   breaks-stop : BreaksOff how from plan old new kept stop → (stop ≡ OutOfMemory) ⊎ Rose old.write_faults new.write_faults
-  breaks-stop p = go (leaves-stops (left_of how.out how.witness (length p.made) p.half) (text_of_check how.out p.half) p.mid new stop p.breaks)
+  breaks-stop p = go (leaves-stops (left_of how.out how.witness (length p.made) p.half) (text_of_check how.out p.half) p.breaks.0 new stop p.breaks.2)
     where
-      go : (stop ≡ OutOfMemory) ⊎ Rose p.mid.write_faults new.write_faults → (stop ≡ OutOfMemory) ⊎ Rose old.write_faults new.write_faults
+      go : (stop ≡ OutOfMemory) ⊎ Rose p.breaks.0.write_faults new.write_faults → (stop ≡ OutOfMemory) ⊎ Rose old.write_faults new.write_faults
       go (inl e) = inl e
-      go (inr r) = inr (subst (λ (n : ℕ). Rose n new.write_faults) (all-left how 0 p.made old p.mid p.before.told).writes r)
+      go (inr r) =
+          inr (subst (λ (n : ℕ). Rose n new.write_faults)
+          ((progress-else how.progress p.mid p.breaks.0 p.breaks.1).writes ∙ (all-left how 0 p.made old p.mid p.before.told).writes) r)
 
   pub checks-stop : StopsChecks how from plan old kept new stop → (stop ≡ OutOfMemory) ⊎ Rose old.write_faults new.write_faults
   checks-stop (inl p) = breaks-stop p

@@ -173,7 +173,7 @@ module _ (c : CheckCommand) (old mid after : DeskState) (s : State) (reads : Rea
       at-start r p =
           let net : t.net ≡ s.net = ap (λ (x : State). x.net) loads.session in
           let same : t.options ≡ (how_of c).options = ap (λ (x : State). x.options) loads.session ∙ options in
-          subst (λ (o : Options). RunsPlan (record { options = o; out = c.out; witness = c.witness; stats = c.stats }) from (plan_of s.net (script_lines script.items))
+          subst (λ (o : Options). RunsPlan (record { options = o; out = c.out; witness = c.witness; stats = c.stats; progress = c.progress }) from (plan_of s.net (script_lines script.items))
           (at_start c old loads.lemmas from) new kept r) same
           (subst (λ (d : DeskState). RunsPlan (how_in t (wanted_of c)) from (plan_of s.net (script_lines script.items)) d new kept r) at
           (subst (λ (bytes : List ℕ). RunsPlan (how_in t (wanted_of c)) from (plan_of s.net (script_lines bytes)) loaded new kept r) text_is

@@ -6,7 +6,7 @@ mod RunLemmas
 mod ScanLemmas
 mod ClosedLemmas
 mod HelpLemmas
-mod StatsLemmas
+mod WarnedLemmas
 mod ToldLemmas
 mod WrittenLemmas
 mod NamedLemmas

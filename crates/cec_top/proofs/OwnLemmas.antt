@@ -27,9 +27,9 @@ pub at-workload : (c : SelfCommand) (one net : AigPair) (old mid : DeskState) �
     → mid ≡ after_workload c net old
 at-workload c one net old mid is at = subst (λ (n : AigPair). mid ≡ after_workload c n old) is at
 
--- what is wanted of its check: neither files nor a witness nor statistics
+-- what is wanted of its check: neither files nor a witness nor statistics nor progress
 abbrev own_wanted : Wanted
-own_wanted = record { out = None; witness = None; stats = false }
+own_wanted = record { out = None; witness = None; stats = false; progress = false }
 
 -- the check of it, behind what was said of the circuits
 module _ (c : SelfCommand) (s : State) (circuits : AreWorkload c s.net) (opens : s ≡ opened s.net own_how.options) (old mid new : DeskState)

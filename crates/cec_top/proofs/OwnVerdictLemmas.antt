@@ -27,7 +27,7 @@ module _ (c : SelfCommand) (old new : DeskState) (status : Status) (kept : List 
   -- what holds of the check is promised
   promised : (Holds : Told → Type 0) (m : Made) → AreWorkload c m.net
       → new ≡ after_say (after_workload c m.net old) (text_of_check None m) → Holds (told_of None 0 m)
-      → HandsBack own_how kept [] (told_of None 0 m) → Shows false (OfWorkload c kept Holds) old new
+      → HandsBack own_how kept [] (told_of None 0 m) → Shows false false (OfWorkload c kept Holds) old new
   promised Holds m circuits whole holds books before earlier told heard =
       let first = workload_text c m.net in
       let verdict = text_of_check None m in
@@ -63,25 +63,26 @@ module _ (c : SelfCommand) (old new : DeskState) (status : Status) (kept : List 
 
     shows : (Holds : Told → Type 0) (code : ℕ) → code_of status ≡ code → code < 4
         → ((m : Made) → IsMade own_how m → Contains kept (kept_of 0 m) → code_of (status_of_finding m.finding) ≡ code → Holds (told_of None 0 m))
-        → Shows false (OfWorkload c kept Holds) old new
+        → Shows false false (OfWorkload c kept Holds) old new
     shows Holds code is below holds =
         let p = ends-whole (omega (arith, is, below)) in
         let o = only-check own_how (own_opening p.net) p.net (after_workload c p.net old) new status kept p.ends in
         promised Holds o.check (subst (λ (n : AigPair). AreWorkload c n) (sym o.same) p.circuits)
-        (subst (λ (n : AigPair). new ≡ after_say (after_workload c n old) (text_of_check None o.check)) (sym o.same) (o.reports ∙ o.whole))
+        (subst (λ (n : AigPair). new ≡ after_say (after_workload c n old) (text_of_check None o.check)) (sym o.same)
+        (subst (λ (s : DeskState). new ≡ after_say s (text_of_check None o.check)) o.warns (o.reports ∙ o.whole)))
         (holds o.check o.is_made (subst (λ (ks : List Kept). Contains ks (kept_of 0 o.check)) (sym o.keeps) (has-last [] o.check))
         (ap code_of o.status_is ∙ is))
         (hands-back own_how [] o.check o.is_made kept o.keeps)
 
-    pub own-equivalent : code_of status ≡ 0 → Shows false (OfWorkload c kept (AreEquivalent None)) old new
+    pub own-equivalent : code_of status ≡ 0 → Shows false false (OfWorkload c kept (AreEquivalent None)) old new
     own-equivalent is = shows (AreEquivalent None) 0 is (omega arith)
         (λ m made has code. are-equivalent own_how 0 m.net m.edits m.book m.finding made code)
 
-    pub own-different : code_of status ≡ 1 → Shows false (OfWorkload c kept (AreDifferent None)) old new
+    pub own-different : code_of status ≡ 1 → Shows false false (OfWorkload c kept (AreDifferent None)) old new
     own-different is = shows (AreDifferent None) 1 is (omega arith)
         (λ m made has code. are-different own_how 0 m.net m.edits m.book m.finding made code)
 
-    pub own-undecided : code_of status ≡ 2 → Shows false (OfWorkload c kept (AreUndecided own_how kept)) old new
+    pub own-undecided : code_of status ≡ 2 → Shows false false (OfWorkload c kept (AreUndecided own_how kept)) old new
     own-undecided is = shows (AreUndecided own_how kept) 2 is (omega arith)
         (λ m made has code. are-undecided own_how 0 m.net m.edits m.book kept m.finding has made code)
 

@@ -79,7 +79,7 @@ module _ (c : FraigCommand) (apart : IsApartFrom c) (r : Reduction) (is_right : 
   has-proof : (out : Option (List ℕ)) → IfSome out (λ prefix. HasProof prefix (ended out) r.net)
   has-proof None = tt
   has-proof (Some prefix) =
-      let how : How = record { options = (fraig_how c).options; out = Some prefix; witness = None; stats = false } in
+      let how : How = record { options = (fraig_how c).options; out = Some prefix; witness = None; stats = false; progress = false } in
       let made : IsMade how (both r) = record { settled = is_right.settled; proof = is_right.proof } in
       record {
         cnf = put-other (proof_name prefix 0) proof (cnf_name prefix 0) (put (cnf_name prefix 0) (cnf_text_of r.net) start) (cnf-no-proof prefix 0 0)
@@ -223,7 +223,7 @@ module _ (c : FraigCommand) (old new : DeskState) (status : Status) (kept : List
   ]
 
   pub reduced-to : IsApartFrom c → ((x : Aig) → IsCircuit x → IsInSequence x → SpellsAiger (binary_text x) x) → code_of status ≡ 0
-      → Shows false (IsReducedTo c kept) old new
+      → Shows false false (IsReducedTo c kept) old new
   reduced-to apart written code before earlier told heard =
       let p = ends-whole (omega (arith, code)) in
       let r = p.made in

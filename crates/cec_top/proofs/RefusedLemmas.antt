@@ -25,13 +25,13 @@ use Rattle.cec_top.specs.Answers.{AnswersCheck, AreUnlike, AsksFor, IsOpening, N
 use Rattle.cec_top.specs.Inputs.{circuit_file, fault_in, lemma_fault_in, lemma_file, script_file}
 use Rattle.cec_top.specs.Headline.{Told, SpellPair, IsScript, KeepsPromise}
 use Rattle.cec_top.specs.Lines.{unlike_text, refused_text}
-use Rattle.cec_top.specs.Stats.{WarnsOnly}
+use Rattle.cec_top.specs.Warned.{WarnsOnly}
 use Rattle.cec_top.specs.Refused.{HasFault, HasLemmaFault, HasNone, HaveNone, IsDue, IsScriptWithin, Refuses, RefusesLine}
 use Rattle.cec_top.proofs.ClosedLemmas.{among-code, leaves-code, memory-code}
 use Rattle.cec_top.proofs.CompleteLemmas.{finding-code}
 use Rattle.cec_top.proofs.HeadlineLemmas.{file-spells, spells-pair, spells-script, within-script}
 use Rattle.cec_top.proofs.SavingLemmas.{IsApart, IsStarted, loads-are, start-keeps}
-use Rattle.cec_top.proofs.StatsLemmas.{warns-none, warns-then}
+use Rattle.cec_top.proofs.WarnedLemmas.{warns-none, warns-then}
 use Rattle.cec_top.proofs.ToldLemmas.{IsLeft, shown_all, tolds}
 use Rattle.cec_top.proofs.VerdictLemmas.{HasParts, some-parts, is-last, is-left, promise-last, tells-checks}
 
@@ -96,7 +96,7 @@ module _ (c : CheckCommand) (apart : IsApart c) (old : DeskState) (before : File
   -- and where a line of the script is
   record IsLineTold (mid : DeskState) (stop : Stop) : Type 0 where
     line : RefusesLine c old mid kept before (stop_line (names_of c) stop)
-    silent : WarnsOnly c.stats old mid
+    silent : WarnsOnly c.stats c.progress old mid
 
   -- files that were read have no fault
   have-none : (first second : Aig) → ReadsCircuits c old first second → HaveNone c before
@@ -296,12 +296,12 @@ module _ (c : CheckCommand) (apart : IsApart c) (old : DeskState) (before : File
       keeps : kept ≡ kept_from 0 (parts.earlier ++ parts.last ∷ [])
       keeps = p.keeps ∙ ap (kept_from 0) parts.made_is
 
-      left : IsLeft c.stats c.out c.witness (tolds c.out 0 (parts.earlier ++ parts.last ∷ [])) start mid
+      left : IsLeft c.stats c.progress c.out c.witness (tolds c.out 0 (parts.earlier ++ parts.last ∷ [])) start mid
       left = is-left c kept from net lines script.1 start mid parts.earlier parts.last whole keeps
 
       at : (name : List ℕ) → c.edits ≡ Some name → IsLineTold mid stop
       at name is = record {
-        silent = warns-then c.stats old start mid (warns-none c.stats old start k.warned k.warns) left.quiet;
+        silent = warns-then c.stats c.progress old start mid (warns-none c.stats c.progress old start k.warned k.warns) left.quiet;
         line = record {
           no_fault = have-none net.a asks.pair.second asks.pair.reads;
           net = net;
@@ -352,7 +352,7 @@ module _ (c : CheckCommand) (apart : IsApart c) (old : DeskState) (before : File
       go : StopsChecks (how_of c) p.from (plan_of p.net p.lines) (at_start c old p.lemmas p.from) kept mid stop
           ⊎ NotSaved (how_of c) p.from (plan_of p.net p.lines) c.save (at_start c old p.lemmas p.from) mid kept stop
           → IsTold mid stop ⊎ IsLineTold mid stop
-      go (inl (inl q)) = absurd (omega (arith, code, leaves-code _ _ q.mid mid stop q.breaks))
+      go (inl (inl q)) = absurd (omega (arith, code, leaves-code _ _ q.breaks.0 mid stop q.breaks.2))
       go (inl (inr (inl q))) = absurd (omega (arith, code, memory-code stop q.out))
       go (inl (inr (inr q))) = inr (line-told p.net p.lines p.lemmas p.asks p.from p.opens mid stop q)
       go (inr q) = absurd (omega (arith, code, among-code (saved_of c.save kept) q.mid mid stop q.stops))
@@ -373,7 +373,7 @@ module _ (c : CheckCommand) (apart : IsApart c) (old : DeskState) (before : File
           record {
             line = stop_line (names_of c) p.stop;
             mid = p.mid;
-            silent = warns-none c.stats old p.mid t.warned t.faults;
+            silent = warns-none c.stats c.progress old p.mid t.warned t.faults;
             warned = w;
             what = inl (record { due = t.due; files = same.0 ∙ t.files; said = same.1 ∙ t.said; none = t.none });
           }

@@ -19,6 +19,7 @@ use Rattle.cec_top.specs.declared.kept.Kept.{Kept}
 use Rattle.cec_top.specs.Script.{Due, Plan, Refused, Turn, Passes, Makes, AsksCheck, Fails, asked_by, asked_from, due_behind, plan_of, turn_of}
 use Rattle.cec_top.specs.Check.{How, Made, Opening, Tells, AreTold, TakesOver, AreInTurn, AreSome, KeepsOn, SaysFault, Ends, StopsChecks, behind, due_of, is_undecided, kept_from, kept_of, last_finding, status_of_finding}
 use Rattle.cec_top.specs.Steps.{DoesTurn, Holds, NotMade, StopsAtLine, ToldInPart, ToldWhole, due_in, is_open, opening_in}
+use Rattle.cec_top.proofs.WarnedLemmas.{progress-none}
 use Rattle.cec_top.proofs.ToldLemmas.{all-left}
 
 -- ---- checks before the last one, and the last one
@@ -201,7 +202,7 @@ stands-first how s t old new before after status lines none options empty w =
 -- check 0 isn't told whole
 pub first-stops : (how : How) (s : State) (old new : DeskState) (before after : List Kept) (stop : Stop) (lines : List (List ℕ))
     → s.edits ≡ [] → before ≡ []
-    → ToldInPart how 0 s old new before after stop ⊎ NotMade old new before after stop
+    → ToldInPart how 0 s old new before after stop ⊎ NotMade how.progress old new before after stop
     → StopsChecks how (opening_in s) (plan_of s.net lines) old after new stop
 first-stops how s old new before after stop lines none empty (inl w) =
     let due : due_of w.half ≡ due_behind s.net = w.due_is ∙ ap (λ (es : List Edit). record { net = s.net; edits = es }) none in
@@ -222,7 +223,9 @@ first-stops how s old new before after stop lines none empty (inr w) =
       out = w.out;
       made = [];
       others = (plan_of s.net lines).checks;
-      before = record { checks = refl; told = w.at; in_turn = tt };
+      mid = old;
+      before = record { checks = refl; told = refl; in_turn = tt };
+      warns = w.warns;
       keeps = subst (λ (ks : List Kept). AreSome ks []) (sym (w.keeps ∙ empty)) tt;
     }))
 
@@ -340,7 +343,7 @@ module _ (how : How) (from : Opening) (plan : Plan) (start now : DeskState) (kep
 
     -- or isn't
     pub checked-stops : (new : DeskState) (after : List Kept) (stop : Stop)
-        → ToldInPart how (number + 1) s now new mid after stop ⊎ NotMade now new mid after stop
+        → ToldInPart how (number + 1) s now new mid after stop ⊎ NotMade how.progress now new mid after stop
         → StopsChecks how from plan start after new stop
     checked-stops new after stop (inl w) =
         let count : number + 1 ≡ length (at.made ++ at.last ∷ []) =
@@ -369,11 +372,13 @@ module _ (how : How) (from : Opening) (plan : Plan) (start now : DeskState) (kep
           out = w.out;
           made = at.made ++ at.last ∷ [];
           others = due_in s ∷ (asked_from (line + 1) (due_behind s.net) lines).checks;
+          mid = now;
           before = record {
             checks = sym (ap (λ (p : Plan). p.checks) asked);
-            told = subst (λ (d : DeskState). AreTold how 0 (at.made ++ at.last ∷ []) start d) (sym w.at) at.told;
+            told = at.told;
             in_turn = at.in_turn;
           };
+          warns = w.warns;
           keeps = subst (λ (ks : List Kept). AreSome ks (kept_from 0 (at.made ++ at.last ∷ [])))
               (sym (w.keeps ∙ mid_is ∙ kept-open)) (some-open at.made at.last);
         }))
@@ -400,7 +405,9 @@ module _ (how : How) (from : Opening) (plan : Plan) (start now : DeskState) (kep
     out = is;
     made = all_made;
     others = (asked_from line (due_in s) lines).checks;
+    mid = now;
     before = record { checks = sym (ap (λ (p : Plan). p.checks) at.plan_is); told = at.told; in_turn = at.in_turn };
+    warns = progress-none how.progress now;
     keeps = some;
   }))
 

@@ -32,6 +32,7 @@ use Rattle.cec_top.proofs.TellLemmas.{stops-among}
 use Rattle.cec_top.proofs.KeptLemmas.{has-last, has-open}
 use Rattle.cec_top.proofs.PlanLemmas.{plan-count}
 use Rattle.cec_top.proofs.RunLemmas.{some-all}
+use Rattle.cec_top.proofs.WarnedLemmas.{progress-else}
 use Rattle.cec_top.proofs.ToldLemmas.{all-left, cnf-no-proof, cnf-number, leaves-under, left_all, proof-number, shown_all, told_of, tolds, tolds-due, tolds-last, tolds-numbered}
 use Rattle.cec_top.proofs.VerdictLemmas.{HasParts, all-front, all-last, book-last, few-told, is-last, is-left, promise-all, promise-one, some-parts, told-made}
 use Rattle.cec_top.proofs.WitnessLemmas.{IsOutside, none-shown, others-same, witness-there}
@@ -505,11 +506,11 @@ module _ (c : CheckCommand) (apart : IsApart c) (old new : DeskState) (before : 
     text = opening_text lemmas from
 
     -- some checks were told whole, and no other in part
-    whole-told : (ms : List Made) (others : List Due) → GoesOn (how_of c) from (plan_of net lines) start ms others mid
+    whole-told : (ms : List Made) (others : List Due) (at : DeskState) → IsSilent at new → GoesOn (how_of c) from (plan_of net lines) start ms others at
         → AreSome kept (kept_from 0 ms) → (code_of status ≡ 6 → kept ≡ kept_from 0 ms) → Stopped c old new status kept before
-    whole-told ms others p some all =
+    whole-told ms others at same p some all =
         let k = start-keeps c old lemmas from in
-        let left = all-left (how_of c) 0 ms start mid p.told in
+        let left = all-left (how_of c) 0 ms start at p.told in
         let small = few-made net lines ms others script.1 p.checks in
         inr (record {
           net = net;
@@ -526,15 +527,15 @@ module _ (c : CheckCommand) (apart : IsApart c) (old new : DeskState) (before : 
           books = kept_from 0 ms;
           some = some;
           all = all;
-          promises = promises (how_of c) ms (told-made (how_of c) 0 ms start mid p.told);
+          promises = promises (how_of c) ms (told-made (how_of c) 0 ms start at p.told);
           part = [];
           next = inl refl;
           heard = λ earlier heard.
               let texts : List ℕ = flat_map (λ (t : Told). t.said) (tolds c.out 0 ms) in
-              line.said ∙ left.said (earlier ++ text) (k.said earlier heard)
+              same.said ∙ left.said (earlier ++ text) (k.said earlier heard)
               ∙ ap (λ (x : List ℕ). Some x) (sym (append-nil ((earlier ++ text) ++ texts)));
           after = shown_all c.out c.witness (tolds c.out 0 ms) before;
-          files = line.files ∙ left.files before (k.files ∙ told);
+          files = same.files ∙ left.files before (k.files ∙ told);
           stand = stand-whole c.out c.witness apart.witness ms others (saved_behind c.save (plan_of net lines).refused others) before small;
         })
 
@@ -546,9 +547,11 @@ module _ (c : CheckCommand) (apart : IsApart c) (old new : DeskState) (before : 
         let ms : List Made = p.made in
         let left = all-left (how_of c) 0 ms start p.mid p.before.told in
         let small = few-made net lines ms (due_of p.half ∷ p.others) script.1 p.before.checks in
-        let there : p.mid.files ≡ Some (shown_all c.out c.witness (tolds c.out 0 ms) before) = left.files before (k.files ∙ told) in
-        let half = half-left (left_of c.out c.witness (length ms) p.half) (text_of_check c.out p.half) p.mid mid stop p.breaks in
-        let stands = stand-next c.out c.witness ms p.half (due_of p.half) p.others before p.mid mid stop small there p.breaks in
+        let begun : DeskState = p.breaks.0 in
+        let same = progress-else c.progress p.mid begun p.breaks.1 in
+        let there : begun.files ≡ Some (shown_all c.out c.witness (tolds c.out 0 ms) before) = same.files ∙ left.files before (k.files ∙ told) in
+        let half = half-left (left_of c.out c.witness (length ms) p.half) (text_of_check c.out p.half) begun mid stop p.breaks.2 in
+        let stands = stand-next c.out c.witness ms p.half (due_of p.half) p.others before begun mid stop small there p.breaks.2 in
         let both = promise-parts (how_of c) ms p.half (told-made (how_of c) 0 ms start p.mid p.before.told) p.is_made in
         let keeps = keeps-some stop kept (kept_from 0 (ms ++ p.half ∷ [])) p.keeps in
         inr (record {
@@ -579,7 +582,7 @@ module _ (c : CheckCommand) (apart : IsApart c) (old new : DeskState) (before : 
           });
           heard = λ earlier heard.
               let texts : List ℕ = flat_map (λ (t : Told). t.said) (tolds c.out 0 ms) in
-              line.said ∙ half.said ((earlier ++ text) ++ texts) (left.said (earlier ++ text) (k.said earlier heard));
+              line.said ∙ half.said ((earlier ++ text) ++ texts) (same.said ∙ left.said (earlier ++ text) (k.said earlier heard));
           after = stands.after;
           files = line.files ∙ stands.are;
           stand = subst
@@ -639,10 +642,11 @@ module _ (c : CheckCommand) (apart : IsApart c) (old new : DeskState) (before : 
         → Stopped c old new status kept before
     checks-told stop (inl p) code = half-told stop p code
     checks-told stop (inr (inl p)) code =
-        whole-told p.made p.others p.before p.keeps
+        let same = progress-else c.progress p.mid mid p.warns in
+        whole-told p.made p.others p.mid (record { files = line.files ∙ same.files; said = line.said ∙ same.said }) p.before p.keeps
         (λ is. absurd (omega (arith, code is, ap (λ (s : Stop). code_of (status_of s)) p.out)))
     checks-told stop (inr (inr p)) code =
-        whole-told p.made [] p.whole (subst (AreSome kept) p.keeps (some-all kept)) (λ is. p.keeps)
+        whole-told p.made [] mid line p.whole (subst (AreSome kept) p.keeps (some-all kept)) (λ is. p.keeps)
 
   stops-told : (mid : DeskState) (stop : Stop) → Stops c old kept mid stop → IsSilent mid new → (code_of status ≡ 6 → code_of (status_of stop) ≡ 6)
       → Stopped c old new status kept before

@@ -7,14 +7,16 @@ use Rattle.std.proofs.lemmas.List.{append_cancel_left, append_cancel_right}
 use Rattle.desk_port.specs.Desk.{Files, DeskState, put, after_say}
 use Rattle.check_session.specs.Files.{cnf_name, proof_name, cnf_text_of, proof_bytes}
 use Rattle.endings.specs.Writing.{Output, Leaves, after_files}
-use Rattle.cec_top.specs.Stats.{Reports, WarnsOnly}
+use Rattle.cec_top.specs.Progress.{WarnsProgress}
+use Rattle.cec_top.specs.Stats.{Reports}
+use Rattle.cec_top.specs.Warned.{WarnsOnly}
 use Rattle.cec_top.specs.Headline.{Told, AreNumbered, HasFiles, LeavesUnder, due_of_told}
 use Rattle.cec_top.specs.Check.{How, Made, AreTold, due_of, left_of, outputs_of, text_of_check, witness_files, witness_in}
 use Rattle.cec_top.specs.Witness.{witness_text}
 use Rattle.netlist.specs.Net.{AigPair}
 use Rattle.check_session.specs.Finding.{Finding, Equivalent, Different, Undecided}
 use Rattle.cec_top.proofs.WrittenLemmas.{eq-other, eq-same, files-saved, saved-append, with_saved}
-use Rattle.cec_top.proofs.StatsLemmas.{reports-else, reports-warn, warns-none, warns-then}
+use Rattle.cec_top.proofs.WarnedLemmas.{progress-else, progress-warns, reports-else, reports-warn, warns-none, warns-then}
 
 -- what is left and said whole
 pub left-whole : (os : List Output) (text : List ℕ) (old new : DeskState) → Leaves os text old new (Ok tt)
@@ -211,10 +213,10 @@ abbrev texts : List Told → List ℕ
 texts ts = flat_map (λ (t : Told). t.said) ts
 
 -- what stands on the desk after these checks
-pub record IsLeft (stats : Bool) (out witness : Option (List ℕ)) (ts : List Told) (old new : DeskState) : Type 0 where
+pub record IsLeft (stats progress : Bool) (out witness : Option (List ℕ)) (ts : List Told) (old new : DeskState) : Type 0 where
   pub files : (before : Files) → old.files ≡ Some before → new.files ≡ Some (shown_all out witness ts before)
   pub said : (earlier : List ℕ) → old.said ≡ Some earlier → new.said ≡ Some (earlier ++ texts ts)
-  pub quiet : WarnsOnly stats old new
+  pub quiet : WarnsOnly stats progress old new
   pub closed : old.started ≡ None → new.started ≡ None
   pub reads : new.read_faults ≡ old.read_faults
   pub writes : new.write_faults ≡ old.write_faults
@@ -242,9 +244,9 @@ saved-all out witness number m before =
     ∙ ap (with_saved (witness_in witness m.net m.finding)) (saved-under out number m before)
     ∙ saved-behind witness out number m (under_by out (told_of out number m) before)
 
-one-left : (stats : Bool) (out witness : Option (List ℕ)) (number : ℕ) (m : Made) (old new : DeskState)
-    → new ≡ after_say (after_files old (left_of out witness number m)) (text_of_check out m) → IsLeft stats out witness (told_of out number m ∷ []) old new
-one-left stats out witness number m old new e =
+one-left : (stats progress : Bool) (out witness : Option (List ℕ)) (number : ℕ) (m : Made) (old new : DeskState)
+    → new ≡ after_say (after_files old (left_of out witness number m)) (text_of_check out m) → IsLeft stats progress out witness (told_of out number m ∷ []) old new
+one-left stats progress out witness number m old new e =
     let k = files-saved (left_of out witness number m) old in
     record {
       files = λ before told.
@@ -252,35 +254,49 @@ one-left stats out witness number m old new e =
       said = λ earlier heard.
           ap (λ (s : DeskState). s.said) e ∙ ap (option_map (λ x. x ++ text_of_check out m)) (k.said ∙ heard)
           ∙ ap (λ (x : List ℕ). Some (earlier ++ x)) (sym (append-nil (text_of_check out m)));
-      quiet = warns-none stats old new (ap (λ (s : DeskState). s.warned) e ∙ k.warned) (ap (λ (s : DeskState). s.warn_faults) e ∙ k.warns);
+      quiet = warns-none stats progress old new (ap (λ (s : DeskState). s.warned) e ∙ k.warned) (ap (λ (s : DeskState). s.warn_faults) e ∙ k.warns);
       closed = λ none. ap (λ (s : DeskState). s.started) e ∙ k.closed none;
       reads = ap (λ (s : DeskState). s.read_faults) e ∙ k.reads;
       writes = ap (λ (s : DeskState). s.write_faults) e ∙ k.writes;
     }
 
 -- and then its statistics
-reported-left : (stats : Bool) (out witness : Option (List ℕ)) (ts : List Told) (old mid new : DeskState) → IsLeft stats out witness ts old mid
-    → Reports stats mid new → IsLeft stats out witness ts old new
-reported-left stats out witness ts old mid new left reports =
+reported-left : (stats progress : Bool) (out witness : Option (List ℕ)) (ts : List Told) (old mid new : DeskState) → IsLeft stats progress out witness ts old mid
+    → Reports stats mid new → IsLeft stats progress out witness ts old new
+reported-left stats progress out witness ts old mid new left reports =
     let k = reports-else stats mid new reports in
     record {
       files = λ before told. k.files ∙ left.files before told;
       said = λ earlier heard. k.said ∙ left.said earlier heard;
-      quiet = warns-then stats old mid new left.quiet (reports-warn stats mid new reports);
+      quiet = warns-then stats progress old mid new left.quiet (reports-warn stats progress mid new reports);
       closed = λ none. k.started ∙ left.closed none;
       reads = k.reads ∙ left.reads;
       writes = k.writes ∙ left.writes;
     }
 
-both-left : (stats : Bool) (out witness : Option (List ℕ)) (t : Told) (ts : List Told) (old mid new : DeskState)
-    → IsLeft stats out witness (t ∷ []) old mid → IsLeft stats out witness ts mid new → IsLeft stats out witness (t ∷ ts) old new
-both-left stats out witness t ts old mid new first later = record {
+-- and before it its progress
+begun-left : (stats progress : Bool) (out witness : Option (List ℕ)) (ts : List Told) (old begun new : DeskState) → WarnsProgress progress old begun
+    → IsLeft stats progress out witness ts begun new → IsLeft stats progress out witness ts old new
+begun-left stats progress out witness ts old begun new warns left =
+    let k = progress-else progress old begun warns in
+    record {
+      files = λ before told. left.files before (k.files ∙ told);
+      said = λ earlier heard. left.said earlier (k.said ∙ heard);
+      quiet = warns-then stats progress old begun new (progress-warns stats progress old begun warns) left.quiet;
+      closed = λ none. left.closed (k.started ∙ none);
+      reads = left.reads ∙ k.reads;
+      writes = left.writes ∙ k.writes;
+    }
+
+both-left : (stats progress : Bool) (out witness : Option (List ℕ)) (t : Told) (ts : List Told) (old mid new : DeskState)
+    → IsLeft stats progress out witness (t ∷ []) old mid → IsLeft stats progress out witness ts mid new → IsLeft stats progress out witness (t ∷ ts) old new
+both-left stats progress out witness t ts old mid new first later = record {
   files = λ before told. later.files (with_witness witness t (under_by out t before)) (first.files before told);
   said = λ earlier heard.
       later.said (earlier ++ texts (t ∷ [])) (first.said earlier heard)
       ∙ ap (λ (x : List ℕ). Some ((earlier ++ x) ++ texts ts)) (append-nil t.said)
       ∙ ap (λ (x : List ℕ). Some x) (append_assoc earlier t.said (texts ts));
-  quiet = warns-then stats old mid new first.quiet later.quiet;
+  quiet = warns-then stats progress old mid new first.quiet later.quiet;
   closed = λ none. later.closed (first.closed none);
   reads = later.reads ∙ first.reads;
   writes = later.writes ∙ first.writes;
@@ -288,20 +304,22 @@ both-left stats out witness t ts old mid new first later = record {
 
 -- after all
 pub all-left : (how : How) (number : ℕ) (ms : List Made) (old new : DeskState) → AreTold how number ms old new
-    → IsLeft how.stats how.out how.witness (tolds how.out number ms) old new
+    → IsLeft how.stats how.progress how.out how.witness (tolds how.out number ms) old new
 all-left how number [] old new told =
-    subst (λ (s : DeskState). IsLeft how.stats how.out how.witness [] old s) (sym told) (record {
+    subst (λ (s : DeskState). IsLeft how.stats how.progress how.out how.witness [] old s) (sym told) (record {
       files = λ before told. told;
       said = λ earlier heard. heard ∙ ap (λ (x : List ℕ). Some x) (sym (append-nil earlier));
-      quiet = warns-none how.stats old old refl refl;
+      quiet = warns-none how.stats how.progress old old refl refl;
       closed = λ none. none;
       reads = refl;
       writes = refl;
     })
 all-left how number (m ∷ ms) old new told =
     let told_m : List Told = told_of how.out number m ∷ [] in
-    both-left how.stats how.out how.witness (told_of how.out number m) (tolds how.out (number + 1) ms) old told.0 new
-    (reported-left how.stats how.out how.witness told_m old told.2.0 told.0
-    (one-left how.stats how.out how.witness number m old told.2.0
-    (left-whole (left_of how.out how.witness number m) (text_of_check how.out m) old told.2.0 told.2.1)) told.2.2)
+    let t = told.2 in
+    both-left how.stats how.progress how.out how.witness (told_of how.out number m) (tolds how.out (number + 1) ms) old told.0 new
+    (begun-left how.stats how.progress how.out how.witness told_m old t.0 told.0 t.2
+    (reported-left how.stats how.progress how.out how.witness told_m t.0 t.1 told.0
+    (one-left how.stats how.progress how.out how.witness number m t.0 t.1
+    (left-whole (left_of how.out how.witness number m) (text_of_check how.out m) t.0 t.1 t.3)) t.4))
     (all-left how (number + 1) ms told.0 new told.3)

@@ -33,12 +33,13 @@ use Rattle.check_session.specs.Files.{proof_bytes}
 use Rattle.cec_top.specs.Script.{Due, Plan, asked_from, due_behind, plan_of}
 use Rattle.cec_top.specs.Check.{How, Made, Opening, IsMade, AreTold, Ends, GoesOn, due_of, is_undecided, status_of_finding, left_of, text_of_check, last_book, last_finding, kept_of, kept_from, saved_of}
 use Rattle.cec_top.specs.Answers.{EndsCheck, AnswersCheck, how_of, at_start, opening_text}
+use Rattle.cec_top.specs.Progress.{WarnsProgress}
 use Rattle.cec_top.specs.Stats.{Reports}
 use Rattle.cec_top.proofs.HeadlineLemmas.{ends-code, spells-pair, spells-script, has-book, hands-back}
 use Rattle.cec_top.proofs.SavingLemmas.{IsApart, loads-are, saves-under, start-keeps, still-saved, still-shown}
 use Rattle.cec_top.proofs.WitnessLemmas.{IsOutside, leaves-all, shown-same, still-beside, witness-there}
 use Rattle.cec_top.proofs.WrittenLemmas.{files-saved, with_saved}
-use Rattle.cec_top.proofs.StatsLemmas.{warns-none, warns-then}
+use Rattle.cec_top.proofs.WarnedLemmas.{warns-none, warns-then}
 use Rattle.cec_top.proofs.ToldLemmas.{IsLeft, all-left, leaves-under, left_all, left-whole, shown_all, told_of, tolds, tolds-due, tolds-last, tolds-numbered}
 use Rattle.cec_top.proofs.KeptLemmas.{HasOpen, IsOf, begins-on, has-last, has-open, in-row, kept-of, last-kept}
 use Rattle.cec_top.proofs.PlanLemmas.{AreChained, plan-chained, plan-count}
@@ -294,7 +295,7 @@ module _ (c : CheckCommand) (kept : List Kept) (from : Opening) (net : AigPair) 
       sym (length-map (ms ++ last ∷ []) due_of) ∙ ap (λ (ds : List Due). length ds) dues in
       omega (arith, count, plan-count net lines, few, lit< {m = 1073741826} {n = 2 ^ 64} tt)
 
-  pub is-left : IsLeft c.stats c.out c.witness all old new
+  pub is-left : IsLeft c.stats c.progress c.out c.witness all old new
   is-left = all-left (how_of c) 0 (ms ++ last ∷ []) old new whole.told
 
   pub has-the-last : Contains kept (kept_of (length ms) last)
@@ -357,13 +358,15 @@ module _ (c : CheckCommand) (kept : List Kept) (from : Opening) (net : AigPair) 
 -- ---- the one check of circuits that the program makes
 
 module _ (how : How) (from : Opening) (net : AigPair) (old new : DeskState) (status : Status) (kept : List Kept) where
-  -- of checks that end with a verdict: this one is the only one, and it is told whole, up to its statistics
+  -- of checks that end with a verdict: this one is the only one, and it is told whole, between its progress and its statistics
   pub record IsOnly : Type 0 where
     pub check : Made
     pub same : check.net ≡ net
     pub is_made : IsMade how check
+    pub begun : DeskState
+    pub warns : WarnsProgress how.progress old begun
     pub mid : DeskState
-    pub whole : mid ≡ after_say (after_files old (left_of how.out how.witness 0 check)) (text_of_check how.out check)
+    pub whole : mid ≡ after_say (after_files begun (left_of how.out how.witness 0 check)) (text_of_check how.out check)
     pub reports : Reports how.stats mid new
     pub status_is : status_of_finding check.finding ≡ status
     pub keeps : kept ≡ kept_of 0 check ∷ []
@@ -378,9 +381,11 @@ module _ (how : How) (from : Opening) (net : AigPair) (old new : DeskState) (sta
         check = m;
         same = ap (λ (d : Due). d.net) (head-equal (due_of m) (due_behind net) [] [] checks);
         is_made = told.1;
-        mid = told.2.0;
-        whole = left-whole (left_of how.out how.witness 0 m) (text_of_check how.out m) old told.2.0 told.2.1;
-        reports = subst (λ (s : DeskState). Reports how.stats told.2.0 s) (sym told.3) told.2.2;
+        begun = told.2.0;
+        warns = told.2.2;
+        mid = told.2.1;
+        whole = left-whole (left_of how.out how.witness 0 m) (text_of_check how.out m) told.2.0 told.2.1 told.2.3;
+        reports = subst (λ (s : DeskState). Reports how.stats told.2.1 s) (sym told.3) told.2.4;
         status_is = same_Some (status_of_finding m.finding) status status_is;
         keeps = keeps;
       }
@@ -422,7 +427,7 @@ module _ (c : CheckCommand) (old new : DeskState) (status : Status) (kept : List
   shows : IsApart c → (Holds : Told → Type 0) (code : ℕ) → code_of status ≡ code → code < 4
       → ((number : ℕ) (m : Made) → IsMade (how_of c) m → Contains kept (kept_of number m) → code_of (status_of_finding m.finding) ≡ code
       → Holds (told_of c.out number m))
-      → Shows c.stats (OfFiles c kept Holds) old new
+      → Shows c.stats c.progress (OfFiles c kept Holds) old new
   unfolding tells-checks
   shows apart Holds code is below holds before earlier told heard =
       let p = verdict-ends (omega (arith, is, below)) in
@@ -449,8 +454,9 @@ module _ (c : CheckCommand) (old new : DeskState) (status : Status) (kept : List
             ap (λ (s : DeskState). s.said) p.saved ∙ saved.said ∙ left.said (earlier ++ text) (k.said earlier heard)
             ∙ ap (λ (x : List ℕ). Some x) (append_assoc earlier text (flat_map (λ (t : Told). t.said) ts));
         quiet =
-            warns-then c.stats old p.mid new (warns-then c.stats old start p.mid (warns-none c.stats old start k.warned k.warns) left.quiet)
-            (warns-none c.stats p.mid new (ap (λ (s : DeskState). s.warned) p.saved ∙ saved.warned)
+            warns-then c.stats c.progress old p.mid new
+            (warns-then c.stats c.progress old start p.mid (warns-none c.stats c.progress old start k.warned k.warns) left.quiet)
+            (warns-none c.stats c.progress p.mid new (ap (λ (s : DeskState). s.warned) p.saved ∙ saved.warned)
             (ap (λ (s : DeskState). s.warn_faults) p.saved ∙ saved.warns));
         closed = λ none. ap (λ (s : DeskState). s.started) p.saved ∙ saved.closed (left.closed (k.started ∙ none));
         promise = record {
@@ -475,14 +481,14 @@ module _ (c : CheckCommand) (old new : DeskState) (status : Status) (kept : List
         };
       }
 
-  pub equivalent : IsApart c → code_of status ≡ 0 → Shows c.stats (IsEquivalent c kept) old new
+  pub equivalent : IsApart c → code_of status ≡ 0 → Shows c.stats c.progress (IsEquivalent c kept) old new
   equivalent apart is = shows apart (AreEquivalent c.out) 0 is (omega arith)
       (λ number m made has code. are-equivalent (how_of c) number m.net m.edits m.book m.finding made code)
 
-  pub different : IsApart c → code_of status ≡ 1 → Shows c.stats (IsDifferent c kept) old new
+  pub different : IsApart c → code_of status ≡ 1 → Shows c.stats c.progress (IsDifferent c kept) old new
   different apart is = shows apart (AreDifferent c.out) 1 is (omega arith)
       (λ number m made has code. are-different (how_of c) number m.net m.edits m.book m.finding made code)
 
-  pub undecided : IsApart c → code_of status ≡ 2 → Shows c.stats (IsUndecided c kept) old new
+  pub undecided : IsApart c → code_of status ≡ 2 → Shows c.stats c.progress (IsUndecided c kept) old new
   undecided apart is = shows apart (AreUndecided (how_of c) kept) 2 is (omega arith)
       (λ number m made has code. are-undecided (how_of c) number m.net m.edits m.book kept m.finding has made code)

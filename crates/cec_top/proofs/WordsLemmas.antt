@@ -130,7 +130,7 @@ file-has s files told name bytes P is holds =
     subst (λ (o : Option (List ℕ)). IsSomeAnd o P) (sym there) holds
 
 pub verified : (c : LratCommand) (old new : DeskState) (status : Status) → AnswersLrat c.cnf c.proof old new status → code_of status ≡ 0
-    → Shows false (IsVerified c) old new
+    → Shows false false (IsVerified c) old new
 verified c old new ends.Done p code before earlier told heard = record {
   after = before;
   said = codes "VERIFIED\n";

@@ -50,7 +50,7 @@ abbrev pub names_of : CheckCommand → List (List ℕ)
 names_of c = c.a ∷ c.b ∷ (option_to_list c.edits ++ option_to_list c.load)
 
 -- under which numbers the command makes its checks, how it matches inputs and outputs, with which prefix for their files and which
--- file for their witness, and whether their statistics are warned
+-- file for their witness, and whether their statistics and their progress are warned
 abbrev pub how_of : CheckCommand → How
 how_of c = record {
   options = record {
@@ -64,6 +64,7 @@ how_of c = record {
   out = c.out;
   witness = c.witness;
   stats = c.stats;
+  progress = c.progress;
 }
 
 -- the pair is read, and the files spell these circuits

@@ -25,6 +25,7 @@ use Rattle.cec_top.specs.declared.kept.Kept.{Kept}
 use Rattle.cec_top.specs.Script.{Due, Plan, Refused}
 use Rattle.cec_top.specs.Lines.{refused_text}
 use Rattle.cec_top.specs.Texts.{different_text, open_text, open_text_with}
+use Rattle.cec_top.specs.Progress.{WarnsProgress}
 use Rattle.cec_top.specs.Stats.{Reports}
 use Rattle.cec_top.specs.Witness.{witness_text}
 
@@ -35,12 +36,13 @@ status_of_finding (Different j input) = No
 status_of_finding Undecided = Open
 
 -- how checks are made: under which numbers, with which prefix for the names of their files, if they leave any, with which file for an
--- input on which circuits differ, if one is named, and whether their statistics are warned
+-- input on which circuits differ, if one is named, and whether their statistics are warned, and how far they are
 pub record How : Type 0 where
   pub options : Options
   pub out : Option (List ℕ)
   pub witness : Option (List ℕ)
   pub stats : Bool
+  pub progress : Bool
 
 -- a check that has its verdict: its circuits and the edits since the check before it, its book and what that shows
 pub record Made : Type 0 where
@@ -98,12 +100,15 @@ witness_in (Some name) net found = witness_files name net found
 abbrev pub left_of : Option (List ℕ) → Option (List ℕ) → ℕ → Made → List Output
 left_of out witness number m = outputs_of out number m ++ witness_in witness m.net m.finding
 
--- its files are left and closed, then its verdict is said, and then its statistics are warned, if they are asked for; or that stops
--- before the verdict is said whole, as the result says
+-- While it goes on its progress is warned, if that is asked for; then its files are left and closed, then its verdict is said, and
+-- then its statistics are warned, if they are asked for; or that stops before the verdict is said whole, as the result says.
 abbrev pub Tells : How → ℕ → Made → DeskState → DeskState → Result (Unit {0}) Stop → Type 0
 Tells how number m old new (Ok u) =
-    (mid : DeskState) × Leaves (left_of how.out how.witness number m) (text_of_check how.out m) old mid (Ok u) × Reports how.stats mid new
-Tells how number m old new (Err stop) = Leaves (left_of how.out how.witness number m) (text_of_check how.out m) old new (Err stop)
+    (begun : DeskState) × (mid : DeskState) × WarnsProgress how.progress old begun
+    × Leaves (left_of how.out how.witness number m) (text_of_check how.out m) begun mid (Ok u) × Reports how.stats mid new
+Tells how number m old new (Err stop) =
+    (begun : DeskState) × WarnsProgress how.progress old begun
+    × Leaves (left_of how.out how.witness number m) (text_of_check how.out m) begun new (Err stop)
 
 -- the checks from this number on are right, and each is told whole before the next begins
 abbrev pub AreTold : How → ℕ → List Made → DeskState → DeskState → Type 0
@@ -196,12 +201,14 @@ pub record BreaksOff (how : How) (from : Opening) (plan : Plan) (old new : DeskS
   pub breaks : Tells how (length made) half mid new (Err stop)
   pub keeps : KeepsOn stop kept (kept_from 0 (made ++ half ∷ []))
 
--- memory runs out behind checks that were told, and no other has a verdict
+-- memory runs out behind checks that were told, and no other has a verdict; the progress of one may be warned
 pub record RunsOut (how : How) (from : Opening) (plan : Plan) (old new : DeskState) (kept : List Kept) (stop : Stop) : Type 0 where
   pub out : stop ≡ OutOfMemory
   pub made : List Made
   pub others : List Due
-  pub before : GoesOn how from plan old made others new
+  pub mid : DeskState
+  pub before : GoesOn how from plan old made others mid
+  pub warns : WarnsProgress how.progress mid new
   pub keeps : AreSome kept (kept_from 0 made)
 
 -- the place of the script among the files that are read

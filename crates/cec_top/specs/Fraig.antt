@@ -38,6 +38,7 @@ fraig_how c = record {
   out = c.out;
   witness = None;
   stats = false;
+  progress = false;
 }
 
 -- What is made of a circuit: the reduced one, which stands beside it in a net; the book of the sweep that it is reduced by; and

@@ -39,7 +39,7 @@ use Rattle.book_file.specs.Writing.{book_text}
 use Rattle.cec_top.specs.Check.{How, Opening, is_undecided, last_book}
 use Rattle.cec_top.specs.Answers.{IsOpening, how_of, opening_text}
 use Rattle.cec_top.specs.SelfCheck.{own_how}
-use Rattle.cec_top.specs.Stats.{WarnsOnly}
+use Rattle.cec_top.specs.Warned.{WarnsOnly}
 use Rattle.cec_top.specs.Witness.{witness_behind}
 use Rattle.cec_top.specs.Texts.{different_text, open_text, open_text_with, workload_text}
 
@@ -342,18 +342,18 @@ pub record IsVerified (c : LratCommand) (before after : Files) (said : List ℕ)
 
 -- ---- what a run shows
 
--- what a run left and said, from these files and from what had been said earlier; nothing was warned, but for statistics where they
--- are asked for, and no file is left started, if none was
-pub record Left (stats : Bool) (Promise : Files → Files → List ℕ → Type 0) (old new : DeskState) (before : Files) (earlier : List ℕ) : Type 0 where
+-- what a run left and said, from these files and from what had been said earlier; nothing was warned, but for statistics and lines
+-- of progress where they are asked for, and no file is left started, if none was
+pub record Left (stats progress : Bool) (Promise : Files → Files → List ℕ → Type 0) (old new : DeskState) (before : Files) (earlier : List ℕ) : Type 0 where
   pub after : Files
   pub said : List ℕ
   pub left : new.files ≡ Some after
   pub heard : new.said ≡ Some (earlier ++ said)
-  pub quiet : WarnsOnly stats old new
+  pub quiet : WarnsOnly stats progress old new
   pub closed : old.started ≡ None → new.started ≡ None
   pub promise : Promise before after said
 
 -- the promise is kept wherever the desk tells its files and what was said
-abbrev pub Shows : Bool → (Files → Files → List ℕ → Type 0) → DeskState → DeskState → Type 0
-Shows stats Promise old new =
-    (before : Files) (earlier : List ℕ) → old.files ≡ Some before → old.said ≡ Some earlier → Left stats Promise old new before earlier
+abbrev pub Shows : Bool → Bool → (Files → Files → List ℕ → Type 0) → DeskState → DeskState → Type 0
+Shows stats progress Promise old new =
+    (before : Files) (earlier : List ℕ) → old.files ≡ Some before → old.said ≡ Some earlier → Left stats progress Promise old new before earlier

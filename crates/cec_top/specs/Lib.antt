@@ -3,6 +3,8 @@ pub mod Script
 pub mod Headline
 pub mod Texts
 pub mod Stats
+pub mod Progress
+pub mod Warned
 pub mod Witness
 pub mod Check
 pub mod SelfCheck

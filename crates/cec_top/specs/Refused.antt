@@ -19,7 +19,7 @@ use Rattle.cec_top.specs.Inputs.{fault_in, lemma_fault_in}
 use Rattle.cec_top.specs.Headline.{Loads, SpellPair, IsScript, KeepsPromise, TellsChecks}
 use Rattle.cec_top.specs.Lines.{unlike_text, refused_text}
 use Rattle.cec_top.specs.Script.{Refused, plan_of}
-use Rattle.cec_top.specs.Stats.{WarnsOnly}
+use Rattle.cec_top.specs.Warned.{WarnsOnly}
 
 -- the named file is too long, or its bytes spell no circuit, and this is the text of that
 abbrev pub HasFault : Files → List ℕ → List ℕ → Type 0
@@ -127,11 +127,11 @@ pub record RefusesLine (c : CheckCommand) (old new : DeskState) (kept : List Kep
   pub heard : (earlier : List ℕ) → old.said ≡ Some earlier → new.said ≡ Some (earlier ++ said)
   pub told : TellsChecks c kept (KeepsPromise (how_of c) kept) from (plan_of net lines) (opening_text lemmas from) before after said
 
--- The line that is due is warned, or a first part of it where the warning failed; and nothing before it, but for the statistics of
--- the checks that were told, where they are asked for.
+-- The line that is due is warned, or a first part of it where the warning failed; and nothing before it, but for the statistics and
+-- the progress of the checks that were told, where they are asked for.
 pub record Refuses (c : CheckCommand) (old new : DeskState) (kept : List Kept) (before : Files) : Type 0 where
   pub line : List ℕ
   pub mid : DeskState
-  pub silent : WarnsOnly c.stats old mid
+  pub silent : WarnsOnly c.stats c.progress old mid
   pub warned : IsWarned mid new line
   pub what : RefusesFiles c old new kept before line ⊎ RefusesLine c old new kept before line

@@ -23,6 +23,7 @@ own_how = record {
   out = None;
   witness = None;
   stats = false;
+  progress = false;
 }
 
 -- the generator's bytes spell them

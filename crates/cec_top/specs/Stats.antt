@@ -1,7 +1,6 @@
 -- What is warned of a check behind its verdict, where its statistics are asked for.
-use Rattle.std.specs.Prelude.{◌≡◌, ◌⊎◌, ℕ, ◌≤◌, ◌/◌, ◌%◌, Bool, true, false, List, [], ◌∷◌, ◌++◌, codes, decimal, Option, None, Some}
-use Rattle.std.specs.List.{AllByRecursion}
-use Rattle.desk_port.specs.Desk.{DeskState, Rose, followed_by}
+use Rattle.std.specs.Prelude.{◌≡◌, ◌⊎◌, ℕ, ◌/◌, ◌%◌, Bool, true, false, List, [], ◌++◌, codes, decimal, Option, None, Some}
+use Rattle.desk_port.specs.Desk.{DeskState}
 use Rattle.endings.specs.Stops.{IsWarned}
 use Rattle.check_session.specs.declared.counts.Counts.{Counts}
 use Rattle.cec_top.specs.declared.stats.Numbers.{Numbers}
@@ -43,10 +42,16 @@ others_text c =
     count_line (codes "pairs_apart") c.apart ++ count_line (codes "pairs_open") c.open_pairs
     ++ count_line (codes "outputs_open") c.open_outputs ++ count_line (codes "steps") c.steps
 
+-- how long its parts took
+unfoldable pub parts_text : Times → List ℕ
+parts_text t =
+    time_line (codes "seconds_structure") t.structure ++ time_line (codes "seconds_sweep") t.sweep
+    ++ time_line (codes "seconds_outputs") t.outputs
+
 -- how long that took
 unfoldable pub times_text : Times → List ℕ
 times_text t =
-    time_line (codes "seconds_reading") t.reading ++ time_line (codes "seconds_check") t.checking
+    time_line (codes "seconds_reading") t.reading ++ time_line (codes "seconds_check") t.checking ++ parts_text t
     ++ time_line (codes "seconds_files") t.telling
 
 -- The lines of a check's statistics: these names in this order, each with its number, but for times that aren't known. Nothing is
@@ -59,30 +64,3 @@ stats_text n = sizes_text n.sizes ++ merges_text n.counts ++ others_text n.count
 abbrev pub Reports : Bool → DeskState → DeskState → Type 0
 Reports false old new = new ≡ old
 Reports true old new = (new ≡ old) ⊎ ((n : Numbers) × IsWarned old new (stats_text n))
-
--- ---- behind several checks
-
--- the statistics of a check, and a first part of them
-abbrev pub IsReport : List ℕ → Type 0
-IsReport text = (n : Numbers) × (text ≡ stats_text n)
-
-abbrev pub IsReportPart : List ℕ → Type 0
-IsReportPart part = (n : Numbers) × ((rest : List ℕ) × (stats_text n ≡ part ++ rest))
-
--- texts, one after another
-abbrev pub joined : List (List ℕ) → List ℕ
-joined [] = []
-joined (text ∷ texts) = text ++ joined texts
-
--- What is warned is statistics of checks, one after another, and nothing else. All are whole, unless a warning failed.
-pub record WarnsReports (old new : DeskState) : Type 0 where
-  pub parts : List (List ℕ)
-  pub warned : new.warned ≡ followed_by old.warned (joined parts)
-  pub each : AllByRecursion IsReportPart parts
-  pub whole : AllByRecursion IsReport parts ⊎ Rose old.warn_faults new.warn_faults
-  pub counts : old.warn_faults ≤ new.warn_faults
-
--- that where statistics are asked for, and else nothing is warned
-abbrev pub WarnsOnly : Bool → DeskState → DeskState → Type 0
-WarnsOnly false old new = (new.warned ≡ old.warned) × (new.warn_faults ≡ old.warn_faults)
-WarnsOnly true old new = WarnsReports old new

@@ -32,6 +32,7 @@ use Rattle.cec_top.specs.declared.wants.Wants.{Wants}
 use Rattle.cec_top.specs.Witness.{named_line}
 use Rattle.std.specs.Option.{option_map_or}
 use Rattle.symbol_names.specs.NameList.{name_at}
+use Rattle.cec_top.specs.Progress.{WarnsProgress}
 use Rattle.cec_top.specs.Script.{Due, Plan, Refused, Turn, Passes, Makes, AsksCheck, Fails, due_behind}
 use Rattle.cec_top.specs.Check.{How, Made, Opening, IsMade, Tells, AreTold, Ends, StopsChecks, SaysFault, status_of_finding, kept_of, due_of, left_of, outputs_of, saved_of, script_place, text_of_check}
 use Rattle.cec_top.specs.SelfCheck.{AreWorkload, own_how}
@@ -107,14 +108,15 @@ opens_in verdict.Equivalent = []
 opens_in (verdict.Different output input) = []
 opens_in (verdict.Undecided outputs) = outputs
 
--- what is wanted of the checks besides their verdicts: files under a prefix, a witness's file, and statistics
+-- what is wanted of the checks besides their verdicts: files under a prefix, a witness's file, statistics and progress
 pub record Wanted : Type 0 where
   pub out : Option (List ℕ)
   pub witness : Option (List ℕ)
   pub stats : Bool
+  pub progress : Bool
 
 abbrev pub wanted_of : CheckCommand → Wanted
-wanted_of c = record { out = c.out; witness = c.witness; stats = c.stats }
+wanted_of c = record { out = c.out; witness = c.witness; stats = c.stats; progress = c.progress }
 
 -- by the texts of the code's values
 abbrev pub wanted_in : Wants → Wanted
@@ -122,11 +124,12 @@ wanted_in w = record {
   out = option_map (λ out. out.now) w.out;
   witness = option_map (λ witness. witness.now) w.witness;
   stats = w.stats;
+  progress = w.progress;
 }
 
 -- how the checks of a session are made of which that is wanted
 abbrev pub how_in : State → Wanted → How
-how_in s w = record { options = s.options; out = w.out; witness = w.witness; stats = w.stats }
+how_in s w = record { options = s.options; out = w.out; witness = w.witness; stats = w.stats; progress = w.progress }
 
 -- what a check of the session as it is would be of
 abbrev pub due_in : State → Due
@@ -197,16 +200,16 @@ pub record ToldInPart (how : How) (number : ℕ) (s : State) (old new : DeskStat
   pub breaks : Tells how number half old new (Err stop)
   pub keeps : after ≡ before ++ kept_of number half ∷ []
 
--- memory ran out, and nothing was told or kept
-pub record NotMade (old new : DeskState) (before after : List Kept) (stop : Stop) : Type 0 where
+-- memory ran out, and nothing was told or kept; progress may be warned
+pub record NotMade (progress : Bool) (old new : DeskState) (before after : List Kept) (stop : Stop) : Type 0 where
   pub out : stop ≡ OutOfMemory
-  pub at : new ≡ old
+  pub warns : WarnsProgress progress old new
   pub keeps : after ≡ before
 
 abbrev pub Checks : How → ℕ → State → State → DeskState → DeskState → List Kept → List Kept → Result Status Stop → Type 0
 Checks how number s t old new before after (Ok status) = ToldWhole how number s t old new before after status
 Checks how number s t old new before after (Err stop) =
-    ToldInPart how number s old new before after stop ⊎ NotMade old new before after stop
+    ToldInPart how number s old new before after stop ⊎ NotMade how.progress old new before after stop
 
 -- the status is that of a check that left outputs open
 abbrev pub is_open : Status → Bool

@@ -1,16 +1,16 @@
-ghost use Rattle.std.specs.Prelude.{◌≡◌, None, Some, IfOk, IfErr, option_map};
-ghost use Rattle.endings.specs.declared.stop.Stop.TheVariants.{OutOfMemory};
+ghost use Rattle.std.specs.Prelude.{◌≡◌, None, Some, IfOk, option_map};
 ghost use Rattle.check_session.specs.Files.{stop_of_stitch};
 ghost use Rattle.check_session.specs.Outputs.{ListsOpen, finding_of};
 ghost use Rattle.cec_top.specs.Check.{status_of_finding};
 ghost use Rattle.cec_top.specs.Script.{Due};
-ghost use Rattle.cec_top.specs.Steps.{Checks, LeavesTextOf, SaysStatus, Settles, how_in, made_in, wanted_in};
+ghost use Rattle.cec_top.specs.Steps.{Checks, LeavesTextOf, SaysStatus, how_in, made_in, wanted_in};
 
 use crate::kept::Kept;
-use crate::laws::proves;
+use crate::progress::settle;
 use crate::stats::{Marks, look, report};
 use crate::texts::{plain_text, text_with_lines};
 use crate::wants::Wants;
+use crate::watched::Watched;
 use crate::witness::leave_witness;
 use check_session::{Session, Verdict};
 use desk_port::{Desk, Gate};
@@ -21,10 +21,10 @@ use std::rt::Clock;
 use std::sync::Wait;
 use std::thread::Threads;
 
-/// Makes the check with this number, of a session's pair as it is: settles it, leaves its files if there is a
-/// prefix for them, and its witness if one is wanted, says its verdict, and warns of its statistics if these
-/// are. The session then has its book, from which the next check goes on; where the check is told in part no
-/// other follows it, and its book is kept.
+/// Makes the check with this number, of a session's pair as it is: settles it, and warns of its progress if
+/// that is wanted, leaves its files if there is a prefix for them, and its witness if one is wanted, says its
+/// verdict, and warns of its statistics if these are. The session then has its book, from which the next check
+/// goes on; where the check is told in part no other follows it, and its book is kept.
 pub(crate) fn check<D: Desk, G: Gate + Sync>(
     rt: &(impl Threads + Wait + Clock + Sync),
     alloc: Global,
@@ -41,8 +41,10 @@ pub(crate) fn check<D: Desk, G: Gate + Sync>(
 {
     kept.reserve(1)?;
     let read = look(rt, wants.stats);
-    let verdict = settle(rt, alloc, gate, session)?;
+    let watched = Watched::new(rt, gate);
+    let verdict = settle(rt, alloc, desk, &watched, session, wants.progress)?;
     let checked = look(rt, wants.stats);
+    let parts = watched.parts();
     match tell(alloc, desk, session, &verdict, wants, number) {
         Ok(status) => {
             let marks = Marks {
@@ -50,6 +52,7 @@ pub(crate) fn check<D: Desk, G: Gate + Sync>(
                 read,
                 checked,
                 told: look(rt, wants.stats),
+                parts,
             };
             report(alloc, desk, session, wants.stats, marks);
             Ok(status)
@@ -62,21 +65,6 @@ pub(crate) fn check<D: Desk, G: Gate + Sync>(
             Err(stop)
         }
     }
-}
-
-/// Settles a session's pair.
-fn settle<G: Gate + Sync>(
-    rt: &(impl Threads + Wait + Sync),
-    alloc: Global,
-    gate: &G,
-    session: &mut Session,
-) -> Result<Verdict, Stop>
-    ensures ok { IfOk result (Settles session.old session.new) }
-    ensures err { IfErr result (λ stop. stop ≡ OutOfMemory) }
-{
-    let verdict = session.check(rt, alloc, gate)?;
-    proves(session.net(), session.book());
-    Ok(verdict)
 }
 
 /// Leaves the files of the session's last check, which has this number, if there is a prefix for them, and its

@@ -25,19 +25,19 @@ pub fn verdicts()
     ensures equivalent { (words : List (List ℕ)) (c : CheckCommand)
         (old new : DeskState) (status : Status) (kept : List Kept) →
         Asks words (CheckIt c) → Answers words old new status kept
-        → code_of status ≡ 0 → Shows c.stats (IsEquivalent c kept) old new }
+        → code_of status ≡ 0 → Shows c.stats c.progress (IsEquivalent c kept) old new }
     ensures different { (words : List (List ℕ)) (c : CheckCommand)
         (old new : DeskState) (status : Status) (kept : List Kept) →
         Asks words (CheckIt c) → Answers words old new status kept
-        → code_of status ≡ 1 → Shows c.stats (IsDifferent c kept) old new }
+        → code_of status ≡ 1 → Shows c.stats c.progress (IsDifferent c kept) old new }
     ensures undecided { (words : List (List ℕ)) (c : CheckCommand)
         (old new : DeskState) (status : Status) (kept : List Kept) →
         Asks words (CheckIt c) → Answers words old new status kept
-        → code_of status ≡ 2 → Shows c.stats (IsUndecided c kept) old new }
+        → code_of status ≡ 2 → Shows c.stats c.progress (IsUndecided c kept) old new }
     ensures verified { (words : List (List ℕ)) (c : LratCommand)
         (old new : DeskState) (status : Status) (kept : List Kept) →
         Asks words (LratIt c) → Answers words old new status kept
-        → code_of status ≡ 0 → Shows false (IsVerified c) old new }
+        → code_of status ≡ 0 → Shows false false (IsVerified c) old new }
 
     // What is warned where a file, the pair or a line of a script is refused: `specs/Refused.antt`.
     ensures refused { (words : List (List ℕ)) (c : CheckCommand)
@@ -57,15 +57,15 @@ pub fn verdicts()
     ensures own_equivalent { (words : List (List ℕ)) (c : SelfCommand)
         (old new : DeskState) (status : Status) (kept : List Kept) →
         Asks words (SelfIt c) → Answers words old new status kept
-        → code_of status ≡ 0 → Shows false (OfWorkload c kept (AreEquivalent None)) old new }
+        → code_of status ≡ 0 → Shows false false (OfWorkload c kept (AreEquivalent None)) old new }
     ensures own_different { (words : List (List ℕ)) (c : SelfCommand)
         (old new : DeskState) (status : Status) (kept : List Kept) →
         Asks words (SelfIt c) → Answers words old new status kept
-        → code_of status ≡ 1 → Shows false (OfWorkload c kept (AreDifferent None)) old new }
+        → code_of status ≡ 1 → Shows false false (OfWorkload c kept (AreDifferent None)) old new }
     ensures own_undecided { (words : List (List ℕ)) (c : SelfCommand)
         (old new : DeskState) (status : Status) (kept : List Kept) →
         Asks words (SelfIt c) → Answers words old new status kept
-        → code_of status ≡ 2 → Shows false (OfWorkload c kept (AreUndecided own_how kept)) old new }
+        → code_of status ≡ 2 → Shows false false (OfWorkload c kept (AreUndecided own_how kept)) old new }
 {
     command_line::words_are_one_of();
     command_line::saved_is_apart();
@@ -77,7 +77,7 @@ pub fn reductions()
     ensures reduced { (words : List (List ℕ)) (c : FraigCommand)
         (old new : DeskState) (status : Status) (kept : List Kept) →
         Asks words (FraigIt c) → Answers words old new status kept
-        → code_of status ≡ 0 → Shows false (IsReducedTo c kept) old new }
+        → code_of status ≡ 0 → Shows false false (IsReducedTo c kept) old new }
 
     // Both compute the same, so neither DIFFERENT nor UNDECIDED comes; nor are the arguments refused.
     ensures codes { (words : List (List ℕ)) (c : FraigCommand)

@@ -12,7 +12,8 @@
 //!
 //! Definitions on which the answers stand: `specs/Script.antt` (what an edit script asks for),
 //! `specs/Check.antt` (one check, from what it found to its files and its verdict, and checks one after
-//! another), `specs/Stats.antt` (what is warned of it on request), `specs/SelfCheck.antt` (that of two circuits that the program makes), `specs/Fraig.antt` (a
+//! another), `specs/Stats.antt` and `specs/Progress.antt` (what is
+//! warned of it on request, and `specs/Warned.antt` of several), `specs/SelfCheck.antt` (that of two circuits that the program makes), `specs/Fraig.antt` (a
 //! circuit that is reduced), `specs/Inputs.antt` (the files that are read), `specs/Texts.antt` (what is said), `specs/Lines.antt` (what is warned of circuits, their files and lines of a script);
 //! `specs/Steps.antt` and `specs/FraigSteps.antt` are for the crate's own functions. Begin to read at `program.rt`, then `script.rt` and
 //! `checking.rt`.
@@ -30,9 +31,11 @@ mod lemmas;
 mod lines;
 mod own;
 mod program;
+mod progress;
 mod reading;
 mod script;
 mod stats;
 mod texts;
 mod wants;
+mod watched;
 mod witness;

@@ -66,6 +66,7 @@ fn say_and_settle<D: Desk, G: Gate + Sync>(
         out: None,
         witness: None,
         stats: false,
+        progress: false,
         begun: None,
     };
     run_script(rt, alloc, desk, gate, session, wants, b"", kept)

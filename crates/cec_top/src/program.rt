@@ -95,6 +95,7 @@ fn read_and_check<D: Desk, G: Gate + Sync>(
         out: words.out,
         witness: words.witness,
         stats: words.stats,
+        progress: words.progress,
         begun: look(rt, words.stats),
     };
     let mut session = read_session(alloc, desk, words)?;

@@ -1,8 +1,9 @@
 //! The statistics of a check, which are warned behind its verdict where they are asked for.
 ghost use Rattle.std.specs.Prelude.{◌≡◌, ◌⊎◌, ◌++◌, true, decimal, IfOk, OnOk};
 ghost use Rattle.endings.specs.Stops.{IsWarned};
-ghost use Rattle.cec_top.specs.Stats.{Reports, count_line, merges_text, others_text, seconds_line, sizes_text, stats_text, time_line, times_text};
+ghost use Rattle.cec_top.specs.Stats.{Reports, count_line, merges_text, others_text, parts_text, seconds_line, sizes_text, stats_text, time_line, times_text};
 
+use crate::watched::Parts;
 use check_session::{Counts, Session};
 use desk_port::{Desk, PutErr};
 use itoa::Buffer;
@@ -29,6 +30,10 @@ pub(crate) struct Times {
     pub(crate) reading: Option<u64>,
     /// Until the verdict was known.
     pub(crate) checking: Option<u64>,
+    /// Its parts.
+    pub(crate) structure: Option<u64>,
+    pub(crate) sweep: Option<u64>,
+    pub(crate) outputs: Option<u64>,
     /// Until its files were left and it was said.
     pub(crate) telling: Option<u64>,
 }
@@ -48,6 +53,8 @@ pub(crate) struct Marks {
     pub(crate) read: Option<Instant>,
     pub(crate) checked: Option<Instant>,
     pub(crate) told: Option<Instant>,
+    /// What the check told of its parts.
+    pub(crate) parts: Parts,
 }
 
 /// What the clock shows, where it is to be looked at and can be.
@@ -112,7 +119,7 @@ fn warn_numbers<D: Desk>(alloc: Global, desk: &mut D, numbers: Numbers)
 }
 
 /// Warns of a text. Where the warning fails a first part of it is warned, and nothing where memory runs out.
-fn warn_text<D: Desk>(desk: &mut D, text: &[u8])
+pub(crate) fn warn_text<D: Desk>(desk: &mut D, text: &[u8])
     ensures { (D.state desk.new ≡ D.state desk.old)
         ⊎ IsWarned (D.state desk.old) (D.state desk.new) text.now }
 {
@@ -126,6 +133,9 @@ fn times_of(marks: Marks) -> Times {
     Times {
         reading: between(marks.begun, marks.read),
         checking: between(marks.read, marks.checked),
+        structure: marks.parts.structure,
+        sweep: marks.parts.sweep,
+        outputs: marks.parts.outputs,
         telling: between(marks.checked, marks.told),
     }
 }
@@ -228,7 +238,17 @@ fn push_times(text: &mut Vec<u8>, times: Times) -> Result<(), AllocError>
 {
     push_time(text, b"seconds_reading", times.reading)?;
     push_time(text, b"seconds_check", times.checking)?;
+    push_parts(text, times)?;
     push_time(text, b"seconds_files", times.telling)
+}
+
+#[tactic(auto, unfolding(crate::specs::Stats::parts_text))]
+fn push_parts(text: &mut Vec<u8>, times: Times) -> Result<(), AllocError>
+    ensures { OnOk result (text.new.items ≡ text.old.items ++ parts_text times) }
+{
+    push_time(text, b"seconds_structure", times.structure)?;
+    push_time(text, b"seconds_sweep", times.sweep)?;
+    push_time(text, b"seconds_outputs", times.outputs)
 }
 
 /// Appends the line of a number.
@@ -269,7 +289,7 @@ fn push_seconds(text: &mut Vec<u8>, name: &[u8], time: u64) -> Result<(), AllocE
     text.extend_from_slice(b"\n")
 }
 
-fn push_decimal(text: &mut Vec<u8>, number: u64) -> Result<(), AllocError>
+pub(crate) fn push_decimal(text: &mut Vec<u8>, number: u64) -> Result<(), AllocError>
     ensures { OnOk result (text.new.items ≡ text.old.items ++ decimal number) }
 {
     text.extend_from_slice(Buffer::new().format(number).as_bytes())

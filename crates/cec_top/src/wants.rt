@@ -9,6 +9,8 @@ pub(crate) struct Wants<'a> {
     pub(crate) witness: Option<&'a str>,
     /// Whether the statistics of each check are warned behind its verdict.
     pub(crate) stats: bool,
+    /// Whether the progress of each check is warned while it goes on.
+    pub(crate) progress: bool,
     /// When the program began to read, if that is measured.
     pub(crate) begun: Option<Instant>,
 }

@@ -75,12 +75,12 @@ check_matched rows word c o word_is given is =
 
 -- options that are given set their fields
 pub options_given : (rows : List Row) (c : CheckCommand) (edits out load save witness : Option Text) (workers seed words sweep_budget budget : ℕ)
-    (stats : Bool)
+    (stats progress : Bool)
     → first_of (codes "edits") rows ≡ edits → first_of (codes "out") rows ≡ out
     → first_of (codes "load") rows ≡ load → first_of (codes "save") rows ≡ save → first_of (codes "witness") rows ≡ witness
     → workers ≡ number_or c.workers workers_option rows → seed ≡ number_or c.seed seed_option rows → words ≡ number_or c.words words_option rows
     → sweep_budget ≡ number_or c.sweep_budget sweep_budget_option rows → budget ≡ number_or c.budget budget_option rows
-    → stats ≡ is_set (codes "stats") rows
+    → stats ≡ is_set (codes "stats") rows → progress ≡ is_set (codes "progress") rows
     → with_options rows c
     ≡ record c {
       edits = edits;
@@ -94,9 +94,10 @@ pub options_given : (rows : List Row) (c : CheckCommand) (edits out load save wi
       sweep_budget = sweep_budget;
       budget = budget;
       stats = stats;
+      progress = progress;
     }
-options_given rows c edits out load save witness workers seed words sweep_budget budget stats edits_is out_is load_is save_is witness_is workers_is seed_is words_is sweep_is budget_is stats_is =
-    rw (edits_is, out_is, load_is, save_is, witness_is, workers_is, seed_is, words_is, sweep_is, budget_is, stats_is) refl
+options_given rows c edits out load save witness workers seed words sweep_budget budget stats progress edits_is out_is load_is save_is witness_is workers_is seed_is words_is sweep_is budget_is stats_is progress_is =
+    rw (edits_is, out_is, load_is, save_is, witness_is, workers_is, seed_is, words_is, sweep_is, budget_is, stats_is, progress_is) refl
 
 -- the same of a reduced circuit
 pub fraig_made : (rows : List Row) (a reduced : Text)

@@ -270,6 +270,11 @@ unfolding outcome_of faults walked walk_fault defaults_fault
 sets-stats a b plain_a plain_b program =
     outcome-marked (completed check_command) (plain a ∷ plain b ∷ flag (codes "--stats") ∷ []) (plain_a, refl, (plain_b, refl, tt))
 
+pub sets-progress : SetsFlag (codes "--progress") (λ c. record c { progress = true })
+unfolding outcome_of faults walked walk_fault defaults_fault
+sets-progress a b plain_a plain_b program =
+    outcome-marked (completed check_command) (plain a ∷ plain b ∷ flag (codes "--progress") ∷ []) (plain_a, refl, (plain_b, refl, tt))
+
 -- both name files that are written
 pub saves-behind : (program a b p word : Text) → IsPlain a → IsPlain b → IsPlain p → IsPlain word
     → outcome_of (program ∷ codes "check" ∷ a ∷ b ∷ codes "--out" ∷ p ∷ codes "--save" ∷ word ∷ [])

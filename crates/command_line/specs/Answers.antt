@@ -27,6 +27,7 @@ check_texts c = record {
   budget = c.budget;
   by_name = c.by_name;
   stats = c.stats;
+  progress = c.progress;
 }
 
 abbrev pub fraig_texts : FraigWords → FraigCommand

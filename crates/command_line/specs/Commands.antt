@@ -57,13 +57,13 @@ abbrev pub command : Text → List Rule → Shape
 command name rules = record (new_shape name) { rules = rules }
 
 -- `cec check A B [--edits F] [--out PREFIX] [--load FILE] [--save FILE] [--witness FILE] [--workers N] [--seed N] [--words N]
--- [--sweep-budget N] [--budget N] [--match BY] [--stats]`
+-- [--sweep-budget N] [--budget N] [--match BY] [--stats] [--progress]`
 abbrev pub check_command : Shape
 check_command = command (codes "check")
     (place (codes "a") ∷ place (codes "b") ∷ text_option (codes "edits") ∷ text_option (codes "out")
     ∷ text_option (codes "load") ∷ text_option (codes "save") ∷ text_option (codes "witness") ∷ number_option workers_option
     ∷ number_option seed_option ∷ number_option words_option ∷ number_option sweep_budget_option ∷ number_option budget_option
-    ∷ text_option (codes "match") ∷ flag_option (codes "stats") ∷ [])
+    ∷ text_option (codes "match") ∷ flag_option (codes "stats") ∷ flag_option (codes "progress") ∷ [])
 
 -- `cec fraig A OUT [--out PREFIX] [--workers N] [--seed N] [--words N] [--sweep-budget N]`
 abbrev pub fraig_command : Shape

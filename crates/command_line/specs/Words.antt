@@ -22,7 +22,8 @@ use Rattle.workload_gen.specs.declared.workload.TheConstants.{MOST_BITS}
 -- files begin with, if any are to be written, the names of the files from which lemmas are loaded, to which they are saved and to
 -- which an input is written that tells the circuits apart, if there are such, how many workers settle pairs and outputs, from which
 -- seed how many words of 64 patterns are drawn, how many clauses a solver may learn for a pair of nodes and for an output, whether
--- inputs and outputs are paired by their names, and not by their positions, and whether it is told what was done
+-- inputs and outputs are paired by their names, and not by their positions, and whether it is told what was done and, while a
+-- check goes on, how far it is
 pub record CheckCommand : Type 0 where
   pub a : List ℕ
   pub b : List ℕ
@@ -38,6 +39,7 @@ pub record CheckCommand : Type 0 where
   pub budget : ℕ
   pub by_name : Bool
   pub stats : Bool
+  pub progress : Bool
 
 -- `fraig A OUT`: the names of the files of the circuit and of the reduced one, what the names of the other written files begin
 -- with, if any are to be written, how many workers settle pairs, from which seed how many words of 64 patterns are drawn, and
@@ -140,6 +142,7 @@ plain_check a b = record {
   budget = 100000;
   by_name = false;
   stats = false;
+  progress = false;
 }
 
 -- the number that is given for an option, or else its default; a given one is in the range where the words have no fault
@@ -164,6 +167,7 @@ with_options rows c = record c {
   sweep_budget = number_or c.sweep_budget sweep_budget_option rows;
   budget = number_or c.budget budget_option rows;
   stats = is_set (codes "stats") rows;
+  progress = is_set (codes "progress") rows;
 }
 
 -- the reduced circuit without an option: the default of each

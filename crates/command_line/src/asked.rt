@@ -44,6 +44,8 @@ pub struct CheckWords<'a> {
     pub by_name: bool,
     /// Whether it is told what was done.
     pub stats: bool,
+    /// Whether it is told how far a check is, while it goes on.
+    pub progress: bool,
     pub ghost least_workers: { 1 ≤ workers },
     pub ghost most_workers: { workers ≤ WORKERS_LIMIT },
     pub ghost least_words: { 1 ≤ words },

@@ -77,6 +77,7 @@ pub fn plain_words()
     ensures match_names { SetsName (codes "--match") (codes "names")
         (λ c. record c { by_name = true }) }
     ensures stats { SetsFlag (codes "--stats") (λ c. record c { stats = true }) }
+    ensures progress { SetsFlag (codes "--progress") (λ c. record c { progress = true }) }
     ensures no_pairing { (program a b word : List ℕ) → IsPlain a → IsPlain b → IsPlain word
         → word ≢ codes "position" → word ≢ codes "names"
         → AskAmiss (program ∷ codes "check" ∷ a ∷ b ∷ codes "--match" ∷ word ∷ [])

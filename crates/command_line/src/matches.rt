@@ -63,6 +63,7 @@ impl<'a> CheckWords<'a> {
             budget: 100_000,
             by_name: false,
             stats: false,
+            progress: false,
         }
     }
 }
@@ -99,6 +100,7 @@ fn matched<'a>(check: CheckWords<'a>, word: &'a str) -> Result<Asked<'a>, Unfit<
             budget: check.budget,
             by_name,
             stats: check.stats,
+            progress: check.progress,
         }),
         None => Err(Unfit::Misnamed(misnamed_pairing(word))),
     }
@@ -171,6 +173,7 @@ fn check_words<'a>(matches: &ArgMatches<'a>) -> CheckWords<'a>
         budget: number_or(matches, "budget", 1, BUDGET_LIMIT, plain.budget),
         by_name: plain.by_name,
         stats: is_set(matches, "stats"),
+        progress: is_set(matches, "progress"),
     }
 }
 

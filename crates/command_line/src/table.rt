@@ -158,6 +158,12 @@ pub(crate) static COMMANDS: [CommandRow; 4] = [
                 takes: Takes::Flag,
                 help: "Warn what was done behind each verdict, in lines of a name and a number",
             },
+            ArgumentRow {
+                name: "progress",
+                value_name: "",
+                takes: Takes::Flag,
+                help: "Warn how far a check is while it goes on, at most twice a second",
+            },
         ],
     },
     CommandRow {
@@ -315,7 +321,12 @@ No FILE that is left can be PREFIX.K.cnf or PREFIX.K.lrat of --out, nor another 
 
 With --stats, warns behind each verdict of what was done, a line 'cec: NAME VALUE' each: gates, levels,
 clauses, patterns, rounds, merges, pairs and outputs left open, steps of proof, seconds. What is said and
-left stays the same.";
+left stays the same.
+
+With --progress, warns while a check goes on, at most twice a second:
+  cec: progress PART round N, S of T settled, O open, X s
+PART is structure, sweep or outputs, T the pairs or outputs that are asked for in round N of it, and O
+those that were left open so far. What is said and left stays the same.";
 
 const FRAIG_NOTES: &str = "\
 Says how many gates either circuit has, and ends with the status before what it says of both:

@@ -55,6 +55,7 @@ Options:
       --match <BY>        Pair inputs and outputs by their position, \
       or by the names that the files give them: position or names [default: position]
       --stats             Warn what was done behind each verdict, in lines of a name and a number
+      --progress          Warn how far a check is while it goes on, at most twice a second
   -h, --help              Print help
 
 Says of each check, and ends with the status before what it says of the last one:
@@ -95,6 +96,11 @@ No FILE that is left can be PREFIX.K.cnf or PREFIX.K.lrat of --out, nor another 
 With --stats, warns behind each verdict of what was done, a line 'cec: NAME VALUE' each: gates, levels,
 clauses, patterns, rounds, merges, pairs and outputs left open, steps of proof, seconds. What is said and
 left stays the same.
+
+With --progress, warns while a check goes on, at most twice a second:
+  cec: progress PART round N, S of T settled, O open, X s
+PART is structure, sweep or outputs, T the pairs or outputs that are asked for in round N of it, and O
+those that were left open so far. What is said and left stays the same.
 ";
 
 const FRAIG_HELP: &str = "help: \
@@ -269,6 +275,9 @@ const TAKEN: &str = concat!(
     "cec check x --witness=p.cnf y --out p --save l => \
         x and y with lemmas to l with a witness to p.cnf, to p, by 4 from 1, 4, 100 and 100000;",
     "cec check x y --stats => x and y with statistics, to nowhere, by 4 from 1, 4, 100 and 100000;",
+    "cec check x --progress y => x and y with progress, to nowhere, by 4 from 1, 4, 100 and 100000;",
+    "cec check --progress x y --stats => \
+        x and y with statistics with progress, to nowhere, by 4 from 1, 4, 100 and 100000;",
     "cec check --stats x y --budget 7 => x and y with statistics, to nowhere, by 4 from 1, 4, 100 and 7;",
     "cec check x y --workers 1 => x and y, to nowhere, by 1 from 1, 4, 100 and 100000;",
     "cec check --workers=64 x y --seed 2 => x and y, to nowhere, by 64 from 2, 4, 100 and 100000;",
@@ -302,6 +311,8 @@ const REFUSED: &str = concat!(
     "cec check x y --witness => a value is required for '--witness <FILE>' but none was supplied\n;",
     "cec check x y --stats --stats => the argument '--stats' cannot be used multiple times\n;",
     "cec check x y --stats=7 => unexpected value '7' for '--stats' found; no more were expected\n;",
+    "cec check x y --progress --progress => the argument '--progress' cannot be used multiple times\n;",
+    "cec self adder 1 --progress => unexpected argument '--progress' found\n;",
     "cec fraig x y --stats => unexpected argument '--stats' found\n;",
     "cec self adder 1 --witness w => unexpected argument '--witness' found\n;",
     "cec check x y --load l --load l => \
@@ -361,7 +372,7 @@ fn named(alloc: Global, words: &str, name: Option<&str>) -> Result<String, Alloc
 }
 
 /// The files that a check was given, how they are paired and edited, what it loads, saves and leaves, whether it
-/// tells what was done, and where its proof goes.
+/// tells what was done and how far it is, and where its proof goes.
 fn files_of(alloc: Global, check: &CheckWords<'_>) -> Result<String, AllocError> {
     let out = check.out.unwrap_or("nowhere");
     let pairing = if check.by_name { " by name" } else { "" };
@@ -370,8 +381,9 @@ fn files_of(alloc: Global, check: &CheckWords<'_>) -> Result<String, AllocError>
     let save = named(alloc, "with lemmas to", check.save)?;
     let witness = named(alloc, "with a witness to", check.witness)?;
     let stats = if check.stats { " with statistics" } else { "" };
+    let progress = if check.progress { " with progress" } else { "" };
     format!(in alloc;
-        "{} and {}{pairing}{edits}{load}{save}{witness}{stats}, to {out}",
+        "{} and {}{pairing}{edits}{load}{save}{witness}{stats}{progress}, to {out}",
         check.a, check.b
     )
 }

@@ -19,19 +19,19 @@ use Rattle.cec_top.proofs.script.run_script.Goals as goal
 
 -- what is wanted of checks that are made so
 abbrev wanted : How → Wanted
-wanted how = record { out = how.out; witness = how.witness; stats = how.stats }
+wanted how = record { out = how.out; witness = how.witness; stats = how.stats; progress = how.progress }
 
 -- a session's options are those of the checks
 how-same : (how : How) (s t : State) (number : ℕ) (old new : DeskState) (before after : List Kept) (stop : Stop) → s.options ≡ how.options
-    → ToldInPart (how_in s (wanted how)) number s old new before after stop ⊎ NotMade old new before after stop
-    → ToldInPart how number s old new before after stop ⊎ NotMade old new before after stop
+    → ToldInPart (how_in s (wanted how)) number s old new before after stop ⊎ NotMade how.progress old new before after stop
+    → ToldInPart how number s old new before after stop ⊎ NotMade how.progress old new before after stop
 how-same how s t number old new before after stop same w =
-    subst (λ (o : Options). ToldInPart (record { options = o; out = how.out; witness = how.witness; stats = how.stats }) number s old new before after stop ⊎ NotMade old new before after stop) same w
+    subst (λ (o : Options). ToldInPart (record { options = o; out = how.out; witness = how.witness; stats = how.stats; progress = how.progress }) number s old new before after stop ⊎ NotMade how.progress old new before after stop) same w
 
 how-whole : (how : How) (s t : State) (number : ℕ) (old new : DeskState) (before after : List Kept) (status : Status) → s.options ≡ how.options
     → ToldWhole (how_in s (wanted how)) number s t old new before after status → ToldWhole how number s t old new before after status
 how-whole how s t number old new before after status same w =
-    subst (λ (o : Options). ToldWhole (record { options = o; out = how.out; witness = how.witness; stats = how.stats }) number s t old new before after status) same w
+    subst (λ (o : Options). ToldWhole (record { options = o; out = how.out; witness = how.witness; stats = how.stats; progress = how.progress }) number s t old new before after status) same w
 
 pub returns-in_err-status : goal.returns-in_err-status
 returns-in_err-status g c =

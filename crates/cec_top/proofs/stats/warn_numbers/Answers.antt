@@ -1,5 +1,5 @@
 use Rattle.std.proofs.Common.{◌∙◌}
-use Rattle.cec_top.proofs.StatsLemmas.{reports-text}
+use Rattle.cec_top.proofs.WarnedLemmas.{reports-text}
 use Rattle.cec_top.proofs.stats.warn_numbers.Goals as goal
 
 pub returns-in-Ok : goal.returns-in-Ok

@@ -1,4 +1,4 @@
-use Rattle.command_line.proofs.PlainLemmas.{asks-check, asks-fraig, asks-lrat, asks-self, fraig-seed, fraig-sweep_budget, fraig-words, fraig-workers, misnames-match, saves-behind, sets-edits, sets-budget, sets-budget_out, sets-match_names, sets-load, sets-match_position, sets-out, sets-out_budget, sets-save, sets-seed, sets-stats, sets-sweep_budget, sets-witness, sets-words, sets-workers, witness-behind, witness-beside, writes-behind}
+use Rattle.command_line.proofs.PlainLemmas.{asks-check, asks-fraig, asks-lrat, asks-self, fraig-seed, fraig-sweep_budget, fraig-words, fraig-workers, misnames-match, saves-behind, sets-edits, sets-budget, sets-budget_out, sets-match_names, sets-load, sets-match_position, sets-out, sets-out_budget, sets-progress, sets-save, sets-seed, sets-stats, sets-sweep_budget, sets-witness, sets-words, sets-workers, witness-behind, witness-beside, writes-behind}
 use Rattle.std.proofs.Common.{◌∙◌, ap, refl, Bool, Some}
 use Rattle.std.specs.Prelude.{if◌then◌else◌}
 use Rattle.std.proofs.lemmas.Bool.{false_from_ne_true}
@@ -23,6 +23,7 @@ returns c = record {
   match_position = sets-match_position;
   match_names = sets-match_names;
   stats = sets-stats;
+  progress = sets-progress;
   no_pairing = misnames-match;
   saves_over = λ program a b p word plain_a plain_b plain_p plain_word left.
       saves-behind program a b p word plain_a plain_b plain_p plain_word

@@ -13,11 +13,11 @@ returns c =
     check_made rows _ _ c.text.ensures c.text-2.ensures
     ∙ ap Some
     (ap (with_options rows) (sym c.plain-plain.ensures)
-    ∙ options_given rows (check_texts c.plain-plain.result) _ _ _ _ _ _ _ _ _ _ _
+    ∙ options_given rows (check_texts c.plain-plain.result) _ _ _ _ _ _ _ _ _ _ _ _
     (sym (first_value-rows found (codes "edits")) ∙ sym c.get_str.ensures)
     (sym (first_value-rows found (codes "out")) ∙ sym c.get_str-2.ensures)
     (sym (first_value-rows found (codes "load")) ∙ sym c.get_str-3.ensures)
     (sym (first_value-rows found (codes "save")) ∙ sym c.get_str-4.ensures)
     (sym (first_value-rows found (codes "witness")) ∙ sym c.get_str-5.ensures)
     c.number_or.ensures.value c.number_or-2.ensures.value c.number_or-3.ensures.value c.number_or-4.ensures.value
-    c.number_or-5.ensures.value c.is_set.ensures)
+    c.number_or-5.ensures.value c.is_set.ensures c.is_set-2.ensures)

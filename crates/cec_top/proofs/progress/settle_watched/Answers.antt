@@ -1,12 +1,12 @@
 use Rattle.check_session.specs.Check.{begun_by}
 use Rattle.cec_top.proofs.CheckLemmas.{due-now, is-made, proofs-of}
 use Rattle.cec_top.specs.Steps.{due_in}
-use Rattle.cec_top.proofs.checking.settle.Goals as goal
+use Rattle.cec_top.proofs.progress.settle_watched.Goals as goal
 
 pub returns-clause-ok : goal.returns-clause-ok
 returns-clause-ok g c =
     let s = c.args.session.now in
-    let t = c.check.new.self in
+    let t = c.check_watched.new.self in
     record {
       net_is = c.in_ok-verdict.ensures.net;
       options_are = c.in_ok-verdict.ensures.options;
