@@ -42,7 +42,7 @@ fn empty_desk(alloc: Global) -> Result<MemDesk, AllocError>
 }
 
 /// The file that is written of a book of the net.
-fn written(alloc: Global, net: &Net, book: &Book) -> Option<Vec<u8>>
+pub(crate) fn written(alloc: Global, net: &Net, book: &Book) -> Option<Vec<u8>>
     requires { IsLegal net.now book.now }
 {
     netlist::laws::is_net(net);
