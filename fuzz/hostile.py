@@ -1,12 +1,12 @@
 #!/usr/bin/env python3
 """Runs in strange surroundings and under load, over a real file system.
 
-Usage: hostile.py [PROGRAM] [--runs N] [--seed N] [--only WORD]
+Usage: hostile.py [PROGRAM] [--runs N] [--seed N] [--only WORD] [--megabytes N]
 
 PROGRAM is the repository's own where it is left out; N is how many runs are ended by a signal (40), and --only runs
-the groups of cases alone whose names have the word. Where it may, the script mounts small file systems in a name space
-of its own, and takes the user `nobody` for cases about what may be read and written; what can't be had here is told as
-left out.
+the groups of cases alone whose names have the word. The runs of the group `load` may take --megabytes (4096) each.
+Where it may, the script mounts small file systems in a name space of its own, and takes the user `nobody` for cases
+about what may be read and written; what can't be had here is told as left out.
 
 Each case has to end by itself, with a status of the program's and its one line; a verdict is said only with its files,
 and no file but the check's own is touched. A run that is ended from outside says no verdict without its files. Cases
@@ -446,6 +446,18 @@ def within(rig, name, files, words, whole, megabytes):
         return run.status
 
 
+def with_stack(rig, name, files, words, kilobytes):
+    """A run with so large a stack for each thread. README asks for 128 KB: with less a run may be ended by a signal, and says nothing."""
+    with rig.folder(**files) as folder:
+        before = files_in(folder)
+        run = rig.ran(folder, words, {resource.RLIMIT_STACK: kilobytes << 10})
+        ends = fault_of_end(run, 0, b"", b"EQUIVALENT\n")
+        if kilobytes < 128 and run.status == -signal.SIGSEGV:
+            ends = "a verdict" if run.said else None
+            print(f"{name} with stacks of {kilobytes} KB: ended by a signal")
+        rig.judge(f"{name} with stacks of {kilobytes} KB", run, first(ends, fault_of_files(run, before)))
+
+
 def memory(rig):
     """Little memory and little stack: on a million gates without files, and on a hundred thousand with them."""
     large = {name: make_binary(rig.words.seed, 64, 1_000_000) for name in "AB"}
@@ -459,10 +471,7 @@ def memory(rig):
     for megabytes in (20, 30, 40, 60, 80, 100, 150, 200):
         within(rig, "a hundred thousand gates", small, CHECK, whole, megabytes)
     for kilobytes in (64, 128):
-        with rig.folder(**large) as folder:
-            limits = {resource.RLIMIT_STACK: kilobytes << 10}
-            name = f"a stack of {kilobytes} KB"
-            expect(rig, name, folder, 0, said=b"EQUIVALENT\n", words=CHECK[:3], limits=limits)
+        with_stack(rig, "a million gates", large, CHECK[:3], kilobytes)
 
 
 def fault_of_script(rig, run, whole):
@@ -554,6 +563,37 @@ def scripts_and_signals(rig):
     print(f"{ended} of {rig.words.runs} runs over a long script were killed, in up to {whole.seconds:.1f} s")
 
 
+def options(rig):
+    """Lemma files, witnesses and reduced circuits under names that can't be read or written."""
+    said = b"EQUIVALENT\n"
+    check = ["check", "A", "B"]
+    with rig.folder() as folder:
+        lemmas = rig.ran(folder, [*check, "--save", "L"]).files["L"]
+    for name in ("X", ".", "", "n" * 256, "n" * 4096, "A/X"):
+        with rig.folder() as folder:
+            line = f"cec: {name}: cannot read\n".encode()
+            expect(rig, f"lemmas in {name[:9]}", folder, 5, line, words=[*check, "--load", name])
+            expect(rig, f"a circuit in {name[:9]}", folder, 5, line, words=["fraig", name, "OUT"])
+    faults = {"/dev/null": "line 1: ends too early", "A": "line 1: bad line", "/dev/zero": "longer than 1073741824 bytes"}
+    for name, fault in faults.items():
+        with rig.folder() as folder:
+            expect(rig, f"{name} as lemmas", folder, 4, f"cec: {name}: {fault}\n".encode(), words=[*check, "--load", name])
+    with rig.folder(L=lemmas) as folder:
+        how = {"stdin": subprocess.PIPE, "given": lemmas}
+        for name in ("L", "/dev/stdin"):
+            expect(rig, f"lemmas in {name}", folder, 0, said=b"lemmas 2 of 2\n" + said, words=[*check, "--load", name], **how)
+    different = ["check", "A", "F"]
+    for name in ("none/X", "n" * 4096, "A/X", ".", "/dev/full"):
+        with rig.folder(F=b"aag 2 2 0 1 0\n2\n4\n0\n") as folder:
+            expect(rig, f"lemmas to {name[:9]}", folder, 6, CANNOT_WRITE, said, words=[*check, "--save", name])
+            expect(rig, f"a witness to {name[:9]}", folder, 6, CANNOT_WRITE, words=[*different, "--witness", name])
+            expect(rig, f"a circuit to {name[:9]}", folder, 6, CANNOT_WRITE, words=["fraig", "A", name])
+    with rig.folder() as folder:
+        run = rig.ran(folder, ["fraig", "A", "OUT", "--out", "none/p"])
+        ends = fault_of_end(run, 6, CANNOT_WRITE)
+        rig.judge("a circuit whose proof can't be written", run, first(ends, None if run.files.get("OUT") else "no OUT"))
+
+
 def threads(rig):
     """64 workers where few threads or none can be started, for want of address space, of leave or of stack."""
     pair, words = dict(zip("AB", adders(64))), ["check", "A", "B", "--workers", "64"]
@@ -561,11 +601,8 @@ def threads(rig):
         whole = expect(rig, "64 workers", folder, 0, said=b"EQUIVALENT\n", words=words)
     statuses = [within(rig, "64 workers", pair, words, whole, megabytes) for megabytes in (12, 15, 20, 40, 100, 200, 400, 1000)]
     print(f"64 workers in 12 to 1,000 MB: statuses {statuses}")
-    # With stacks of 64 KB the program is ended by a signal at times where there are 64 workers, and never was with 4.
-    for kilobytes in (128, 256):
-        with rig.folder(**pair) as folder:
-            limits = {resource.RLIMIT_STACK: kilobytes << 10}
-            expect(rig, f"64 workers with stacks of {kilobytes} KB", folder, 0, said=b"EQUIVALENT\n", words=words, limits=limits)
+    for kilobytes in (64, 128, 256):
+        with_stack(rig, "64 workers", pair, words, kilobytes)
     how = as_nobody(rig, "threads without leave")
     for most in (1, 2, 3, 5, 20, 60) if how else ():
         with rig.folder(**pair) as folder:
@@ -583,9 +620,9 @@ def processor_seconds():
 
 
 def load(rig):
-    """As many inputs, gates and outputs as may be, and one more, in four gigabytes."""
+    """As many inputs, gates and outputs as may be, and one more, in so much memory."""
     most = 1 << 24
-    limits = {resource.RLIMIT_AS: 4 << 30}
+    limits = {resource.RLIMIT_AS: rig.words.megabytes * MB}
     gates = f"aig {most} 0 0 0 {most}\n".encode() + b"\x02\x00" * most
     outputs = f"aig 0 0 0 {most} 0\n".encode() + b"0\n" * most
     for what, file in [("inputs", f"aig {most} {most} 0 0 0\n".encode()), ("gates", gates), ("outputs", outputs)]:
@@ -610,7 +647,7 @@ def compared(rig, what, words, files):
     seconds = []
     for file in files:
         first, second = file if isinstance(file, tuple) else (file, file)
-        with rig.folder(A=first, B=second, EMPTY=b"") as folder:
+        with rig.folder(A=first, B=second, EMPTY=b"", SMALL=AND) as folder:
             start = processor_seconds()
             run = rig.ran(folder, words, seconds=1800)
             seconds.append(processor_seconds() - start)
@@ -630,9 +667,10 @@ def slots(rig):
     compared(rig, "signatures", check + ["--words", "1"], sharing.signatures(rig.rng, count))
     compared(rig, "literals of a clause", ["lrat", "A", "EMPTY"], sharing.literals(rig.rng, count))
     compared(rig, "literals of a line", ["lrat", "A", "B"], sharing.proofs(rig.rng, count))
+    compared(rig, "literals of a lemma", ["check", "SMALL", "SMALL", "--load", "A"], sharing.lemmas(rig.rng, count))
 
 
-GROUPS = (names, devices, streams, inputs, signals, scripts, threads, together, memory, load, slots)
+GROUPS = (names, devices, streams, inputs, options, signals, scripts, threads, together, memory, load, slots)
 
 
 def main():
@@ -641,6 +679,7 @@ def main():
     parser.add_argument("--runs", type=int, default=40)
     parser.add_argument("--seed", type=int, default=SEED)
     parser.add_argument("--only", default="")
+    parser.add_argument("--megabytes", type=int, default=4096)
     words = parser.parse_args()
     if os.geteuid() == 0 and ALONE not in os.environ and shutil.which("unshare"):
         command = ["unshare", "--mount", sys.executable, *sys.argv]

@@ -78,16 +78,16 @@ def signatures(rng, count):
     return ands(inputs, sharing), ands(inputs, drawn)
 
 
-def codes_in_one_slot(count):
-    """Numbers below 2^32 whose products with the multiplier lie in the first slots of a table, as few as may be."""
-    width = WORD * count // (1 << 32) * 9 // 8
+def codes_in_one_slot(count, limit=1 << 32):
+    """Numbers below the limit whose products with the multiplier lie in the first slots of a table, as few as may be."""
+    width = WORD * count // limit * 9 // 8
     steps = [1, 2]
-    while len(steps) < 46:
+    while len(steps) < 52:
         steps.append(steps[-1] + steps[-2])
     found, code = [], 0
     while len(found) < count:
         code += next(step for step in steps if (code + step) * GOLDEN % WORD < width)
-        if code >= 1 << 32:
+        if code >= limit:
             raise SystemExit("too few codes")
         found.append(code)
     return found
@@ -118,3 +118,15 @@ def proofs(rng, count):
         return f"p cnf 2147483647 1\n{words[0]} 0\n".encode(), f"2 {' '.join(words)} 0 1 0\n".encode()
     sharing = codes_in_one_slot(count)
     return pair(sharing), pair(rng.sample(range(2, 1 << 32), count))
+
+
+def lemmas(rng, count):
+    """(sharing, drawn): a lemma file with a step of literals whose codes share slots, which are the numbers of nodes twice, and one
+    more where negated; what is left of a node's number modulo 5 tells its kind."""
+    limit = 10 << 32
+
+    def file(codes):
+        nodes = {code // 2: code % 2 for code in codes if code // 2 % 5}
+        words = ["-" * negated + " iabx"[node % 5] + str(node // 5) for node, negated in nodes.items()]
+        return f"lemmas 1\nm b3 a3\ns {' '.join(words[:count])} ; c/0\n.\n".encode()
+    return file(codes_in_one_slot(count * 3 // 2, limit)), file([rng.randrange(2, limit) for _ in range(count * 3 // 2)])
