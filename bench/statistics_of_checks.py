@@ -93,23 +93,45 @@ TIMED = """        let begun = now(rt);
         let by_search = found.is_some();
         let entry = match found {
             Some(entry) => entry,
-            None => cone_query::{query}?,
+            None => {query}?,
         };
         search.told(rt, &entry, by_search, begun, searched);
         Ok(entry)
 """
 
+PAIR_CALL, PAIR_QUERY = "pair(alloc, net, seen, task, caps)", "cone_query::pair(alloc, net, seen, task, &mut self.refuter)"
+OUTPUT_CALL, OUTPUT_QUERY = "output(alloc, net, seen, output, caps)", "cone_query::output(alloc, net, seen, output, &mut self.refuter)"
 
-def asked(call, query):
-    """A search and then a query of the cone, as a worker asks them, and the same with its times taken."""
-    plain = f"""        let search = made(&mut self.search, alloc, net)?;
-        match search.{call}? {{
-            Some(entry) => Ok(entry),
-            None => cone_query::{query},
+# How a worker asks the search and then the whole cone, of a pair and of an output.
+PAIR = f"""        let search = made(&mut self.search, alloc, net)?;
+        match search.{PAIR_CALL}? {{
+            Some(entry) => {{
+                count_merge(&mut self.tally.by_search, &entry);
+                Ok(entry)
+            }}
+            None => {{
+                let entry = {PAIR_QUERY}?;
+                count_merge(&mut self.tally.by_cone, &entry);
+                count_open(&mut self.tally.open, &entry);
+                Ok(entry)
+            }}
         }}
 """
-    timed = TIMED.replace("{call}", call.replace("(alloc", "(rt, alloc")).replace("{query}", query)
-    return WORKER, plain, timed
+OUTPUT = f"""        let search = made(&mut self.search, alloc, net)?;
+        match search.{OUTPUT_CALL}? {{
+            Some(entry) => Ok(entry),
+            None => {{
+                let entry = {OUTPUT_QUERY}?;
+                count_open(&mut self.tally.open, &entry);
+                Ok(entry)
+            }}
+        }}
+"""
+
+
+def timed(call, query):
+    """The same with its times taken."""
+    return TIMED.replace("{call}", call.replace("(alloc", "(rt, alloc")).replace("{query}", query)
 
 
 # file, what stands there, what is put in its place
@@ -121,6 +143,8 @@ CHANGES = [
     (SEARCH, "    pub fn pair(", "    pub fn pair<T: CpuClock>("),
     (SEARCH, "    pub fn output(", "    pub fn output<T: CpuClock>("),
     (SEARCH, "    fn judged(", "    fn judged<T: CpuClock>("),
+    (SEARCH, "    fn proposed(", "    fn proposed<T: CpuClock>("),
+    (SEARCH, "self.proposed(alloc", "self.proposed(rt, alloc"),
     (SEARCH, "self.judged(alloc", "self.judged(rt, alloc"),
     (SEARCH, "        match self.engine.pair(alloc, net, task, caps)? {",
      "        let found = self.engine.pair(alloc, net, task, caps)?;\n"
@@ -132,8 +156,8 @@ CHANGES = [
      "        self.judging += now(rt) - begun;\n"),
     ("circuit_search/src/lib.rt", "pub use search::Search;", "pub use search::{Search, now};"),
     (WORKER, "use circuit_search::{Caps, Search, Sieve, apart};", "use circuit_search::{Caps, Search, Sieve, apart, now};"),
-    asked("pair(alloc, net, seen, task, caps)", "pair(alloc, net, seen, task, &mut self.refuter)"),
-    asked("output(alloc, net, seen, output, caps)", "output(alloc, net, seen, output, &mut self.refuter)"),
+    (WORKER, PAIR, timed(PAIR_CALL, PAIR_QUERY)),
+    (WORKER, OUTPUT, timed(OUTPUT_CALL, OUTPUT_QUERY)),
     (WORKER, "    fn found(\n        &mut self,\n", "    fn found<T: CpuClock>(\n        &mut self,\n        rt: &T,\n"),
     (WORKER, "    fn output(\n        &mut self,\n", "    fn output<T: CpuClock>(\n        &mut self,\n        rt: &T,\n"),
     (WORKER, "self.found(alloc", "self.found(rt, alloc"),
@@ -144,17 +168,17 @@ CHANGES = [
     (WORKER, "            Some(entry) => Ok(entry),\n            None => self.ask(",
      "            Some(entry) => {\n                self.sifted += 1;\n                Ok(entry)\n            }\n            None => self.ask("),
     (ROUNDS, "    let is_due = sieve", "    workers[0].rounds += 1;\n    let is_due = sieve"),
-    (SWEEP, "    pub(crate) verdict: Verdict,\n}", f"    pub(crate) verdict: Verdict,\n    pub(crate) tally: [u64; {SIZE}],\n}}"),
-    (SWEEP, "        verdict,\n    })\n}\n\n/// The verdict of the sweep",
-     f"        verdict,\n        tally: [0; {SIZE}],\n    }})\n}}\n\n/// The verdict of the sweep"),
-    (SWEEP, "        verdict,\n    })\n}\n\n/// So many workers", "        verdict,\n        tally,\n    })\n}\n\n/// So many workers"),
+    (SWEEP, "    pub(crate) work: Work,\n}", f"    pub(crate) work: Work,\n    pub(crate) tally: [u64; {SIZE}],\n}}"),
+    (SWEEP, "        work,\n    })\n}\n\n/// The verdict of the sweep",
+     f"        work,\n        tally: [0; {SIZE}],\n    }})\n}}\n\n/// The verdict of the sweep"),
+    (SWEEP, "        work,\n    })\n}\n\n/// So many workers", "        work,\n        tally,\n    })\n}\n\n/// So many workers"),
     (SWEEP, "    is_swept(net);\n",
      "    is_swept(net);\n"
      f"    let mut tally = match &workers[0].search {{\n        Some(search) => search.tally,\n        None => [0; {SIZE}],\n    }};\n"
      "    tally[0] = workers[0].rounds;\n    tally[1] = workers[0].sifted;\n"),
-    (SESSION, "    edits: Vec<Edit>,\n}", f"    edits: Vec<Edit>,\n    pub tally: [u64; {SIZE}],\n}}"),
-    (SESSION, "            edits: _,\n        } = self;", "            edits: _,\n            tally: _,\n        } = self;"),
-    (SESSION, "            edits: Vec::new(alloc),\n        })", f"            edits: Vec::new(alloc),\n            tally: [0; {SIZE}],\n        }})"),
+    (SESSION, "    work: Work,\n}", f"    work: Work,\n    pub tally: [u64; {SIZE}],\n}}"),
+    (SESSION, "            work: _,\n        } = self;", "            work: _,\n            tally: _,\n        } = self;"),
+    (SESSION, "            work: Work::none(0),\n", f"            work: Work::none(0),\n            tally: [0; {SIZE}],\n"),
     (SESSION, "        self.book = checked.book;", "        self.tally = checked.tally;\n        self.book = checked.book;"),
 ]
 

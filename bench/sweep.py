@@ -5,8 +5,8 @@ Usage: sweep.py [FOLDER] [--program PROGRAM] [--options WORDS] [--classes tiny s
                 [--only REGEX] [--statistics]
 
 FOLDER is as for `solver.py`, with the binary files `NAME.a.aig` and `NAME.b.aig` too. Each pair is given to `PROGRAM check A B --out
-P` with the words of --options, to `berkeley-abc` (`&cec`), and the miter that the program wrote to `cadical`; a peer that isn't
-installed (Debian's packages `berkeley-abc` and `cadical`) is left out with one line. The checker of proofs in C judges each
+P` with the words of --options, to `berkeley-abc` (`&cec`), and the miter that the program wrote, else that of `tools/miter.py`, to
+`cadical`; a peer that isn't installed (Debian's packages `berkeley-abc` and `cadical`) is left out with one line. The checker of proofs in C judges each
 refutation. The seconds are those of the processor, the least of the rounds; a run that takes more than the limit has none.
 
 With --statistics a second table says of each pair what the check did (rounds, merges, Aparts, Spents, conflicts, decisions, entries
@@ -25,7 +25,7 @@ import tempfile
 from pathlib import Path
 
 sys.path.insert(0, str(Path(__file__).resolve().parents[1] / "tools"))
-from house import compiled, program
+from house import TOP, compiled, program
 import made_pairs
 import statistics_of_checks
 from solver import best, mean, ratio, shown
@@ -50,10 +50,25 @@ def peers(folder, name, cnf, limit, rounds, have):
     if have["berkeley-abc"]:
         run = best(["berkeley-abc", "-q", f"&cec {a} {b}"], limit, rounds)
         said["berkeley-abc"] = (run, of_abc(run))
-    if have["cadical"] and cnf.exists():
+    if have["cadical"]:
         run = best(["cadical", "-q", "-n", str(cnf)], limit, rounds)
         said["cadical"] = (run, of_cadical(run))
     return said
+
+
+def has_miter(pair, run, cnf):
+    """Has the pair's miter written where the program didn't end in time and so promises nothing of its own."""
+    if run is None:
+        with cnf.open("wb") as put:
+            subprocess.run([sys.executable, TOP / "tools" / "miter.py", *pair], stdout=put, check=True)
+    return cnf
+
+
+def times_of(said, have):
+    """The seconds of each peer that gave a verdict; a dash stands where it gave none in time, a slash where it isn't there."""
+    for name, there in have.items():
+        run, answer = said.get(name, (None, None))
+        yield f"{shown(run) if answer else '-' if there else '/':>8}"
 
 
 def judged(reference, verdict, prefix):
@@ -97,7 +112,8 @@ def measured(words, rows):
             pair = [str(words.folder / f"{row['name']}.{side}.aig") for side in "ab"]
             run = best([mine, "check", *pair, "--out", prefix, *words.options.split()], words.limit, words.rounds)
             verdict = run[2].split()[0] if run and run[2] else "-"
-            said = peers(words.folder, row["name"], Path(prefix + ".0.cnf"), words.limit, words.rounds, have)
+            cnf = has_miter(pair, run, Path(prefix + ".0.cnf")) if have["cadical"] else None
+            said = peers(words.folder, row["name"], cnf, words.limit, words.rounds, have)
             proof = judged(reference, verdict, prefix)
             size = Path(prefix + ".0.lrat").stat().st_size // 1000 if verdict == "EQUIVALENT" else 0
             if verdict in ("EQUIVALENT", "DIFFERENT"):
@@ -106,7 +122,7 @@ def measured(words, rows):
                 for name, (other, answer) in said.items():
                     if answer:
                         ratios.setdefault((row["class"], name), []).append(ratio(run, other))
-            times = " ".join(f"{shown(said[name][0]) if name in said else '-':>8}" for name in have)
+            times = " ".join(times_of(said, have))
             print(f"{row['name']:32} {verdict:10} {shown(run):>7} {times} {size:>8} {proof}", flush=True)
     if words.statistics:
         print_statistics(words, mine, rows)

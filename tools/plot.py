@@ -5,7 +5,7 @@ Usage: plot.py TABLE [--folder DIR] [--caption TEXT]
 
 TABLE is what `bench/sweep.py` printed. `cactus.svg`: for each program how many pairs it decides in how many seconds, one run after the
 other from the shortest on. `scatter.svg`: a dot for each pair, the program's seconds across and those of ABC's `&cec` and of CaDiCaL up;
-a dot at the edge wasn't decided there, and above the line the program is faster. Both axes of seconds are logarithmic, and times below a
+a dot at the edge wasn't decided there, and above the line the program is faster; a program that wasn't there isn't drawn. Both axes of seconds are logarithmic, and times below a
 hundredth count as that. The caption says what was measured: date, machine, versions.
 """
 import argparse
@@ -27,10 +27,15 @@ def rows_in(name):
         if match:
             times = dict(zip(PROGRAMS, match.groups()[2:]))
             decided = match[2] in ("EQUIVALENT", "DIFFERENT")
-            seconds = {who: max(float(time), LEAST) if time != "-" else None for who, time in times.items()}
+            seconds = {who: max(float(time), LEAST) if time not in "-/" else None for who, time in times.items()}
             seconds["cec"] = seconds["cec"] if decided else None
-            found.append(seconds)
+            found.append({who: time for who, time in seconds.items() if times[who] != "/"})
     return found
+
+
+def programs_in(rows):
+    """Those that were run, in order."""
+    return [who for who in PROGRAMS if all(who in row for row in rows)]
 
 
 def place(seconds, length):
@@ -79,12 +84,12 @@ def cactus(rows):
     across = (WIDTH - 2 * EDGE) / max(len(rows), 1)
     for many in range(0, len(rows) + 1, 10):
         yield text(EDGE + many * across, HEIGHT - EDGE + 18, many)
-    for who, color in PROGRAMS.items():
+    for who in programs_in(rows):
         times = sorted(row[who] for row in rows if row[who] is not None)
         dots = [(EDGE + (number + 1) * across, HEIGHT - EDGE - place(time, HEIGHT)) for number, time in enumerate(times)]
         path = " ".join(f"{x:.1f},{y:.1f}" for x, y in dots)
-        yield f'<polyline points="{path}" fill="none" stroke="{color}" stroke-width="2"/>'
-    yield from legend(PROGRAMS)
+        yield f'<polyline points="{path}" fill="none" stroke="{PROGRAMS[who]}" stroke-width="2"/>'
+    yield from legend(programs_in(rows))
     yield text(WIDTH / 2, HEIGHT - 20, "pairs decided")
     yield upright("seconds at most")
 
@@ -93,7 +98,7 @@ def scatter(rows):
     yield from ticks_up()
     yield from ticks_across()
     yield line(EDGE, HEIGHT - EDGE, WIDTH - EDGE, EDGE, "#888888")
-    others = [who for who in PROGRAMS if who != "cec"]
+    others = [who for who in programs_in(rows) if who != "cec"]
     for row in rows:
         for who in others:
             if row["cec"] is not None or row[who] is not None:
@@ -118,6 +123,8 @@ def main():
     words.add_argument("--caption", default="")
     asked = words.parse_args()
     rows, folder = rows_in(asked.table), Path(asked.folder)
+    if not rows:
+        raise SystemExit(f"{asked.table} has no row of bench/sweep.py")
     caption = asked.caption.replace("&", "&amp;").replace("<", "&lt;")
     (folder / "cactus.svg").write_text(drawn(cactus(rows), "Pairs decided in a time", caption))
     (folder / "scatter.svg").write_text(drawn(scatter(rows), "Each pair, beside the others", caption))
