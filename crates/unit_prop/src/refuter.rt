@@ -1,9 +1,11 @@
 ghost use Rattle.std.specs.Prelude.{◌≡◌, ◌≤◌, List, [], Bool, true, OnOk, OnErr, IfOk};
 ghost use Rattle.lits.specs.declared.step.Named.{Named};
 ghost use Rattle.lits.specs.declared.step.Step.{Step};
+ghost use Rattle.flat_base.specs.Flat.{named_of};
 ghost use Rattle.unit_prop.specs.Log.{IsBase};
 ghost use Rattle.unit_prop.specs.Refuter.{IsOver, Answers};
 
+use flat_base::FlatBase;
 use lits::{Clause, Listed, Lit, Named, Ref, Step};
 use std::alloc::{AllocError, Global};
 
@@ -35,6 +37,19 @@ pub trait Refuter: Drop {
         ensures ready { OnOk result (is_ready self.new ≡ true) }
         ensures base { OnOk result (base_of self.new ≡ base.now) }
         ensures empty { OnOk result (log_of self.new ≡ []) };
+
+    /// Takes the clauses of a flat base as `start` takes a list of them.
+    ///
+    /// A solver that keeps its clauses by codes has no need of the list: its variables are numbered already.
+    fn start_flat(&mut self, alloc: Global, base: &FlatBase) -> Result<(), AllocError>
+        requires { IsBase (named_of base.now) }
+        ensures ready { OnOk result (is_ready self.new ≡ true) }
+        ensures base { OnOk result (base_of self.new ≡ named_of base.now) }
+        ensures empty { OnOk result (log_of self.new ≡ []) }
+    {
+        let listed = base.listed(alloc)?;
+        self.start(alloc, listed.as_slice())
+    }
 
     /// Asks whether the base implies the target, for at most `left` learned clauses.
     fn refute(

@@ -1,0 +1,3 @@
+mod CodeLemmas
+mod FlatLemmas
+mod Facts
