@@ -1,56 +1,63 @@
--- Named clauses that stand one after another in one list.
-use Rattle.std.proofs.Common.{◌≡◌, ◌+◌, ◌-◌, ◌<◌, ◌≤◌, ℕ, List, [], ◌∷◌, ◌++◌, length, refl, sym, ap, ◌∙◌, arith, take, drop, map, get_or}
-use Rattle.std.specs.List.{AllByRecursion}
-use Rattle.std.proofs.lemmas.List.{length-append, take-append-le, drop-append-le, drop_at, take_all, length-drop, map-append, get_or-map, length-map}
+-- The base that names and clauses make.
+use Rattle.std.proofs.Common.{◌≡◌, ◌<◌, ◌≤◌, ◌+◌, ℕ, zero, suc, arith, List, [], ◌∷◌, ◌++◌, map, take, length, get_or, refl, sym, ap, ◌∙◌}
+use Rattle.std.proofs.lemmas.List.{take_more, map-append}
+use Rattle.std.specs.Prelude.{slice_index_or}
 use Rattle.lits.specs.declared.literal.Lit.{Lit}
+use Rattle.lits.specs.declared.node.Node.{Node}
 use Rattle.lits.specs.declared.step.Named.{Named}
 use Rattle.lits.specs.declared.step.Ref.{Ref}
-use Rattle.solver_watch.specs.Base.{named_at, IsWithin, ArePlaces}
-use Rattle.solver_watch.specs.declared.base.Place.{Place}
+use Rattle.flat_base.specs.Flat.{Coded, named_by}
+use Rattle.unit_prop.specs.Log.{base_clauses}
+use Rattle.watch_lists.specs.Trail.{TrailState}
+use Rattle.solver_plain.specs.Formula.{Clauses}
+use Rattle.solver_watch.specs.declared.formula.Formula.{Formula}
+use Rattle.solver_watch.specs.Known.{named_with, base_in, clauses_known, IsKnown}
 
--- more behind changes nothing of what stands there
-same-at : (lits more : List Lit) (p : Place) → IsWithin lits p → named_at (lits ++ more) p ≡ named_at lits p
-same-at lits more p w =
-    let low : p.start ≤ length lits = omega (arith, w.0, w.1) in
-    ap (λ (c : List Lit). let n : Named = record { clause = c; by = p.by } in n)
-    (ap (λ (l : List Lit). take (p.end - p.start) l) (drop-append-le p.start lits more low)
-    ∙ take-append-le (p.end - p.start) (drop p.start lits) more (omega (arith, length-drop p.start lits, w.0, w.1)))
+-- clauses behind those that have names are of no matter
+pub with-more : (names : List Ref) (clauses more : List (List Lit)) → length names ≤ length clauses → named_with names (clauses ++ more) ≡ named_with names clauses
+with-more [] clauses more h = refl
+with-more (by ∷ names) [] more h = absurd (omega arith)
+with-more (by ∷ names) (c ∷ cs) more h = ap (λ (ns : List Named). record { clause = c; by = by } ∷ ns) (with-more names cs more (omega arith))
 
-same-all : (lits more : List Lit) (ps : List Place) → ArePlaces ps lits → map (named_at (lits ++ more)) ps ≡ map (named_at lits) ps
-same-all lits more [] all = refl
-same-all lits more (p ∷ ps) all =
-    ap (λ (n : Named). n ∷ map (named_at (lits ++ more)) ps) (same-at lits more p all.0)
-    ∙ ap (λ (ns : List Named). named_at lits p ∷ ns) (same-all lits more ps all.1)
+-- one clause and its name more
+pub with-push : (names : List Ref) (clauses : List (List Lit)) (by : Ref) (clause : List Lit) → length names ≡ length clauses
+    → named_with (names ++ by ∷ []) (clauses ++ clause ∷ []) ≡ named_with names clauses ++ record { clause = clause; by = by } ∷ []
+with-push [] [] by clause h = refl
+with-push [] (c ∷ cs) by clause h = absurd (omega arith)
+with-push (b ∷ names) [] by clause h = absurd (omega arith)
+with-push (b ∷ names) (c ∷ cs) by clause h = ap (λ (ns : List Named). record { clause = c; by = b } ∷ ns) (with-push names cs by clause (omega arith))
 
--- one more
-pub named-push : (lits more : List Lit) (by : Ref) (ps : List Place) → ArePlaces ps lits
-    → map (named_at (lits ++ more)) (ps ++ record { by = by; start = length lits; end = length lits + length more } ∷ [])
-    ≡ map (named_at lits) ps ++ record { clause = more; by = by } ∷ []
-named-push lits more by ps all =
-    map-append (named_at (lits ++ more)) ps _
-    ∙ (ap (λ (ns : List Named). ns ++ named_at (lits ++ more) (record { by = by; start = length lits; end = length lits + length more }) ∷ []) (same-all lits more ps all)
-    ∙ ap (λ (c : List Lit). map (named_at lits) ps ++ record { clause = c; by = by } ∷ []) new)
-  where
-    new : take (length lits + length more - length lits) (drop (length lits) (lits ++ more)) ≡ more
-    new = ap (λ (l : List Lit). take (length lits + length more - length lits) l) (drop_at lits more (length lits) refl)
-        ∙ take_all (length lits + length more - length lits) more (omega arith)
+pub with-length : (names : List Ref) (clauses : List (List Lit)) → length names ≤ length clauses → length (named_with names clauses) ≡ length names
+with-length [] clauses h = refl
+with-length (by ∷ names) [] h = absurd (omega arith)
+with-length (by ∷ names) (c ∷ cs) h = ap (λ (n : ℕ). suc n) (with-length names cs (omega arith))
 
-pub places-push : (lits more : List Lit) (by : Ref) (ps : List Place) → ArePlaces ps lits
-    → ArePlaces (ps ++ record { by = by; start = length lits; end = length lits + length more } ∷ []) (lits ++ more)
-places-push lits more by [] all = ((omega arith, omega (arith, length-append lits more)), tt)
-places-push lits more by (p ∷ ps) all = ((all.0.0, omega (arith, all.0.1, length-append lits more)), places-push lits more by ps all.1)
+-- a name that was read
+pub with-name : (names : List Ref) (clauses : List (List Lit)) (i : ℕ) (by : Ref) → length names ≤ length clauses → i < length names
+    → by ≡ slice_index_or names i by → (d : Named) → by ≡ (get_or (named_with names clauses) i d).by
+with-name [] clauses i by few h read d = absurd (omega arith)
+with-name (b ∷ names) [] i by few h read d = absurd (omega arith)
+with-name (b ∷ names) (c ∷ cs) zero by few h read d = read
+with-name (b ∷ names) (c ∷ cs) (suc i) by few h read d = with-name names cs i by (omega arith) (omega arith) read d
 
--- the list alone grew
-pub places-more : (lits more : List Lit) (ps : List Place) → ArePlaces ps lits → ArePlaces ps (lits ++ more)
-places-more lits more [] all = tt
-places-more lits more (p ∷ ps) all = ((all.0.0, omega (arith, all.0.1, length-append lits more)), places-more lits more ps all.1)
+-- the names and the clauses of a flat base make the list that it stands for
+pub with-flat : (nodes : List Node) (cs : List Coded) → named_with (map (λ d. d.by) cs) (base_clauses (map (named_by nodes) cs)) ≡ map (named_by nodes) cs
+with-flat nodes [] = refl
+with-flat nodes (c ∷ cs) = ap (λ (ns : List Named). named_by nodes c ∷ ns) (with-flat nodes cs)
 
--- what was read of a place
-pub name-at : (lits : List Lit) (ps : List Place) (now : List Named) (i : ℕ) (p : Place) → map (named_at lits) ps ≡ now → i < length ps
-    → p ≡ get_or ps i p → (d : Named) → p.by ≡ (get_or now i d).by
-name-at lits ps now i p view within read d =
-    ap (λ (q : Place). q.by) read
-    ∙ sym (ap (λ (n : Named). n.by) (sym (ap (λ (ns : List Named). get_or ns i d) view) ∙ get_or-map (named_at lits) ps i p d within))
+-- one name of a flat base more
+pub names-next : (cs : List Coded) (names : List Ref) (i : ℕ) (by : Ref) (d : Coded) → i < length cs → names ≡ map (λ e. e.by) (take i cs) → by ≡ (get_or cs i d).by
+    → names ++ by ∷ [] ≡ map (λ e. e.by) (take (i + 1) cs)
+names-next cs names i by d h so_far read =
+    rw (so_far, read) (sym (ap (map (λ (e : Coded). e.by)) (take_more cs i d h) ∙ map-append (λ (e : Coded). e.by) (take i cs) (get_or cs i d ∷ [])))
 
-pub places-size : (lits : List Lit) (ps : List Place) (now : List Named) → map (named_at lits) ps ≡ now → length ps ≡ length now
-places-size lits ps now view = sym (length-map ps (named_at lits)) ∙ ap length view
+-- a base stays where its clauses and names do
+pub known-at : (f : Formula) (t : TrailState) → t.clauses ≡ f.trail.clauses → clauses_known (record f { trail = t }) ≡ clauses_known f
+known-at f t same = ap (λ (cs : List (List Lit)). let k : Clauses = record { base = named_with f.names.items cs; log = f.log.items } in k) same
+
+-- and where a clause comes behind
+pub base-learn : (f g : Formula) (clause : List Lit) → IsKnown f → g.names.items ≡ f.names.items → g.trail.clauses ≡ f.trail.clauses ++ clause ∷ []
+    → base_in g ≡ base_in f
+base-learn f g clause known names clauses =
+    ap (λ (ns : List Ref). named_with ns g.trail.clauses) names
+    ∙ (ap (λ (cs : List (List Lit)). named_with f.names.items cs) clauses ∙ with-more f.names.items f.trail.clauses (clause ∷ []) known.few)

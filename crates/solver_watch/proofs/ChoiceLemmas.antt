@@ -9,7 +9,8 @@ use Rattle.lits.specs.declared.literal.Lit.{Lit}
 use Rattle.lits.proofs.Facts.{has-append, lit_laws}
 use Rattle.unit_prop.proofs.Facts.{contrary, alone}
 use Rattle.solver_plain.proofs.Facts.{consistent-clause}
-use Rattle.watch_lists.specs.Codes.{flip, lit_at, IsCode}
+use Rattle.flat_base.specs.Codes.{lit_at, IsCode}
+use Rattle.watch_lists.specs.Codes.{flip}
 use Rattle.watch_lists.specs.Trail.{TrailState, IsTrail, put_at, lits_of}
 use Rattle.watch_lists.proofs.Facts.{lit_at-flip, flip-code}
 use Rattle.solver_watch.specs.Assuming.{IsChosen}

@@ -14,18 +14,19 @@ use Rattle.lits.specs.declared.step.Step.{Step}
 use Rattle.unit_prop.specs.Closure.{is_negated, IsOpen}
 use Rattle.unit_prop.specs.Log.{IsBase, base_clauses, clauses_of}
 use Rattle.unit_prop.specs.Refuter.{is_over, IsOver, IsModel}
-use Rattle.solver_plain.proofs.Facts.{each-of, each-at, all-fail, all-left, pair-none, over-opposite, all-occur, all-both}
+use Rattle.solver_plain.proofs.Facts.{each-of, each-at, all-fail, all-left, pair-none, all-occur, all-both}
 use Rattle.solver_watch.specs.declared.engine.Engine.{Engine}
 use Rattle.solver_watch.proofs.AssumeLemmas.{assuming-propagates}
-use Rattle.unit_prop.proofs.Facts.{contrary, has-map-opposite, all-true, all-at, witness}
+use Rattle.unit_prop.proofs.Facts.{contrary, has-map-opposite, all-true, all-at}
 use Rattle.solver_plain.specs.Formula.{Clauses}
 use Rattle.solver_plain.specs.Search.{IsLearnedFor}
-use Rattle.watch_lists.specs.Trail.{TrailState, IsTrail, IsComplete, IsConflict, IsGround, IsQuiet, Adds, Decides, Propagates, put_at, clause_at, lits_of, up_to, back_to}
+use Rattle.watch_lists.specs.Trail.{TrailState, IsTrail, IsComplete, IsConflict, IsGround, IsQuiet, Decides, Propagates, put_at, clause_at, lits_of, up_to, with_clause, back_to}
 use Rattle.watch_lists.specs.declared.put.Put.{Put}
 use Rattle.solver_watch.specs.declared.formula.Formula.{Formula}
 use Rattle.solver_watch.specs.declared.learn.Lesson.{Lesson}
 use Rattle.solver_watch.specs.Assuming.{IsChosen, IsAssuming}
-use Rattle.solver_watch.specs.Known.{IsKnown, clauses_known}
+use Rattle.solver_watch.proofs.BaseLemmas.{known-at, base-learn}
+use Rattle.solver_watch.specs.Known.{base_in, IsKnown, clauses_known}
 use Rattle.solver_watch.specs.Search.{IsLesson, IsState, Advances}
 use Rattle.solver_watch.proofs.TrailLemmas.{has-at, place-before, place-up_to, up_to-up_to}
 use Rattle.solver_watch.specs.Choice.{AreTaken}
@@ -34,18 +35,23 @@ use Rattle.solver_watch.proofs.CodeLemmas.{lit_at-variable}
 use Rattle.solver_watch.proofs.WalkLemmas.{ground-of}
 use Rattle.unit_prop.specs.Propagation.{IsFree}
 use Rattle.lits.specs.declared.node.Node.TheVariants.{Const}
-use Rattle.lits.proofs.Facts.{all-append, exact-node, has-append, lit_laws, node_laws}
-use Rattle.watch_lists.specs.Codes.{lit_at}
+use Rattle.lits.proofs.Facts.{all-append, exact-node, lit_laws}
+use Rattle.flat_base.specs.Codes.{lit_at}
 
 -- the trail of a formula may change where clauses and variables stay
 pub known-trail : (f : Formula) (t : TrailState) → IsKnown f → t.clauses ≡ f.trail.clauses → t.nodes ≡ f.trail.nodes
     → IsKnown (record f { trail = t })
 known-trail f t known clauses nodes = record {
-  names = known.names;
-  clauses = clauses ∙ known.clauses;
-  within = known.within;
-  nodes = λ l h. known.nodes l (ap (λ (ns : List Node). has same_node ns l.node) (sym nodes) ∙ h);
+  few = omega (arith, known.few, ap length clauses);
+  names = subst (λ (k : Clauses). IsBase k.base) (sym same) known.names;
+  clauses = clauses ∙ (known.clauses ∙ ap (λ (k : Clauses). clauses_of k.base k.log) (sym same));
+  within = subst (λ (k : Clauses). AllByRecursion (λ (s : Step). IsOver k.base s.clause) k.log) (sym same) known.within;
+  nodes = λ l h. ap (λ (k : Clauses). is_over k.base l) same
+      ∙ known.nodes l (ap (λ (ns : List Node). has same_node ns l.node) (sym nodes) ∙ h);
 }
+  where
+    same : clauses_known (record f { trail = t }) ≡ clauses_known f
+    same = known-at f t clauses
 
 -- a lesson is learned for each target whose negations are assumed
 pub learned-for : (f : Formula) (lesson : Lesson) (assumed : ℕ) → IsKnown f → IsLesson f lesson → assumed < f.trail.last → (target : List Lit)
@@ -83,34 +89,31 @@ same-variable m l e = go m.neg l.neg refl refl
     go false true f g = inr (other_neg (f ∙ sym (ap (λ (b : Bool). not b) g)))
 
 -- the clause's step joins the log
-pub known-learn : (f : Formula) (g : Formula) (step : Step) → IsKnown f → IsOver f.base step.clause
-    → g.base ≡ f.base → g.log.items ≡ f.log.items ++ step ∷ [] → Adds f.trail step.clause g.trail → IsKnown g
-known-learn f g step known over base log adds = record {
+pub known-learn : (f : Formula) (g : Formula) (step : Step) → IsKnown f → IsOver (base_in f) step.clause
+    → g.names.items ≡ f.names.items → g.log.items ≡ f.log.items ++ step ∷ [] → g.trail ≡ with_clause f.trail step.clause → IsKnown g
+known-learn f g step known over names_same log is = record {
+  few = omega (arith, known.few, ap length names_same, ap length clauses, length-append f.trail.clauses (step.clause ∷ []));
   names = subst (λ (b : List Named). IsBase b) (sym base) known.names;
-  clauses = adds.clauses ∙ grown;
+  clauses = clauses ∙ grown;
   within = within_now;
-  nodes = λ l h. nodes_at l (or_cases _ _ (sym (has-append node_laws f.trail.nodes adds.numbers.more l.node)
-      ∙ ap (λ (ns : List Node). has same_node ns l.node) (sym adds.numbers.behind) ∙ h));
+  nodes = λ l h. subst (λ (b : List Named). is_over b l ≡ true) (sym base) (known.nodes l (ap (λ (t : TrailState). has same_node t.nodes l.node) (sym is) ∙ h));
 }
   where
-    grown : f.trail.clauses ++ step.clause ∷ [] ≡ clauses_of g.base g.log.items
-    grown = rw (known.clauses, base, log, map-append (λ (s : Step). s.clause) f.log.items (step ∷ []))
-        (append_assoc (base_clauses f.base) (map (λ (s : Step). s.clause) f.log.items) (step.clause ∷ []))
+    clauses : g.trail.clauses ≡ f.trail.clauses ++ step.clause ∷ []
+    clauses = ap (λ (t : TrailState). t.clauses) is
 
-    within_now : AllByRecursion (λ s. IsOver g.base s.clause) g.log.items
+    base : base_in g ≡ base_in f
+    base = base-learn f g step.clause known names_same clauses
+
+    grown : f.trail.clauses ++ step.clause ∷ [] ≡ clauses_of (base_in g) g.log.items
+    grown = ap (λ (cs : List (List Lit)). cs ++ step.clause ∷ []) known.clauses
+        ∙ (append_assoc (base_clauses (base_in f)) (map (λ (s : Step). s.clause) f.log.items) (step.clause ∷ [])
+        ∙ rw (base, log, map-append (λ (s : Step). s.clause) f.log.items (step ∷ [])) refl)
+
+    within_now : AllByRecursion (λ s. IsOver (base_in g) s.clause) g.log.items
     within_now = subst (λ (b : List Named). AllByRecursion (λ (s : Step). IsOver b s.clause) g.log.items) (sym base)
-        (subst (λ (ss : List Step). AllByRecursion (λ (s : Step). IsOver f.base s.clause) ss) (sym log)
-        (all-append (λ (s : Step). IsOver f.base s.clause) f.log.items (step ∷ []) known.within (over, tt)))
-
-    nodes_at : (l : Lit) → (has same_node f.trail.nodes l.node ≡ true) ⊎ (has same_node adds.numbers.more l.node ≡ true) → is_over g.base l ≡ true
-    nodes_at l (inl h) = subst (λ (b : List Named). is_over b l ≡ true) (sym base) (known.nodes l h)
-    nodes_at l (inr h) =
-        let w = witness lit_laws (λ m. same_node m.node l.node) step.clause (adds.numbers.from l.node h) in
-        let there : is_over f.base w.0 ≡ true = each-at lit_laws (λ (m : Lit). is_over f.base m ≡ true) step.clause w.0 over w.1 in
-        subst (λ (b : List Named). is_over b l ≡ true) (sym base) (elim (same-variable l w.0 (sym (exact-node w.0.node l.node w.2))) [
-          | inl e ↦ ap (λ (m : Lit). is_over f.base m) e ∙ there
-          | inr e ↦ ap (λ (m : Lit). is_over f.base m) e ∙ (over-opposite f.base w.0 ∙ there)
-        ])
+        (subst (λ (ss : List Step). AllByRecursion (λ (s : Step). IsOver (base_in f) s.clause) ss) (sym log)
+        (all-append (λ (s : Step). IsOver (base_in f) s.clause) f.log.items (step ∷ []) known.within (over, tt)))
 
 any-place : (p : List Lit → Bool) (cs : List (List Lit)) → list_any p cs ≡ true → (i : ℕ) × (i < length cs) × (p (clause_at cs i) ≡ true)
 any-place p [] e = cc
@@ -120,13 +123,13 @@ any-place p (c ∷ cs) e = elim (or_cases (p c) (list_any p cs) e) [
 ]
 
 -- a variable of the base has a number
-pub over-numbered : (f : Formula) → IsKnown f → IsTrail f.trail → (l : Lit) → is_over f.base l ≡ true → has same_node f.trail.nodes l.node ≡ true
+pub over-numbered : (f : Formula) → IsKnown f → IsTrail f.trail → (l : Lit) → is_over (base_in f) l ≡ true → has same_node f.trail.nodes l.node ≡ true
 over-numbered f known trail l h =
-    let w = any-place (λ c. has same_lit c l || has same_lit c (opposite l)) (base_clauses f.base) h in
-    let same : clause_at f.trail.clauses w.0 ≡ clause_at (base_clauses f.base) w.0 =
+    let w = any-place (λ c. has same_lit c l || has same_lit c (opposite l)) (base_clauses (base_in f)) h in
+    let same : clause_at f.trail.clauses w.0 ≡ clause_at (base_clauses (base_in f)) w.0 =
     ap (λ (cs : List (List Lit)). clause_at cs w.0) known.clauses
-    ∙ get_or-append (base_clauses f.base) (map (λ (s : Step). s.clause) f.log.items) [] w.0 w.1 in
-    elim (or_cases (has same_lit (clause_at (base_clauses f.base) w.0) l) (has same_lit (clause_at (base_clauses f.base) w.0) (opposite l)) w.2) [
+    ∙ get_or-append (base_clauses (base_in f)) (map (λ (s : Step). s.clause) f.log.items) [] w.0 w.1 in
+    elim (or_cases (has same_lit (clause_at (base_clauses (base_in f)) w.0) l) (has same_lit (clause_at (base_clauses (base_in f)) w.0) (opposite l)) w.2) [
       | inl e ↦ trail.clauses_over w.0 l (ap (λ (c : List Lit). has same_lit c l) same ∙ e)
       | inr e ↦ trail.clauses_over w.0 (opposite l) (ap (λ (c : List Lit). has same_lit c (opposite l)) same ∙ e)
     ]
@@ -136,18 +139,18 @@ module _ (f : Formula) (target : List Lit) (known : IsKnown f) (trail : IsTrail 
     (complete : IsComplete f.trail.clauses f.trail.puts)
     (taken : (l : Lit) → has same_node f.trail.nodes l.node ≡ true
     → (has same_lit (lits_of f.trail.puts) l ≡ true) ⊎ (has same_lit (lits_of f.trail.puts) (opposite l) ≡ true)) where
-  valued : (l : Lit) → is_over f.base l ≡ true
+  valued : (l : Lit) → is_over (base_in f) l ≡ true
       → (has same_lit (lits_of f.trail.puts) l ≡ true) ⊎ (has same_lit (lits_of f.trail.puts) (opposite l) ≡ true)
   valued l h = taken l (over-numbered f known trail l h)
 
-  clause-met : (c : List Lit) → IsOver f.base c → is_negated opposite (has same_lit (lits_of f.trail.puts)) c ≡ false
+  clause-met : (c : List Lit) → IsOver (base_in f) c → is_negated opposite (has same_lit (lits_of f.trail.puts)) c ≡ false
       → list_any (has same_lit (lits_of f.trail.puts)) c ≡ true
   clause-met c over e = go (list_any (has same_lit (lits_of f.trail.puts)) c) refl
     where
       go : (b : Bool) → list_any (has same_lit (lits_of f.trail.puts)) c ≡ b → list_any (has same_lit (lits_of f.trail.puts)) c ≡ true
       go true g = g
       go false g = contrary _ (all-true lit_laws (λ m. has same_lit (lits_of f.trail.puts) (opposite m)) c (λ m h. which m h (valued m
-          (each-at lit_laws (λ (k : Lit). is_over f.base k ≡ true) c m over h)))) e
+          (each-at lit_laws (λ (k : Lit). is_over (base_in f) k ≡ true) c m over h)))) e
         where
           which : (m : Lit) → has same_lit c m ≡ true
               → (has same_lit (lits_of f.trail.puts) m ≡ true) ⊎ (has same_lit (lits_of f.trail.puts) (opposite m) ≡ true)
@@ -156,8 +159,8 @@ module _ (f : Formula) (target : List Lit) (known : IsKnown f) (trail : IsTrail 
               (all-fail (has same_lit (lits_of f.trail.puts)) c g) h)
           which m h (inr k) = k
 
-  not-negated : AllByRecursion (λ c. is_negated opposite (has same_lit (lits_of f.trail.puts)) c ≡ false) (base_clauses f.base)
-  not-negated = all-left (λ c. is_negated opposite (has same_lit (lits_of f.trail.puts)) c ≡ false) (base_clauses f.base)
+  not-negated : AllByRecursion (λ c. is_negated opposite (has same_lit (lits_of f.trail.puts)) c ≡ false) (base_clauses (base_in f))
+  not-negated = all-left (λ c. is_negated opposite (has same_lit (lits_of f.trail.puts)) c ≡ false) (base_clauses (base_in f))
       (map (λ (s : Step). s.clause) f.log.items)
       (subst (λ (cs : List (List Lit)). AllByRecursion (λ c. is_negated opposite (has same_lit (lits_of f.trail.puts)) c ≡ false) cs) known.clauses
       (all-fail (is_negated opposite (has same_lit (lits_of f.trail.puts))) f.trail.clauses (go _ refl)))
@@ -168,17 +171,17 @@ module _ (f : Formula) (target : List Lit) (known : IsKnown f) (trail : IsTrail 
       go true e = absurd (complete.1 (inl e))
 
   pub model-is : ((l : Lit) → has same_lit target l ≡ true → has same_lit (lits_of f.trail.puts) (opposite l) ≡ true)
-      → IsModel f.base target (lits_of f.trail.puts)
+      → IsModel (base_in f) target (lits_of f.trail.puts)
   model-is refuted = record {
     once = record { once = trail.single; apart = pair-none lit_laws (lits_of f.trail.puts) trail.consistent.apart };
-    within = each-of lit_laws (λ (l : Lit). is_over f.base l ≡ true) (lits_of f.trail.puts) (λ l h. known.nodes l (trail.puts_over l h));
+    within = each-of lit_laws (λ (l : Lit). is_over (base_in f) l ≡ true) (lits_of f.trail.puts) (λ l h. known.nodes l (trail.puts_over l h));
     whole = λ l over. elim (valued l over) [
       | inl h ↦ or_left _ _ h
       | inr h ↦ or_right (has same_lit (lits_of f.trail.puts) l) _ h
     ];
-    meets = all-both (IsOver f.base) (λ c. is_negated opposite (has same_lit (lits_of f.trail.puts)) c ≡ false)
-        (λ c. list_any (has same_lit (lits_of f.trail.puts)) c ≡ true) (base_clauses f.base) clause-met
-        (all-occur lit_laws (base_clauses f.base)) not-negated;
+    meets = all-both (IsOver (base_in f)) (λ c. is_negated opposite (has same_lit (lits_of f.trail.puts)) c ≡ false)
+        (λ c. list_any (has same_lit (lits_of f.trail.puts)) c ≡ true) (base_clauses (base_in f)) clause-met
+        (all-occur lit_laws (base_clauses (base_in f))) not-negated;
     refutes = all-true lit_laws (λ l. has same_lit (lits_of f.trail.puts) (opposite l)) target (λ l h. refuted l h);
   }
 
@@ -203,9 +206,10 @@ assuming-same target t u assumed is puts last = record {
       (is.whole (omega arith) l h);
 }
 
-pub known-same : (f g : Formula) → IsKnown f → clauses_known g ≡ clauses_known f → g.trail.clauses ≡ f.trail.clauses → g.trail.nodes ≡ f.trail.nodes
-    → IsKnown g
-known-same f g known same clauses nodes = record {
+pub known-same : (f g : Formula) → IsKnown f → clauses_known g ≡ clauses_known f → g.names.items ≡ f.names.items → g.trail.clauses ≡ f.trail.clauses
+    → g.trail.nodes ≡ f.trail.nodes → IsKnown g
+known-same f g known same names_same clauses nodes = record {
+  few = omega (arith, known.few, ap length names_same, ap length clauses);
   names = subst (λ (b : List Named). IsBase b) (sym (ap (λ (k : Clauses). k.base) same)) known.names;
   clauses = clauses ∙ known.clauses ∙ ap (λ (k : Clauses). clauses_of k.base k.log) (sym same);
   within = subst (λ (k : Clauses). AllByRecursion (λ (s : Step). IsOver k.base s.clause) k.log) (sym same) known.within;
@@ -213,7 +217,7 @@ known-same f g known same clauses nodes = record {
       ∙ known.nodes l (ap (λ (ns : List Node). has same_node ns l.node) (sym nodes) ∙ h);
 }
 
-pub over-same : (f g : Formula) (target : List Lit) → clauses_known g ≡ clauses_known f → IsOver f.base target → IsOver g.base target
+pub over-same : (f g : Formula) (target : List Lit) → clauses_known g ≡ clauses_known f → IsOver (base_in f) target → IsOver (base_in g) target
 over-same f g target same over = subst (λ (k : Clauses). IsOver k.base target) (sym same) over
 
 -- a conflict where all decisions are of the target's negations
@@ -279,7 +283,7 @@ whole-here t target assumed is below l h =
     ap (has same_lit (lits_of t.puts)) (sym w.2) ∙ has-at t.puts w.0 w.1
 
 pub over-base : (f g : Formula) (target : List Lit) (log : List Step)
-    → clauses_known g ≡ (let k : Clauses = record { base = f.base; log = log } in k) → IsOver f.base target → IsOver g.base target
+    → clauses_known g ≡ (let k : Clauses = record { base = base_in f; log = log } in k) → IsOver (base_in f) target → IsOver (base_in g) target
 over-base f g target log same over = subst (λ (b : List Named). IsOver b target) (sym (ap (λ (k : Clauses). k.base) same)) over
 
 -- a search goes on where clauses have propagated
@@ -287,7 +291,7 @@ pub state-propagates : (e : Engine) (target : List Lit) (t : TrailState) → IsS
     → IsState (record e { formula = record e.formula { trail = t } }) target
 state-propagates e target t s p = record {
   known = known-trail e.formula t s.known p.clauses p.nodes;
-  over = s.over;
+  over = subst (λ (k : Clauses). IsOver k.base target) (sym (known-at e.formula t p.clauses)) s.over;
   assuming = assuming-propagates target e.formula.trail t e.assumed p s.assuming;
 }
 

@@ -24,7 +24,7 @@ use Rattle.watch_lists.specs.declared.put.Put.{Put}
 use Rattle.watch_lists.proofs.Facts.{same_refl, same_exact}
 use Rattle.solver_watch.specs.declared.cut.Cut.{Cut}
 use Rattle.solver_watch.specs.declared.formula.Formula.{Formula}
-use Rattle.solver_watch.specs.Known.{IsKnown, clauses_known}
+use Rattle.solver_watch.specs.Known.{base_in, IsKnown, clauses_known}
 use Rattle.solver_watch.specs.Marked.{is_marked, AreMet, IsCut, IsSupported, IsSecond, AreWithin, negations_at}
 use Rattle.solver_watch.proofs.TrailLemmas.{has-at, place-one, up_to-at, place-up_to}
 
@@ -321,20 +321,20 @@ module _ (t : TrailState) (trail : IsTrail t) (point : ℕ) (cut : Cut) (is_cut 
 
 -- the goal's variables are in the base
 pub cut-over : (f : Formula) (places : List ℕ) → IsKnown f → IsTrail f.trail → AreWithin f.trail.puts places
-    → IsOver f.base (firsts same_lit (negations_at f.trail.puts places))
-cut-over f places known trail within = each-of lit_laws (λ (l : Lit). is_over f.base l ≡ true) (firsts same_lit (negations_at f.trail.puts places))
+    → IsOver (base_in f) (firsts same_lit (negations_at f.trail.puts places))
+cut-over f places known trail within = each-of lit_laws (λ (l : Lit). is_over (base_in f) l ≡ true) (firsts same_lit (negations_at f.trail.puts places))
     (λ l h. over_at l (negation-of f.trail.puts places l (sym (has-firsts lit_laws (negations_at f.trail.puts places) l) ∙ h)))
   where
-    over_at : (l : Lit) → (k : ℕ) × (has nat_eq places k ≡ true) × (opposite (put_at f.trail.puts k).lit ≡ l) → is_over f.base l ≡ true
+    over_at : (l : Lit) → (k : ℕ) × (has nat_eq places k ≡ true) × (opposite (put_at f.trail.puts k).lit ≡ l) → is_over (base_in f) l ≡ true
     over_at l w = known.nodes l
         (ap (λ (m : Lit). has same_node f.trail.nodes m.node) (sym w.2)
         ∙ trail.puts_over (put_at f.trail.puts w.0).lit (has-at f.trail.puts w.0 (within w.0 w.1)))
 
-pub known-occurs : (f : Formula) (clause : List Lit) → IsOver f.base clause
-    → AllByRecursion (λ l. occurs same_lit opposite (clauses_of f.base f.log.items) l ≡ true) clause
-known-occurs f clause over = all-each (λ (l : Lit). is_over f.base l ≡ true)
-    (λ (l : Lit). occurs same_lit opposite (clauses_of f.base f.log.items) l ≡ true) clause
-    (λ l h. list_any-append (λ c. has same_lit c l || has same_lit c (opposite l)) (base_clauses f.base) (map (λ (s : Step). s.clause) f.log.items)
+pub known-occurs : (f : Formula) (clause : List Lit) → IsOver (base_in f) clause
+    → AllByRecursion (λ l. occurs same_lit opposite (clauses_of (base_in f) f.log.items) l ≡ true) clause
+known-occurs f clause over = all-each (λ (l : Lit). is_over (base_in f) l ≡ true)
+    (λ (l : Lit). occurs same_lit opposite (clauses_of (base_in f) f.log.items) l ≡ true) clause
+    (λ l h. list_any-append (λ c. has same_lit c l || has same_lit c (opposite l)) (base_clauses (base_in f)) (map (λ (s : Step). s.clause) f.log.items)
     ∙ or_left _ _ h) over
 
 pub second-next : (puts : List Put) (below : List ℕ) (level k next : ℕ) → IsSecond puts below level → has nat_eq below k ≡ true
@@ -362,14 +362,14 @@ lesson-is f cut point second clause hints known trail is_cut level e step is_sec
       over = over;
       learned = record {
         step = step_here;
-        new = cut-new f.trail trail point cut is_cut (clauses_of f.base f.log.items) (sym known.clauses) level
+        new = cut-new f.trail trail point cut is_cut (clauses_of (base_in f) f.log.items) (sym known.clauses) level
             (known-occurs f (firsts same_lit (negations_at f.trail.puts (point ∷ cut.below.items))) over);
       };
       lower = lower;
       quiet = λ low h. cut-quiet f.trail trail point cut is_cut second is_second lower low h;
     }) step
   where
-    over : IsOver f.base (firsts same_lit (negations_at f.trail.puts (point ∷ cut.below.items)))
+    over : IsOver (base_in f) (firsts same_lit (negations_at f.trail.puts (point ∷ cut.below.items)))
     over = cut-over f (point ∷ cut.below.items) known trail (places-within f.trail trail point cut is_cut)
 
     lower : second < f.trail.last

@@ -5,11 +5,12 @@ mod CountLemmas
 mod MarkedLemmas
 mod WalkLemmas
 mod HintLemmas
+mod BaseLemmas
 mod NameLemmas
 mod LessonLemmas
 mod AssumeLemmas
-mod BaseLemmas
 mod TargetLemmas
 mod EngineLemmas
 mod ChoiceLemmas
 mod StartLemmas
+mod UsedLemmas

@@ -9,7 +9,8 @@ use Rattle.std.proofs.lemmas.Bool.{or_cases, or_left, or_right, and_parts, not-t
 use Rattle.std.proofs.Math.Bool.{or-false, or_assoc}
 use Rattle.lits.specs.Same.{same_lit, opposite}
 use Rattle.lits.specs.declared.literal.Lit.{Lit}
-use Rattle.watch_lists.specs.Codes.{flip, lit_at, IsCode, AreCodesOf}
+use Rattle.flat_base.specs.Codes.{lit_at, IsCode}
+use Rattle.watch_lists.specs.Codes.{flip, AreCodesOf}
 use Rattle.watch_lists.specs.Trail.{TrailState, IsTrail, put_at, lits_of}
 use Rattle.watch_lists.specs.declared.put.Put.{Put}
 use Rattle.watch_lists.proofs.Facts.{lit_at-flip, flip-code, same_exact}

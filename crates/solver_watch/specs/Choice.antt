@@ -4,7 +4,7 @@ use Rattle.lits.specs.Clause.{has}
 use Rattle.lits.specs.Same.{same_lit, same_node, opposite}
 use Rattle.lits.specs.declared.literal.Lit.{Lit}
 use Rattle.unit_prop.specs.Propagation.{IsFree}
-use Rattle.watch_lists.specs.Codes.{lit_at, IsCode}
+use Rattle.flat_base.specs.Codes.{lit_at, IsCode}
 use Rattle.watch_lists.specs.Trail.{TrailState, lits_of, put_at}
 use Rattle.solver_watch.specs.declared.choice.Assumption.{Assumption}
 use Rattle.solver_watch.specs.declared.choice.Assumption.TheVariants.{Open, Refuted, All}

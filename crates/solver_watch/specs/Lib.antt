@@ -1,5 +1,4 @@
 pub mod Assuming
-pub mod Base
 pub mod Marked
 pub mod Known
 pub mod Choice

@@ -8,7 +8,7 @@ use Rattle.unit_prop.specs.Log.{IsLearned}
 use Rattle.unit_prop.specs.Refuter.{IsOver, IsModel}
 use Rattle.watch_lists.specs.Trail.{IsTrail, IsQuiet, up_to, back_to}
 use Rattle.solver_watch.specs.Assuming.{IsAssuming}
-use Rattle.solver_watch.specs.Known.{IsKnown, clauses_known}
+use Rattle.solver_watch.specs.Known.{base_in, IsKnown, clauses_known}
 use Rattle.solver_watch.specs.declared.engine.Engine.{Engine}
 use Rattle.solver_watch.specs.declared.formula.Formula.{Formula}
 use Rattle.solver_watch.specs.declared.learn.Lesson.{Lesson}
@@ -32,7 +32,7 @@ IsFound old target new Learned = Learns old target new
 -- a search may go on
 pub record IsState (e : Engine) (target : List Lit) : Type 0 where
   pub known : IsKnown e.formula
-  pub over : IsOver e.formula.base target
+  pub over : IsOver (base_in e.formula) target
   pub assuming : IsAssuming target e.formula.trail e.assumed
 
 -- one more literal is put
@@ -47,6 +47,7 @@ pub record IsBack (level : ℕ) (old new : Engine) : Type 0 where
   pub known : IsKnown new.formula
   pub clauses : clauses_known new.formula ≡ clauses_known old.formula
   pub trail : new.formula.trail ≡ back_to level old.formula.trail
+  pub codes : new.codes.items ≡ old.codes.items
   pub assuming : (target : List Lit) → IsAssuming target old.formula.trail old.assumed
       → IsAssuming target new.formula.trail new.assumed
   pub start : level ≡ 0 → (target : List Lit) → IsAssuming target new.formula.trail new.assumed
@@ -54,8 +55,8 @@ pub record IsBack (level : ℕ) (old new : Engine) : Type 0 where
 -- what a conflict teaches: a step that is learned, and a lower level, below which its clause asks for nothing
 pub record IsLesson (f : Formula) (lesson : Lesson) : Type 0 where
   pub trail : IsTrail f.trail
-  pub over : IsOver f.base lesson.step.clause
-  pub learned : IsLearned f.base f.log.items lesson.step
+  pub over : IsOver (base_in f) lesson.step.clause
+  pub learned : IsLearned (base_in f) f.log.items lesson.step
   pub lower : lesson.level < f.trail.last
   pub quiet : (level : ℕ) → level < lesson.level → IsQuiet (up_to level f.trail.puts) lesson.step.clause
 
@@ -66,6 +67,6 @@ pub record IsLearnt (old new : Engine) : Type 0 where
   pub learned : (target : List Lit) → IsAssuming target old.formula.trail old.assumed
       → IsLearnedFor (clauses_known old.formula) target step
   pub is : clauses_known new.formula
-      ≡ record { base = old.formula.base; log = old.formula.log.items ++ step ∷ [] }
+      ≡ record { base = base_in old.formula; log = old.formula.log.items ++ step ∷ [] }
   pub assuming : (target : List Lit) → IsAssuming target old.formula.trail old.assumed
       → IsAssuming target new.formula.trail new.assumed

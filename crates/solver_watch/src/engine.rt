@@ -1,15 +1,16 @@
 ghost use Rattle.std.specs.Prelude.{◌≡◌, ◌<◌, ◌≤◌, ◌*◌, List, [], length, IfOk, IfNone, IfSome, OnOk};
+ghost use Rattle.flat_base.specs.Flat.{named_of};
 ghost use Rattle.unit_prop.specs.Log.{IsBase};
 ghost use Rattle.unit_prop.specs.Refuter.{IsOver, Answers};
 ghost use Rattle.unit_prop.specs.Step.{IsStep};
 ghost use Rattle.lits.specs.Same.{same_lit, opposite};
 ghost use Rattle.solver_plain.specs.Formula.{clause_named};
 ghost use Rattle.watch_lists.specs.Trail.{IsTrail, IsComplete, IsConflict, Decides, clause_at, lits_of};
-ghost use Rattle.watch_lists.specs.Codes.{lit_at};
+ghost use Rattle.flat_base.specs.Codes.{lit_at};
 ghost use Rattle.solver_watch.specs.Choice.{IsOpenCode};
 ghost use Rattle.lits.specs.declared.literal.Lit.{Lit};
 ghost use Rattle.solver_watch.specs.Assuming.{IsAssuming};
-ghost use Rattle.solver_watch.specs.Known.{IsKnown, clauses_known};
+ghost use Rattle.solver_watch.specs.Known.{AreUsed, IsKnown, base_in, clauses_known};
 ghost use Rattle.solver_watch.specs.Marked.{IsRefuted};
 ghost use Rattle.solver_watch.specs.Search.{IsFound, IsState, IsLearnt, IsBack, Advances};
 
@@ -20,6 +21,7 @@ use crate::hints::hints;
 use crate::learn::{analyse, hand_back};
 use crate::order::Order;
 use crate::restarts::Restarts;
+use flat_base::FlatBase;
 use lits::{Clause, Listed, Lit, Named, Ref};
 use std::alloc::{AllocError, Global};
 use unit_prop::Refuted;
@@ -42,6 +44,8 @@ pub(crate) struct Engine {
     /// How many levels are those of the target's negations.
     pub(crate) assumed: u64,
     cut: Cut,
+    /// The codes of the clause that was learned last.
+    codes: Vec<u32>,
     order: Order,
     restarts: Restarts,
 }
@@ -53,6 +57,7 @@ impl Drop for Engine {
             formula: _,
             assumed: _,
             cut: _,
+            codes: _,
             order: _,
             restarts: _,
         } = self;
@@ -68,6 +73,7 @@ impl Engine {
             formula: Formula::new(alloc)?,
             assumed: 0,
             cut: Cut::new(alloc),
+            codes: Vec::new(alloc),
             order: Order::new(alloc),
             restarts: Restarts::new(),
         })
@@ -81,8 +87,19 @@ impl Engine {
             (clauses_known self.new.formula ≡ record { base = base.now; log = [] }) }
     {
         self.formula.start(base)?;
-        self.order.clear();
-        self.order.grow(self.formula.trail.variables() as u32)
+        self.order.start(self.formula.trail.variables() as u32)
+    }
+
+    /// Takes a flat base in the place of all that was there.
+    pub(crate) fn start_flat(&mut self, base: &FlatBase) -> Result<(), AllocError>
+        requires base { IsBase (named_of base.now) }
+        requires used { AreUsed base.now }
+        ensures known { OnOk result (IsKnown self.new.formula) }
+        ensures clauses { OnOk result
+            (clauses_known self.new.formula ≡ record { base = named_of base.now; log = [] }) }
+    {
+        self.formula.start_flat(base)?;
+        self.order.start(self.formula.trail.variables() as u32)
     }
 
     /// Searches and learns until there is an answer or no unit is left.
@@ -93,10 +110,10 @@ impl Engine {
         left: &mut u64,
     ) -> Result<Refuted, AllocError>
         requires known { IsKnown self.old.formula }
-        requires over { IsOver self.old.formula.base target.now }
-        ensures answer { IfOk result (Answers self.old.formula.base target.now
+        requires over { IsOver (base_in self.old.formula) target.now }
+        ensures answer { IfOk result (Answers (base_in self.old.formula) target.now
             self.old.formula.log.items left.old self.new.formula.log.items left.new) }
-        ensures base { OnOk result (self.new.formula.base ≡ self.old.formula.base) }
+        ensures base { OnOk result (base_in self.new.formula ≡ base_in self.old.formula) }
         ensures known { OnOk result (IsKnown self.new.formula) }
     {
         self.restarts = Restarts::new();
@@ -207,9 +224,10 @@ impl Engine {
             &mut self.cut,
             &mut self.order,
             conflict,
+            &mut self.codes,
         )?;
         self.back(lesson.level)?;
-        self.formula.learn(lesson.step)?;
+        self.formula.learn(lesson.step, self.codes.as_slice())?;
         self.order.decay();
         Ok(())
     }
@@ -277,6 +295,7 @@ impl Engine {
         requires code { IsOpenCode self.old.formula.trail code }
         requires complete { IsComplete self.old.formula.trail.clauses self.old.formula.trail.puts }
         ensures clauses { OnOk result (clauses_known self.new.formula ≡ clauses_known self.old.formula) }
+        ensures names { self.new.formula.names.items ≡ self.old.formula.names.items }
         ensures trail { OnOk result
             (Decides self.old.formula.trail (lit_at self.old.formula.trail.nodes code)
             self.new.formula.trail) }

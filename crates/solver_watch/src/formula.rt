@@ -1,17 +1,21 @@
-ghost use Rattle.std.specs.Prelude.{◌≡◌, ◌<◌, ◌++◌, [], ◌∷◌, ℕ, Some, length, OnOk, IfOk};
+ghost use Rattle.std.specs.Prelude.{◌≡◌, ◌<◌, ◌++◌, [], ◌∷◌, ℕ, Some, length, map, OnOk, IfOk};
+ghost use Rattle.std.specs.List.{All};
+ghost use Rattle.flat_base.specs.Codes.{lit_at, IsCode};
+ghost use Rattle.flat_base.specs.Flat.{named_of};
 ghost use Rattle.unit_prop.specs.Log.{IsBase};
-ghost use Rattle.watch_lists.specs.Trail.{Adds, IsQuiet, clause_at, up_to};
+ghost use Rattle.watch_lists.specs.Trail.{Adds, IsQuiet, clause_at, up_to, with_clause};
 ghost use Rattle.solver_plain.specs.Formula.{clause_named};
-ghost use Rattle.solver_watch.specs.Known.{IsKnown, IsStarted, clauses_known};
+ghost use Rattle.solver_watch.specs.Known.{AreUsed, IsKnown, IsStarted, clauses_known};
 
-use crate::base::Base;
+use flat_base::FlatBase;
 use lits::{Named, Ref, Step};
 use std::alloc::{AllocError, Global};
 use watch_lists::Trail;
 
 /// The clauses of a base and of the steps learned over it, by their names and on a trail.
 pub(crate) struct Formula {
-    pub(crate) base: Base,
+    /// The names of the base's clauses, which are the first of the trail.
+    pub(crate) names: Vec<Ref>,
     pub(crate) log: Vec<Step>,
     /// It has the base's clauses and then the log's.
     pub(crate) trail: Trail,
@@ -21,7 +25,7 @@ pub(crate) struct Formula {
 impl Drop for Formula {
     fn drop(self) {
         let Formula {
-            base: _,
+            names: _,
             log: _,
             trail: _,
         } = self;
@@ -34,7 +38,7 @@ impl Formula {
         ensures { IfOk result (λ f. clauses_known f ≡ record { base = []; log = [] }) }
     {
         Ok(Formula {
-            base: Base::new(alloc),
+            names: Vec::new(alloc),
             log: Vec::new(alloc),
             trail: Trail::new(alloc)?,
         })
@@ -45,7 +49,7 @@ impl Formula {
         requires { IsBase base.now }
         ensures { OnOk result (IsStarted base.now self.new) }
     {
-        self.base.clear();
+        self.names.clear();
         self.log.clear();
         self.trail.clear();
         for named in base {
@@ -54,27 +58,44 @@ impl Formula {
         Ok(())
     }
 
+    /// The same of a flat base, without a probe or a copy of a clause besides the trail's.
+    pub(crate) fn start_flat(&mut self, base: &FlatBase) -> Result<(), AllocError>
+        requires base { IsBase (named_of base.now) }
+        requires used { AreUsed base.now }
+        ensures { OnOk result (IsStarted (named_of base.now) self.new) }
+    {
+        self.names.clear();
+        self.log.clear();
+        self.trail.start(base)?;
+        for number in 0..base.len() {
+            self.names.push(base.name(number))?;
+        }
+        Ok(())
+    }
+
     /// Adds a clause of the base, as the last one.
     fn add(&mut self, named: &Named) -> Result<(), AllocError>
         requires { self.old.trail.last ≡ 0 }
         ensures trail { OnOk result (Adds self.old.trail named.now.clause self.new.trail) }
-        ensures base { OnOk result (self.new.base ≡ self.old.base ++ named.now ∷ []) }
+        ensures names { OnOk result (self.new.names.items ≡ self.old.names.items ++ named.now.by ∷ []) }
         ensures log { self.new.log.items ≡ self.old.log.items }
     {
         self.trail.add(&named.clause)?;
-        self.base.push(named)?;
+        self.names.push(named.by)?;
         Ok(())
     }
 
-    /// Adds a learned step, as the last one.
-    pub(crate) fn learn(&mut self, step: Step) -> Result<(), AllocError>
-        requires { (level : ℕ) → level < self.old.trail.last
+    /// Adds a learned step, whose literals have these codes, as the last one.
+    pub(crate) fn learn(&mut self, step: Step, codes: &[u32]) -> Result<(), AllocError>
+        requires within { All (IsCode self.old.trail.nodes) codes.now }
+        requires same { map (lit_at self.old.trail.nodes) codes.now ≡ step.clause }
+        requires quiet { (level : ℕ) → level < self.old.trail.last
             → IsQuiet (up_to level self.old.trail.puts) step.clause }
-        ensures trail { OnOk result (Adds self.old.trail step.clause self.new.trail) }
+        ensures trail { OnOk result (self.new.trail ≡ with_clause self.old.trail step.clause) }
         ensures log { OnOk result (self.new.log.items ≡ self.old.log.items ++ step ∷ []) }
-        ensures base { self.new.base ≡ self.old.base }
+        ensures names { self.new.names.items ≡ self.old.names.items }
     {
-        self.trail.add(&step.clause)?;
+        self.trail.add_codes(codes)?;
         self.log.push(step)?;
         Ok(())
     }
@@ -86,9 +107,9 @@ impl Formula {
         ensures { clause_named (clauses_known self.now) result
             ≡ Some (clause_at self.now.trail.clauses number) }
     {
-        let base = self.base.len() as u64;
+        let base = self.names.len() as u64;
         if number < base {
-            self.base.name(number as usize)
+            self.names[number as usize]
         } else {
             Ref::Own(number - base)
         }

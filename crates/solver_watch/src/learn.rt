@@ -1,6 +1,8 @@
-ghost use Rattle.std.specs.Prelude.{◌≡◌, ◌<◌, ◌≤◌, ◌⊎◌, ◌∷◌, length, IfOk};
+ghost use Rattle.std.specs.Prelude.{◌≡◌, ◌<◌, ◌≤◌, ◌⊎◌, ◌∷◌, length, map, IfOk, OnOk};
+ghost use Rattle.std.specs.List.{All};
 ghost use Rattle.lits.specs.Clause.{IsClause};
 ghost use Rattle.lits.specs.Same.{same_lit, opposite};
+ghost use Rattle.flat_base.specs.Codes.{lit_at, IsCode};
 ghost use Rattle.watch_lists.specs.Trail.{IsTrail, IsConflict, put_at, clause_at};
 ghost use Rattle.solver_watch.specs.Known.{IsKnown};
 ghost use Rattle.solver_watch.specs.Marked.{negations_at, AreWithin, IsSecond};
@@ -12,7 +14,7 @@ use crate::hints::hints;
 use crate::order::Order;
 use lits::{Clause, Lit, Literal, Step};
 use std::alloc::{AllocError, Global};
-use watch_lists::{Put, Trail};
+use watch_lists::{Put, Trail, flip};
 
 /// What a conflict teaches.
 #[derive(Drop)]
@@ -22,7 +24,8 @@ pub(crate) struct Lesson {
     pub(crate) level: u64,
 }
 
-/// The clause of a conflict's first unique implication point, and the second highest level of its literals.
+/// The clause of a conflict's first unique implication point, with the codes of its literals, and their second
+/// highest level.
 ///
 /// Of all clauses that a conflict teaches this one has a single literal of the last level by the fewest
 /// steps back, and so it forces that literal after going back (Moskewicz, Madigan, Zhao, Zhang and Malik
@@ -33,17 +36,21 @@ pub(crate) fn analyse(
     cut: &mut Cut,
     order: &mut Order,
     conflict: u64,
+    codes: &mut Vec<u32>,
 ) -> Result<Lesson, AllocError>
     requires known { IsKnown formula.now }
     requires number { conflict < length formula.now.trail.clauses }
     requires conflict { IsConflict formula.now.trail.puts (clause_at formula.now.trail.clauses conflict) }
     requires level { 1 ≤ formula.now.trail.last }
-    ensures { IfOk result (IsLesson formula.now) }
+    ensures lesson { IfOk result (IsLesson formula.now) }
+    ensures codes { IfOk result (λ l. map (lit_at formula.now.trail.nodes) codes.new.items ≡ l.step.clause) }
+    ensures within { OnOk result (All (IsCode formula.now.trail.nodes) codes.new.items) }
 {
     let point = cut.first_point(&formula.trail, order, conflict)?;
     let puts = formula.trail.lits();
     let clause = negated(alloc, puts, cut.below.as_slice(), point)?;
     let level = second_level(puts, cut.below.as_slice());
+    write_codes(&formula.trail, cut.below.as_slice(), point, codes)?;
     let hints = hints(
         alloc,
         formula,
@@ -77,6 +84,28 @@ fn negated(
         lits.push(put(puts, *place).lit.not())?;
     }
     Clause::from_slice(alloc, lits.as_slice())
+}
+
+/// Writes the codes of the negations of the literals at these places, so that the clause can join the trail
+/// without a probe for each.
+fn write_codes(
+    trail: &Trail,
+    below: &[usize],
+    point: usize,
+    codes: &mut Vec<u32>,
+) -> Result<(), AllocError>
+    requires point { point < length trail.now.puts }
+    requires within { AreWithin trail.now.puts below.now }
+    ensures codes { OnOk result (map (lit_at trail.now.nodes) codes.new.items
+        ≡ negations_at trail.now.puts (point ∷ below.now)) }
+    ensures within { OnOk result (All (IsCode trail.now.nodes) codes.new.items) }
+{
+    codes.clear();
+    codes.push(flip(trail.code_at(point)))?;
+    for place in below {
+        codes.push(flip(trail.code_at(*place)))?;
+    }
+    Ok(())
 }
 
 /// The highest level of these places.

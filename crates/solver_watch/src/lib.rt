@@ -8,14 +8,13 @@
 //! No. Restarts go by Luby's sequence and take no unit. What it promises is the contract of
 //! `unit_prop::Refuter`; that its clauses are new comes from what always holds of a `Trail` alone.
 //!
-//! Definitions of its own: `specs/Base.antt`, `specs/Marked.antt` (what an analysis has met), `specs/Assuming.antt` (the
+//! Definitions of its own: `specs/Marked.antt` (what an analysis has met), `specs/Assuming.antt` (the
 //! target's levels), `specs/Known.antt` (clauses and their names), `specs/Choice.antt`,
 //! `specs/Search.antt`. Begin to read at `engine.rt`.
 #![tactic(auto)]
 
 pub use solver::WatchSolver;
 
-mod base;
 mod choice;
 mod cut;
 mod engine;
@@ -26,3 +25,4 @@ mod marks;
 mod order;
 mod restarts;
 mod solver;
+mod used;

@@ -48,8 +48,14 @@ impl Order {
         }
     }
 
+    /// Takes in the variables below the number, in the place of all that were there.
+    pub(crate) fn start(&mut self, count: u32) -> Result<(), AllocError> {
+        self.clear();
+        self.grow(count)
+    }
+
     /// Forgets all variables and keeps the memory.
-    pub(crate) fn clear(&mut self) {
+    fn clear(&mut self) {
         self.activity.clear();
         self.heap.clear();
         self.places.clear();
@@ -57,7 +63,7 @@ impl Order {
     }
 
     /// Takes in the variables below the number that aren't there yet.
-    pub(crate) fn grow(&mut self, count: u32) -> Result<(), AllocError> {
+    fn grow(&mut self, count: u32) -> Result<(), AllocError> {
         for variable in 0..count {
             if variable as usize >= self.places.len() {
                 self.add(variable)?;

@@ -1,6 +1,8 @@
 ghost use Rattle.std.specs.Prelude.{◌≡◌, [], false, IfOk};
 
 use crate::engine::Engine;
+use crate::used::are_used;
+use flat_base::FlatBase;
 use lits::{Clause, Lit, Named, Step};
 use std::alloc::{AllocError, Global};
 use std::marker::Model;
@@ -26,12 +28,12 @@ impl Drop for WatchSolver {
 impl Model for WatchSolver {
     ghost use Rattle.std.specs.Prelude.{◌≡◌, true};
     ghost use Rattle.solver_plain.specs.Solver.{Solver};
-    ghost use Rattle.solver_watch.specs.Known.{IsKnown};
+    ghost use Rattle.solver_watch.specs.Known.{IsKnown, base_in};
 
     ghost Value = { Solver };
 
     ghost view = { λ s. record {
-      base = s.engine.formula.base;
+      base = base_in s.engine.formula;
       log = s.engine.formula.log.items;
       ready = s.ready;
     } };
@@ -62,6 +64,17 @@ impl Refuter for WatchSolver {
         let _ = alloc;
         self.ready = false;
         self.engine.start(base)?;
+        self.ready = true;
+        Ok(())
+    }
+
+    fn start_flat(&mut self, alloc: Global, base: &FlatBase) -> Result<(), AllocError> {
+        if !are_used(base) {
+            let listed = base.listed(alloc)?;
+            return self.start(alloc, listed.as_slice());
+        }
+        self.ready = false;
+        self.engine.start_flat(base)?;
         self.ready = true;
         Ok(())
     }

@@ -12,7 +12,8 @@ use Rattle.lits.specs.declared.node.Node.{Node}
 use Rattle.lits.specs.declared.node.Node.TheVariants.{Const}
 use Rattle.lits.specs.declared.literal.Lit.{Lit}
 use Rattle.unit_prop.proofs.Facts.{contrary}
-use Rattle.watch_lists.specs.Codes.{flip, lit_at, IsCode}
+use Rattle.flat_base.specs.Codes.{lit_at, IsCode}
+use Rattle.watch_lists.specs.Codes.{flip}
 use Rattle.watch_lists.proofs.FlipLemmas.{parity, flip-even, flip-odd, flip-below, is_literal-flip}
 -- codes are equal exactly where their test says so
 pub use Rattle.watch_lists.proofs.FlipLemmas.{same_refl, same_exact}

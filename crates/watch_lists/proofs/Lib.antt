@@ -21,3 +21,4 @@ mod PutsLemmas
 mod ReadLemmas
 mod NumberLemmas
 mod NumbersLemmas
+mod StartLemmas

@@ -9,7 +9,7 @@ use Rattle.lits.specs.Same.{same_node}
 use Rattle.lits.specs.declared.node.Node.{Node}
 use Rattle.lits.specs.declared.literal.Lit.{Lit}
 use Rattle.unit_prop.proofs.Facts.{contrary}
-use Rattle.watch_lists.specs.Codes.{lit_at, IsCode}
+use Rattle.flat_base.specs.Codes.{lit_at, IsCode}
 use Rattle.watch_lists.specs.Trail.{TrailState, Numbers, Keeps, IsQuiet, up_to}
 use Rattle.watch_lists.specs.declared.put.Put.{Put}
 use Rattle.watch_lists.proofs.Facts.{code-more}

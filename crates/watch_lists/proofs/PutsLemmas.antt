@@ -15,7 +15,8 @@ use Rattle.lits.proofs.Facts.{exact-node, same-node_self}
 use Rattle.unit_prop.specs.Closure.{forces, is_negated, Clashes, IsClosure, ClosureClashes}
 use Rattle.unit_prop.specs.Propagation.{IsSettled}
 use Rattle.unit_prop.proofs.Facts.{contrary}
-use Rattle.watch_lists.specs.Codes.{flip, lit_at, IsCode}
+use Rattle.flat_base.specs.Codes.{lit_at, IsCode}
+use Rattle.watch_lists.specs.Codes.{flip}
 use Rattle.watch_lists.specs.State.{AsksNothing, codes_at, level_at, no_level, decisions, IsJustified, IsEngine, IsStuck, Stays}
 use Rattle.watch_lists.specs.Step.{IsSame, IsEmpty, IsGrown, IsAdded, IsDecided, IsCut}
 use Rattle.watch_lists.specs.Trail.{put_at, no_put, clause_at, lits_of, decisions_of, up_to, IsComplete, IsConflict, IsQuiet, IsForced, Propagates, back_to}

@@ -10,7 +10,8 @@ use Rattle.lits.specs.declared.node.Node.TheVariants.{Const}
 use Rattle.lits.specs.declared.literal.Lit.{Lit}
 use Rattle.unit_prop.specs.Propagation.{IsFree}
 use Rattle.unit_prop.proofs.Facts.{contrary}
-use Rattle.watch_lists.specs.Codes.{flip, lit_at, code_of, IsCode, AreCodesOf}
+use Rattle.flat_base.specs.Codes.{lit_at, code_of, IsCode}
+use Rattle.watch_lists.specs.Codes.{flip, AreCodesOf}
 use Rattle.watch_lists.specs.State.{codes_at}
 use Rattle.watch_lists.specs.Trail.{put_at, clause_at, lits_of}
 use Rattle.watch_lists.specs.Whole.{IsWhole}

@@ -9,7 +9,8 @@ use Rattle.lits.specs.declared.literal.Lit.{Lit}
 use Rattle.unit_prop.specs.Closure.{forces, is_negated, IsClosed, Clashes, IsClosure, ClosureClashes}
 use Rattle.unit_prop.specs.Propagation.{IsSettled}
 use Rattle.lits.proofs.Facts.{lit_laws}
-use Rattle.watch_lists.specs.Codes.{flip, lit_at, IsCode}
+use Rattle.flat_base.specs.Codes.{lit_at, IsCode}
+use Rattle.watch_lists.specs.Codes.{flip}
 use Rattle.watch_lists.proofs.FlipLemmas.{same_exact, is_literal-flip}
 use Rattle.watch_lists.proofs.Facts.{lit_at-flip, lit_at-exact, flip-code, has-lits, code-of, has-codes, has-same}
 

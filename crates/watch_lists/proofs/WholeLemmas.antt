@@ -13,7 +13,8 @@ use Rattle.lits.specs.declared.literal.Lit.{Lit}
 use Rattle.unit_prop.specs.Closure.{forces}
 use Rattle.lits.proofs.Facts.{lit_laws}
 use Rattle.unit_prop.proofs.Facts.{contrary}
-use Rattle.watch_lists.specs.Codes.{flip, lit_at}
+use Rattle.flat_base.specs.Codes.{lit_at}
+use Rattle.watch_lists.specs.Codes.{flip}
 use Rattle.watch_lists.specs.State.{AsksNothing, codes_at, level_at, no_level, decisions, IsJustified}
 use Rattle.watch_lists.specs.Trail.{put_at, no_put, clause_at, lits_of, decisions_of, up_to, IsComplete, IsGround, IsTrail, Begins, no_lit}
 use Rattle.watch_lists.specs.Whole.{IsWhole, state_of}

@@ -8,6 +8,8 @@ use Rattle.lits.specs.Same.{same_lit, same_node, opposite}
 use Rattle.lits.specs.declared.node.Node.{Node}
 use Rattle.lits.specs.declared.node.Node.TheVariants.{Const}
 use Rattle.lits.specs.declared.literal.Lit.{Lit}
+use Rattle.flat_base.specs.Flat.{Flat, named_of}
+use Rattle.unit_prop.specs.Log.{base_clauses}
 use Rattle.unit_prop.specs.Closure.{forces, is_negated, IsClosure, Clashes}
 use Rattle.unit_prop.specs.Propagation.{IsConsistent, IsSettled}
 use Rattle.watch_lists.specs.declared.put.Put.{Put}
@@ -23,6 +25,10 @@ pub record TrailState : Type 0 where
 -- nothing at all
 abbrev pub empty_trail : TrailState
 empty_trail = record { nodes = []; clauses = []; puts = []; last = 0 }
+
+-- the variables and clauses of a flat base, and no literal
+abbrev pub trail_of : Flat → TrailState
+trail_of f = record { nodes = f.nodes; clauses = base_clauses (named_of f); puts = []; last = 0 }
 
 abbrev pub no_lit : Lit
 no_lit = record { node = Const; neg = false }
@@ -118,6 +124,10 @@ pub record Adds (old : TrailState) (clause : List Lit) (new : TrailState) : Type
   pub clauses : new.clauses ≡ old.clauses ++ clause ∷ []
   pub puts : new.puts ≡ old.puts
   pub last : new.last ≡ old.last
+
+-- a clause more
+abbrev pub with_clause : TrailState → List Lit → TrailState
+with_clause t clause = record { nodes = t.nodes; clauses = t.clauses ++ clause ∷ []; puts = t.puts; last = t.last }
 
 -- a new level begins with the literal
 pub record Decides (old : TrailState) (lit : Lit) (new : TrailState) : Type 0 where

@@ -1,13 +1,12 @@
 -- How a trail over literals stands on the engine over codes.
 use Rattle.std.specs.Prelude.{◌≡◌, ℕ, ◌*◌, ◌<◌, ◌≤◌, true, List, [], ◌∷◌, ◌++◌, take, map, length, slice_index, slice_index_or, None}
-use Rattle.lits.specs.declared.literal.Lit.{Lit}
 use Rattle.lits.specs.Clause.{has, no_repeat}
 use Rattle.std.specs.Prelude.{nat_eq}
 use Rattle.lits.specs.Same.{same_node}
 use Rattle.lits.specs.declared.node.Node.{Node}
 use Rattle.watch_lists.specs.declared.put.Put.{Put}
 use Rattle.watch_lists.specs.declared.engine.Engine.{Engine}
-use Rattle.watch_lists.specs.Codes.{lit_at, IsCode}
+use Rattle.flat_base.specs.Codes.{lit_at, IsCode}
 use Rattle.watch_lists.specs.State.{codes_at, level_at, IsEngine}
 use Rattle.watch_lists.specs.Trail.{TrailState, lits_of, put_at}
 
@@ -47,7 +46,3 @@ pub record IsNumbered (old : TrailState) (node : Node) (new : TrailState) : Type
   pub clauses : new.clauses ≡ old.clauses
   pub puts : new.puts ≡ old.puts
   pub last : new.last ≡ old.last
-
--- a clause more
-abbrev pub with_clause : TrailState → List Lit → TrailState
-with_clause t clause = record { nodes = t.nodes; clauses = t.clauses ++ clause ∷ []; puts = t.puts; last = t.last }

@@ -1,19 +1,21 @@
-ghost use Rattle.std.specs.Prelude.{◌≡◌, ◌<◌, ◌≤◌, ◌+◌, ◌*◌, ◌^◌, [], ◌∷◌, ℕ, false, length, OnOk, OnErr, IfOk, IfSome, IfNone, IsTrue, ◌↔◌};
-ghost use Rattle.lits.specs.Clause.{has};
+ghost use Rattle.std.specs.Prelude.{◌≡◌, ◌<◌, ◌≤◌, ◌+◌, ◌*◌, ◌^◌, [], ◌∷◌, ℕ, true, false, length, OnOk, OnErr, IfOk, IfSome, IfNone, IsTrue, ◌↔◌};
+ghost use Rattle.lits.specs.Clause.{has, no_repeat};
 ghost use Rattle.lits.specs.Same.{same_lit, same_node, opposite};
 ghost use Rattle.unit_prop.specs.Closure.{ClosureClashes};
 ghost use Rattle.unit_prop.specs.Propagation.{IsFree};
-ghost use Rattle.watch_lists.specs.Codes.{lit_at, code_of, IsCode, AreCodesOf};
-ghost use Rattle.watch_lists.specs.Whole.{IsWhole, IsTold, IsNumbered, with_clause, state_of};
+ghost use Rattle.flat_base.specs.Codes.{lit_at, code_of, IsCode};
+ghost use Rattle.watch_lists.specs.Codes.{AreCodesOf};
+ghost use Rattle.watch_lists.specs.Whole.{IsWhole, IsTold, IsNumbered, state_of};
 ghost use Rattle.std.specs.Prelude.{vec_capacity, map};
 ghost use Rattle.std.specs.List.{All};
-ghost use Rattle.watch_lists.specs.Trail.{empty_trail, put_at, clause_at, lits_of, decisions_of, up_to, IsComplete, IsConflict, IsQuiet, IsTrail, Keeps, Adds, Decides, Propagates, back_to};
+ghost use Rattle.watch_lists.specs.Trail.{empty_trail, trail_of, with_clause, put_at, clause_at, lits_of, decisions_of, up_to, IsComplete, IsConflict, IsQuiet, IsTrail, Keeps, Adds, Decides, Propagates, back_to};
 
 use crate::code::flip;
 use crate::engine::Engine;
 use crate::numbers::Numbers;
 use crate::put::Put;
-use lits::{Clause, Lit};
+use flat_base::FlatBase;
+use lits::{Clause, Lit, Node};
 use std::alloc::{AllocError, Global};
 use std::marker::Model;
 
@@ -84,6 +86,32 @@ impl Trail {
     {
         let codes = self.codes_of(clause.lits())?;
         self.add_codes(codes.as_slice())
+    }
+
+    /// The same of the clause of these codes, without a probe.
+    pub fn add_codes(&mut self, codes: &[u32]) -> Result<(), AllocError>
+        requires codes { All (IsCode self.old.nodes) codes.now }
+        requires quiet { (level : ℕ) → level < self.old.last
+            → IsQuiet (up_to level self.old.puts) (map (lit_at self.old.nodes) codes.now) }
+        ensures ok { OnOk result (self.new ≡ with_clause self.old (map (lit_at self.old.nodes) codes.now)) }
+        ensures err { OnErr result (self.new ≡ self.old) }
+    {
+        self.engine.add(codes)
+    }
+
+    /// Takes the variables and the clauses of a flat base in the place of all that was there.
+    ///
+    /// The nodes keep their numbers and the clauses their codes: a node is pushed once, where the literals of
+    /// a list are probed one by one. After a refusal some of both may be there.
+    pub fn start(&mut self, base: &FlatBase) -> Result<(), AllocError>
+        ensures { OnOk result (self.new ≡ trail_of base.now) }
+    {
+        self.clear();
+        self.number_all(base.nodes())?;
+        for number in 0..base.len() {
+            self.add_codes(base.codes(number))?;
+        }
+        Ok(())
     }
 
     /// Begins a level with a literal that is free, where all literals are the closure of the clauses
@@ -268,13 +296,36 @@ impl Trail {
         ensures ok { OnOk result (IsNumbered self.old lit.node self.new) }
         ensures err { OnErr result (self.new ≡ self.old) }
     {
+        let number = self.number_node(lit.node)?;
+        Ok(code_of(number, lit.neg))
+    }
+
+    /// Gives the next number to a node.
+    fn number_node(&mut self, node: Node) -> Result<usize, AllocError>
+        requires { has same_node self.old.nodes node ≡ false }
+        ensures number { IfOk result (λ n. (n ≡ length self.old.nodes) × (n < 2 ^ 31)) }
+        ensures ok { OnOk result (IsNumbered self.old node self.new) }
+        ensures err { OnErr result (self.new ≡ self.old) }
+    {
         let number = self.numbers.len();
         if number >= MOST {
             return Err(AllocError);
         }
         make_room(&self.numbers, &mut self.engine, &mut self.puts)?;
-        self.numbers.push(lit.node)?;
-        Ok(code_of(number, lit.neg))
+        self.numbers.push(node)?;
+        Ok(number)
+    }
+
+    /// Gives numbers to nodes in their order, where there are none.
+    fn number_all(&mut self, nodes: &[Node]) -> Result<(), AllocError>
+        requires empty { self.old ≡ empty_trail }
+        requires once { no_repeat same_node nodes.now ≡ true }
+        ensures { OnOk result (self.new ≡ trail_of (record { nodes = nodes.now; clauses = [] })) }
+    {
+        for node in nodes {
+            self.number_node(*node)?;
+        }
+        Ok(())
     }
 
     /// The codes of literals, whose variables are numbered where they have no numbers.
@@ -289,17 +340,6 @@ impl Trail {
             codes.push(code)?;
         }
         Ok(codes)
-    }
-
-    /// Adds the clause of these codes.
-    fn add_codes(&mut self, codes: &[u32]) -> Result<(), AllocError>
-        requires codes { All (IsCode self.old.nodes) codes.now }
-        requires quiet { (level : ℕ) → level < self.old.last
-            → IsQuiet (up_to level self.old.puts) (map (lit_at self.old.nodes) codes.now) }
-        ensures ok { OnOk result (self.new ≡ with_clause self.old (map (lit_at self.old.nodes) codes.now)) }
-        ensures err { OnErr result (self.new ≡ self.old) }
-    {
-        self.engine.add(codes)
     }
 }
 

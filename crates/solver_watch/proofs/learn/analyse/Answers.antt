@@ -1,4 +1,4 @@
-use Rattle.std.proofs.Common.{ℕ, ◌≡◌, ◌<◌, ◌+◌, List, [], ◌∷◌, sym, ap, ◌∙◌, subst, length}
+use Rattle.std.proofs.Common.{ℕ, ◌<◌, ◌+◌, List, [], ◌∷◌, sym, ap, ◌∙◌, subst, length}
 use Rattle.lits.specs.Clause.{IsClause}
 use Rattle.lits.specs.Same.{same_lit, opposite}
 use Rattle.lits.specs.declared.literal.Lit.{Lit}
@@ -43,8 +43,8 @@ hints-requires-clause-supported c =
     (cut-supported c.args.formula.now.trail c.lits-puts.ensures.trail c.in_ok-point.point c.first_point.new.self c.in_ok-point.ensures.cut
     c.args.conflict c.requires.number c.requires.conflict c.in_ok-point.ensures.met)
 
-pub returns : goal.returns
-returns c =
+pub returns-clause-lesson : goal.returns-clause-lesson
+returns-clause-lesson c =
     lesson-is c.args.formula.now c.first_point.new.self c.in_ok-point.point c.second_level-level.result c.in_ok-clause.clause c.in_ok-hints.hints
     c.requires.known c.lits-puts.ensures.trail c.in_ok-point.ensures.cut c.requires.level
     (c.in_ok-clause.ensures

@@ -1,5 +1,5 @@
 use Rattle.std.proofs.Common.{refl}
-use Rattle.watch_lists.specs.Codes.{lit_at}
+use Rattle.flat_base.specs.Codes.{lit_at}
 use Rattle.watch_lists.proofs.trail.lit_of.Goals as goal
 
 pub returns : goal.returns

@@ -3,7 +3,7 @@ use Rattle.std.specs.Prelude.{slice_index}
 use Rattle.std.proofs.lemmas.Bool.{cases_lt}
 use Rattle.std.proofs.lemmas.List.{get_or_append_left, get_or_push, get_or_read, length_push, take-append-le}
 use Rattle.lits.specs.declared.literal.Lit.{Lit}
-use Rattle.watch_lists.specs.Codes.{lit_at}
+use Rattle.flat_base.specs.Codes.{lit_at}
 use Rattle.watch_lists.specs.Trail.{put_at, no_put}
 use Rattle.watch_lists.specs.declared.put.Put.{Put}
 use Rattle.watch_lists.proofs.trail.tell.Goals as goal

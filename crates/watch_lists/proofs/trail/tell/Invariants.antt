@@ -1,6 +1,6 @@
 use Rattle.std.proofs.Common.{◌≡◌, ◌<◌, ◌≤◌, ℕ, take, length, slice_index_or, vec_capacity, None}
 use Rattle.std.specs.Prelude.{slice_index}
-use Rattle.watch_lists.specs.Codes.{lit_at}
+use Rattle.flat_base.specs.Codes.{lit_at}
 use Rattle.watch_lists.specs.Trail.{put_at}
 use Rattle.watch_lists.proofs.trail.tell.Given as goal
 

@@ -1,5 +1,5 @@
 use Rattle.std.proofs.Common.{ap, ◌∙◌}
-use Rattle.watch_lists.specs.Codes.{lit_at}
+use Rattle.flat_base.specs.Codes.{lit_at}
 use Rattle.watch_lists.specs.Trail.{clause_at}
 use Rattle.solver_watch.proofs.MarkedLemmas.{marking-skip, marking-next, marking-end, code-at}
 use Rattle.solver_watch.proofs.cut.Cut.mark_clause.Goals as goal

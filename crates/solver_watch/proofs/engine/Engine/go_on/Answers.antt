@@ -3,7 +3,8 @@ use Rattle.lits.specs.declared.literal.Lit.{Lit}
 use Rattle.lits.proofs.Facts.{lit_laws}
 use Rattle.unit_prop.specs.Refuter.{is_over, IsModel}
 use Rattle.solver_plain.proofs.Facts.{each-at}
-use Rattle.watch_lists.specs.Codes.{lit_at}
+use Rattle.flat_base.specs.Codes.{lit_at}
+use Rattle.solver_watch.specs.Known.{base_in}
 use Rattle.solver_watch.specs.Assuming.{IsAssuming}
 use Rattle.solver_watch.specs.Search.{IsState}
 use Rattle.solver_watch.specs.declared.engine.Engine.{Engine}
@@ -15,11 +16,11 @@ use Rattle.solver_watch.proofs.engine.Engine.go_on.Goals.{then-level-self+in-All
 pub next_assumption-requires-clause-numbered : goal.next_assumption-requires-clause-numbered
 next_assumption-requires-clause-numbered c = λ l h.
     over-numbered c.args.self.now.formula c.requires.state.known c.level.ensures.trail l
-    (each-at lit_laws (λ (m : Lit). is_over c.args.self.now.formula.base m ≡ true) c.args.target.now l c.requires.state.over h)
+    (each-at lit_laws (λ (m : Lit). is_over (base_in c.args.self.now.formula) m ≡ true) c.args.target.now l c.requires.state.over h)
 
 pub returns-in-Open-clause-state : goal.returns-in-Open-clause-state
 returns-in-Open-clause-state c = record {
-  known = known-same c.args.self.now.formula c.decide.new.self.formula c.requires.state.known c.in_ok-decide-in-Open.ensures.clauses
+  known = known-same c.args.self.now.formula c.decide.new.self.formula c.requires.state.known c.in_ok-decide-in-Open.ensures.clauses c.decide.ensures.names
       c.in_ok-decide-in-Open.ensures.trail.clauses c.in_ok-decide-in-Open.ensures.nodes;
   over = over-same c.args.self.now.formula c.decide.new.self.formula c.args.target.now c.in_ok-decide-in-Open.ensures.clauses c.requires.state.over;
   assuming = subst (λ (n : ℕ). IsAssuming c.args.target.now c.decide.new.self.formula.trail n) (sym c.level-self.ensures)
@@ -36,7 +37,7 @@ refutation-requires-clause-refuted c =
 
 pub returns-in_ok-decide-in-Some-clause-state : goal.returns-in_ok-decide-in-Some-clause-state
 returns-in_ok-decide-in-Some-clause-state c = record {
-  known = known-same c.args.self.now.formula c.decide-in-Some.new.self.formula c.requires.state.known c.in_ok-decide-in-Some.ensures.clauses
+  known = known-same c.args.self.now.formula c.decide-in-Some.new.self.formula c.requires.state.known c.in_ok-decide-in-Some.ensures.clauses c.decide-in-Some.ensures.names
       c.in_ok-decide-in-Some.ensures.trail.clauses c.in_ok-decide-in-Some.ensures.nodes;
   over = over-same c.args.self.now.formula c.decide-in-Some.new.self.formula c.args.target.now c.in_ok-decide-in-Some.ensures.clauses c.requires.state.over;
   assuming = subst (λ (n : ℕ). IsAssuming c.args.target.now c.decide-in-Some.new.self.formula.trail n) (sym c.in_ok-decide-in-Some.ensures.assumed)
@@ -50,7 +51,7 @@ returns-in_ok-decide-in-Some-clause-state c = record {
 
 pub returns-in_ok-model-in-None-clause-found : goal.returns-in_ok-model-in-None-clause-found
 returns-in_ok-model-in-None-clause-found c = (
-  subst (λ (m : List Lit). IsModel c.args.self.now.formula.base c.args.target.now m) (sym c.in_ok-model-in-None.ensures)
+  subst (λ (m : List Lit). IsModel (base_in c.args.self.now.formula) c.args.target.now m) (sym c.in_ok-model-in-None.ensures)
       (model-is c.args.self.now.formula c.args.target.now c.requires.state.known c.level.ensures.trail c.requires.complete
       (taken-lits c.args.self.now.formula.trail c.in-None.ensures.none)
       (λ l h. elim c.if-level-self.branch [

@@ -1,10 +1,13 @@
-use Rattle.std.proofs.Common.{Option, Some, None, length, ap, arith, ◌∙◌}
-use Rattle.std.specs.Prelude.{IfNone}
+use Rattle.std.proofs.Common.{Option, Some, None, length, ap, subst, arith, ◌∙◌}
+use Rattle.std.specs.Prelude.{IfOk, IfNone, IfSome}
 use Rattle.std.proofs.lemmas.List.{length-append}
 use Rattle.std.proofs.lemmas.Result.{IfOk-weaker}
 use Rattle.watch_lists.specs.Trail.{TrailState, Propagates}
-use Rattle.solver_watch.specs.Search.{Advances}
+use Rattle.solver_plain.specs.Formula.{Clauses}
+use Rattle.solver_watch.specs.Known.{clauses_known}
+use Rattle.solver_watch.specs.Search.{Advances, IsFound}
 use Rattle.solver_watch.specs.declared.engine.Engine.{Engine}
+use Rattle.solver_watch.proofs.BaseLemmas.{known-at}
 use Rattle.solver_watch.proofs.EngineLemmas.{state-propagates}
 use Rattle.solver_watch.proofs.engine.Engine.round.Goals as goal
 
@@ -33,7 +36,7 @@ none-weaker (Some x) P Q f p = p
 advances-after : (e : Engine) (t : TrailState) (new : Engine) → Propagates e.formula.trail t
     → Advances (record e { formula = record e.formula { trail = t } }) new → Advances e new
 advances-after e t new p a = record {
-  clauses = a.clauses;
+  clauses = a.clauses ∙ known-at e.formula t p.clauses;
   nodes = a.nodes ∙ p.nodes;
   more = omega (arith, a.more, ap length p.behind, length-append e.formula.trail.puts p.more);
   room = a.room;
@@ -43,3 +46,13 @@ pub returns-in-None-clause-none : goal.returns-in-None-clause-none
 returns-in-None-clause-none c =
     IfOk-weaker c.go_on.result _ _
     (λ r. none-weaker r _ _ (advances-after c.args.self.now c.propagate.new.self c.go_on.new.self c.in_ok-conflict.ensures.rest)) c.go_on.ensures.none
+
+pub returns-in-None-clause-found : goal.returns-in-None-clause-found
+returns-in-None-clause-found c =
+    subst (λ (k : Clauses). IfOk c.go_on.result (λ r. IfSome r (IsFound k c.args.target.now (clauses_known c.go_on.new.self.formula))))
+    (known-at c.args.self.now.formula c.propagate.new.self c.in_ok-conflict.ensures.rest.clauses) c.go_on.ensures.found
+
+pub returns-in_ok-meet-in-Some-clause-found : goal.returns-in_ok-meet-in-Some-clause-found
+returns-in_ok-meet-in-Some-clause-found c =
+    subst (λ (k : Clauses). IsFound k c.args.target.now (clauses_known c.meet.new.self.formula) c.in_ok-meet-in-Some.field-0)
+    (known-at c.args.self.now.formula c.propagate.new.self c.in_ok-conflict.ensures.rest.clauses) c.in_ok-meet-in-Some.ensures.found

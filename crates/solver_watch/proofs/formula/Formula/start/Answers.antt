@@ -10,4 +10,4 @@ add-requires c = c.loop-named.invariant.last
 pub loop-named-preserved : goal.loop-named-preserved
 loop-named-preserved c =
     starting-next c.args.base.now c.loop-named.named-index c.named-item.result c.loop-named.self c.add.new.self c.loop-named-test.true c.named-item.is
-    c.loop-named.invariant c.in_ok-add.ensures.trail c.in_ok-add.ensures.base c.add.ensures.log
+    c.loop-named.invariant c.in_ok-add.ensures.trail c.in_ok-add.ensures.names c.add.ensures.log

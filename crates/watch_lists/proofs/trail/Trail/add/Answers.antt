@@ -1,5 +1,5 @@
 use Rattle.std.proofs.Common.{◌≡◌, sym, ap, ◌∙◌, map}
-use Rattle.watch_lists.specs.Codes.{lit_at}
+use Rattle.flat_base.specs.Codes.{lit_at}
 use Rattle.watch_lists.proofs.NumbersLemmas.{quiet-kept}
 use Rattle.watch_lists.proofs.trail.Trail.add.Goals as goal
 

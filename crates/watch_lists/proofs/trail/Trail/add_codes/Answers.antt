@@ -1,7 +1,7 @@
 use Rattle.std.proofs.Common.{◌<◌, List, ℕ, Ok, Err, subst, sym, map, arith}
 use Rattle.std.specs.Prelude.{Result, OnOk, OnErr}
 use Rattle.std.specs.List.{All}
-use Rattle.watch_lists.specs.Codes.{lit_at, IsCode}
+use Rattle.flat_base.specs.Codes.{lit_at, IsCode}
 use Rattle.watch_lists.specs.Step.{IsAdded, IsSame}
 use Rattle.watch_lists.specs.Trail.{TrailState, IsQuiet, up_to}
 use Rattle.watch_lists.specs.declared.engine.Engine.{Engine}

@@ -1,5 +1,5 @@
 use Rattle.std.proofs.Common.{◌≡◌, ◌<◌, subst, length}
-use Rattle.watch_lists.specs.Codes.{lit_at, IsCode}
+use Rattle.flat_base.specs.Codes.{lit_at, IsCode}
 use Rattle.watch_lists.specs.Trail.{TrailState, put_at}
 use Rattle.watch_lists.proofs.ReadLemmas.{code-read}
 use Rattle.watch_lists.proofs.trail.Trail.code_at.Goals as goal

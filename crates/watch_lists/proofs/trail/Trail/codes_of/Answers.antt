@@ -2,7 +2,7 @@ use Rattle.std.proofs.Common.{◌+◌, [], map, ap, subst, sym, ◌∙◌, arith
 use Rattle.std.specs.List.{All}
 use Rattle.std.proofs.lemmas.List.{take_all}
 use Rattle.std.proofs.lemmas.List.Elements.{All-nil}
-use Rattle.watch_lists.specs.Codes.{lit_at, IsCode}
+use Rattle.flat_base.specs.Codes.{lit_at, IsCode}
 use Rattle.watch_lists.specs.Trail.{TrailState, Keeps}
 use Rattle.watch_lists.proofs.NumbersLemmas.{keeps-refl, keeps-next_at, keeps-first, codes-next_at}
 use Rattle.watch_lists.proofs.trail.Trail.codes_of.Goals as goal

@@ -2,7 +2,7 @@ use Rattle.std.proofs.Common.{◌≡◌, ◌+◌, subst, sym, ap, ◌∙◌, len
 use Rattle.std.proofs.lemmas.List.{length_push}
 use Rattle.lits.specs.Same.{same_lit, opposite}
 use Rattle.unit_prop.specs.Propagation.{IsFree}
-use Rattle.watch_lists.specs.Codes.{lit_at, IsCode}
+use Rattle.flat_base.specs.Codes.{lit_at, IsCode}
 use Rattle.watch_lists.specs.Trail.{TrailState, Decides, IsComplete, lits_of}
 use Rattle.watch_lists.specs.Whole.{state_of}
 use Rattle.watch_lists.proofs.ListsLemmas.{on_err}

@@ -2,7 +2,8 @@ use Rattle.std.proofs.Common.{subst, sym, arith, false, not}
 use Rattle.std.specs.Prelude.{IsTrue, ◌↔◌}
 use Rattle.lits.specs.Same.{same_lit, opposite}
 use Rattle.unit_prop.specs.Propagation.{IsFree}
-use Rattle.watch_lists.specs.Codes.{lit_at, IsCode, flip}
+use Rattle.flat_base.specs.Codes.{lit_at, IsCode}
+use Rattle.watch_lists.specs.Codes.{flip}
 use Rattle.watch_lists.specs.Trail.{TrailState, lits_of}
 use Rattle.watch_lists.proofs.Facts.{flip-code}
 use Rattle.watch_lists.proofs.ReadLemmas.{free-read, taken-read, code-truth}

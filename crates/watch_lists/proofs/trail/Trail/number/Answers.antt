@@ -1,5 +1,5 @@
 use Rattle.std.proofs.Common.{◌≡◌, subst}
-use Rattle.watch_lists.specs.Codes.{lit_at, IsCode}
+use Rattle.flat_base.specs.Codes.{lit_at, IsCode}
 use Rattle.watch_lists.specs.Trail.{TrailState}
 use Rattle.watch_lists.proofs.ReadLemmas.{made}
 use Rattle.watch_lists.proofs.trail.Trail.number.Goals as goal

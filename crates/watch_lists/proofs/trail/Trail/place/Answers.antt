@@ -1,7 +1,7 @@
 use Rattle.std.proofs.Common.{◌≡◌, ◌<◌, subst, sym, ◌∙◌, false, length}
 use Rattle.lits.specs.Clause.{has}
 use Rattle.lits.specs.Same.{same_lit}
-use Rattle.watch_lists.specs.Codes.{lit_at, IsCode}
+use Rattle.flat_base.specs.Codes.{lit_at, IsCode}
 use Rattle.watch_lists.specs.Trail.{TrailState, lits_of, put_at}
 use Rattle.watch_lists.proofs.ReadLemmas.{mark-read, place-read}
 use Rattle.watch_lists.proofs.trail.Trail.place.Goals as goal
