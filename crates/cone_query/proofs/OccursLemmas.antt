@@ -1,5 +1,5 @@
 -- Which variables occur in a cone: those of its nodes that are gates, merged or the constant.
-use Rattle.std.proofs.Common.{◌≡◌, ℕ, Bool, true, false, ◌||◌, Some, None, List, [], ◌∷◌, length, take, refl, sym, ap, ◌∙◌, subst}
+use Rattle.std.proofs.Common.{◌≡◌, ℕ, Bool, true, false, ◌||◌, Some, None, List, [], ◌∷◌, length, take, refl, sym, ap, ap₂, ◌∙◌, subst}
 use Rattle.std.specs.List.{list_any, AllByRecursion}
 use Rattle.std.proofs.lemmas.Bool.{or_left, or_parts}
 use Rattle.std.proofs.Math.Seq.{take-length}
@@ -24,6 +24,7 @@ use Rattle.lemma_book.specs.declared.entry.Task.{Task}
 use Rattle.lemma_book.specs.Entry.{Entries, merge_clauses}
 use Rattle.lemma_book.specs.Good.{IsBefore}
 use Rattle.lemma_book.specs.Root.{MergeAt, merge_of}
+use Rattle.flat_cones.specs.Numbered.{is_named}
 use Rattle.cone_query.specs.Query.{IsUnnamed}
 use Rattle.cone_query.specs.Asked.{IsNamedInput}
 use Rattle.cone_query.proofs.ConeModel.{cone-at, cone-from}
@@ -138,3 +139,37 @@ module _ (net : AigPair) (book : Entries) (task : Task) (cone : List Named)
     is_cone = is_whole;
     unnamed = sym (any-over cone task.lit) ∙ (sym is ∙ f);
   }
+
+-- a literal's node is named where it or its negation is
+same-sides : (n m : Node) (a b : Bool)
+    → same_node n m ≡ (same_lit (record { node = n; neg = a }) (record { node = m; neg = b })
+    || same_lit (record { node = n; neg = a }) (opposite (record { node = m; neg = b })))
+same-sides n m a b = go (same_node n m) refl a b
+  where
+    go : (t : Bool) → same_node n m ≡ t → (a b : Bool)
+        → same_node n m ≡ (same_lit (record { node = n; neg = a }) (record { node = m; neg = b })
+        || same_lit (record { node = n; neg = a }) (opposite (record { node = m; neg = b })))
+    go true e true true = rw e refl
+    go true e true false = rw e refl
+    go true e false true = rw e refl
+    go true e false false = rw e refl
+    go false e true true = rw e refl
+    go false e true false = rw e refl
+    go false e false true = rw e refl
+    go false e false false = rw e refl
+
+clause-speaks : (c : List Lit) (l : Lit) → list_any (λ x. same_node x.node l.node) c ≡ speaks_of l c
+clause-speaks [] l = refl
+clause-speaks (x ∷ xs) l =
+    ap₂ (λ (a b : Bool). a || b) (same-sides x.node l.node x.neg l.neg) (clause-speaks xs l)
+    ∙ (shuffle (same_lit x l) (same_lit x (opposite l)) (has same_lit xs l) (has same_lit xs (opposite l)))
+  where
+    shuffle : (a b c d : Bool) → ((a || b) || (c || d)) ≡ ((a || c) || (b || d))
+    shuffle true b c d = refl
+    shuffle false true true d = refl
+    shuffle false true false d = refl
+    shuffle false false c d = refl
+
+pub named-speaks : (base : List Named) (l : Lit) → is_named base l.node ≡ list_any (λ m. speaks_of l m.clause) base
+named-speaks [] l = refl
+named-speaks (m ∷ ms) l = rw (clause-speaks m.clause l, named-speaks ms l) refl

@@ -4,7 +4,7 @@
 //! imply that they have one value, `output` whether those of an output's cone, with the units of the
 //! constraints, imply that its XOR is false. A proof becomes a `Merge` or an `Out`, a model an `Apart` or an
 //! `OutApart` with the inputs' truth values, and a budget that is spent a `Spent` or an `OutSpent` with the
-//! log. The crate promises that the entry is good over the book, whatever the solver.
+//! log. `Queries` asks one after another in the same memory. The crate promises that the entry is good over the book, whatever the solver.
 //!
 //! The definitions are those of `lemma_book`; `specs/Query.antt` has what an entry says besides,
 //! `specs/Input.antt` the input that a model gives. For the crate's own functions `specs/Asked.antt` and
@@ -14,8 +14,10 @@
 
 pub use output_query::output;
 pub use pair_query::pair;
+pub use queries::Queries;
 
 mod copies;
 mod input;
 mod output_query;
 mod pair_query;
+mod queries;

@@ -10,20 +10,17 @@ ghost use Rattle.cone_query.specs.Query.{SeesAll, IsFalseOutside, IsWithin, IsBu
 
 use crate::copies::{copied, one_more, unit};
 use crate::input::input_of;
-use lemma_book::laws::entries_are_true;
+use crate::queries::Queries;
+use flat_cones::Cones;
 use lemma_book::{Book, Entry};
 use lits::{Clause, Listed, Lit, Literal, Node, Ref, Step};
-use netlist::{Net, laws};
+use netlist::Net;
 use std::alloc::{AllocError, Global};
 use unit_prop::laws::budget;
 use unit_prop::{Refuted, Refuter};
 
-/// Asks whether both circuits give output j, which has no entry yet, one value on each admitted input: whether
-/// the cone of its XOR and of the constraints, with the constraints' units, implies that the XOR is false, for
-/// at most the book's budget of learned clauses. A counterexample is admitted.
-///
-/// The entry is built of what the query leaves: an `Out` of the log and then the unit, an `OutSpent` of the
-/// log.
+/// Asks whether both circuits give output j, which has no entry yet, one value on each admitted input:
+/// `Queries::output`, for one query.
 pub fn output<R: Refuter + Send>(
     alloc: Global,
     net: &Net,
@@ -41,25 +38,25 @@ pub fn output<R: Refuter + Send>(
     ensures within { IfOk result (IsWithin net.now seen.now) }
     ensures built { IfOk result (IsBuilt (R.Refuter.log_of refuter.new)) }
 {
-    laws::is_net(net);
-    entries_are_true(net, seen);
-    query(alloc, net, seen, j, refuter)
+    let mut queries = Queries::new(alloc);
+    queries.output(alloc, net, seen, j, refuter)
 }
 
 /// Asks whether the output's cone implies that its XOR is false.
-fn query<R: Refuter>(
+pub(crate) fn query<R: Refuter>(
     alloc: Global,
     net: &Net,
     seen: &Book,
     j: u32,
+    cones: &mut Cones,
     refuter: &mut R,
 ) -> Result<Entry, AllocError>
     requires { IsOutput net.now seen.now j }
     ensures settles { IfOk result (SettlesOutput net.now seen.now j) }
     ensures built { IfOk result (IsBuilt (R.Refuter.log_of refuter.new)) }
 {
-    let base = seen.output_cone(alloc, net, seen.len(), j)?;
-    refuter.start(alloc, base.as_slice())?;
+    cones.output_cone(net, seen, j)?;
+    refuter.start_flat(alloc, cones.base())?;
     ask(alloc, net, seen, j, refuter)
 }
 

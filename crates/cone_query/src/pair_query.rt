@@ -1,10 +1,7 @@
-ghost use Rattle.std.specs.Prelude.{◌≡◌, ◌≤◌, ◌||◌, Some, true, [], ◌∷◌, ◌++◌, length, IfOk, IfSome, IfNone, OnOk};
-ghost use Rattle.std.specs.Bool.{OnTrue, OnFalse};
-ghost use Rattle.std.specs.List.{list_any};
+ghost use Rattle.std.specs.Prelude.{◌≡◌, ◌≤◌, Some, true, false, [], ◌∷◌, ◌++◌, length, IfOk, OnOk};
 ghost use Rattle.std.specs.Option.{IsSome};
-ghost use Rattle.lits.specs.Clause.{has};
-ghost use Rattle.lits.specs.Same.{same_lit, opposite};
 ghost use Rattle.netlist.specs.Net.{position_of, value_of};
+ghost use Rattle.flat_base.specs.Flat.{named_of};
 ghost use Rattle.lemma_book.specs.Book.{IsLegal};
 ghost use Rattle.lemma_book.specs.Cone.{AreThere};
 ghost use Rattle.lemma_book.specs.Good.{IsGood, IsEarlier};
@@ -15,9 +12,10 @@ ghost use Rattle.cone_query.specs.Asked.{IsPair, IsQuery, IsImplication, IsAsked
 
 use crate::copies::copied;
 use crate::input::{input_of, other_value, set};
-use lemma_book::laws::entries_are_true;
+use crate::queries::Queries;
+use flat_cones::Cones;
 use lemma_book::{Book, Entry, Task};
-use lits::{Clause, Listed, Lit, Literal, Named, Node, Side, Step};
+use lits::{Clause, Listed, Lit, Literal, Node, Side, Step};
 use netlist::{Net, laws};
 use std::alloc::{AllocError, Global};
 use unit_prop::laws::budget;
@@ -26,9 +24,7 @@ use unit_prop::{Refuted, Refuter};
 /// Asks whether a gate, which isn't merged yet, has the value of a literal of an earlier node, for at
 /// most the book's budget of learned clauses.
 ///
-/// Each of the two implications is a query over the cone of both nodes, and one budget pays for both. A
-/// literal of an input that no clause of the gate's cone names needs no query: the input is set so that
-/// they differ.
+/// `Queries::pair`, for one query.
 pub fn pair<R: Refuter + Send>(
     alloc: Global,
     net: &Net,
@@ -48,17 +44,17 @@ pub fn pair<R: Refuter + Send>(
     ensures alone { IfOk result (λ e. IsUnnamed net.now seen.now.entries task.now → IsSetAlone e) }
     ensures unasked { OnOk result (IsUnnamed net.now seen.now.entries task.now → refuter.new ≡ refuter.old) }
 {
-    laws::is_net(net);
-    entries_are_true(net, seen);
-    settle(alloc, net, seen, task, refuter)
+    let mut queries = Queries::new(alloc);
+    queries.pair(alloc, net, seen, task, refuter)
 }
 
 /// Settles a pair by a query, or without one where no clause names its input.
-fn settle<R: Refuter + Send>(
+pub(crate) fn settle<R: Refuter + Send>(
     alloc: Global,
     net: &Net,
     seen: &Book,
     task: &Task,
+    cones: &mut Cones,
     refuter: &mut R,
 ) -> Result<Entry, AllocError>
     requires pair { IsPair net.now seen.now task.now }
@@ -67,45 +63,34 @@ fn settle<R: Refuter + Send>(
     ensures alone { IfOk result (λ e. IsUnnamed net.now seen.now.entries task.now → IsSetAlone e) }
     ensures unasked { OnOk result (IsUnnamed net.now seen.now.entries task.now → refuter.new ≡ refuter.old) }
 {
-    let Some(base) = named_cone(alloc, net, seen, task)? else {
+    if !make_cone(net, seen, task, cones)? {
         return set_apart(alloc, net, seen, task);
-    };
-    refuter.start(alloc, base.as_slice())?;
+    }
+    refuter.start_flat(alloc, cones.base())?;
     let mut left = seen.sweep_budget();
     both_ways(alloc, net, seen, task, refuter, &mut left)
 }
 
-/// The cone of both nodes; none where the literal is that of an input that no clause of the gate's cone
-/// names.
+/// Makes the cone of both nodes. Answers false where the literal is that of an input that no clause of the
+/// gate's cone names.
 ///
 /// The gate's cone that names the input is the cone of both, so one cone is made in either case.
-fn named_cone(
-    alloc: Global,
-    net: &Net,
-    seen: &Book,
-    task: &Task,
-) -> Result<Option<Vec<Named>>, AllocError>
+fn make_cone(net: &Net, seen: &Book, task: &Task, cones: &mut Cones) -> Result<bool, AllocError>
     requires { IsPair net.now seen.now task.now }
-    ensures cone { IfOk result (λ o. IfSome o
-        (λ base. IsBaseOf net.now seen.now task.now base.items)) }
-    ensures named { IfOk result (λ o. IfSome o
-        (λ base. IsNamedInput net.now seen.now.entries task.now)) }
-    ensures unnamed { IfOk result (λ o. IfNone o (IsUnnamed net.now seen.now.entries task.now)) }
+    ensures cone { IfOk result (λ b. b ≡ true → IsBaseOf net.now seen.now task.now (named_of cones.new.base)) }
+    ensures named { IfOk result (λ b. b ≡ true → IsNamedInput net.now seen.now.entries task.now) }
+    ensures unnamed { IfOk result (λ b. b ≡ false → IsUnnamed net.now seen.now.entries task.now) }
 {
     let node = Lit {
         node: task.node,
         neg: false,
     };
     let Node::Input(_) = task.lit.node else {
-        let base = seen.cone(alloc, net, seen.len(), &[node, task.lit])?;
-        return Ok(Some(base));
+        cones.cone(net, seen, &[node, task.lit])?;
+        return Ok(true);
     };
-    let own = seen.cone(alloc, net, seen.len(), &[node])?;
-    if mentions(own.as_slice(), task.lit) {
-        Ok(Some(own))
-    } else {
-        Ok(None)
-    }
+    cones.cone(net, seen, &[node])?;
+    Ok(cones.names(net, task.lit.node))
 }
 
 /// Asks for both implications between the pair, over the cone that the refuter was started with.
@@ -152,14 +137,6 @@ fn both_ways<R: Refuter + Send>(
         Asked::Shown(back) => merged(alloc, task, refuter.log(), there, back),
         Asked::Settled(entry) => Ok(entry),
     }
-}
-
-/// Whether a clause has the literal or its negation.
-fn mentions(base: &[Named], lit: Lit) -> bool
-    ensures { result ≡ list_any
-        (λ n. has same_lit n.clause lit || has same_lit n.clause (opposite lit)) base.now }
-{
-    base.iter().any(|named| named.clause.has(lit) || named.clause.has(lit.not()))
 }
 
 /// The entry of a pair whose literal is that of an input that no clause of the gate's cone names. All other

@@ -1,5 +1,5 @@
 use Rattle.std.proofs.lemmas.Result.{IfOk-weaker}
-use Rattle.cone_query.proofs.output_query.output.Goals as goal
+use Rattle.cone_query.proofs.queries.Queries.output.Goals as goal
 
 pub query-requires : goal.query-requires
 query-requires g c = record {

@@ -1,5 +1,5 @@
 use Rattle.std.proofs.lemmas.Result.{IfOk-weaker}
-use Rattle.cone_query.proofs.pair_query.pair.Goals as goal
+use Rattle.cone_query.proofs.queries.Queries.pair.Goals as goal
 
 pub settle-requires-clause-pair : goal.settle-requires-clause-pair
 settle-requires-clause-pair g c κs within = record {
