@@ -3,6 +3,7 @@ ghost use Rattle.std.specs.Prelude.{◌≡◌, true, OnSome};
 
 use crate::bases::{is_base, is_over};
 use crate::clauses::{check, expect};
+use crate::flat_bases::flat_of;
 use lits::{Clause, Lit, Literal, Named, Ref, Step};
 use std::alloc::Global;
 use std::process::Abort;
@@ -183,8 +184,38 @@ pub(crate) fn is_paid<R: Refuter>(solver: &R, left: u64, units: u64) -> bool {
     left.saturating_add(solver.log().len() as u64) == units
 }
 
+/// Whether both lists have the same clauses by the same names.
+fn are_same(one: &[Named], other: &[Named]) -> bool {
+    one.len() == other.len()
+        && one.iter().zip(other.iter()).all(|(a, b)| a.by == b.by
+            && a.clause.lits() == b.clause.lits())
+}
+
+/// The verdict and the units that are left where the solver takes the base flat.
+fn solved_flat<R: Refuter>(
+    rt: &impl Abort,
+    alloc: Global,
+    solver: &mut R,
+    base: &[Named],
+    target: &Clause<Lit>,
+    budget: u64,
+) -> Option<(Option<bool>, u64)> {
+    let flat = flat_of(alloc, base)?;
+    let listed = flat.listed(alloc).ok()?;
+    expect(
+        rt,
+        "the list that the flat base stands for",
+        are_same(listed.as_slice(), base),
+    );
+    expect(rt, "a flat base", is_base(listed.as_slice()));
+    solver.start_flat(alloc, &flat).ok()?;
+    expect(rt, "nothing is learned yet", solver.log().is_empty());
+    let (answer, left) = asked(rt, alloc, solver, listed.as_slice(), target, budget)?;
+    Some((verdict(&answer), left))
+}
+
 /// The same where the solver takes the base first, and forgets what it learned before. Each unit that it
-/// spends is spent for a learned clause.
+/// spends is spent for a learned clause. From a flat base it answers the same for as many units.
 pub(crate) fn solved<R: Refuter>(
     rt: &impl Abort,
     alloc: Global,
@@ -196,11 +227,17 @@ pub(crate) fn solved<R: Refuter>(
     ensures ready { OnSome result (R.Refuter.is_ready solver.new ≡ true) }
     ensures base { OnSome result (R.Refuter.base_of solver.new ≡ base.now) }
 {
+    let from_flat = solved_flat(rt, alloc, solver, base, target, budget)?;
     expect(rt, "a base", is_base(base));
     solver.start(alloc, base).ok()?;
     expect(rt, "nothing is learned", solver.log().is_empty());
     let (answer, left) = asked(rt, alloc, solver, base, target, budget)?;
     expect(rt, "a unit for each clause", is_paid(solver, left, budget));
+    expect(
+        rt,
+        "the same from a flat base",
+        from_flat == (verdict(&answer), left),
+    );
     Some((answer, left))
 }
 
