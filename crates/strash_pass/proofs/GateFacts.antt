@@ -1,5 +1,5 @@
 -- A gate by its number: its position, what defines it, its clauses, and that its fanins stand earlier.
-use Rattle.std.proofs.Common.{◌≡◌, ℕ, ◌+◌, ◌-◌, ◌<◌, ◌≤◌, Bool, true, false, Option, Some, None, List, [], map, length, refl, sym, ap, ◌∙◌, subst, arith}
+use Rattle.std.proofs.Common.{◌≡◌, ℕ, ◌+◌, ◌-◌, ◌<◌, ◌≤◌, ◌^◌, Bool, true, false, Option, Some, None, List, [], map, length, refl, sym, ap, ◌∙◌, subst, arith}
 use Rattle.std.specs.Prelude.{slice_get, nat_lt}
 use Rattle.std.specs.Option.{is_some, option_map, option_map_or, unwrap_or}
 use Rattle.std.proofs.lemmas.Bool.Decides.{nat_tests}
@@ -17,7 +17,7 @@ use Rattle.lits.specs.declared.literal.Lit.{Lit}
 use Rattle.netlist.specs.Pair.{first_gate}
 use Rattle.netlist.specs.Net.{AigPair, IsNet, circuit_of, definition_of, definitions, defined_by, fanins_at, fanins_of, gate_at, placed, position_of}
 use Rattle.netlist.specs.Miter.{axioms_of, gate_clauses, kept}
-use Rattle.netlist.proofs.Facts.{gate-definition, slice_get-left, slice_get-right, position-definition}
+use Rattle.netlist.proofs.Facts.{few_gates_of, gate-definition, length-definitions, slice_get-left, slice_get-right, position-definition}
 
 -- two nodes of which one stands earlier differ
 pub apart-placed : (net : AigPair) (n m : Node) (q p : ℕ) → position_of net n ≡ Some q → position_of net m ≡ Some p → p < q → same_node n m ≡ false
@@ -113,3 +113,8 @@ module _ (net : AigPair) (is : IsNet net) where
       let same : fanins_of net d ≡ f = same_Some (fanins_of net d) f (sym (ap (option_map (fanins_of net)) at) ∙ e) in
       subst (λ (g : Fanins). (position_of net d.left.node ≡ Some g.left.position) × (position_of net d.right.node ≡ Some g.right.position)) same
       (placed-at d.left gate.left.0 gate.left.1, placed-at d.right gate.right.0 gate.right.1)
+
+-- the constant, the inputs and the gates are few
+pub gates-few : (net : AigPair) → IsNet net → (k : ℕ) → k < length (definitions net) → 1 + length net.a.inputs + k < 2 ^ 32
+gates-few net is k below =
+    omega (arith, below, length-definitions net, few_gates_of net.a is.a, few_gates_of net.b is.b)

@@ -14,3 +14,4 @@ mod PlaceLemmas
 mod CodeLemmas
 mod TwinTable
 mod GateWords
+mod ShapeLemmas

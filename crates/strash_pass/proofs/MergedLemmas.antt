@@ -29,6 +29,11 @@ pub merges-none : (net : AigPair) (es : List Entry) (known : List (Option Known)
 merges-none net es known e =
     subst (λ (l : List (Option Known)). AreMergesOf net es l) (sym e) (λ node p k at here. absurd (none-some k here))
 
+-- a book of no entries merges no node
+pub none_merged : (net : AigPair) (es : List Entry) (node : Node) (n : ℕ) → n ≡ length es → n ≡ 0 → IsMergeOf net es node None
+none_merged net [] node n e f = record { merge = refl; placed = tt }
+none_merged net (x ∷ xs) node n e f = absurd (omega (arith, e, f))
+
 -- the merge of the node at the next position is put last
 pub merges-last : (net : AigPair) (es : List Entry) (known new : List (Option Known)) (k : Option Known) (position : ℕ) → position ≡ length known
     → AreMergesOf net es known → IsMergeOf net es (node_at net position) k → new ≡ known ++ k ∷ [] → AreMergesOf net es new

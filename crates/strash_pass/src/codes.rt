@@ -1,10 +1,11 @@
-ghost use Rattle.std.specs.Prelude.{◌≡◌, ◌<◌, ◌^◌, Some};
+ghost use Rattle.std.specs.Prelude.{◌≡◌, ◌<◌, ◌^◌, Some, length, slice_get};
 ghost use Rattle.std.specs.Option.{IsSome};
-ghost use Rattle.netlist.specs.Net.{fanins_at, position_of};
+ghost use Rattle.netlist.specs.declared.gate.Definition.{Definition};
+ghost use Rattle.netlist.specs.Net.{IsNet, definitions, fanins_at, position_of};
 ghost use Rattle.strash_pass.specs.Codes.{code_at};
 
 use crate::merged::Spot;
-use lits::{Lit, Node};
+use lits::{Lit, Node, Side};
 use netlist::{Fanins, Net, Placed};
 
 /// The code of a literal: twice its node's position, and one more for a negation.
@@ -46,4 +47,15 @@ pub fn fanins_at(net: &Net, k: u32) -> Fanins
         Some(fanins) => fanins,
         None => unreachable!(),
     }
+}
+
+/// The position of gate k, the gates of A and then of B counted from 0: gates stand behind the constant and the
+/// inputs in this order, so none is looked for by its name.
+pub fn gate_position(net: &Net, k: u32) -> u32
+    requires net { IsNet net.now }
+    requires gate { k < length (definitions net.now) }
+    ensures { (gate : Definition) → slice_get (definitions net.now) k ≡ Some gate
+        → position_of net.now gate.node ≡ Some result }
+{
+    1 + net.circuit(Side::A).inputs().len() as u32 + k
 }

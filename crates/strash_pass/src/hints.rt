@@ -1,76 +1,61 @@
-ghost use Rattle.std.specs.Prelude.{◌≡◌, ◌≤◌, ℕ, [], ◌∷◌, List, true, length, IfOk, IfSome};
-ghost use Rattle.std.specs.List.{find};
-ghost use Rattle.std.specs.Option.{option_copied};
+ghost use Rattle.std.specs.Prelude.{◌≡◌, ◌<◌, [], ◌∷◌, map, true, length, IfOk};
+ghost use Rattle.std.specs.List.{position, AllByRecursion};
 ghost use Rattle.lits.specs.Clause.{IsClause};
 ghost use Rattle.lits.specs.Same.{same_lit, opposite};
-ghost use Rattle.lits.specs.declared.literal.Lit.{Lit};
-ghost use Rattle.lits.specs.declared.node.Node.{Node};
-ghost use Rattle.lits.specs.declared.step.Named.{Named};
-ghost use Rattle.unit_prop.specs.HintScan.{ScansTo};
-ghost use Rattle.strash_pass.specs.Coded.{asks_word, bit_of, AreCoded, AreMarks};
-ghost use Rattle.strash_pass.specs.Words.{AreCodedOn};
+ghost use Rattle.strash_pass.specs.Coded.{asks_word};
+ghost use Rattle.strash_pass.specs.Shapes.{name_at, AreStraight};
 
-use crate::coded::{Coded, marks_of};
+use crate::coded::Coded;
 use crate::marks::Marks;
-use lits::{Clause, Listed, Lit, Node, Ref, Step};
+use lits::{Clause, Listed, Lit, Ref, Step};
 use std::alloc::{AllocError, Global};
 
-/// The step that adds the clause of two literals over the clauses that the words stand for, by the hints of
-/// `unit_prop::scan`; none where a literal has no bit, or scanning comes to no end.
-///
-/// Scanning asks a dozen clauses of three literals a dozen times for each merge. As words of bits a clause
-/// is judged in a few instructions; with sets of literals that was half of the pass. The hints are put
-/// together in the list given, and the step has one of just their length: a list that grows and then gives room
-/// back asks for memory three times.
-pub fn step_by_words(
+/// The step of two literals, with the names of the clauses at these places as hints.
+pub fn step_at(
     alloc: Global,
-    nodes: &[Node],
     coded: &[Coded],
     one: Lit,
     other: Lit,
-    hints: &mut Vec<Ref>,
-) -> Result<Option<Step>, AllocError>
+    places: &[usize],
+) -> Result<Step, AllocError>
     requires clause { IsClause same_lit opposite (one ∷ other ∷ []) }
-    requires few { length nodes.now ≤ 32 }
-    ensures clause { IfOk result (λ r. IfSome r (λ s. s.clause ≡ one ∷ other ∷ [])) }
-    ensures scans { IfOk result (λ r. IfSome r (λ s. (base : List Named) → AreCodedOn nodes.now base coded.now
-        → ScansTo base (opposite one ∷ opposite other ∷ []) s.hints)) }
-{
-    let Some(marks) = marks_of(nodes, one, other) else {
-        return Ok(None);
-    };
-    if hints_from(coded, marks, hints)? {
-        Ok(Some(step_of(alloc, one, other, hints)?))
-    } else {
-        Ok(None)
-    }
-}
-
-/// The step of two literals and these hints.
-fn step_of(alloc: Global, one: Lit, other: Lit, hints: &[Ref]) -> Result<Step, AllocError>
-    requires clause { IsClause same_lit opposite (one ∷ other ∷ []) }
-    ensures { IfOk result (λ s. (s.clause ≡ one ∷ other ∷ []) × (s.hints ≡ hints.now)) }
+    requires inside { AllByRecursion (λ p. p < length coded.now) places.now }
+    ensures { IfOk result (λ s. (s.clause ≡ one ∷ other ∷ [])
+        × (s.hints ≡ map (name_at coded.now) places.now)) }
 {
     let clause = Clause::from_slice(alloc, &[one, other])?;
-    let hints = Listed::of(Vec::from_slice(alloc, hints)?);
+    let hints = Listed::of(names_at(alloc, coded, places)?);
     Ok(Step { clause, hints })
 }
 
-/// Takes the hints that scanning the clauses gives from the marks on, and tells whether it came to an end.
-fn hints_from(coded: &[Coded], marks: Marks, hints: &mut Vec<Ref>) -> Result<bool, AllocError>
-    ensures { IfOk result (λ b. b ≡ true
-        → (nodes : List Node) (base : List Named) (set : List Lit) → length nodes ≤ 32
-        → AreCoded (bit_of nodes) base coded.now → AreMarks (bit_of nodes) set marks
-        → ScansTo base set hints.new.items) }
+/// The names of the clauses at these places.
+fn names_at(alloc: Global, coded: &[Coded], places: &[usize]) -> Result<Vec<Ref>, AllocError>
+    requires { AllByRecursion (λ p. p < length coded.now) places.now }
+    ensures { IfOk result (λ v. v.items ≡ map (name_at coded.now) places.now) }
+{
+    let mut names = Vec::with_capacity(alloc, places.len())?;
+    for place in places {
+        names.push(coded[*place].by)?;
+    }
+    Ok(names)
+}
+
+/// Puts the places of the clauses that scanning from the marks on gives as hints last in a list of none, and
+/// tells whether it came to an end.
+///
+/// Scanning asks a dozen clauses of three literals a dozen times for each merge. As words of bits a clause
+/// is judged in a few instructions; with sets of literals that was half of the pass.
+pub fn places_from(words: &[u64], marks: Marks, places: &mut Vec<usize>) -> Result<bool, AllocError>
+    requires { places.old.items ≡ [] }
+    ensures { IfOk result (λ b. b ≡ true → AreStraight words.now marks places.new.items) }
 {
     let mut marks = marks;
-    hints.clear();
     for _ in 0..64 {
-        match first_asking(coded, marks) {
+        match first_asking(words, marks) {
             None => return Ok(false),
-            Some(clause) => {
-                hints.push(clause.by)?;
-                let open = marks.open(clause.word);
+            Some(place) => {
+                places.push(place)?;
+                let open = marks.open(words[place]);
                 if open == 0 {
                     return Ok(true);
                 }
@@ -81,9 +66,9 @@ fn hints_from(coded: &[Coded], marks: Marks, hints: &mut Vec<Ref>) -> Result<boo
     Ok(false)
 }
 
-/// The first clause that asks for a hint.
-fn first_asking(coded: &[Coded], marks: Marks) -> Option<&Coded>
-    ensures { option_copied result ≡ find (λ c. asks_word marks c.word) coded.now }
+/// The place of the first clause that asks for a hint.
+fn first_asking(words: &[u64], marks: Marks) -> Option<usize>
+    ensures { result ≡ position (asks_word marks) words.now }
 {
-    coded.iter().find(|clause| marks.asks(clause.word))
+    words.iter().position(|word| marks.asks(*word))
 }

@@ -5,7 +5,7 @@ ghost use Rattle.lemma_book.specs.Root.{IsRoot};
 ghost use Rattle.strash_pass.specs.Strash.{way_of};
 ghost use Rattle.strash_pass.specs.Pass.{IsTwin, Merges};
 
-use crate::codes::placed;
+use crate::codes::{placed, position_of};
 use crate::merged::Merged;
 use crate::visit::roots_of;
 use crate::ways::merge_twin;
@@ -42,6 +42,7 @@ pub fn merge_to_twin(
         left: placed(net, gate.left),
         right: placed(net, gate.right),
     };
+    let own = position_of(net, gate.node);
     let roots = roots_of(net, book, &merged, gate, fanins, &mut way)?;
     merge_twin(
         alloc,
@@ -50,6 +51,7 @@ pub fn merge_to_twin(
         &mut merged,
         words,
         gate,
+        own,
         twin,
         roots,
         &mut way,

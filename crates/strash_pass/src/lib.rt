@@ -14,6 +14,7 @@
 //!
 //! Definitions: `specs/Strash.antt` (what is left to merge, and what is merged to what), `specs/Pass.antt`
 //! (what the pass keeps), `specs/Coded.antt` (clauses as words of bits, by which `hints.rt` scans them),
+//! `specs/Shapes.antt` (what scanning found, by which a later merge of the same words isn't scanned),
 //! `specs/Words.antt` (those of a few nodes, which `words.rt` makes), `specs/Codes.antt` and
 //! `specs/Twins.antt` (literals as numbers, and the table of gates by two of them), `specs/Merged.antt` (a
 //! book's merges by the positions of their nodes).
@@ -34,6 +35,8 @@ mod merge;
 mod merged;
 mod pair;
 mod pass;
+mod shape;
+mod shapes;
 mod twins;
 mod visit;
 mod ways;

@@ -1,7 +1,7 @@
-ghost use Rattle.std.specs.Prelude.{◌≡◌, ◌≤◌, List, false, length, IfOk, IfSome, OnOk, OnErr};
+ghost use Rattle.std.specs.Prelude.{◌≡◌, ◌≤◌, Some, List, false, length, IfOk, IfSome, OnOk, OnErr};
 ghost use Rattle.lits.specs.Same.{same_node, opposite};
 ghost use Rattle.lits.specs.declared.step.Named.{Named};
-ghost use Rattle.netlist.specs.Net.{IsNet};
+ghost use Rattle.netlist.specs.Net.{IsNet, position_of};
 ghost use Rattle.netlist.specs.Miter.{positive, negative};
 ghost use Rattle.unit_prop.specs.HintScan.{IsNamed};
 ghost use Rattle.unit_prop.specs.Log.{base_clauses};
@@ -15,18 +15,19 @@ ghost use Rattle.strash_pass.specs.Strash.{AreScanned};
 ghost use Rattle.strash_pass.specs.Words.{AreCodedOn};
 ghost use Rattle.strash_pass.specs.Pass.{ShowsMerge, ShowsOver, Merges, AreNotXors};
 
-use crate::coded::Coded;
+use crate::coded::{Coded, marks_of};
 use crate::codes::position_of;
-use crate::hints::step_by_words;
+use crate::hints::step_at;
 use crate::merged::{Known, Merged};
+use crate::shapes::Shapes;
 use crate::words::Words;
 use lemma_book::{Book, Entry};
-use lits::{Listed, Lit, Literal, Named, Node, Ref, Step};
+use lits::{Listed, Lit, Literal, Named, Node, Step};
 use netlist::Net;
 use std::alloc::{AllocError, Global};
 use unit_prop::scanned_step;
 
-/// Merges a node to a literal of an earlier one, by two steps over the clauses of the nodes on the way alone.
+/// Merges a node, which stands at a position, to a literal of an earlier one, by two steps over the clauses of the nodes on the way alone.
 /// Their literals are over these nodes and those of the others.
 ///
 /// Over the whole cone of the node, hints would run down to the inputs, and the proof of a circuit
@@ -38,11 +39,13 @@ pub fn merge(
     merged: &mut Merged,
     words: &mut Words,
     node: Node,
+    own: u32,
     target: Lit,
     way: &[Lit],
     others: &[Lit],
 ) -> Result<(), AllocError>
     requires net { IsNet net.now }
+    requires own { position_of net.now node ≡ Some own }
     requires legal { IsLegal net.now book.old }
     requires merged { AreMergesOf net.now book.old.entries merged.old }
     requires there { AreThere net.now way.now }
@@ -57,7 +60,7 @@ pub fn merge(
     ensures err { OnErr result (book.new ≡ book.old) }
 {
     let steps = steps_of(alloc, net, book, merged, words, node, target, way, others)?;
-    put(alloc, net, book, merged, node, target, steps)
+    put(alloc, net, book, merged, node, own, target, steps)
 }
 
 /// The steps that show the two clauses of the merge.
@@ -114,24 +117,24 @@ fn steps_by_words(
             alloc,
             &words.nodes,
             &words.coded,
+            &mut words.shapes,
             node,
             target,
-            &mut words.hints,
         )
     } else {
         Ok(None)
     }
 }
 
-/// The steps that show the two clauses of the merge from the clauses that the words stand for; none where
-/// scanning comes to no end.
+/// The steps that show the two clauses of the merge from the clauses that the words stand for, by the hints of
+/// `unit_prop::scan`; none where scanning comes to no end.
 fn both_by_words(
     alloc: Global,
     nodes: &[Node],
     coded: &[Coded],
+    shapes: &mut Shapes,
     node: Node,
     target: Lit,
-    hints: &mut Vec<Ref>,
 ) -> Result<Option<Vec<Step>>, AllocError>
     requires few { length nodes.now ≤ 32 }
     requires apart { same_node target.node node ≡ false }
@@ -139,15 +142,18 @@ fn both_by_words(
         → AreScanned base node target v.items)) }
 {
     let lit = Lit { node, neg: false };
-    let Some(below) = step_by_words(alloc, nodes, coded, lit.not(), target, hints)? else {
+    let Some(below) = marks_of(nodes, lit.not(), target) else {
         return Ok(None);
     };
-    let Some(above) = step_by_words(alloc, nodes, coded, lit, target.not(), hints)? else {
+    let Some(above) = marks_of(nodes, lit, target.not()) else {
+        return Ok(None);
+    };
+    let Some(shape) = shapes.shape_of(alloc, coded, below, above)? else {
         return Ok(None);
     };
     let mut steps = Vec::with_capacity(alloc, 2)?;
-    steps.push(below)?;
-    steps.push(above)?;
+    steps.push(step_at(alloc, coded, lit.not(), target, shape.first())?)?;
+    steps.push(step_at(alloc, coded, lit, target.not(), shape.second())?)?;
     Ok(Some(steps))
 }
 
@@ -199,9 +205,11 @@ fn put(
     book: &mut Book,
     merged: &mut Merged,
     node: Node,
+    own: u32,
     target: Lit,
     steps: Vec<Step>,
 ) -> Result<(), AllocError>
+    requires own { position_of net.now node ≡ Some own }
     requires legal { IsLegal net.now book.old }
     requires merged { AreMergesOf net.now book.old.entries merged.old }
     requires placed { ArePlaced net.now node target }
@@ -212,7 +220,6 @@ fn put(
     ensures merged { OnOk result (AreMergesOf net.now book.new.entries merged.new) }
     ensures err { OnErr result (book.new ≡ book.old) }
 {
-    let own = position_of(net, node);
     let at = position_of(net, target.node);
     let entry = Entry::Merge {
         node,

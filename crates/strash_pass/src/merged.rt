@@ -140,11 +140,16 @@ impl Merged {
     }
 }
 
-/// The merge of a node in the book, if it is merged.
+/// The merge of a node in the book, if it is merged. A pass over a new book asks this once for each node, so one
+/// of no entries is asked for none.
+#[tactic(auto, using(crate::proofs::MergedLemmas::none_merged))]
 fn merge_in(net: &Net, book: &Book, node: Node) -> Option<Known>
     requires legal { IsLegal net.now book.now }
     ensures { IsMergeOf net.now book.now.entries node result }
 {
+    if book.len() == 0 {
+        return None;
+    }
     let place = book.place_on(Subject::Merged(node))?;
     match book.entry(place) {
         Some(Entry::Merge { lit, .. }) => Some(known_at(net, book, node, place, *lit)),

@@ -6,7 +6,7 @@ ghost use Rattle.lemma_book.specs.Root.{passed_by};
 ghost use Rattle.strash_pass.specs.Merged.{AreMergesOf, IsRootAt};
 ghost use Rattle.strash_pass.specs.Strash.{AddsStructural};
 
-use crate::codes::{code_of, fanins_at, position_of};
+use crate::codes::{code_of, fanins_at, gate_position};
 use crate::fold::folded;
 use crate::merged::Merged;
 use crate::pair::Pair;
@@ -81,7 +81,7 @@ impl Pass {
         ensures visited { self.new.visited ≡ self.old.visited }
         ensures err { OnErr result (book.new ≡ book.old) }
     {
-        let at = position_of(net, gate.node);
+        let at = gate_position(net, self.visited as u32);
         if self.merged.is_merged(net, book, gate.node, at) {
             return Ok(());
         }
@@ -96,6 +96,7 @@ impl Pass {
                     &mut self.merged,
                     &mut self.words,
                     gate,
+                    at,
                     roots,
                     target,
                     &mut self.way,
@@ -110,6 +111,7 @@ impl Pass {
                         &mut self.merged,
                         &mut self.words,
                         gate,
+                        at,
                         twin,
                         roots,
                         &mut self.way,

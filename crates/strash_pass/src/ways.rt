@@ -1,5 +1,5 @@
 ghost use Rattle.std.specs.Prelude.{◌≡◌, ◌++◌, Some, OnOk, OnErr};
-ghost use Rattle.netlist.specs.Net.{IsNet};
+ghost use Rattle.netlist.specs.Net.{IsNet, position_of};
 ghost use Rattle.netlist.specs.Miter.{positive};
 ghost use Rattle.lemma_book.specs.Book.{IsLegal};
 ghost use Rattle.strash_pass.specs.Merged.{AreMergesOf, IsRootAt};
@@ -25,6 +25,7 @@ pub fn merge_folded(
     merged: &mut Merged,
     words: &mut Words,
     gate: Definition,
+    own: u32,
     roots: Pair,
     target: Lit,
     way: &mut Vec<Lit>,
@@ -33,6 +34,7 @@ pub fn merge_folded(
     requires legal { IsLegal net.now book.old }
     requires merged { AreMergesOf net.now book.old.entries merged.old }
     requires gate { HasGate net.now gate }
+    requires own { position_of net.now gate.node ≡ Some own }
     requires way { IsWay net.now book.old.entries way.old.items gate }
     requires left { IsRootAt net.now book.old.entries gate.left roots.left }
     requires right { IsRootAt net.now book.old.entries gate.right roots.right }
@@ -46,7 +48,7 @@ pub fn merge_folded(
     with_constant(way, roots.left.lit, roots.right.lit, target)?;
     let others = [roots.left.lit, roots.right.lit];
     merge(
-        alloc, net, book, merged, words, gate.node, target, way, &others,
+        alloc, net, book, merged, words, gate.node, own, target, way, &others,
     )
 }
 
@@ -72,6 +74,7 @@ pub fn merge_twin(
     merged: &mut Merged,
     words: &mut Words,
     gate: Definition,
+    own: u32,
     twin: Definition,
     roots: Pair,
     way: &mut Vec<Lit>,
@@ -81,6 +84,7 @@ pub fn merge_twin(
     requires merged { AreMergesOf net.now book.old.entries merged.old }
     requires way { IsWay net.now book.old.entries way.old.items gate }
     requires twin { IsTwin net.now book.old.entries twin gate }
+    requires own { position_of net.now gate.node ≡ Some own }
     ensures legal { IsLegal net.now book.new }
     ensures ok { OnOk result (Merges net.now book.old book.new
         (way.old.items ++ way_of book.old.entries twin) gate.node (positive twin.node)) }
@@ -102,6 +106,6 @@ pub fn merge_twin(
     )?;
     let others = [roots.left.lit, roots.right.lit];
     merge(
-        alloc, net, book, merged, words, gate.node, target, way, &others,
+        alloc, net, book, merged, words, gate.node, own, target, way, &others,
     )
 }

@@ -40,3 +40,7 @@ returns-clause-ok c =
     (λ m. subst (λ (l : List Lit). Merges c.args.net.now c.args.book.now c.merge_twin.new.book (l ++ way_of es c.args.twin) c.args.gate.node
     (positive c.args.twin.node)) c.in_ok-roots.ensures.way m)
     c.merge_twin.ensures.ok
+
+pub position_of-own-requires : goal.position_of-own-requires
+position_of-own-requires c =
+    ap is_some (is-gate c.args.net.now c.is_net.ensures c.requires.twin.second c.args.gate c.requires.twin.at_second).node

@@ -22,7 +22,7 @@ returns-in-Ok-clause-ok c =
 pub returns-in-Ok-clause-merged : goal.returns-in-Ok-clause-merged
 returns-in-Ok-clause-merged c =
     merges-noted c.args.net.now c.args.book.now.entries c.append.new.self.entries c.args.merged.now c.note.new.self c.args.node c.args.target
-    c.of.result (record { place = c.len-place.result; target = c.args.target; at = c.position_of-at.result }) c.position_of-own.result
-    c.position_of-own.ensures c.position_of-at.ensures refl c.len-place.ensures c.requires.unmerged
+    c.of.result (record { place = c.len-place.result; target = c.args.target; at = c.position_of-at.result }) c.args.own
+    c.requires.own c.position_of-at.ensures refl c.len-place.ensures c.requires.unmerged
     (ap (λ b. b.entries) (put-last c.args.net.now c.args.book.now c.args.node c.args.target c.requires.unmerged c.of.result c.append.new.self
     c.in-Ok.ensures.after)) c.requires.merged c.note.ensures

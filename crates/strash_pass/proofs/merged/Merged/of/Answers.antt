@@ -1,5 +1,5 @@
 -- The merge of one more node.
-use Rattle.std.proofs.Common.{◌∙◌, [], ◌∷◌, ap, sym, subst, length, length-append, arith}
+use Rattle.std.proofs.Common.{[], ◌∷◌, ap, sym, subst, length, length-append, arith}
 use Rattle.lits.specs.declared.node.Node.{Node}
 use Rattle.strash_pass.specs.Merged.{IsMergeOf}
 use Rattle.strash_pass.proofs.MergedLemmas.{merges-last, merges-none}

@@ -1,5 +1,5 @@
 -- A merged literal leads to its target, which is the root unless it is merged too.
-use Rattle.std.proofs.Common.{◌≡◌, ◌∙◌, ◌++◌, [], ◌∷◌, List, None, ap, sym}
+use Rattle.std.proofs.Common.{◌≡◌, ◌∙◌, ◌++◌, List, None, ap, sym}
 use Rattle.std.specs.Option.{is_some}
 use Rattle.lits.specs.declared.literal.Lit.{Lit}
 use Rattle.netlist.specs.Net.{position_of}

@@ -1,8 +1,10 @@
 -- The gate merges, or it is noted.
 use Rattle.std.proofs.Common.{◌∙◌, [], List, Option, ap, sym, subst, arith}
-use Rattle.std.specs.Prelude.{IfSome, is_some}
+use Rattle.std.specs.Prelude.{IfSome}
 use Rattle.netlist.specs.declared.gate.Definition.{Definition}
 use Rattle.std.proofs.lemmas.Result.{on_ok_weaker}
+use Rattle.std.proofs.lemmas.Option.{slice_get_within}
+use Rattle.netlist.specs.Net.{definitions}
 use Rattle.lits.specs.declared.literal.Lit.{Lit}
 use Rattle.netlist.specs.Miter.{positive}
 use Rattle.lemma_book.specs.Root.{merge_of, root_of}
@@ -24,8 +26,8 @@ returns-then-is_merged-clause-pass c =
 pub returns-then-is_merged-clause-grows : goal.returns-then-is_merged-clause-grows
 returns-then-is_merged-clause-grows c = adds-none _ _ _ _ (omega arith)
 
-pub position_of-at-requires : goal.position_of-at-requires
-position_of-at-requires c = ap is_some (is-gate c.args.net.now c.requires.net c.args.self.now.visited c.args.gate c.requires.gate).node
+pub gate_position-at-requires-clause-gate : goal.gate_position-at-requires-clause-gate
+gate_position-at-requires-clause-gate c = slice_get_within (definitions c.args.net.now) c.args.self.now.visited c.args.gate c.requires.gate
 
 pub overflow_cast-self : goal.overflow_cast-self
 overflow_cast-self c = omega (arith, few-gates c.args.net.now c.requires.net c.args.self.now.visited c.args.gate c.requires.gate)
@@ -103,3 +105,6 @@ merge_twin-requires-clause-merged c =
 pub returns-in-None-2-clause-merged : goal.returns-in-None-2-clause-merged
 returns-in-None-2-clause-merged c =
     subst (λ (m : List (Option Known)). AreMergesOf c.args.net.now c.args.book.now.entries m) (sym c.twin.ensures.merged) c.requires.merged
+
+pub overflow_cast-self-2 : goal.overflow_cast-self-2
+overflow_cast-self-2 c = omega (arith, few-gates c.args.net.now c.requires.net c.args.self.now.visited c.args.gate c.requires.gate)

@@ -1,8 +1,6 @@
 -- What was noted with the roots' codes is a twin; else the gate is noted with them.
 use Rattle.std.proofs.Common.{◌∙◌, ◌+◌, ◌<◌, ℕ, length, ap, sym, subst, arith}
-use Rattle.std.specs.Option.{is_some}
-use Rattle.lits.specs.declared.literal.Lit.{Lit}
-use Rattle.netlist.specs.Net.{nodes_of, node_at, defined_by, position_of}
+use Rattle.netlist.specs.Net.{nodes_of, node_at, defined_by}
 use Rattle.strash_pass.specs.Twins.{Table, IsTwinOrNoted}
 use Rattle.strash_pass.specs.Pass.{IsPass}
 use Rattle.strash_pass.proofs.CodeLemmas.{code-within, coded-at, position-small}
