@@ -37,7 +37,7 @@ use Rattle.lemma_book.specs.Root.{merge_of, passed_by, root_of, IsRoot}
 use Rattle.lemma_book.proofs.Facts.{good-out, root-opposite, is_some-variable, apart-lits, on-named, HasItsName, takes-axioms, covers-opposite, passed-there, together, covers-left, covers-right, covers-self}
 use Rattle.lemma_book.proofs.Facts.{xor-there, xor-variable, xor-unmerged, output-no_xor, xor-definition, xor-axioms_are}
 use Rattle.lemma_book.proofs.Facts.{output-unsettled}
-use Rattle.equal_outputs.specs.EqualRoots.{with_first, AreShown, HaveOtherRoots, IsUnsettled, IsWayTo, Shows}
+use Rattle.equal_outputs.specs.EqualRoots.{with_first, AreShown, HaveOneRoot, HaveOtherRoots, IsUnsettled, IsWayTo, Shows}
 use Rattle.equal_outputs.proofs.XorPropagation.{xor-other, xor-same}
 
 module _ (net : AigPair) (book : Entries) (j : ℕ) (asks : IsUnsettled net book j) where
@@ -233,6 +233,12 @@ module _ (net : AigPair) (book : Entries) (j : ℕ) (asks : IsUnsettled net book
       let on_a : p ≡ d.left = same_Some p (output_lit net A j) (sym e ∙ output_of-below net asks.net_is A j asks.below) ∙ sym left-is in
       let on_b : q ≡ d.right = same_Some q (output_lit net B j) (sym f ∙ output_of-below net asks.net_is B j asks.below) ∙ sym right-is in
       differ (left ∙ (ap (root_of book.entries) (sym on_a) ∙ (same ∙ (ap (root_of book.entries) on_b ∙ sym right))))
+
+  pub one-root : l ≡ r → HaveOneRoot net book.entries j
+  one-root same p q e f =
+      let on_a : p ≡ d.left = same_Some p (output_lit net A j) (sym e ∙ output_of-below net asks.net_is A j asks.below) ∙ sym left-is in
+      let on_b : q ≡ d.right = same_Some q (output_lit net B j) (sym f ∙ output_of-below net asks.net_is B j asks.below) ∙ sym right-is in
+      ap (root_of book.entries) on_a ∙ (sym left ∙ (same ∙ (right ∙ ap (root_of book.entries) (sym on_b))))
 
   module _ (lits : List Lit) (are : lits ≡ ((positive (Xor j) ∷ []) ++ passed_by book.entries d.left) ++ passed_by book.entries d.right) where
     lits-way : lits ≡ way net book j asks

@@ -41,6 +41,12 @@ HaveOtherRoots net entries j =
     (a b : Lit) → output_of net A j ≡ Some a → output_of net B j ≡ Some b
     → root_of entries a ≢ root_of entries b
 
+-- they are one
+abbrev pub HaveOneRoot : AigPair → List Entry → ℕ → Type 0
+HaveOneRoot net entries j =
+    (a b : Lit) → output_of net A j ≡ Some a → output_of net B j ≡ Some b
+    → root_of entries a ≡ root_of entries b
+
 -- unit propagation over the clauses shows the clause: its literals' negations clash with them
 abbrev pub Shows : List (List Lit) → List Lit → Type 0
 Shows clauses clause = ¬ IsOpen same_lit opposite clauses (map opposite clause)

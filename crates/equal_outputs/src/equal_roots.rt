@@ -2,7 +2,7 @@ ghost use Rattle.std.specs.Prelude.{◌≡◌, ◌<◌, None, [], ◌∷◌, ◌
 ghost use Rattle.lemma_book.specs.Book.{IsLegal};
 ghost use Rattle.lemma_book.specs.Entry.{about};
 ghost use Rattle.lemma_book.specs.Good.{IsGood};
-ghost use Rattle.equal_outputs.specs.EqualRoots.{AreShown, HasFewSteps, HaveOtherRoots, IsOutOf, IsUnsettled, IsWayTo};
+ghost use Rattle.equal_outputs.specs.EqualRoots.{AreShown, HasFewSteps, HaveOneRoot, HaveOtherRoots, IsOutOf, IsUnsettled, IsWayTo};
 
 use lemma_book::{Book, Entry};
 use lits::{Clause, Listed, Lit, Literal, Named, Node, Ref, Step};
@@ -28,6 +28,7 @@ pub fn equal_output(
     ensures good { IfOk result (λ o. IfSome o (IsGood net.now seen.now)) }
     ensures few { IfOk result (λ o. IfSome o HasFewSteps) }
     ensures apart { IfOk result (λ o. IfNone o (HaveOtherRoots net.now seen.now.entries j)) }
+    ensures together { IfOk result (λ o. IfSome o (λ e. HaveOneRoot net.now seen.now.entries j)) }
 {
     laws::is_net(net);
     entry_of_equal_roots(alloc, net, seen, j)
@@ -45,6 +46,7 @@ fn entry_of_equal_roots(
     ensures good { IfOk result (λ o. IfSome o (IsGood net.now seen.now)) }
     ensures few { IfOk result (λ o. IfSome o HasFewSteps) }
     ensures apart { IfOk result (λ o. IfNone o (HaveOtherRoots net.now seen.now.entries j)) }
+    ensures together { IfOk result (λ o. IfSome o (λ e. HaveOneRoot net.now seen.now.entries j)) }
 {
     let differs = Lit {
         node: Node::Xor(j),

@@ -6,7 +6,7 @@ use Rattle.lits.specs.declared.step.Step.{Step}
 use Rattle.netlist.specs.Miter.{positive}
 use Rattle.lemma_book.specs.Root.{passed_by}
 use Rattle.equal_outputs.specs.EqualRoots.{AreShown}
-use Rattle.equal_outputs.proofs.EqualRootsLemmas.{equal-lits, few-shown, other-lits, other-roots, lits-there, lits-way_to, lits-settle}
+use Rattle.equal_outputs.proofs.EqualRootsLemmas.{equal-lits, few-shown, other-lits, one-root, other-roots, lits-there, lits-way_to, lits-settle}
 use Rattle.equal_outputs.proofs.equal_roots.entry_of_equal_roots.Goals as goal
 
 pub returns-then-ne-clause-apart : goal.returns-then-ne-clause-apart
@@ -61,3 +61,9 @@ pub returns-clause-few : goal.returns-clause-few
 returns-clause-few c =
     subst (λ (l : List Step). length l ≤ 2) (sym c.of.ensures)
     (few-shown c.in_ok-base.base.items c.not.result c.in-Some.definition.left c.in_ok-steps.steps.items c.in_ok-steps.ensures)
+
+pub returns-clause-together : goal.returns-clause-together
+returns-clause-together c =
+    one-root c.args.net.now c.args.seen.now c.args.j c.requires c.in-Some.definition (sym c.definition.ensures ∙ c.in-Some.is)
+    c.in_ok-left.left c.in_ok-right.right c.in_ok-left.ensures.root c.in_ok-right.ensures.root
+    (equal-lits c.in_ok-left.left c.in_ok-right.right c.ne.result c.ne.ensures c.if-ne.false)
