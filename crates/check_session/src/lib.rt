@@ -4,8 +4,9 @@
 //! the book of the last one, and with its patterns (`begin`), and sweeps in the way of FRAIGs (Kuehlmann et
 //! al. 2002; Mishchenko, Chatterjee, Jiang and Brayton 2005). A pattern may tell an output apart at once
 //! (`patterns`). Else `strash_pass` merges what the structure alone shows to be equal. Behind that a sieve of
-//! many more patterns is looked through, for outputs that the structure leaves open: one that tells an output
-//! apart joins the patterns, and the check ends as if it had been there. Else workers settle first the
+//! many more patterns is looked through, for outputs that the structure leaves open, and then inputs that give
+//! gates a value that they rarely have (`rare`): one that tells an output apart joins the patterns, and the
+//! check ends as if it had been there. Else workers settle first the
 //! candidates that simulation leaves, from the inputs up, and then the outputs (`sweep`, by `sweep_workers`).
 //! The workers last for the whole check: each has a search, a solver and their memory. They share the sieve.
 //!
@@ -41,6 +42,7 @@ mod laws;
 mod miter_text;
 mod options;
 mod patterns;
+mod rare;
 mod reduction;
 mod session;
 mod sweep;

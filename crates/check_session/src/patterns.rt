@@ -1,6 +1,7 @@
 ghost use Rattle.std.specs.Prelude.{◌≡◌, ◌≤◌, ◌<◌, ◌*◌, ◌&&◌, Some, [], length, Bool, List, IfOk, IfSome, OnOk, MatchOption, bit_and, bit_xor};
 ghost use Rattle.std.specs.List.{slice_index_or};
 ghost use Rattle.lits.specs.declared.literal.Lit.{Lit};
+ghost use Rattle.lemma_book.specs.Book.{IsLegal};
 ghost use Rattle.netlist.specs.Net.{differs, nodes_of, output_of};
 ghost use Rattle.word_sim.specs.Patterns.{is_set, part_from, words_of};
 ghost use Rattle.word_sim.specs.Rows.{AreSignatures, IsRow, mask_of};
@@ -9,6 +10,7 @@ ghost use Rattle.check_session.specs.Blocks.{IsFirstIn, lesser};
 ghost use Rattle.check_session.specs.Pool.{Extends, HasBitsFor, HasBitsOf, IsAmongOrJoins, IsFirstApart, IsFirstOf, MayJoin, NoneApart, admits, bit_of, tells_apart};
 
 use crate::admitted::admitted_row;
+use crate::rare::rare_difference;
 use circuit_search::Sieve;
 use lemma_book::Book;
 use lits::{Listed, Side};
@@ -26,8 +28,8 @@ pub(crate) struct Difference {
     pub(crate) input: Listed<bool>,
 }
 
-/// The least output that a pattern of the sieve's own tells apart, which then joins the pool, with that
-/// pattern. None of the pool's tells one apart.
+/// The least output that a pattern tells apart which isn't in the pool, and then joins it, with that pattern: one
+/// of the sieve's own, else one that gives a rare gate its other value. None of the pool's tells one apart.
 pub(crate) fn own_difference(
     alloc: Global,
     net: &Net,
@@ -35,6 +37,7 @@ pub(crate) fn own_difference(
     sieve: &mut Sieve,
     pool: &mut Pool,
 ) -> Result<Option<Difference>, AllocError>
+    requires legal { IsLegal net.now book.now }
     requires fits { IsPoolFor net.now pool.old }
     requires none { NoneApart net.now pool.old.patterns }
     ensures fits { OnOk result (IsPoolFor net.now pool.new) }
@@ -43,15 +46,32 @@ pub(crate) fn own_difference(
     ensures from { IfOk result
         (λ d. IfSome d (λ x. IsAmongOrJoins net.now pool.old.patterns pool.new.patterns x.input)) }
 {
-    let Some(input) = sieve.difference(alloc, net, book)? else {
+    let Some(input) = own_input(alloc, net, book, sieve, pool)? else {
         return Ok(None);
     };
     join(pool, input.as_slice())?;
     difference_in(alloc, net, pool)
 }
 
+/// An input that isn't in the pool and on which an output seems to differ.
+fn own_input(
+    alloc: Global,
+    net: &Net,
+    book: &Book,
+    sieve: &mut Sieve,
+    pool: &Pool,
+) -> Result<Option<Vec<bool>>, AllocError>
+    requires legal { IsLegal net.now book.now }
+    requires fits { IsPoolFor net.now pool.now }
+{
+    match sieve.difference(alloc, net, book)? {
+        Some(input) => Ok(Some(input)),
+        None => rare_difference(alloc, net, book, pool),
+    }
+}
+
 /// Lets a pattern join the pool, if it has a truth value for each input.
-fn join(pool: &mut Pool, input: &[bool]) -> Result<(), AllocError>
+pub(crate) fn join(pool: &mut Pool, input: &[bool]) -> Result<(), AllocError>
     ensures { OnOk result (MayJoin input.now pool.old pool.new) }
 {
     if input.len() == pool.inputs() as usize {
