@@ -11,6 +11,11 @@ use Rattle.cec_top.specs.declared.stats.Times.{Times}
 unfoldable pub count_line : List ℕ → ℕ → List ℕ
 count_line name n = codes "cec: " ++ name ++ codes " " ++ decimal n ++ codes "\n"
 
+-- the line of a number, which isn't there where the number isn't known
+abbrev pub known_line : List ℕ → Option ℕ → List ℕ
+known_line name None = []
+known_line name (Some n) = count_line name n
+
 -- the line of a time that is given in thousandths of a second: its seconds, with three decimals
 unfoldable pub seconds_line : List ℕ → ℕ → List ℕ
 seconds_line name n =
@@ -36,11 +41,12 @@ merges_text c =
     ++ count_line (codes "kept") c.kept ++ count_line (codes "merges_by_structure") c.by_structure
     ++ count_line (codes "merges_by_search") c.by_search ++ count_line (codes "merges_by_cone") c.by_cone
 
--- and what wasn't
+-- and what wasn't, and what all of it took
 unfoldable pub others_text : Counts → List ℕ
 others_text c =
     count_line (codes "pairs_apart") c.apart ++ count_line (codes "pairs_open") c.open_pairs
-    ++ count_line (codes "outputs_open") c.open_outputs ++ count_line (codes "steps") c.steps
+    ++ count_line (codes "outputs_open") c.open_outputs ++ count_line (codes "conflicts") c.conflicts
+    ++ count_line (codes "steps") c.steps
 
 -- how long its parts took
 unfoldable pub parts_text : Times → List ℕ
@@ -54,10 +60,12 @@ times_text t =
     time_line (codes "seconds_reading") t.reading ++ time_line (codes "seconds_check") t.checking ++ parts_text t
     ++ time_line (codes "seconds_files") t.telling
 
--- The lines of a check's statistics: these names in this order, each with its number, but for times that aren't known. Nothing is
--- claimed of the numbers: they are what the program counted.
+-- The lines of a check's statistics: these names in this order, each with its number, but for the lines of a proof that wasn't
+-- written and times that aren't known. Nothing is claimed of the numbers: they are what the program counted.
 abbrev pub stats_text : Numbers → List ℕ
-stats_text n = sizes_text n.sizes ++ merges_text n.counts ++ others_text n.counts ++ times_text n.times
+stats_text n =
+    sizes_text n.sizes ++ merges_text n.counts ++ others_text n.counts ++ known_line (codes "proof_lines") n.proof_lines
+    ++ times_text n.times
 
 -- The statistics of a check are warned, if they are asked for; where the warning failed, a first part of them, and nothing where
 -- memory ran out for them. Without being asked for, nothing is warned.

@@ -45,7 +45,16 @@ pub(crate) fn check<D: Desk, G: Gate + Sync>(
     let verdict = settle(rt, alloc, desk, &watched, session, wants.progress)?;
     let checked = look(rt, wants.stats);
     let parts = watched.parts();
-    match tell(alloc, desk, session, &verdict, wants, number) {
+    let mut proof_lines = None;
+    match tell(
+        alloc,
+        desk,
+        session,
+        &verdict,
+        wants,
+        number,
+        &mut proof_lines,
+    ) {
         Ok(status) => {
             let marks = Marks {
                 begun: if number == 0 { wants.begun } else { None },
@@ -53,6 +62,7 @@ pub(crate) fn check<D: Desk, G: Gate + Sync>(
                 checked,
                 told: look(rt, wants.stats),
                 parts,
+                proof_lines,
             };
             report(alloc, desk, session, wants.stats, marks);
             Ok(status)
@@ -68,7 +78,8 @@ pub(crate) fn check<D: Desk, G: Gate + Sync>(
 }
 
 /// Leaves the files of the session's last check, which has this number, if there is a prefix for them, and its
-/// witness, if one is wanted, and says its verdict. What a verdict speaks of stands before it is said.
+/// witness, if one is wanted, and says its verdict. What a verdict speaks of stands before it is said. The lines of
+/// the proof are noted for whoever asks for them; nothing is claimed of them.
 fn tell<D: Desk>(
     alloc: Global,
     desk: &mut D,
@@ -76,6 +87,7 @@ fn tell<D: Desk>(
     verdict: &Verdict,
     wants: Wants<'_>,
     number: u64,
+    proof_lines: &mut Option<u64>,
 ) -> Result<Status, Stop>
     requires started { (D.state desk.old).started ≡ None }
     requires found { session.now.found ≡ Some (finding_of verdict.now) }
@@ -83,7 +95,15 @@ fn tell<D: Desk>(
     ensures { (due : Due) → SaysStatus (wanted_in wants.entry) number
         (made_in due session.now verdict.now) (D.state desk.old) (D.state desk.new) result }
 {
-    let text = leave_files(alloc, desk, session, verdict, wants.out, number)?;
+    let text = leave_files(
+        alloc,
+        desk,
+        session,
+        verdict,
+        wants.out,
+        number,
+        proof_lines,
+    )?;
     leave_witness(alloc, desk, session.net(), verdict, wants.witness)?;
     say(desk, text.as_slice())?;
     Ok(status_of(verdict))
@@ -98,6 +118,7 @@ fn leave_files<D: Desk>(
     verdict: &Verdict,
     out: Option<&str>,
     number: u64,
+    proof_lines: &mut Option<u64>,
 ) -> Result<Vec<u8>, Stop>
     requires started { (D.state desk.old).started ≡ None }
     requires found { session.now.found ≡ Some (finding_of verdict.now) }
@@ -108,10 +129,16 @@ fn leave_files<D: Desk>(
 {
     match out {
         None => Ok(plain_text(alloc, verdict)?),
-        Some(prefix) => match session.write(alloc, desk, prefix, number) {
-            Ok(spans) => Ok(text_with_lines(alloc, spans.as_slice(), verdict)?),
-            Err(fault) => Err(stop_of(fault)),
-        },
+        Some(prefix) => {
+            let mut lines = 0;
+            match session.write_counted(alloc, desk, prefix, number, &mut lines) {
+                Ok(spans) => {
+                    *proof_lines = Some(lines);
+                    Ok(text_with_lines(alloc, spans.as_slice(), verdict)?)
+                }
+                Err(fault) => Err(stop_of(fault)),
+            }
+        }
     }
 }
 

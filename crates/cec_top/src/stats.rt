@@ -1,7 +1,7 @@
 //! The statistics of a check, which are warned behind its verdict where they are asked for.
 ghost use Rattle.std.specs.Prelude.{◌≡◌, ◌⊎◌, ◌++◌, true, decimal, IfOk, OnOk};
 ghost use Rattle.endings.specs.Stops.{IsWarned};
-ghost use Rattle.cec_top.specs.Stats.{Reports, count_line, merges_text, others_text, parts_text, seconds_line, sizes_text, stats_text, time_line, times_text};
+ghost use Rattle.cec_top.specs.Stats.{Reports, count_line, known_line, merges_text, others_text, parts_text, seconds_line, sizes_text, stats_text, time_line, times_text};
 
 use crate::watched::Parts;
 use check_session::{Counts, Session};
@@ -43,10 +43,12 @@ pub(crate) struct Times {
 pub(crate) struct Numbers {
     pub(crate) sizes: Sizes,
     pub(crate) counts: Counts,
+    /// The lines of the proof, where one was written.
+    pub(crate) proof_lines: Option<u64>,
     pub(crate) times: Times,
 }
 
-/// What the clock showed around the parts of a check, where it was looked at.
+/// What the clock showed around the parts of a check, where it was looked at, and what they told.
 #[derive(Clone, Copy)]
 pub(crate) struct Marks {
     pub(crate) begun: Option<Instant>,
@@ -55,6 +57,8 @@ pub(crate) struct Marks {
     pub(crate) told: Option<Instant>,
     /// What the check told of its parts.
     pub(crate) parts: Parts,
+    /// The lines of the proof, where one was written.
+    pub(crate) proof_lines: Option<u64>,
 }
 
 /// What the clock shows, where it is to be looked at and can be.
@@ -100,6 +104,7 @@ fn report_numbers<D: Desk>(alloc: Global, desk: &mut D, session: &Session, marks
             let numbers = Numbers {
                 sizes,
                 counts: session.counts(),
+                proof_lines: marks.proof_lines,
                 times: times_of(marks),
             };
             warn_numbers(alloc, desk, numbers)
@@ -193,6 +198,7 @@ fn stats_text(alloc: Global, numbers: Numbers) -> Result<Vec<u8>, AllocError>
     push_sizes(&mut text, numbers.sizes)?;
     push_merges(&mut text, numbers.counts)?;
     push_others(&mut text, numbers.counts)?;
+    push_known(&mut text, b"proof_lines", numbers.proof_lines)?;
     push_times(&mut text, numbers.times)?;
     Ok(text)
 }
@@ -228,6 +234,7 @@ fn push_others(text: &mut Vec<u8>, counts: Counts) -> Result<(), AllocError>
     push_count(text, b"pairs_apart", counts.apart)?;
     push_count(text, b"pairs_open", counts.open_pairs)?;
     push_count(text, b"outputs_open", counts.open_outputs)?;
+    push_count(text, b"conflicts", counts.conflicts)?;
     push_count(text, b"steps", counts.steps)?;
     Ok(())
 }
@@ -261,6 +268,16 @@ fn push_count(text: &mut Vec<u8>, name: &[u8], number: u64) -> Result<(), AllocE
     text.extend_from_slice(b" ")?;
     push_decimal(text, number)?;
     text.extend_from_slice(b"\n")
+}
+
+/// Appends the line of a number, if it is known.
+fn push_known(text: &mut Vec<u8>, name: &[u8], number: Option<u64>) -> Result<(), AllocError>
+    ensures { OnOk result (text.new.items ≡ text.old.items ++ known_line name.now number) }
+{
+    match number {
+        Some(number) => push_count(text, name, number),
+        None => Ok(()),
+    }
 }
 
 /// Appends the line of a time, if it is known.

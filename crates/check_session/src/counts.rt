@@ -23,6 +23,8 @@ pub struct Counts {
     pub open_pairs: u64,
     /// The outputs whose budget was spent.
     pub open_outputs: u64,
+    /// The conflicts from which searches and queries learned a clause, whatever came of them.
+    pub conflicts: u64,
     /// The steps of all entries.
     pub steps: u64,
 }
@@ -37,6 +39,7 @@ pub(crate) struct Work {
     pub(crate) rounds: u64,
     pub(crate) by_search: u64,
     pub(crate) by_cone: u64,
+    pub(crate) conflicts: u64,
 }
 
 impl Work {
@@ -48,6 +51,7 @@ impl Work {
             rounds: 0,
             by_search: 0,
             by_cone: 0,
+            conflicts: 0,
         }
     }
 
@@ -59,6 +63,7 @@ impl Work {
             work.rounds = work.rounds.saturating_add(tally.rounds);
             work.by_search = work.by_search.saturating_add(tally.by_search);
             work.by_cone = work.by_cone.saturating_add(tally.by_cone);
+            work.conflicts = work.conflicts.saturating_add(tally.conflicts);
         }
         work
     }
@@ -81,6 +86,7 @@ pub(crate) fn counts_of(work: Work, patterns: u64, book: &Book) -> Counts {
         apart: 0,
         open_pairs: 0,
         open_outputs: 0,
+        conflicts: work.conflicts,
         steps: 0,
     };
     for place in 0..book.len() {

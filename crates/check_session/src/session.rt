@@ -322,6 +322,27 @@ impl Session {
             (HasSizes self.now prefix.now check (D.sizes desk.old) (D.sizes desk.new)) }
         ensures spans { IfOk result (λ spans. TellsSpans self.now spans.items) }
     {
+        let mut lines = 0;
+        self.write_counted(alloc, desk, prefix, check, &mut lines)
+    }
+
+    /// The same, which besides tells how many lines the proof has. Nothing is claimed of that number: it is a count
+    /// for the reader.
+    pub fn write_counted<D: Desk>(
+        &self,
+        alloc: Global,
+        desk: &mut D,
+        prefix: &str,
+        check: u64,
+        lines: &mut u64,
+    ) -> Result<Vec<Span>, StitchErr>
+        requires checked { IsSome self.now.found }
+        requires started { (D.state desk.old).started ≡ None }
+        ensures files { WritesFiles self.now prefix.now check (D.state desk.old) (D.state desk.new) result }
+        ensures sizes { OnOk result
+            (HasSizes self.now prefix.now check (D.sizes desk.old) (D.sizes desk.new)) }
+        ensures spans { IfOk result (λ spans. TellsSpans self.now spans.items) }
+    {
         let Some(verdict) = &self.found else {
             unreachable!()
         };
@@ -333,7 +354,9 @@ impl Session {
         let name = named(alloc, prefix, check, ".cnf")?;
         write_file(alloc, desk, name.as_str(), &Miter(&self.net))?;
         let name = named(alloc, prefix, check, ".lrat")?;
-        Ok(write_file(alloc, desk, name.as_str(), &proof)?)
+        let told = write_file(alloc, desk, name.as_str(), &proof)?;
+        *lines = told.lines;
+        Ok(told.spans)
     }
 
     /// The pair.

@@ -1,5 +1,5 @@
 //! What stands in the two files of a check, and how they are named.
-ghost use Rattle.std.specs.Prelude.{◌≡◌, ◌++◌, IfOk, codes, decimal, string_bytes};
+ghost use Rattle.std.specs.Prelude.{◌≡◌, [], ◌++◌, IfOk, codes, decimal, string_bytes};
 
 use crate::miter_text::put_miter;
 use crate::verdict::Verdict;
@@ -9,7 +9,7 @@ use endings::Content;
 use itoa::Buffer;
 use lemma_book::Book;
 use netlist::Net;
-use proof_stitch::{Span, StitchErr};
+use proof_stitch::{Span, StitchErr, derivation_counted, refutation_counted};
 use std::alloc::{AllocError, Global};
 
 /// The CNF of the circuits' miter.
@@ -34,6 +34,13 @@ impl Content for Miter<'_> {
     }
 }
 
+/// What whoever puts a proof tells: the ids of the logs, and how many lines there are.
+#[derive(Drop)]
+pub(crate) struct ProofTold {
+    pub(crate) spans: Vec<Span>,
+    pub(crate) lines: u64,
+}
+
 /// The proof of a check that has its verdict: a refutation, nothing, or what is derived; with it the ids of
 /// the logs.
 #[derive(Clone, Copy)]
@@ -47,30 +54,45 @@ impl Content for Proof<'_> {
     ghost use Rattle.check_session.specs.Files.{AreSpansIn, HasProof, proof_bytes};
     ghost use Rattle.check_session.specs.Outputs.{finding_of};
 
-    type Told = Vec<Span>;
+    type Told = ProofTold;
 
     ghost is_ready = { λ p. HasProof p.net.now p.book.now (finding_of p.verdict.now) };
 
     ghost bytes = { λ p. proof_bytes p.net.now p.book.now.entries (finding_of p.verdict.now) };
 
-    ghost tells = { λ p spans.
-        AreSpansIn p.net.now p.book.now.entries (finding_of p.verdict.now) spans.items };
+    ghost tells = { λ p told.
+        AreSpansIn p.net.now p.book.now.entries (finding_of p.verdict.now) told.spans.items };
 
-    fn put<D: Desk>(&self, alloc: Global, desk: &mut D) -> Result<Vec<Span>, PutErr> {
+    fn put<D: Desk>(&self, alloc: Global, desk: &mut D) -> Result<ProofTold, PutErr> {
         let Proof { net, book, verdict } = *self;
+        let mut lines = 0;
         match verdict {
-            Verdict::Equivalent => match proof_stitch::refutation(alloc, net, book, desk) {
-                Ok(_) => Ok(Vec::new(alloc)),
-                Err(StitchErr::Write) => Err(PutErr::Failed),
-                Err(StitchErr::NoMemory) => Err(PutErr::NoMemory),
-            },
-            Verdict::Different { .. } => Ok(Vec::new(alloc)),
-            Verdict::Undecided { .. } => match proof_stitch::derivation(alloc, net, book, desk) {
-                Ok(spans) => Ok(spans),
-                Err(StitchErr::Write) => Err(PutErr::Failed),
-                Err(StitchErr::NoMemory) => Err(PutErr::NoMemory),
-            },
+            Verdict::Equivalent => {
+                match refutation_counted(alloc, net, book, desk, &mut lines) {
+                    Ok(_) => Ok(told_without_logs(alloc, lines)),
+                    Err(StitchErr::Write) => Err(PutErr::Failed),
+                    Err(StitchErr::NoMemory) => Err(PutErr::NoMemory),
+                }
+            }
+            Verdict::Different { .. } => Ok(told_without_logs(alloc, lines)),
+            Verdict::Undecided { .. } => {
+                match derivation_counted(alloc, net, book, desk, &mut lines) {
+                    Ok(spans) => Ok(ProofTold { spans, lines }),
+                    Err(StitchErr::Write) => Err(PutErr::Failed),
+                    Err(StitchErr::NoMemory) => Err(PutErr::NoMemory),
+                }
+            }
         }
+    }
+}
+
+/// What is told of a proof of so many lines that has no logs.
+fn told_without_logs(alloc: Global, lines: u64) -> ProofTold
+    ensures { result.spans.items ≡ [] }
+{
+    ProofTold {
+        spans: Vec::new(alloc),
+        lines,
     }
 }
 

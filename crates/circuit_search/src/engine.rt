@@ -31,6 +31,8 @@ pub(crate) struct Engine {
     pub(crate) left: Caps,
     /// Whether equalities were searched for.
     pub(crate) is_equated: bool,
+    /// How many clauses were learned since the engine was made.
+    pub(crate) learned: u64,
 }
 
 impl Engine {
@@ -52,6 +54,7 @@ impl Engine {
                 decisions: 0,
             },
             is_equated: false,
+            learned: 0,
         })
     }
 

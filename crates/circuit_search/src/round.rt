@@ -105,6 +105,7 @@ impl Engine {
             return Ok(Some(Outcome::Open));
         }
         self.left.conflicts -= 1;
+        self.learned = self.learned.saturating_add(1);
         self.lessons.learn(
             &self.variables,
             &mut self.clauses,

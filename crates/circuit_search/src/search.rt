@@ -52,6 +52,12 @@ impl Search {
         self.dropped
     }
 
+    /// How many clauses its queries learned, each from a conflict. It is a count for the reader: nothing is
+    /// claimed of it.
+    pub fn conflicts(&self) -> u64 {
+        self.engine.learned.saturating_add(self.whole.learned())
+    }
+
     /// Searches for an entry about a pair: that node and literal have one value, or an input on which they
     /// differ. None where it gives up.
     pub fn pair(

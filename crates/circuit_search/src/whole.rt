@@ -81,6 +81,8 @@ pub(crate) struct Whole {
     lessons: u32,
     /// How many outputs failed.
     misses: u32,
+    /// How many clauses were learned from conflicts; what is forgotten counts too.
+    learned: u64,
 }
 
 /// What was found out of two codes.
@@ -113,7 +115,13 @@ impl Whole {
             explained: 0,
             lessons: 0,
             misses: 0,
+            learned: 0,
         }
+    }
+
+    /// How many clauses were learned from conflicts.
+    pub(crate) fn learned(&self) -> u64 {
+        self.learned
     }
 
     /// Forgets all.

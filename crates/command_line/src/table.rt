@@ -320,8 +320,8 @@ At another verdict FILE stays as it was.
 No FILE that is left can be PREFIX.K.cnf or PREFIX.K.lrat of --out, nor another one.
 
 With --stats, warns behind each verdict of what was done, a line 'cec: NAME VALUE' each: gates, levels,
-clauses, patterns, rounds, merges, pairs and outputs left open, steps of proof, seconds. What is said and
-left stays the same.
+clauses, patterns, rounds, merges, pairs and outputs left open, conflicts, steps and lines of proof,
+seconds. What is said and left stays the same.
 
 With --progress, warns while a check goes on, at most twice a second:
   cec: progress PART round N, S of T settled, O open, X s

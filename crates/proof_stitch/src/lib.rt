@@ -7,7 +7,8 @@
 //! order of the book, each deleted once nothing behind rests on it; `derivation` writes the logs of the outputs'
 //! queries that spent their budgets, and before them likewise what they rest on. The crate promises which lines the text
 //! spells, and that they refute the miter, or derive from it. It goes over the steps of the book twice, from the back
-//! and then forward; no clause speaks of time.
+//! and then forward; no clause speaks of time, nor of the number of lines that `refutation_counted` and
+//! `derivation_counted` tell besides.
 //!
 //! Definitions: `specs/Steps.antt` (the additions that lists of steps make), `specs/Written.antt` (the steps
 //! of a book in order, and the ids of the clauses that entries show), `specs/Trimmed.antt` (which lines of a
@@ -19,8 +20,8 @@
 
 pub use logs::Span;
 pub use stitch_err::StitchErr;
-pub use write_derivation::derivation;
-pub use write_refutation::refutation;
+pub use write_derivation::{derivation, derivation_counted};
+pub use write_refutation::{refutation, refutation_counted};
 
 mod addition;
 mod by_step;

@@ -8,11 +8,13 @@ use desk_port::{Desk, PutErr, put_in_pieces};
 use lrat_text::{LratStep, push_line};
 use std::alloc::{AllocError, Global};
 
-/// The text of a proof that grows at its end, and the id of its last addition.
+/// The text of a proof that grows at its end, the id of its last addition, and how many lines it has. Nothing is
+/// claimed of the lines: they are a count for the reader.
 #[derive(Drop)]
 pub struct ProofText {
     pub text: Vec<u8>,
     pub last: u64,
+    pub lines: u64,
 }
 
 impl ProofText {
@@ -24,6 +26,7 @@ impl ProofText {
         ProofText {
             text: Vec::new(alloc),
             last,
+            lines: 0,
         }
     }
 
@@ -34,6 +37,7 @@ impl ProofText {
         ensures last { OnOk result (self.new.last ≡ id_after self.old.last line.now) }
     {
         push_line(&mut self.text, self.last, line)?;
+        self.lines = self.lines.saturating_add(1);
         if let LratStep::Add { id, .. } = line {
             self.last = *id;
         }

@@ -40,9 +40,32 @@ pub fn derivation<D: Desk>(
     // Each log is as long as the budget.
     ensures whole { IfOk result (λ spans. AreWhole book.now.out_budget spans.items) }
 {
+    let mut lines = 0;
+    derivation_counted(alloc, net, book, desk, &mut lines)
+}
+
+/// The same, which besides tells how many lines it wrote. Nothing is claimed of that number: it is a count for the
+/// reader.
+pub fn derivation_counted<D: Desk>(
+    alloc: Global,
+    net: &Net,
+    book: &Book,
+    desk: &mut D,
+    lines: &mut u64,
+) -> Result<Vec<Span>, StitchErr>
+    requires started { IsSome (D.state desk.old).started }
+    requires legal { IsLegal net.now book.now }
+    ensures writes { Stitches (proof_text net.now (derivation_of net.now book.now.entries))
+        (D.state desk.old) (D.state desk.new) (D.sizes desk.old) (D.sizes desk.new) result }
+    ensures derives { IsDerivation net.now (derivation_of net.now book.now.entries) }
+    ensures spans { IfOk result (λ spans. AreSpans net.now book.now.entries spans.items) }
+    ensures numbers { IfOk result (λ spans. spans.items ≡ spans_of net.now book.now.entries) }
+    ensures whole { IfOk result (λ spans. AreWhole book.now.out_budget spans.items) }
+{
     laws::derives(net, book);
     let (proof, spans) = whole_derivation(alloc, net, book)?;
     proof.write(alloc, desk)?;
+    *lines = proof.lines;
     Ok(spans)
 }
 

@@ -39,10 +39,33 @@ pub fn refutation<D: Desk>(
     ensures count { IfOk result (λ n. n
         ≡ length (filter is_addition (refutation_of net.now book.now.entries))) }
 {
+    let mut lines = 0;
+    refutation_counted(alloc, net, book, desk, &mut lines)
+}
+
+/// The same, which besides tells how many lines it wrote. Nothing is claimed of that number: it is a count for the
+/// reader.
+pub fn refutation_counted<D: Desk>(
+    alloc: Global,
+    net: &Net,
+    book: &Book,
+    desk: &mut D,
+    lines: &mut u64,
+) -> Result<u64, StitchErr>
+    requires started { IsSome (D.state desk.old).started }
+    requires legal { IsLegal net.now book.now }
+    requires outs { (j : ℕ) → j < length net.now.a.outputs → has_out book.now.entries j ≡ true }
+    ensures writes { Stitches (proof_text net.now (refutation_of net.now book.now.entries))
+        (D.state desk.old) (D.state desk.new) (D.sizes desk.old) (D.sizes desk.new) result }
+    ensures refutes { IsRefutation net.now (refutation_of net.now book.now.entries) }
+    ensures count { IfOk result (λ n. n
+        ≡ length (filter is_addition (refutation_of net.now book.now.entries))) }
+{
     laws::refutes(net, book);
     let clauses = u64::from(net.clauses());
     let proof = whole_proof(alloc, net, book)?;
     proof.write(alloc, desk)?;
+    *lines = proof.lines;
     Ok(proof.last - clauses)
 }
 

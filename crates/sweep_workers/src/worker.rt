@@ -10,8 +10,10 @@ ghost use Rattle.sweep_workers.specs.Asked.{IsAskable, question_in, subject_in};
 
 use crate::asked::Asked;
 use circuit_search::{Caps, Search, Sieve, apart};
+use cone_query::Queries;
 use equal_outputs::equal_output;
 use lemma_book::{Book, Entry, Judge, Task};
+use lits::{Lit, Node, Step};
 use netlist::Net;
 use std::alloc::{AllocError, Global};
 use std::sync::{Mutex, Wait};
@@ -28,10 +30,12 @@ pub struct Tally {
     pub by_cone: u64,
     /// The pairs and outputs whose budget was spent.
     pub open: u64,
+    /// The conflicts from which the search or a query of the whole cone learned a clause.
+    pub conflicts: u64,
 }
 
-/// One worker's memory, kept from round to round: its search, its solver for queries of whole cones, and the
-/// judge of what patterns tell apart.
+/// One worker's memory, kept from round to round: its search, its solver and its cones for queries of whole
+/// cones, and the judge of what patterns tell apart.
 ///
 /// The search has tables of the net's size. It is made at the worker's first question, so that who gets
 /// none pays for none.
@@ -40,6 +44,7 @@ pub struct Worker<R: Refuter> {
     search: Option<Search>,
     judge: Judge,
     refuter: R,
+    queries: Queries,
     tally: Tally,
 }
 
@@ -51,6 +56,7 @@ impl<R: Refuter> Drop for Worker<R> {
             search: _,
             judge: _,
             refuter: _,
+            queries: _,
             tally: _,
         } = self;
     }
@@ -64,11 +70,13 @@ impl<R: Refuter + Send> Worker<R> {
             search: None,
             judge: Judge::new(alloc),
             refuter,
+            queries: Queries::new(alloc),
             tally: Tally {
                 rounds: 0,
                 by_search: 0,
                 by_cone: 0,
                 open: 0,
+                conflicts: 0,
             },
         }
     }
@@ -80,14 +88,22 @@ impl<R: Refuter + Send> Worker<R> {
             search: _,
             judge: _,
             refuter,
+            queries: _,
             tally: _,
         } = self;
         refuter
     }
 
-    /// What the worker counted.
+    /// What the worker counted. The search counts its own conflicts.
     pub fn tally(&self) -> Tally {
-        self.tally
+        let searched = match &self.search {
+            Some(search) => search.conflicts(),
+            None => 0,
+        };
+        Tally {
+            conflicts: self.tally.conflicts.saturating_add(searched),
+            ..self.tally
+        }
     }
 
     /// Counts one more round, and gives its number.
@@ -196,9 +212,12 @@ impl<R: Refuter + Send> Worker<R> {
                 Ok(entry)
             }
             None => {
-                let entry = cone_query::pair(alloc, net, seen, task, &mut self.refuter)?;
+                let entry = self
+                    .queries
+                    .pair(alloc, net, seen, task, &mut self.refuter)?;
                 count_merge(&mut self.tally.by_cone, &entry);
                 count_open(&mut self.tally.open, &entry);
+                count_learned(&mut self.tally.conflicts, &entry, self.refuter.log());
                 Ok(entry)
             }
         }
@@ -228,8 +247,11 @@ impl<R: Refuter + Send> Worker<R> {
         match search.output(alloc, net, seen, output, caps)? {
             Some(entry) => Ok(entry),
             None => {
-                let entry = cone_query::output(alloc, net, seen, output, &mut self.refuter)?;
+                let entry = self
+                    .queries
+                    .output(alloc, net, seen, output, &mut self.refuter)?;
                 count_open(&mut self.tally.open, &entry);
+                count_learned(&mut self.tally.conflicts, &entry, self.refuter.log());
                 Ok(entry)
             }
         }
@@ -248,6 +270,24 @@ fn count_open(count: &mut u64, entry: &Entry) {
     if let Entry::Spent { .. } | Entry::OutSpent { .. } = entry {
         *count = count.saturating_add(1);
     }
+}
+
+/// Counts what the query of the whole cone learned that answered with the entry and left that log.
+///
+/// A gate and an input that differ count nothing: where no clause of the gate's cone names the input there was
+/// no query, and the log is that of the one before.
+fn count_learned(count: &mut u64, entry: &Entry, log: &[Step]) {
+    if let Entry::Apart {
+        lit: Lit {
+            node: Node::Input(_),
+            ..
+        },
+        ..
+    } = entry
+    {
+        return;
+    }
+    *count = count.saturating_add(log.len() as u64);
 }
 
 /// The search of a net, which is made if it isn't there yet.

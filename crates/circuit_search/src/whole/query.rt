@@ -60,6 +60,7 @@ impl Whole {
             return Ok(Some(Answer::Open));
         }
         *left -= 1;
+        self.learned = self.learned.saturating_add(1);
         self.learn(conflict)?;
         if self.restarts.count() {
             self.restart()?;

@@ -32,7 +32,7 @@ returns-in_err-text_with_lines-in-Ok-clause-files g c = λ due.
     rw (p.1, p.2, c.in-Some.is)
     (inr (
       refl,
-      leaves t v c.requires.found c.args.number c.in-Some.prefix.now (g.D.Desk.state c.args.desk.now) (g.D.Desk.state c.write.new.desk)
+      leaves t v c.requires.found c.args.number c.in-Some.prefix.now (g.D.Desk.state c.args.desk.now) (g.D.Desk.state c.write_counted.new.desk)
           (Ok c.in-Ok.spans) c.in-Ok.ensures.files,
     ))
 
@@ -42,7 +42,7 @@ returns-in_ok-text_with_lines-in-Ok-clause-files g c = λ due.
     let v = c.args.verdict.now in
     let spans = c.in-Ok.spans.items in
     rw c.in-Some.is (
-      leaves t v c.requires.found c.args.number c.in-Some.prefix.now (g.D.Desk.state c.args.desk.now) (g.D.Desk.state c.write.new.desk)
+      leaves t v c.requires.found c.args.number c.in-Some.prefix.now (g.D.Desk.state c.args.desk.now) (g.D.Desk.state c.write_counted.new.desk)
           (Ok c.in-Ok.spans) c.in-Ok.ensures.files,
       c.in_ok-text_with_lines-in-Ok.ensures
           ∙ ap (λ (l : List Span). text_of (finding_of v) (open_text_with l)) c.as_slice.ensures.value
@@ -54,7 +54,7 @@ returns-in_ok-text_with_lines-in-Ok-clause-started g c =
     let t = c.args.session.now in
     let v = c.args.verdict.now in
     ap (λ (s : DeskState). s.started)
-    (leaves t v c.requires.found c.args.number c.in-Some.prefix.now (g.D.Desk.state c.args.desk.now) (g.D.Desk.state c.write.new.desk)
+    (leaves t v c.requires.found c.args.number c.in-Some.prefix.now (g.D.Desk.state c.args.desk.now) (g.D.Desk.state c.write_counted.new.desk)
     (Ok c.in-Ok.spans) c.in-Ok.ensures.files)
 
 pub returns-in-Err-clause-files : goal.returns-in-Err-clause-files
@@ -63,4 +63,4 @@ returns-in-Err-clause-files g c = λ due.
     let v = c.args.verdict.now in
     rw (c.stop_of.ensures, c.in-Some.is)
     (inl (leaves t v c.requires.found {A = Unit {0}} c.args.number c.in-Some.prefix.now (g.D.Desk.state c.args.desk.now)
-    (g.D.Desk.state c.write.new.desk) (Err c.in-Err.fault) c.in-Err.ensures.files))
+    (g.D.Desk.state c.write_counted.new.desk) (Err c.in-Err.fault) c.in-Err.ensures.files))

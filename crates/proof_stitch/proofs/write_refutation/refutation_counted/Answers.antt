@@ -2,7 +2,7 @@ use Rattle.std.proofs.lemmas.Result.{err_from_is_err_and}
 use Rattle.desk_port.proofs.Facts.{stops-none}
 use Rattle.proof_stitch.specs.Text.{proof_text}
 use Rattle.proof_stitch.specs.Stitch.{refutation_of}
-use Rattle.proof_stitch.proofs.write_refutation.refutation.Goals as goal
+use Rattle.proof_stitch.proofs.write_refutation.refutation_counted.Goals as goal
 
 pub returns-in_err-proof-clause-writes : goal.returns-in_err-proof-clause-writes
 returns-in_err-proof-clause-writes g c =
