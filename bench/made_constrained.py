@@ -20,12 +20,12 @@ from pathlib import Path
 sys.path.insert(0, str(Path(__file__).resolve().parents[1] / "tools"))
 from house import compiled, program
 from made_datapaths import prefix, ripple
+from made_designs import Words
 from solver import best, shown
 from sweep import judged, of_cadical
-from workload import Circuit
 
 
-class Constrained(Circuit):
+class Constrained(Words):
     """A circuit with literals that have to be true."""
 
     def __init__(self, inputs):
@@ -38,19 +38,6 @@ class Constrained(Circuit):
         bounds = [str(literal).encode() for literal in self.constraints]
         count = f" 0 {len(bounds)}".encode() if bounds else b""
         return b"\n".join([head + count, *outputs[:-1], *bounds, outputs[-1]])
-
-    def word(self, start, width):
-        return [self.input(start + k) for k in range(width)]
-
-    def all_of(self, literals):
-        return reduce(self.both, literals, 1)
-
-    def any_of(self, literals):
-        return reduce(self.either, literals, 0)
-
-    def constant(self, word, number):
-        """Whether the word is this number, its lowest bit first."""
-        return self.all_of(bit ^ 1 ^ (number >> k & 1) for k, bit in enumerate(word))
 
     def below(self, word, number):
         """Whether the word is less than a number."""

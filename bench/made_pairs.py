@@ -41,13 +41,13 @@ def lay_out(folder):
 
 
 @contextmanager
-def corpus(folder):
-    """The folder that is given, else one with the pairs made here, which is gone afterwards."""
+def corpus(folder, make=lay_out):
+    """The folder that is given, else one with the pairs that are made for it, which is gone afterwards."""
     if folder:
         yield folder
         return
     with TemporaryDirectory() as made:
-        lay_out(Path(made))
+        make(Path(made))
         yield Path(made)
 
 
@@ -64,9 +64,9 @@ def words_for(description, *classes):
     return parser
 
 
-def measured_by(measure, words):
+def measured_by(measure, words, make=lay_out):
     """Calls for the rows of the folder's manifest that the words want, and gives the script's status."""
-    with corpus(words.folder) as folder:
+    with corpus(words.folder, make) as folder:
         words.folder = folder
         with open(folder / "manifest.tsv", newline="", encoding="utf-8") as table:
             rows = [row for row in csv.DictReader(table, delimiter="\t") if row["class"] in words.classes]

@@ -1,10 +1,11 @@
 #!/usr/bin/env python3
 """Measures `check` beside ABC's `&cec` and CaDiCaL on the same pairs, and has each proof checked.
 
-Usage: sweep.py [FOLDER] [--program PROGRAM] [--options WORDS] [--classes tiny small medium] [--limit SECONDS] [--rounds N]
+Usage: sweep.py [FOLDER | --made] [--program PROGRAM] [--options WORDS] [--classes tiny small medium] [--limit SECONDS] [--rounds N]
                 [--only REGEX] [--statistics]
 
-FOLDER is as for `solver.py`, with the binary files `NAME.a.aig` and `NAME.b.aig` too. Each pair is given to `PROGRAM check A B --out
+FOLDER is as for `solver.py`, with the binary files `NAME.a.aig` and `NAME.b.aig` too; with --made it is one with the ten pairs of
+`made_designs.py`, else without FOLDER one with those of `made_pairs.py`. Each pair is given to `PROGRAM check A B --out
 P` with the words of --options, to `berkeley-abc` (`&cec`), and the miter that the program wrote, else that of `tools/miter.py`, to
 `cadical`; a peer that isn't installed (Debian's packages `berkeley-abc` and `cadical`) is left out with one line. The checker of proofs in C judges each
 refutation. The seconds are those of the processor, the least of the rounds; a run that takes more than the limit has none.
@@ -26,6 +27,7 @@ from pathlib import Path
 
 sys.path.insert(0, str(Path(__file__).resolve().parents[1] / "tools"))
 from house import TOP, compiled, program
+import made_designs
 import made_pairs
 import statistics_of_checks
 from solver import best, mean, ratio, shown
@@ -81,8 +83,12 @@ def judged(reference, verdict, prefix):
 
 def words_given():
     parser = made_pairs.words_for(__doc__.splitlines()[0], "tiny", "small", "medium")
+    parser.add_argument("--made", action="store_true", help="measure the pairs of made_designs.py")
     parser.add_argument("--statistics", action="store_true")
-    return parser.parse_args()
+    words = parser.parse_args()
+    if words.made and words.folder:
+        parser.error("either a folder or --made")
+    return words
 
 
 def print_statistics(words, mine, rows):
@@ -135,4 +141,5 @@ def measured(words, rows):
 
 
 if __name__ == "__main__":
-    sys.exit(made_pairs.measured_by(measured, words_given()))
+    asked = words_given()
+    sys.exit(made_pairs.measured_by(measured, asked, made_designs.lay_out if asked.made else made_pairs.lay_out))
