@@ -1,7 +1,7 @@
 #!/usr/bin/env python3
 """Checks by programs whose search is made wrong on purpose: no verdict may be another one than the circuits have.
 
-Usage: wrong_search.py [--runs N] [--seed N] [--edit NAME ..]
+Usage: wrong_search.py [--runs N] [--seed N] [--jobs N] [--edit NAME ..]
 
 For each file `wrong_search/NAME.edit` (its lines as in a must-fail edit) a program over a copy of the crates, in which `circuit_search`
 is changed so, checks the same random pairs, and so does one that isn't changed. Edits whose names begin with `whole` are of the search
@@ -9,7 +9,8 @@ of whole cones: pairs of nodes have a budget of one clause there, and the lazy s
 comes to it. The pairs are evaluated on every input here:
 EQUIVALENT must be true, and DIFFERENT must name an output and an input on which it differs. A proposal that the lemma book refuses may
 cost a query of the whole cone, and may leave a pair undecided, but that is all. Nothing is proved here: the contract of
-`circuit_search`, that an entry is good, is what this shows at work. Prints a line for each program; status 1 where anything is wrong.
+`circuit_search`, that an entry is good, is what this shows at work. Each program is built by itself, --jobs at a time, which takes minutes;
+an edit whose old text doesn't stand once in its file is told before that. Prints a line for each program; status 1 where anything is wrong.
 """
 import argparse
 import itertools
@@ -23,6 +24,7 @@ from pathlib import Path
 
 import runner
 from crates import replaced
+from house import TOP
 from pairs import evaluated, random_circuit, rewritten, text
 from rounds import SEED
 
@@ -75,11 +77,22 @@ def fault_in(answer, a, b):
     return None if word == "UNDECIDED" else "no answer"
 
 
-def changed(crates, edit):
+def parts_of(name):
+    """The file, the old text and the new one of an edit."""
+    lines = (EDITS / f"{name}.edit").read_text().splitlines()
+    return [next(line.removeprefix(word) for line in lines if line.startswith(word)) for word in ("file: ", "old: ", "new: ")]
+
+
+def places(name):
+    """How many times the old text of an edit stands in its file."""
+    file, old, _ = parts_of(name)
+    return (TOP / "crates" / "circuit_search" / file).read_text().count(old)
+
+
+def changed(crates, name):
     """Makes the edit in the copy."""
-    lines = edit.read_text().splitlines()
-    said = {line.split(": ", 1)[0]: line.split(": ", 1)[1] for line in lines if line.startswith(("file: ", "old: ", "new: "))}
-    replaced(crates / "circuit_search" / said["file"], said["old"], said["new"])
+    file, old, new = parts_of(name)
+    replaced(crates / "circuit_search" / file, old, new)
 
 
 def is_whole(name):
@@ -94,24 +107,27 @@ def answers(name, lines):
         if is_whole(name):
             replaced(crates / "circuit_search" / "src/search.rt", *LAZY)
         if name not in AS_IT_IS:
-            changed(crates, EDITS / f"{name}.edit")
+            changed(crates, name)
 
     return runner.answers("checks", USES, lines, change, [BUDGET] if is_whole(name) else []).splitlines()
 
 
 def main():
     words = argparse.ArgumentParser(description=__doc__, formatter_class=argparse.RawDescriptionHelpFormatter)
-    words.add_argument("--runs", type=int, default=100)
+    words.add_argument("--runs", type=int, default=60)
     words.add_argument("--seed", type=int, default=SEED)
+    words.add_argument("--jobs", type=int, default=2)
     words.add_argument("--edit", nargs="+", default=sorted(file.stem for file in EDITS.glob("*.edit")))
     asked = words.parse_args()
+    if unfit := [name for name in asked.edit if places(name) != 1]:
+        words.error(f"the old text doesn't stand once in its file: {', '.join(unfit)}")
     if not shutil.which("rt"):
         print("skipped: the toolchain's command rt is not there")
         return 0
     made = list(pairs(random.Random(asked.seed), asked.runs))
     lines = ["\t".join(text(circuit).replace("\n", ";") for circuit in pair) for pair in made]
-    names = [*AS_IT_IS, *asked.edit]
-    with ThreadPoolExecutor(2) as workers:
+    names = [*(AS_IT_IS[kind] for kind in sorted({is_whole(name) for name in asked.edit})), *asked.edit]
+    with ThreadPoolExecutor(asked.jobs) as workers:
         said = dict(zip(names, workers.map(lambda name: answers(name, lines), names)))
     wrong = 0
     for name in names:
