@@ -27,18 +27,26 @@ from aiger import backwards, make_binary, make_pair
 SEED = 20261126
 
 
+# A small process that starts a command and tells of it: one that is started from here would have the memory of this script as the least that it
+# is said to have taken.
+LAUNCHER = """import os, sys, time
+begun = time.monotonic()
+_, status, used = os.wait4(os.posix_spawnp(sys.argv[1], sys.argv[1:], os.environ), 0)
+print(os.waitstatus_to_exitcode(status), time.monotonic() - begun, used.ru_utime + used.ru_stime, used.ru_maxrss * 1024, file=sys.stderr)"""
+
+
+def timed(command, folder=None):
+    """(status, what it said, seconds by the clock, seconds of the processors, peak memory in bytes) of a command."""
+    ran = subprocess.run([sys.executable, "-S", "-c", LAUNCHER, *map(str, command)], cwd=folder, capture_output=True, text=True, errors="replace", check=True)
+    *warned, last = ran.stderr.splitlines()
+    status, *figures = last.split()
+    return int(status), "\n".join([ran.stdout, *warned]), *map(float, figures)
+
+
 def measured(command, folder):
-    """(status, standard output, seconds, peak memory in bytes) of a command."""
-    out = open(os.path.join(folder, "said"), "w+b")
-    begin = time.perf_counter()
-    process = subprocess.Popen(command, cwd=folder, stdout=out, stderr=subprocess.STDOUT)
-    _, status, usage = os.wait4(process.pid, 0)
-    seconds = time.perf_counter() - begin
-    process.returncode = os.waitstatus_to_exitcode(status)
-    out.seek(0)
-    said = out.read().decode(errors="replace")
-    out.close()
-    return process.returncode, said, seconds, usage.ru_maxrss * 1024
+    """(status, what it said, seconds by the clock, peak memory in bytes) of a command."""
+    status, said, seconds, _, peak = timed(command, folder)
+    return status, said, seconds, int(peak)
 
 
 def forms(size):

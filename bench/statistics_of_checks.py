@@ -113,6 +113,7 @@ PAIR = f"""        let search = made(&mut self.search, alloc, net)?;
                 let entry = {PAIR_QUERY}?;
                 count_merge(&mut self.tally.by_cone, &entry);
                 count_open(&mut self.tally.open, &entry);
+                count_learned(&mut self.tally.conflicts, &entry, self.refuter.log());
                 Ok(entry)
             }}
         }}
@@ -123,6 +124,7 @@ OUTPUT = f"""        let search = made(&mut self.search, alloc, net)?;
             None => {{
                 let entry = {OUTPUT_QUERY}?;
                 count_open(&mut self.tally.open, &entry);
+                count_learned(&mut self.tally.conflicts, &entry, self.refuter.log());
                 Ok(entry)
             }}
         }}

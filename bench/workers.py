@@ -23,22 +23,9 @@ from statistics import median
 sys.path.insert(0, str(Path(__file__).resolve().parents[1] / "tools"))
 import made_datapaths
 from house import program
+from run import timed
 
 HEAD = f"{'pair':20} {'gates':>7} {'workers':>7} {'wall s':>8} {'of one':>6} {'CPU s':>8} {'of one':>6} {'MB':>7} {'B/gate+worker':>13}"
-
-
-# A small process that starts the program and tells of it: one that is started from here would have the memory of this script as the least
-# that it is said to have taken.
-LAUNCHER = """import os, sys, time
-begun = time.monotonic()
-_, _, used = os.wait4(os.posix_spawn(sys.argv[1], sys.argv[1:], os.environ), 0)
-print(time.monotonic() - begun, used.ru_utime + used.ru_stime, used.ru_maxrss * 1024, file=sys.stderr)"""
-
-
-def timed(command):
-    """(seconds by the clock, seconds of the processors, peak memory in bytes, the verdict) of a run."""
-    ran = subprocess.run([sys.executable, "-S", "-c", LAUNCHER, *command], capture_output=True, text=True, check=True)
-    return *map(float, ran.stderr.split()[-3:]), (ran.stdout.split() or ["nothing"])[0]
 
 
 def parallel_share(command):
@@ -79,8 +66,8 @@ def measured(words, name, gates, files):
     first, wrong = None, 0
     for many in words.workers:
         runs = [timed([*command, "--workers", str(many)]) for _ in range(words.rounds)]
-        wall, used, memory = (median(run[k] for run in runs) for k in range(3))
-        wrong += sum(run[3] != "EQUIVALENT" for run in runs)
+        wall, used, memory = (median(run[k] for run in runs) for k in (2, 3, 4))
+        wrong += sum(not run[1].startswith("EQUIVALENT") for run in runs)
         first = first or (many, wall, used, memory)
         more = f"{(memory - first[3]) / gates / (many - first[0]):13.1f}" if many > first[0] else f"{'':13}"
         print(f"{name:20} {gates:7} {many:7} {wall:8.3f} {wall / first[1]:6.2f} {used:8.3f} {used / first[2]:6.2f} {memory / 1e6:7.1f} {more}", flush=True)
