@@ -114,7 +114,7 @@ def answers(name, lines):
 
 def main():
     words = argparse.ArgumentParser(description=__doc__, formatter_class=argparse.RawDescriptionHelpFormatter)
-    words.add_argument("--runs", type=int, default=60)
+    words.add_argument("--runs", type=int, default=100)
     words.add_argument("--seed", type=int, default=SEED)
     words.add_argument("--jobs", type=int, default=2)
     words.add_argument("--edit", nargs="+", default=sorted(file.stem for file in EDITS.glob("*.edit")))
