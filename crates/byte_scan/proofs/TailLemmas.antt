@@ -1,6 +1,6 @@
 -- The tail, line by line: what its symbol lines name.
-use Rattle.std.proofs.Common.{◌≡◌, ℕ, zero, suc, ◌+◌, ◌-◌, ◌<◌, ◌≤◌, Bool, true, false, not, cond, List, [], ◌∷◌, ◌++◌, Option, Some, None, Result, Ok, length, map, set, drop, reverse, refl, sym, ap, ◌∙◌, inl, inr, arith, append_assoc, append-nil, replicate, subst}
-use Rattle.std.specs.Prelude.{Err, ◌==◌, ◌&&◌, if◌then◌else◌}
+use Rattle.std.proofs.Common.{◌≡◌, ℕ, zero, suc, ◌+◌, ◌-◌, ◌<◌, ◌≤◌, min, Bool, true, false, not, cond, List, [], ◌∷◌, ◌++◌, Option, Some, None, Result, Ok, length, map, set, drop, reverse, refl, sym, ap, ◌∙◌, inl, inr, arith, append_assoc, append-nil, length-drop, replicate, subst}
+use Rattle.std.specs.Prelude.{Err, ◌==◌, ◌&&◌, ◌||◌, if◌then◌else◌}
 use Rattle.std.specs.List.{find, list_all, range_with_len}
 use Rattle.std.specs.Option.{option_map}
 use Rattle.std.proofs.lemmas.Bool.{and_parts, cases_lt}
@@ -13,9 +13,10 @@ use Rattle.symbol_names.proofs.Facts.{AreNames-unnamed, is_name-of, all-set}
 use Rattle.byte_scan.specs.declared.errors.AigerErr.{AigerErr}
 use Rattle.byte_scan.specs.declared.errors.AigerErr.TheVariants.{BadSymbol}
 use Rattle.byte_scan.specs.Scanning.{Place, ahead, moved, digits, line_of, next_line}
-use Rattle.byte_scan.specs.Reading.{◌>>=◌, Line, lines_ahead, begins_with, is_symbol, is_for, place_in, symbol_in, symbols_of, named_by, names_by, with_symbol, tail_of}
-use Rattle.byte_scan.proofs.PlaceLemmas.{lines-next, lines-end}
+use Rattle.byte_scan.specs.Reading.{◌>>=◌, Line, lines_ahead, begins_with, is_symbol, is_for, place_in, symbol_in, symbols_of, named_by, names_by, with_symbol, tail_of, tail_end, behind_tail, Ends}
+use Rattle.byte_scan.proofs.PlaceLemmas.{lines-next, lines-end, next_some}
 use Rattle.byte_scan.proofs.ReadingLemmas.{line_some}
+use Rattle.std.proofs.lemmas.Option.{none-some}
 
 -- ---- one symbol line more
 
@@ -208,3 +209,62 @@ pub tail-end : (inputs outputs : ℕ) (start : List Line) (p : Place) (names : N
     → next_line (ahead p) ≡ None → tail_of inputs outputs start ≡ Ok names
 tail-end inputs outputs start p names has e =
     tail-done inputs outputs start (lines_ahead p) names has (rw (lines-end p e) refl)
+
+-- ---- where the reading ends
+
+-- what the loop knows of the place: the reading ends where that of the lines ahead ends
+pub record EndsAs (inputs outputs : ℕ) (start p : Place) : Type 0 where
+  pub bytes : p.bytes ≡ start.bytes
+  pub end : tail_end inputs outputs (length start.bytes) (lines_ahead start) ≡ tail_end inputs outputs (length start.bytes) (lines_ahead p)
+
+pub EndsAs-start : (inputs outputs : ℕ) (p : Place) → EndsAs inputs outputs p p
+EndsAs-start inputs outputs p = record { bytes = refl; end = refl }
+
+ends-at : (inputs outputs : ℕ) (start p : Place) → p.bytes ≡ start.bytes → tail_end inputs outputs (length start.bytes) (lines_ahead start) ≡ p.at
+    → p ≡ behind_tail inputs outputs start
+ends-at inputs outputs start p bytes at = rw (at, sym bytes) refl
+
+-- a line that begins a comment or is no symbol line
+ends-line : (inputs outputs : ℕ) (start p q : Place) (line : List ℕ) → EndsAs inputs outputs start p → next_line (ahead p) ≡ Some line
+    → q ≡ moved p (length (line_of (ahead p)) + 1) → (begins_with 99 line || not (is_symbol inputs outputs line)) ≡ true → q ≡ behind_tail inputs outputs start
+ends-line inputs outputs start p q line ends e is last =
+    let text = line_some (ahead p) line (sym e) in
+    let at : q.at ≡ min (p.at + (length line + 1)) (length p.bytes) = ap (λ (r : Place). r.at) is ∙ ap (λ (l : List ℕ). min (p.at + (length l + 1)) (length p.bytes)) text in
+    let place : p.at + length line + 1 ≡ p.at + (length line + 1) = omega arith in
+    let read : tail_end inputs outputs (length start.bytes) (lines_ahead p) ≡ min (p.at + length line + 1) (length start.bytes) = rw (lines-next p q line e is, last) refl in
+    ends-at inputs outputs start q (ap (λ (r : Place). r.bytes) is ∙ ends.bytes)
+    (ends.end ∙ read ∙ ap (λ (n : ℕ). min n (length start.bytes)) place ∙ ap (λ (bs : List ℕ). min (p.at + (length line + 1)) (length bs)) (sym ends.bytes) ∙ sym at)
+
+pub ends-comment : (inputs outputs : ℕ) (start p q : Place) (line : List ℕ) → EndsAs inputs outputs start p → next_line (ahead p) ≡ Some line
+    → q ≡ moved p (length (line_of (ahead p)) + 1) → begins_with 99 line ≡ true → q ≡ behind_tail inputs outputs start
+ends-comment inputs outputs start p q line ends e is c = ends-line inputs outputs start p q line ends e is (rw c refl)
+
+pub ends-bad : (inputs outputs : ℕ) (start p q : Place) (line : List ℕ) → EndsAs inputs outputs start p → next_line (ahead p) ≡ Some line
+    → q ≡ moved p (length (line_of (ahead p)) + 1) → begins_with 99 line ≡ false → is_symbol inputs outputs line ≡ false → q ≡ behind_tail inputs outputs start
+ends-bad inputs outputs start p q line ends e is c s = ends-line inputs outputs start p q line ends e is (rw (c, s) refl)
+
+pub ends-symbol : (inputs outputs : ℕ) (start p q : Place) (line : List ℕ) → EndsAs inputs outputs start p → next_line (ahead p) ≡ Some line
+    → q ≡ moved p (length (line_of (ahead p)) + 1) → begins_with 99 line ≡ false → is_symbol inputs outputs line ≡ true → EndsAs inputs outputs start q
+ends-symbol inputs outputs start p q line ends e is c s = record {
+  bytes = ap (λ (r : Place). r.bytes) is ∙ ends.bytes;
+  end = ends.end ∙ rw (lines-next p q line e is, c, s) refl;
+}
+
+-- nothing is left
+pub ends-none : (inputs outputs : ℕ) (start p q : Place) → EndsAs inputs outputs start p → next_line (ahead p) ≡ None
+    → q ≡ moved p (length (line_of (ahead p)) + 1) → p.at ≤ length p.bytes → q ≡ behind_tail inputs outputs start
+ends-none inputs outputs start p q ends e is within =
+    let none = lines-end p e in
+    let gone = ahead-none p e in
+    let whole : length p.bytes ≡ p.at = omega (arith, gone, within) in
+    let at : q.at ≡ min (p.at + (length (line_of (ahead p)) + 1)) (length p.bytes) = ap (λ (r : Place). r.at) is in
+    let same : length start.bytes ≡ length p.bytes = ap length (sym ends.bytes) in
+    let last : tail_end inputs outputs (length start.bytes) (lines_ahead p) ≡ length start.bytes = rw none refl in
+    ends-at inputs outputs start q (ap (λ (r : Place). r.bytes) is ∙ ends.bytes) (ends.end ∙ last ∙ omega (arith, whole, at, same))
+  where
+    ahead-none : (p : Place) → next_line (ahead p) ≡ None → length p.bytes ≤ p.at
+    ahead-none p e = go (ahead p) refl
+      where
+        go : (bs : List ℕ) → ahead p ≡ bs → length p.bytes ≤ p.at
+        go [] nil = omega (arith, length-drop p.at p.bytes, ap (λ (t : List ℕ). length t) nil)
+        go (b ∷ bs) some = absurd (none-some (line_of (b ∷ bs)) (sym (subst (λ (xs : List ℕ). next_line xs ≡ None) some e) ∙ next_some b bs))

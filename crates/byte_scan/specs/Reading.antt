@@ -1,7 +1,7 @@
 -- The parts that both forms of AIGER share (A. Biere, The AIGER And-Inverter Graph Format, 2007; AIGER 1.9). A reader
 -- goes from a place in the bytes to what it read and the place behind it, or to the first fault.
 use Rattle.std.specs.Prelude.{◌≡◌, ℕ, ◌+◌, ◌*◌, Bool, false, ◌&&◌, ◌||◌, List, [], ◌∷◌, length, drop, Option, Some, None, Result, Ok, Err, nat_lt, ◌==◌, if◌then◌else◌}
-use Rattle.std.specs.Prelude.{map, reverse, slice_set}
+use Rattle.std.specs.Prelude.{map, min, not, reverse, slice_set}
 use Rattle.std.specs.Option.{option_map}
 use Rattle.std.specs.List.{find, range_with_len}
 use Rattle.symbol_names.specs.declared.names.Names.{Names}
@@ -164,6 +164,18 @@ names_by inputs outputs lines = record {
 abbrev pub tail_of : ℕ → ℕ → List Line → Result Names AigerErr
 tail_of inputs outputs lines = symbols_of inputs outputs lines >>= λ symbols. Ok (names_by inputs outputs symbols)
 
+-- How many bytes lie behind where the reading of the tail ends: those up to the end of the first line that begins a comment or
+-- is no symbol line, and all where there is none.
+abbrev pub tail_end : ℕ → ℕ → ℕ → List Line → ℕ
+tail_end inputs outputs all [] = all
+tail_end inputs outputs all (line ∷ lines) =
+    if begins_with 99 line.text || not (is_symbol inputs outputs line.text) then min (line.at + length line.text + 1) all
+    else tail_end inputs outputs all lines
+
+-- the place where the reading of the tail ends
+abbrev pub behind_tail : ℕ → ℕ → Place → Place
+behind_tail inputs outputs p = record { bytes = p.bytes; at = tail_end inputs outputs (length p.bytes) (lines_ahead p) }
+
 -- ---- what a function answers
 
 -- the error is the fault that was found, or memory ran out
@@ -185,6 +197,11 @@ Reads (Err e) new found = IsFault e found
 abbrev pub Passes : {A : Type 0} → Result A AigerErr → Place → Result Place AigerErr → Type 0
 Passes (Ok x) new found = found ≡ Ok new
 Passes (Err e) new found = IsFault e found
+
+-- whatever is answered, this is the place behind; where memory ran out it is some place in the same bytes
+abbrev pub Ends : {A : Type 0} → Result A AigerErr → Place → Place → Type 0
+Ends (Err NoMemory) new place = new.bytes ≡ place.bytes
+Ends answer new place = new ≡ place
 
 -- the names with that of one more symbol line
 abbrev pub with_symbol : List ℕ → Names → Names

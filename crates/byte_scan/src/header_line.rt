@@ -1,6 +1,6 @@
-ghost use Rattle.std.specs.Prelude.{◌≡◌, ◌≤◌, All, nat_lt, IfNone, IfOk, IfErr, Some, None, if◌then◌else◌, option_map};
+ghost use Rattle.std.specs.Prelude.{◌≡◌, ◌+◌, ◌≤◌, All, length, nat_lt, IfNone, IfOk, IfErr, Some, None, if◌then◌else◌, option_map};
 ghost use Rattle.std.specs.List.{find};
-ghost use Rattle.byte_scan.specs.Scanning.{value};
+ghost use Rattle.byte_scan.specs.Scanning.{ahead, line_of, moved, value};
 ghost use Rattle.byte_scan.specs.Reading.{Reads, header_at};
 ghost use Rattle.byte_scan.specs.HeaderLine.{IsFit, header_numbers, header_of, is_number, miscounts, nine_numbers, numbers_fault, property, words_of};
 ghost use Rattle.byte_scan.specs.declared.errors.AigerErr.TheVariants.{HasProperty};
@@ -17,6 +17,7 @@ pub const VARIABLE_LIMIT: u64 = 16_777_216;
 pub fn header(scan: &mut Scan, letter: u8) -> Result<Header, AigerErr>
     ensures reads { Reads result scan.new (header_at letter scan.old) }
     ensures fits { IfOk result (IsFit letter) }
+    ensures behind { scan.new ≡ moved scan.old (length (line_of (ahead scan.old)) + 1) }
 {
     let Some(line) = scan.line() else {
         return Err(AigerErr::BadHeader);

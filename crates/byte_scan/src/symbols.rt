@@ -2,7 +2,7 @@ ghost use Rattle.std.specs.Prelude.{◌≡◌, ◌+◌, ◌<◌, true, false, le
 ghost use Rattle.symbol_names.specs.NameList.{name_of};
 ghost use Rattle.symbol_names.specs.Names.{AreNames};
 ghost use Rattle.byte_scan.specs.Scanning.{digits, value};
-ghost use Rattle.byte_scan.specs.Reading.{Gives, begins_with, is_named, is_symbol, lines_ahead, tail_of, with_symbol};
+ghost use Rattle.byte_scan.specs.Reading.{Ends, Gives, begins_with, behind_tail, is_named, is_symbol, lines_ahead, tail_of, with_symbol};
 
 use crate::errors::AigerErr;
 use crate::scan::{Scan, leading_number};
@@ -11,10 +11,12 @@ use symbol_names::{NameList, Names};
 
 /// Reads what stands behind the last gate: symbols of the inputs and outputs, of which there are so many, up
 /// to the end of the input or to a comment. A name is that of the last symbol for its place, and an empty one
-/// is none. Names take memory where there are symbols, and only there.
+/// is none. Names take memory where there are symbols, and only there. The scan then stands behind the line that
+/// begins the comment or is no symbol line, and else at the end.
 pub fn tail(alloc: Global, scan: &mut Scan, inputs: u32, outputs: u32) -> Result<Names, AigerErr>
     ensures reads { Gives result (tail_of inputs outputs (lines_ahead scan.old)) }
     ensures names { IfOk result (AreNames inputs outputs) }
+    ensures ends { Ends result scan.new (behind_tail inputs outputs scan.old) }
 {
     let mut names = Names::none(alloc, inputs, outputs);
     let mut at = scan.at();
