@@ -1,16 +1,16 @@
 -- A file that is started, gets its bytes and is closed.
-use Rattle.std.proofs.Common.{◌≡◌, ℕ, inl, inr, List, [], ◌++◌, Option, Some, None, Err, true, false, Bool, refl, sym, ap, ◌∙◌, subst}
+use Rattle.std.proofs.Common.{◌≡◌, ℕ, inl, inr, List, [], ◌++◌, length, Option, Some, None, Err, true, false, Bool, refl, sym, ap, ◌∙◌, subst}
 use Rattle.std.proofs.Math.Path.{fun_ext}
 use Rattle.std.proofs.lemmas.List.{append-nil}
 use Rattle.std.specs.Prelude.{if◌then◌else◌}
 use Rattle.std.specs.Option.{option_map}
 use Rattle.std.specs.Str.{bytes_eq}
-use Rattle.desk_port.specs.Desk.{DeskState, Files, Sizes, put, extended, WriteFault, after_start, after_write, after_close, Closes}
+use Rattle.desk_port.specs.Desk.{DeskState, Files, Sizes, put, extended, WriteFault, and_sizes, after_start, after_write, after_close, Closes}
 use Rattle.desk_port.specs.declared.errors.PutErr.{PutErr}
 use Rattle.desk_port.specs.declared.errors.PutErr.TheVariants as not_put
 use Rattle.endings.specs.Stops.{stop_of_put}
-use Rattle.desk_port.specs.Pieces.{StopsInPieces}
-use Rattle.endings.specs.Writing.{Output, StopsIn, after_file, while_writing}
+use Rattle.desk_port.specs.Pieces.{StopsInPieces, piece_sizes}
+use Rattle.endings.specs.Writing.{Output, StopsBetweenWrites, StopsIn, after_file, while_writing}
 
 -- the started file holds what was put into it
 pub put-started : (a : DeskState) (name bytes : List ℕ) → after_write (after_start a name) bytes ≡ while_writing a name bytes
@@ -46,3 +46,19 @@ module _ (o : Output) (a b c : DeskState) (started : b ≡ after_start a o.name)
 
   pub closed : (d : DeskState) → c ≡ after_write b o.bytes → d ≡ after_close c → d ≡ after_file a o
   closed d p q = q ∙ ap after_close (whole p)
+
+  -- the sizes of the writes up to the one that was refused, and up to the close that was
+  pub between-put : (e : PutErr) (sizes at told : Sizes) → at ≡ sizes → StopsInPieces o.bytes e b c at told
+      → StopsBetweenWrites o a c sizes told e
+  between-put e sizes at told same p =
+      inr (inl (subst (λ (z : Sizes). StopsInPieces o.bytes e (after_start a o.name) c z told) same
+      (subst (λ (s : DeskState). StopsInPieces o.bytes e s c at told) started p)))
+
+  pub between-close : (d : DeskState) (e : PutErr) (sizes at written told : Sizes) → at ≡ sizes → c ≡ after_write b o.bytes
+      → written ≡ and_sizes at (piece_sizes (length o.bytes)) → told ≡ written → Closes c d (Err e)
+      → StopsBetweenWrites o a d sizes told e
+  between-close d e sizes at written told same p count kept q =
+      inr (inr (
+        subst (λ (s : DeskState). Closes s d (Err e)) (whole p) q,
+        kept ∙ count ∙ ap (λ (z : Sizes). and_sizes z (piece_sizes (length o.bytes))) same,
+      ))

@@ -2,8 +2,8 @@
 use Rattle.std.specs.Prelude.{◌≡◌, ◌⊎◌, ℕ, List, [], ◌∷◌, length, Some, None, Result, Ok, Err}
 use Rattle.std.specs.Option.{option_map}
 use Rattle.std.specs.List.{flat_map}
-use Rattle.desk_port.specs.Desk.{DeskState, WriteFault, OfSomePrefix, put, after_emptying, after_say}
-use Rattle.desk_port.specs.Pieces.{piece_sizes}
+use Rattle.desk_port.specs.Desk.{DeskState, Sizes, Starts, Closes, WriteFault, OfSomePrefix, put, after_emptying, after_start, after_say, and_sizes}
+use Rattle.desk_port.specs.Pieces.{StopsInPieces, piece_sizes}
 use Rattle.desk_port.specs.declared.errors.PutErr.{PutErr}
 use Rattle.endings.specs.Stops.{stop_of_put}
 use Rattle.endings.specs.declared.stop.Stop.{Stop}
@@ -42,6 +42,14 @@ StopsIn o old new (NotAlike text) = ⊥
 abbrev pub WritesFile : {A : Type 0} → Output → DeskState → DeskState → Result A PutErr → Type 0
 WritesFile o old new (Ok a) = new ≡ after_file old o
 WritesFile o old new (Err e) = StopsIn o old new (stop_of_put e)
+
+-- The sizes of the writes by which a file went out that isn't written whole: none where it wasn't started; those of the whole
+-- pieces before the one that was refused; and those of all its pieces where it couldn't be closed.
+abbrev pub StopsBetweenWrites : Output → DeskState → DeskState → Sizes → Sizes → PutErr → Type 0
+StopsBetweenWrites o old new sizes told e =
+    (Starts old new o.name (Err e) × (told ≡ sizes))
+    ⊎ StopsInPieces o.bytes e (after_start old o.name) new sizes told
+    ⊎ (Closes (while_writing old o.name o.bytes) new (Err e) × (told ≡ and_sizes sizes (piece_sizes (length o.bytes))))
 
 -- the desk after the files were written and closed, one after the other
 abbrev pub after_files : DeskState → List Output → DeskState

@@ -1,7 +1,7 @@
-ghost use Rattle.std.specs.Prelude.{◌≡◌, ℕ, List, None, IsSome, IfOk, OnOk, length};
+ghost use Rattle.std.specs.Prelude.{◌≡◌, ℕ, List, None, IsSome, IfErr, IfOk, OnOk, length};
 ghost use Rattle.desk_port.specs.Desk.{and_sizes};
 ghost use Rattle.desk_port.specs.Pieces.{WritesInPieces, piece_sizes};
-ghost use Rattle.endings.specs.Writing.{Says, WritesFile};
+ghost use Rattle.endings.specs.Writing.{Says, StopsBetweenWrites, WritesFile};
 
 use crate::stop::Stop;
 use desk_port::{Desk, PutErr};
@@ -41,6 +41,8 @@ pub fn write_file<D: Desk, C: Content>(
         (D.state desk.new) result }
     ensures sizes { OnOk result (D.sizes desk.new
         ≡ and_sizes (D.sizes desk.old) (piece_sizes (length (C.bytes content.now)))) }
+    ensures refused { IfErr result (StopsBetweenWrites (record { name = name.now; bytes = C.bytes content.now })
+        (D.state desk.old) (D.state desk.new) (D.sizes desk.old) (D.sizes desk.new)) }
     ensures tells { IfOk result (C.tells content.now) }
 {
     desk.start(name)?;
