@@ -8,6 +8,8 @@ pub use Rattle.lrat_text.proofs.LoopLemmas.{with_front, front-nothing, front-mor
 pub use Rattle.lrat_text.proofs.LoopLemmas.{front-fault}
 -- the next line, or none
 pub use Rattle.lrat_text.proofs.LoopLemmas.{next-some, next-none}
+-- a fault of the next line is the first of what is left
+pub use Rattle.lrat_text.proofs.LoopLemmas.{next-fault}
 -- ---- lines that derive
 
 -- one more, and what is live behind it

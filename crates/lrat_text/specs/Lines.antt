@@ -4,7 +4,8 @@ use Rattle.byte_scan.specs.Scanning.{Place}
 use Rattle.lrat_text.specs.declared.error.LratErr.{LratErr}
 use Rattle.lrat_text.specs.declared.step.Line.{Line}
 use Rattle.lrat_text.specs.declared.step.LratStep.{LratStep}
-use Rattle.lrat_text.specs.Reading.{steps_from, id_behind, Gives}
+use Rattle.lrat_text.specs.Reading.{step_of, steps_from, id_behind, words_in, Gives}
+use Rattle.lrat_text.specs.Steps.{id_after}
 use Rattle.tokens.specs.Reading.{◌>>=◌}
 use Rattle.tokens.specs.Words.{lines_in}
 
@@ -22,13 +23,46 @@ steps_left rest = steps_from (rest.behind + 1) rest.last (lines_in rest.bytes)
 abbrev pub in_front : Line → Result (List Line) LratErr → Result (List Line) LratErr
 in_front line read = read >>= λ lines. Ok (line ∷ lines)
 
--- What the next line is: the first of those that are left, of which there are then fewer bytes; or none is left; or the
--- first fault of what is left, of whose rest nothing is said.
+-- the whole of a text, for a formula of m clauses
+abbrev pub whole_text : ℕ → List ℕ → Rest
+whole_text m bytes = record { behind = 0; last = m; bytes = bytes }
+
+-- a line that says a step, with the lines behind it, if there is one; or the fault of a line
+abbrev pub Found : Type 0
+Found = Result (Option (Line × List (List ℕ))) LratErr
+
+-- what is found in line `at`, or behind it where it says nothing
+abbrev pub found_at : ℕ → List (List ℕ) → Found → Option LratStep → Found
+found_at at lines later None = later
+found_at at lines later (Some step) = Ok (Some (record { at = at; step = step }, lines))
+
+-- The first of some lines, from number `at` on, that says a step or has a fault, whatever stands behind it.
+abbrev pub next_from : ℕ → ℕ → List (List ℕ) → Found
+next_from at last [] = Ok None
+next_from at last (line ∷ lines) =
+    step_of at last (words_in line) >>= found_at at lines (next_from (at + 1) last lines)
+
+abbrev pub next_left : Rest → Found
+next_left rest = next_from (rest.behind + 1) rest.last (lines_in rest.bytes)
+
+-- the lines of these bytes; where none is left there are no bytes
+abbrev pub AreLeft : List (List ℕ) → List ℕ → Type 0
+AreLeft lines bytes = ((lines ≡ []) × (bytes ≡ [])) ⊎ (lines ≡ lines_in bytes)
+
+-- the line is the next one that says a step, and what is left are the lines behind it
+pub record IsNext (line : Line) (old new : Rest) : Type 0 where
+  pub lines : List (List ℕ)
+  pub next : next_left old ≡ Ok (Some (line, lines))
+  pub left : AreLeft lines new.bytes
+  pub behind : new.behind ≡ line.at
+  pub last : new.last ≡ id_after old.last line.step
+  pub fewer : length new.bytes < length old.bytes
+
+-- What the next line is; or none is left, and no bytes are; or its fault, behind which nothing is said of what is left.
 abbrev pub GivesNext : Result (Option Line) LratErr → Rest → Rest → Type 0
-GivesNext (Ok (Some line)) old new =
-    (steps_left old ≡ in_front line (steps_left new)) × (length new.bytes < length old.bytes)
-GivesNext (Ok None) old new = (steps_left old ≡ Ok []) × (steps_left new ≡ Ok [])
-GivesNext (Err e) old new = Gives (Err e) (steps_left old)
+GivesNext (Ok (Some line)) old new = IsNext line old new
+GivesNext (Ok None) old new = (next_left old ≡ Ok None) × (new.bytes ≡ [])
+GivesNext (Err e) old new = Gives (Err e) (next_left old)
 
 -- what is read has no fault
 abbrev pub HasForm : Result (List Line) LratErr → Type 0

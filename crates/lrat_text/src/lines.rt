@@ -1,6 +1,6 @@
 ghost use Rattle.std.specs.Prelude.{◌≡◌, [], IfSome, IfNone, IfOk};
 ghost use Rattle.lrat_text.specs.Reading.{step_of, steps_in, words_in, listed, Gives};
-ghost use Rattle.lrat_text.specs.Lines.{steps_left, GivesNext, GivesForm, IsNextLine, behind_said};
+ghost use Rattle.lrat_text.specs.Lines.{steps_left, whole_text, GivesNext, GivesForm, IsNextLine, behind_said};
 
 use crate::error::LratErr;
 use crate::reading::{id_after, step_of};
@@ -33,7 +33,7 @@ impl<'a> Model for Lines<'a> {
 impl<'a> Lines<'a> {
     /// All lines of a proof text, for a formula of `m` clauses.
     pub fn new(bytes: &'a [u8], m: u64) -> Lines<'a>
-        ensures { steps_left result ≡ steps_in m bytes.now }
+        ensures { result ≡ whole_text m bytes.now }
     {
         Lines {
             scan: Scan::new(bytes),
@@ -42,7 +42,8 @@ impl<'a> Lines<'a> {
         }
     }
 
-    /// The next line that says a step, if there is one. Lines are ended by LF or by the end of the bytes.
+    /// The next line that says a step, if there is one, whatever the lines behind it are. Lines are ended by LF or
+    /// by the end of the bytes.
     pub fn next(&mut self, alloc: Global) -> Result<Option<Line>, LratErr>
         ensures { GivesNext result self.old self.new }
     {
@@ -57,7 +58,8 @@ impl<'a> Lines<'a> {
 
     /// Reads the lines that are left for their form alone.
     pub fn skip_rest(&mut self, alloc: Global) -> Result<(), LratErr>
-        ensures { GivesForm result (steps_left self.old) }
+        ensures form { GivesForm result (steps_left self.old) }
+        ensures end { IfOk result (λ u. self.new.bytes ≡ []) }
     {
         while let Some(_) = self.next(alloc)? {}
         Ok(())

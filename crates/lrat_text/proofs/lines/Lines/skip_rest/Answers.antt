@@ -1,0 +1,36 @@
+use Rattle.std.proofs.lemmas.Result.{err_from_is_err_and}
+use Rattle.lrat_text.specs.Lines.{steps_left}
+use Rattle.lrat_text.proofs.LoopLemmas.{next-some, next-none, next-fault, form-front, fault-front}
+use Rattle.lrat_text.proofs.lines.Lines.skip_rest.Goals as goal
+
+pub returns-in_err-next-clause-form : goal.returns-in_err-next-clause-form
+returns-in_err-next-clause-form c =
+    let p = err_from_is_err_and c.from_residual.result c.from_residual.ensures.1 in
+    let e = c.in_err-next.field-0.0 in
+    rw (p.1, p.2) (c.loop.invariant.fault e (next-fault e c.loop.self c.in_err-next.ensures))
+
+pub loop-preserved-in-Some : goal.loop-preserved-in-Some
+loop-preserved-in-Some c =
+    let l = c.loop in
+    let line = c.in-Some.field-0 in
+    let new = c.next.new.self in
+    let next = next-some c.in_ok-next.field-0 line l.self new c.in-Some.is c.in_ok-next.ensures in
+    record {
+      form = λ h. l.invariant.form (form-front line (steps_left l.self) (steps_left new) next h);
+      fault = λ d h. l.invariant.fault d (fault-front line (steps_left l.self) (steps_left new) d next h);
+    }
+
+pub loop-preserved-in-Some-2 : goal.loop-preserved-in-Some-2
+loop-preserved-in-Some-2 c =
+    let l = c.loop in
+    let line = c.in-Some.field-0 in
+    let new = c.next.new.self in
+    let next = next-some c.in_ok-next.field-0 line l.self new c.in-Some.is c.in_ok-next.ensures in
+    record {
+      form = λ h. l.invariant.form (form-front line (steps_left l.self) (steps_left new) next h);
+      fault = λ d h. l.invariant.fault d (fault-front line (steps_left l.self) (steps_left new) d next h);
+    }
+
+pub returns-clause-form : goal.returns-clause-form
+returns-clause-form c =
+    c.loop.invariant.form (rw (next-none c.in_ok-next.field-0 c.loop.self c.next.new.self c.in_default.is c.in_ok-next.ensures) tt)
