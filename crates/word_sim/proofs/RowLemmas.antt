@@ -1,8 +1,8 @@
 -- Rows that stand one after another: a row that is written, and those before it.
-use Rattle.std.proofs.Common.{◌≡◌, ◌∙◌, ℕ, suc, ◌+◌, ◌*◌, ◌<◌, ◌≤◌, ◌&&◌, nat_lt, Bool, List, [], ◌++◌, length, map, take, drop, get_or, sym, ap, subst, arith, length-append, length-drop, length-take, inl, inr}
+use Rattle.std.proofs.Common.{◌≡◌, ◌∙◌, ℕ, suc, ◌+◌, ◌*◌, ◌-◌, ◌<◌, ◌≤◌, ◌&&◌, nat_lt, Bool, List, [], ◌++◌, length, map, take, drop, get_or, sym, ap, subst, arith, length-append, length-drop, length-take, inl, inr}
 use Rattle.std.specs.Prelude.{slice_get}
 use Rattle.std.specs.List.{range_with_len, slice_index_or}
-use Rattle.std.proofs.lemmas.List.{length-map}
+use Rattle.std.proofs.lemmas.List.{drop-drop, length-map}
 use Rattle.std.proofs.lemmas.List.FromFn.{length-map-range_with_len, get_or-map-range_with_len}
 use Rattle.std.proofs.lemmas.Option.{slice_get-get_or}
 use Rattle.netlist.specs.declared.gate.Fanins.{Fanins}
@@ -12,7 +12,7 @@ use Rattle.std.proofs.lemmas.Bool.{cases_lt}
 use Rattle.netlist.specs.Net.{AigPair, IsNet, nodes_of, node_at, definitions, fanins_of, all_fanins}
 use Rattle.netlist.proofs.Facts.{IsGateAt, gate-at, length-nodes, length-definitions}
 use Rattle.word_sim.specs.Patterns.{words_of}
-use Rattle.word_sim.specs.Rows.{HasBits, IsRow, row_at, turned, value_on, AreFilled, AreRows, AreSignatures, IsPut}
+use Rattle.word_sim.specs.Rows.{HasBits, IsRow, row_at, turned, value_on, AreFilled, AreRows, AreSignatures, IsKeptFrom, IsPut}
 use Rattle.word_sim.proofs.PoolLemmas.{times-mono}
 
 -- the row that is written behind what is done
@@ -51,6 +51,30 @@ filled-next net patterns n old new filled put row = record {
         subst (λ (k : ℕ). IsRow net patterns (node_at net k) (row_at (words_of (length patterns)) k new)) same row
   ];
 }
+
+-- what stands behind a row that is written is as it was
+pub part-kept : (words p k : ℕ) (old done rest row : List ℕ) → old ≡ done ++ rest → length done ≡ p * words → length row ≡ words → k ≡ words
+    → IsKeptFrom words (p + 1) old (done ++ (row ++ drop k rest))
+part-kept words p k old done rest row whole place size same =
+    let from : (p + 1) * words ≡ length done + words = omega (arith, place) in
+    behind (row ++ drop k rest) from
+    ∙ ap (λ (n : ℕ). drop n (row ++ drop k rest)) (sym size) ∙ drop-append_seam row (drop k rest) ∙ ap (λ (n : ℕ). drop n rest) same
+    ∙ sym (ap (λ (xs : List ℕ). drop ((p + 1) * words) xs) whole ∙ behind rest from)
+  where
+    behind : (more : List ℕ) → (p + 1) * words ≡ length done + words → drop ((p + 1) * words) (done ++ more) ≡ drop words more
+    behind more from =
+        ap (λ (n : ℕ). drop n (done ++ more)) from ∙ sym (drop-drop words (length done) (done ++ more))
+        ∙ ap (drop words) (drop-append_seam done more)
+
+-- and so is what stands behind more rows
+pub kept-later : (words p q : ℕ) (old mid new : List ℕ) → p ≤ q → IsKeptFrom words p old mid → IsKeptFrom words q mid new
+    → IsKeptFrom words q old new
+kept-later words p q old mid new most first next = next ∙ later mid ∙ ap (drop (q * words - p * words)) first ∙ sym (later old)
+  where
+    later : (xs : List ℕ) → drop (q * words) xs ≡ drop (q * words - p * words) (drop (p * words) xs)
+    later xs =
+        let from : q * words ≡ p * words + (q * words - p * words) = omega (arith, times-mono p q words most) in
+        ap (λ (n : ℕ). drop n xs) from ∙ sym (drop-drop (q * words - p * words) (p * words) xs)
 
 -- one row is written behind what is done
 pub put-part : (words p k : ℕ) (old done rest row : List ℕ) → old ≡ done ++ rest → length done ≡ p * words

@@ -45,6 +45,10 @@ pub record IsPut (words position : ℕ) (old new : List ℕ) : Type 0 where
   pub size : length new ≡ length old
   pub before : (q : ℕ) → q < position → row_at words q new ≡ row_at words q old
 
+-- what stands from a position's row on is as it was
+abbrev pub IsKeptFrom : ℕ → ℕ → List ℕ → List ℕ → Type 0
+IsKeptFrom words position old new = drop (position * words) new ≡ drop (position * words) old
+
 -- the rows of all nodes of a net, each with the values on so many patterns
 pub record Signatures : Type 0 where
   pub patterns : ℕ

@@ -1,7 +1,7 @@
 ghost use Rattle.std.specs.Prelude.{◌≡◌, ◌≤◌, ◌<◌, ◌+◌, ◌*◌, ◌&&◌, ℕ, Bool, length};
 ghost use Rattle.netlist.specs.Net.{nodes_of};
 ghost use Rattle.word_sim.specs.Patterns.{truth_of, words_of};
-ghost use Rattle.word_sim.specs.Rows.{AreFilled, AreRows, HasBits, IsPut, row_at, turned};
+ghost use Rattle.word_sim.specs.Rows.{AreFilled, AreRows, HasBits, IsKeptFrom, IsPut, row_at, turned};
 
 use crate::pool::Pool;
 use crate::words::{put_gate, put_true};
@@ -22,11 +22,14 @@ pub fn fill(net: &Net, pool: &Pool, buf: &mut [u64])
     fill_gates(net, pool, buf);
 }
 
-/// Writes the rows of the nodes that no gate defines, the constant and the inputs, where `fill` writes them.
+/// Writes the rows of the nodes that no gate defines, the constant and the inputs, where `fill` writes them,
+/// and nothing else.
 pub fn fill_sources(net: &Net, pool: &Pool, buf: &mut [u64])
     requires inputs { pool.now.inputs ≡ length net.now.a.inputs }
     requires room { length buf.old ≡ length (nodes_of net.now) * words_of (length pool.now.patterns) }
-    ensures { AreFilled net.now pool.now.patterns (1 + length net.now.a.inputs) buf.new }
+    ensures filled { AreFilled net.now pool.now.patterns (1 + length net.now.a.inputs) buf.new }
+    ensures rest { IsKeptFrom (words_of (length pool.now.patterns)) (1 + length net.now.a.inputs)
+        buf.old buf.new }
 {
     fill_constant(net, pool, buf);
     fill_inputs(net, pool, buf);
@@ -35,7 +38,8 @@ pub fn fill_sources(net: &Net, pool: &Pool, buf: &mut [u64])
 /// The row of the constant, which is true.
 fn fill_constant(net: &Net, pool: &Pool, buf: &mut [u64])
     requires { length buf.old ≡ length (nodes_of net.now) * words_of (length pool.now.patterns) }
-    ensures { AreFilled net.now pool.now.patterns 1 buf.new }
+    ensures filled { AreFilled net.now pool.now.patterns 1 buf.new }
+    ensures rest { IsKeptFrom (words_of (length pool.now.patterns)) 1 buf.old buf.new }
 {
     put_true(&mut buf[..pool.words() as usize], pool.patterns());
 }
@@ -44,7 +48,9 @@ fn fill_constant(net: &Net, pool: &Pool, buf: &mut [u64])
 fn fill_inputs(net: &Net, pool: &Pool, buf: &mut [u64])
     requires inputs { pool.now.inputs ≡ length net.now.a.inputs }
     requires filled { AreFilled net.now pool.now.patterns 1 buf.old }
-    ensures { AreFilled net.now pool.now.patterns (1 + length net.now.a.inputs) buf.new }
+    ensures filled { AreFilled net.now pool.now.patterns (1 + length net.now.a.inputs) buf.new }
+    ensures rest { IsKeptFrom (words_of (length pool.now.patterns)) (1 + length net.now.a.inputs)
+        buf.old buf.new }
 {
     for input in 0..pool.inputs() {
         fill_input(pool, input, buf);
@@ -58,6 +64,7 @@ fn fill_input(pool: &Pool, input: u32, buf: &mut [u64])
     ensures put { IsPut (words_of (length pool.now.patterns)) (input + 1) buf.old buf.new }
     ensures row { HasBits (length pool.now.patterns) (truth_of pool.now.patterns input)
         (row_at (words_of (length pool.now.patterns)) (input + 1) buf.new) }
+    ensures rest { IsKeptFrom (words_of (length pool.now.patterns)) (input + 1 + 1) buf.old buf.new }
 {
     let words = pool.words() as usize;
     let (_, rest) = buf.split_at_mut((input as usize + 1) * words);
