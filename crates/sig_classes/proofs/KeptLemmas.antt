@@ -1,5 +1,5 @@
 -- Classes that are kept: what rows of new patterns part them into, and the tasks that they give.
-use Rattle.std.proofs.Common.{◌≡◌, ◌∙◌, ℕ, ◌+◌, ◌*◌, ◌-◌, ◌/◌, ◌<◌, ◌≤◌, ◌&&◌, ◌++◌, nat_lt, Bool, true, false, not, Option, None, Some, List, [], length, take, drop, refl, sym, ap, ap₂, subst, arith, inl, inr, length-append, length-drop, length-take, Result, Ok, Err, IfOk, if◌then◌else◌}
+use Rattle.std.proofs.Common.{◌≡◌, ◌∙◌, ℕ, ◌+◌, ◌*◌, ◌-◌, ◌/◌, ◌<◌, ◌≤◌, ◌&&◌, ◌++◌, nat_lt, Bool, true, false, not, Option, None, Some, List, [], length, take, drop, refl, sym, ap, ap₂, subst, arith, inl, inr, length-append, length-drop, length-take, Result, Ok, Err, IfOk, OnOk, if◌then◌else◌}
 use Rattle.std.specs.List.{AllByRecursion, slice_index_or}
 use Rattle.std.proofs.lemmas.Bool.{cases_lt, false_from_ne_true}
 use Rattle.std.proofs.lemmas.Bool.Decides.{nat_tests}
@@ -265,6 +265,10 @@ last-classes net patterns seen kept old at end =
 pub if-ok : {T E : Type 0} (r : Result T E) (P Q : T → Type 0) → IfOk r P → ((x : T) → P x → Q x) → IfOk r Q
 if-ok (Ok x) P Q p f = f x p
 if-ok (Err e) P Q p f = tt
+
+pub on-ok : {T E : Type 0} (r : Result T E) (Q : Type 0) → Q → OnOk r Q
+on-ok (Ok x) Q q = q
+on-ok (Err e) Q q = tt
 
 -- ---- tasks
 

@@ -1,4 +1,4 @@
-ghost use Rattle.std.specs.Prelude.{◌≡◌, ◌<◌, ◌≤◌, ◌+◌, ℕ, Bool, true, false, List, length, IfOk, OnOk};
+ghost use Rattle.std.specs.Prelude.{◌≡◌, ◌<◌, ◌≤◌, ◌+◌, ℕ, Bool, true, false, List, length, IfOk, OnOk, OnErr};
 ghost use Rattle.std.specs.Bool.{OnTrue};
 ghost use Rattle.std.specs.List.{AllByRecursion};
 ghost use Rattle.netlist.specs.Net.{nodes_of};
@@ -72,6 +72,7 @@ impl KeptClasses {
             → counts self.new.leaders p ≡ counts self.old.leaders p }
         ensures seen { IfOk result (λ s. self.new.seen ≡ next_seen self.old.seen (length pool.now.patterns)) }
         ensures rows { IfOk result (AreSignatures net.now (next_part self.old.seen pool.now.patterns)) }
+        ensures refused { OnErr result (self.new ≡ self.old) }
     {
         netlist::laws::is_net(net);
         let sigs = next_rows(alloc, net, pool, self.seen)?;
@@ -94,6 +95,7 @@ impl KeptClasses {
         requires kept { AreKept net.now pool.now.patterns self.old }
         ensures tasks { IfOk result (λ v. AreTasks net.now book.now.entries pool.now.patterns v.items) }
         ensures kept { AreKept net.now pool.now.patterns self.new }
+        ensures seen { OnOk result (self.new.seen ≡ length pool.now.patterns) }
     {
         netlist::laws::is_net(net);
         self.leave_out(alloc, net, book)?;

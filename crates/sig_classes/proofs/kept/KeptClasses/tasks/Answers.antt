@@ -1,7 +1,14 @@
 use Rattle.std.proofs.Common.{◌≡◌, ◌∙◌, ◌+◌, ◌*◌, ◌/◌, ◌≤◌, ℕ, List, length, arith, sym, ap, subst}
 use Rattle.sig_classes.specs.Kept.{AreClasses, AreKept, HaveRoots, Kept, counts, next_seen}
-use Rattle.sig_classes.proofs.KeptLemmas.{if-ok, last-classes, next-signs, next-some}
+use Rattle.sig_classes.proofs.KeptLemmas.{if-ok, last-classes, next-signs, next-some, on-ok}
 use Rattle.sig_classes.proofs.kept.KeptClasses.tasks.Goals as goal
+
+pub returns-clause-seen : goal.returns-clause-seen
+returns-clause-seen c =
+    let before : c.self.inside.seen ≡ c.loop-self.self.seen = ap (λ (k : Kept). k.seen) c.self.view_is in
+    let all : c.refine-2.new.self.seen ≡ length c.args.pool.now.patterns =
+    omega (arith, before, c.in_ok-sigs.ensures.seen, c.words.ensures.words, c.loop-self-test.false) in
+    on-ok c.due.result _ all
 
 pub returns-clause-tasks : goal.returns-clause-tasks
 returns-clause-tasks c =
