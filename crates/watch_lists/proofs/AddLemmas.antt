@@ -5,9 +5,8 @@ use Rattle.std.proofs.lemmas.List.{get_or_append_left, get_or_push, length_push,
 use Rattle.std.proofs.lemmas.Bool.{cases_lt}
 use Rattle.lits.specs.Clause.{has}
 use Rattle.unit_prop.proofs.Facts.{contrary}
-use Rattle.watch_lists.specs.State.{IsWatch, IsJustified, AsksNothing, IsEngine, pairs_of}
+use Rattle.watch_lists.specs.State.{IsWatch, IsJustified, AsksNothing, IsEngine}
 use Rattle.watch_lists.specs.Step.{IsAdded}
-use Rattle.watch_lists.proofs.CopyLemmas.{copies-more, pairs-length}
 use Rattle.watch_lists.specs.declared.engine.Engine.{Engine}
 use Rattle.watch_lists.specs.declared.lists.Watch.{Watch}
 use Rattle.watch_lists.proofs.WatchLemmas.{decide}
@@ -23,8 +22,7 @@ engine-added old new clause engine like within room settled = record {
     | inr before ↦ let h : i < length old.clauses = omega (arith, length_push old.clauses clause) in rw (kept i h) (engine.settled i h)
     | inl last ↦ rw (get_or_push old.clauses clause [] i (sym last)) settled
   ]);
-  copies = rw (like.clauses, like.work) (copies-more old.clauses old.work clause (omega (arith, engine.watched.most, pairs-length old.work)) engine.copies);
-  watched = rw (like.clauses, like.work, like.lists, like.trail, like.levels, like.head) (record {
+  watched = rw (like.clauses, like.pairs, like.lists, like.trail, like.levels, like.head) (record {
     most = let m = engine.watched.most in omega (arith, length_push old.clauses clause);
     linked = engine.watched.linked;
     watches = λ l k d h. more_watch l _ (engine.watched.watches l k d h);
@@ -56,7 +54,7 @@ engine-added old new clause engine like within room settled = record {
       | inr past ↦ contrary _ (subst (λ (c : List ℕ). has nat_eq c l ≡ true) (get_or_past (old.clauses ++ clause ∷ []) i [] (omega (arith, length_push old.clauses clause))) h) refl
     ]
 
-    more_watch : (l : ℕ) (w : Watch) → IsWatch old.clauses (length (pairs_of old.work)) l w → IsWatch (old.clauses ++ clause ∷ []) (length (pairs_of old.work)) l w
+    more_watch : (l : ℕ) (w : Watch) → IsWatch old.clauses (length old.pairs.items) l w → IsWatch (old.clauses ++ clause ∷ []) (length old.pairs.items) l w
     more_watch l w is = let m = engine.watched.most in let g = is.guarded in record {
       guarded = is.guarded;
       inside = rw (kept w.clause (omega arith)) is.inside;

@@ -7,7 +7,7 @@ use Rattle.unit_prop.specs.Closure.{forces, is_negated}
 use Rattle.unit_prop.proofs.Facts.{contrary, all-true}
 use Rattle.watch_lists.specs.Codes.{flip}
 use Rattle.watch_lists.specs.State.{height, Guards, IsBest, AsksNothing, is_met}
-use Rattle.watch_lists.specs.declared.flat.Pair.{Pair}
+use Rattle.watch_lists.specs.declared.engine.Pair.{Pair}
 use Rattle.watch_lists.proofs.FlipLemmas.{is_literal-flip, same_exact}
 use Rattle.watch_lists.proofs.VisitLemmas.{met-by}
 use Rattle.watch_lists.proofs.HeightLemmas.{height-below, below-height}

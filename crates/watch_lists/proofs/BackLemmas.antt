@@ -8,7 +8,7 @@ use Rattle.std.proofs.lemmas.Bool.{or_right, cases_lt}
 use Rattle.lits.specs.Clause.{has}
 use Rattle.unit_prop.proofs.Facts.{contrary}
 use Rattle.watch_lists.specs.Codes.{flip}
-use Rattle.watch_lists.specs.State.{codes_at, AreGuards, AreWatched, AsksNothing, AreLevels, IsEngine, no_level, level_at, pairs_of}
+use Rattle.watch_lists.specs.State.{codes_at, AreGuards, AreWatched, AsksNothing, AreLevels, IsEngine, no_level, level_at}
 use Rattle.watch_lists.specs.Step.{IsPut, IsRaised, IsCut}
 use Rattle.watch_lists.specs.declared.engine.Level.{Level}
 use Rattle.watch_lists.specs.declared.engine.Engine.{Engine}
@@ -58,13 +58,12 @@ engine-decided old mid new x s engine put is raised within fresh free settled = 
       All-push (λ (v : Level). AsksNothing (take v.start (old.trail.items ++ x ∷ [])) (codes_at old.clauses i)) old.levels.items (record { start = s; head = old.head })
       (settled-put old.clauses old.trail.items old.levels.items engine.settled (starts-most engine.trail) x i a)
       (rw whole (settled i a)));
-  copies = rw (raised.clauses, raised.work, put.clauses, put.work) engine.copies;
-  watched = rw (raised.clauses, raised.work, raised.lists, raised.trail, raised.levels, raised.head, put.clauses, put.work, put.lists, put.trail, put.levels, put.head) (record {
+  watched = rw (raised.clauses, raised.pairs, raised.lists, raised.trail, raised.levels, raised.head, put.clauses, put.pairs, put.lists, put.trail, put.levels, put.head) (record {
     most = more.most;
     linked = more.linked;
     watches = more.watches;
     guards = more.guards;
-    bounds = All-push (λ (v : Level). AreGuards old.clauses (pairs_of old.work) (take v.head (old.trail.items ++ x ∷ [])) (take v.start (old.trail.items ++ x ∷ []))) old.levels.items (record { start = s; head = old.head }) more.bounds
+    bounds = All-push (λ (v : Level). AreGuards old.clauses old.pairs.items (take v.head (old.trail.items ++ x ∷ [])) (take v.start (old.trail.items ++ x ∷ []))) old.levels.items (record { start = s; head = old.head }) more.bounds
         (rw (whole, take-append-le old.head old.trail.items (x ∷ []) engine.trail.head_most) engine.watched.guards);
   });
   trail = rw (raised.clauses, raised.truth, raised.places, raised.trail, raised.reasons, raised.levels, raised.head, put.clauses, put.truth, put.places, put.trail, put.reasons, put.levels, put.head)
@@ -76,7 +75,7 @@ engine-decided old mid new x s engine put is raised within fresh free settled = 
     whole : take s (old.trail.items ++ x ∷ []) ≡ old.trail.items
     whole = take-append-le s old.trail.items (x ∷ []) (omega arith) ∙ take_all s old.trail.items (omega arith)
 
-    more : AreWatched old.clauses (pairs_of old.work) old.lists (old.trail.items ++ x ∷ []) old.levels.items old.head
+    more : AreWatched old.clauses old.pairs.items old.lists (old.trail.items ++ x ∷ []) old.levels.items old.head
     more = watched-put engine.watched engine.trail.head_most (starts-most engine.trail) (heads-most engine.trail) x
 
 -- the levels that stay
@@ -122,8 +121,7 @@ engine-cut old new count level engine cut within is = record {
   settled = rw (cut.clauses, cut.trail, cut.levels) (λ i a k d h.
       let c = inside k h in
       rw (get_or-take count old.levels.items k d c, short k d c) (engine.settled i a k d (omega arith)));
-  copies = rw (cut.clauses, cut.work) engine.copies;
-  watched = rw (cut.clauses, cut.work, cut.lists, cut.trail, cut.levels, cut.head) (record {
+  watched = rw (cut.clauses, cut.pairs, cut.lists, cut.trail, cut.levels, cut.head) (record {
     most = engine.watched.most;
     linked = engine.watched.linked;
     watches = engine.watched.watches;

@@ -10,7 +10,7 @@ use Rattle.unit_prop.proofs.Facts.{contrary}
 use Rattle.watch_lists.specs.State.{no_watch, codes_at, list_at, watch_at, blocked, HasWatch, IsWatch, AreWatched, IsTurn}
 use Rattle.watch_lists.specs.Step.{IsLike}
 use Rattle.watch_lists.specs.declared.lists.Watch.{Watch}
-use Rattle.watch_lists.specs.declared.flat.Pair.{Pair}
+use Rattle.watch_lists.specs.declared.engine.Pair.{Pair}
 use Rattle.watch_lists.specs.declared.engine.Engine.{Engine}
 use Rattle.watch_lists.specs.declared.engine.Level.{Level}
 use Rattle.watch_lists.proofs.WatchLemmas.{decide, each-set}
@@ -65,25 +65,24 @@ watched-block {clauses} {pairs} {lists} watched lit at blocker within inside = r
 }
 
 -- so the turn goes on as it would
-pub turn-block : (old new : Engine) (lit at from blocker : ℕ) → IsTurn old lit from → IsLike old new → new.work ≡ old.work
+pub turn-block : (old new : Engine) (lit at from blocker : ℕ) → IsTurn old lit from → IsLike old new → new.pairs.items ≡ old.pairs.items
     → new.lists ≡ slice_set old.lists lit (blocked (list_at old.lists lit) at blocker) → at < length (list_at old.lists lit)
     → has nat_eq (codes_at old.clauses (watch_at (list_at old.lists lit) at).clause) blocker ≡ true
     → IsTurn new lit from × (length (list_at new.lists lit) ≡ length (list_at old.lists lit))
-turn-block old new lit at from blocker turn like same_work same_lists within inside = (
+turn-block old new lit at from blocker turn like same_pairs same_lists within inside = (
   record {
     engine = record {
       lists = rw (same_lists, like.truth) (length-set old.lists lit _ ∙ turn.engine.lists);
       small = rw like.truth turn.engine.small;
       few = rw like.clauses turn.engine.few;
       settled = rw (like.clauses, like.trail, like.levels) turn.engine.settled;
-      copies = rw (like.clauses, same_work) turn.engine.copies;
-      watched = rw (like.clauses, same_work, same_lists, like.trail, like.levels, like.head) (watched-block turn.engine.watched lit at blocker within inside);
+      watched = rw (like.clauses, same_pairs, same_lists, like.trail, like.levels, like.head) (watched-block turn.engine.watched lit at blocker within inside);
       trail = rw (like.clauses, like.truth, like.places, like.trail, like.reasons, like.levels, like.head) turn.engine.trail;
     };
     next = rw (like.head, like.trail) turn.next;
     lit_in = rw like.truth turn.lit_in;
     is = rw (like.head, like.trail) turn.is;
-    turned = rw (like.clauses, same_work, like.trail, same_lists, there) (record {
+    turned = rw (like.clauses, same_pairs, like.trail, same_lists, there) (record {
       each = λ i h e. elim (turn.turned.each i h e) [
         | inl done ↦ inl done
         | inr still ↦ inr (has_watch-blocked (list_at old.lists lit) at blocker from i still)

@@ -4,7 +4,7 @@ use Rattle.std.specs.List.{All}
 use Rattle.std.proofs.lemmas.List.{length-append}
 use Rattle.std.proofs.lemmas.Map.Keys.{IsDistinct-from_apart}
 use Rattle.unit_prop.proofs.Facts.{contrary}
-use Rattle.watch_lists.specs.State.{list_at, pairs_of, HasWatch, IsWatch, IsEngine}
+use Rattle.watch_lists.specs.State.{list_at, HasWatch, IsWatch, IsEngine}
 use Rattle.watch_lists.specs.Step.{IsEmpty, IsGrown}
 use Rattle.watch_lists.specs.declared.lists.Watch.{Watch}
 use Rattle.watch_lists.specs.declared.engine.Engine.{Engine}
@@ -15,8 +15,7 @@ engine-empty e is = record {
   small = rw is.truth (omega arith);
   few = rw is.clauses (omega arith);
   settled = rw (is.clauses, is.trail, is.levels) (λ i a. absurd (omega arith));
-  copies = rw (is.clauses, is.work) (record { two = λ k d h. absurd (omega arith); same = λ i l h. absurd (omega arith) });
-  watched = rw (is.clauses, is.work, is.lists, is.trail, is.levels, is.head) (record {
+  watched = rw (is.clauses, is.pairs, is.lists, is.trail, is.levels, is.head) (record {
     most = omega arith;
     linked = λ i h. absurd (omega arith);
     watches = λ l k d h. absurd (omega arith);
@@ -58,11 +57,10 @@ engine-grown old new engine grown room = record {
   small = rw grown.truth (omega (arith, size));
   few = rw grown.clauses engine.few;
   settled = rw (grown.clauses, grown.trail, grown.levels) engine.settled;
-  copies = rw (grown.clauses, grown.work) engine.copies;
-  watched = rw (grown.clauses, grown.work, grown.lists, grown.trail, grown.levels, grown.head) (record {
+  watched = rw (grown.clauses, grown.pairs, grown.lists, grown.trail, grown.levels, grown.head) (record {
     most = engine.watched.most;
     linked = λ i h. let l = engine.watched.linked i h in record { first = subst (λ (z : List Watch). HasWatch z 0 i) (sym (kept _)) l.first; second = subst (λ (z : List Watch). HasWatch z 0 i) (sym (kept _)) l.second };
-    watches = λ l. subst (λ (z : List Watch). All (IsWatch old.clauses (length (pairs_of old.work)) l) z) (sym (kept l)) (engine.watched.watches l);
+    watches = λ l. subst (λ (z : List Watch). All (IsWatch old.clauses (length old.pairs.items) l) z) (sym (kept l)) (engine.watched.watches l);
     guards = engine.watched.guards;
     bounds = engine.watched.bounds;
   });

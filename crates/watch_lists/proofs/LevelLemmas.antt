@@ -10,14 +10,13 @@ use Rattle.unit_prop.specs.Closure.{forces, is_negated, IsClosed, Clashes, IsClo
 use Rattle.unit_prop.specs.Propagation.{IsSettled}
 use Rattle.unit_prop.proofs.Facts.{contrary, IsRound, round-clash, round-last, forces-more}
 use Rattle.watch_lists.specs.Codes.{flip}
-use Rattle.watch_lists.specs.State.{codes_at, AreGuards, IsMarked, IsJustified, IsEngine, IsStuck, IsPropagated, AsksNothing, decisions, pairs_of}
+use Rattle.watch_lists.specs.State.{codes_at, AreGuards, IsMarked, IsJustified, IsEngine, IsStuck, IsPropagated, AsksNothing, decisions}
 use Rattle.watch_lists.specs.declared.engine.Engine.{Engine}
-use Rattle.watch_lists.specs.declared.flat.Pair.{Pair}
+use Rattle.watch_lists.specs.declared.engine.Pair.{Pair}
 use Rattle.watch_lists.specs.declared.engine.Level.{Level}
 use Rattle.watch_lists.proofs.FlipLemmas.{is_literal-flip, same_exact}
 use Rattle.watch_lists.proofs.GuardLemmas.{guarded-settled, guarded-quiet}
 use Rattle.watch_lists.proofs.TrailLemmas.{has-take}
-use Rattle.watch_lists.proofs.CopyLemmas.{pairs-length}
 
 -- where a literal of a list stands
 pub record IsAt (xs : List ℕ) (x : ℕ) : Type 0 where
@@ -139,18 +138,18 @@ conflict-clashes e i is =
     some (c ∷ cs) (suc i) h f = or_right (is_negated flip (has nat_eq e.trail.items) c) _ (some cs i (omega arith) f)
 
 -- what propagation ends with
-pub propagated-none : (e : Engine) → IsEngine e → e.head ≡ length e.trail.items → length e.clauses ≤ length e.work
+pub propagated-none : (e : Engine) → IsEngine e → e.head ≡ length e.trail.items → length e.clauses ≤ length e.pairs.items
     → IsClosure nat_eq flip e.clauses (decisions e.trail.items e.reasons.items) e.trail.items × ¬ Clashes flip e.clauses (has nat_eq e.trail.items)
 propagated-none e engine done all =
     let n = length e.trail.items in
     let whole : take n e.trail.items ≡ e.trail.items = take_all n e.trail.items (omega arith) in
     let reasons : take n e.reasons.items ≡ e.reasons.items = take_all n e.reasons.items (omega (arith, engine.trail.reasons_all)) in
     let past : take e.head e.trail.items ≡ e.trail.items = take_all e.head e.trail.items (omega (arith, done)) in
-    let guards : AreGuards e.clauses (pairs_of e.work) e.trail.items e.trail.items = subst (λ (z : List ℕ). AreGuards e.clauses (pairs_of e.work) z e.trail.items) past engine.watched.guards in
-    let guards2 : AreGuards e.clauses (pairs_of e.work) (take n e.trail.items) (take n e.trail.items) = subst (λ (z : List ℕ). AreGuards e.clauses (pairs_of e.work) z z) (sym whole) guards in
-    rw (whole, reasons) at (level-closure engine.trail n (omega arith) (pairs_of e.work) guards2 (omega (arith, all, pairs-length e.work)))
+    let guards : AreGuards e.clauses e.pairs.items e.trail.items e.trail.items = subst (λ (z : List ℕ). AreGuards e.clauses e.pairs.items z e.trail.items) past engine.watched.guards in
+    let guards2 : AreGuards e.clauses e.pairs.items (take n e.trail.items) (take n e.trail.items) = subst (λ (z : List ℕ). AreGuards e.clauses e.pairs.items z z) (sym whole) guards in
+    rw (whole, reasons) at (level-closure engine.trail n (omega arith) e.pairs.items guards2 all)
 
-pub propagated : (e : Engine) (r : Option ℕ) → length e.clauses ≤ length e.work → IsPropagated e r
+pub propagated : (e : Engine) (r : Option ℕ) → length e.clauses ≤ length e.pairs.items → IsPropagated e r
     → IfNone r (IsClosure nat_eq flip e.clauses (decisions e.trail.items e.reasons.items) e.trail.items × ¬ Clashes flip e.clauses (has nat_eq e.trail.items))
     × IfSome r (λ _. ClosureClashes nat_eq flip e.clauses (decisions e.trail.items e.reasons.items))
 propagated e None all h = (propagated-none e h.0 h.1 all, tt)

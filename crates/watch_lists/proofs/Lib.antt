@@ -3,7 +3,6 @@ mod AddLemmas
 mod AttachLemmas
 mod BackLemmas
 mod BlockLemmas
-mod CopyLemmas
 mod FlatLemmas
 mod FlipLemmas
 mod GrowLemmas

@@ -17,8 +17,8 @@ use Rattle.watch_lists.specs.Trail.{put_at, clause_at, lits_of}
 use Rattle.watch_lists.specs.Whole.{IsWhole}
 use Rattle.watch_lists.specs.declared.put.Put.{Put}
 use Rattle.watch_lists.specs.declared.engine.Engine.{Engine}
-use Rattle.watch_lists.proofs.Facts.{lit_at-flip, has-lits, has-same, code-of, flip-code, has-at}
-use Rattle.watch_lists.proofs.TransferLemmas.{lits_at, clauses_at}
+use Rattle.watch_lists.proofs.Facts.{lit_at-flip, has-same, flip-code, has-at}
+use Rattle.watch_lists.proofs.TransferLemmas.{clauses_at}
 use Rattle.watch_lists.proofs.LevelLemmas.{place_of}
 use Rattle.watch_lists.proofs.WholeLemmas.{clause-at, same-length, lit-at}
 
@@ -85,27 +85,15 @@ module _ {nodes : List Node} {e : Engine} {puts : List Put} {capacity : ℕ} (wh
       let same : x ≡ get_or e.trail.items k 0 = read ∙ get_or_default e.trail.items k x 0 k_in in
       (subst (λ (z : ℕ). IsCode nodes z) (sym same) (whole.codes (get_or e.trail.items k 0) (has-at e.trail.items k k_in)), ap (lit_at nodes) same ∙ sym (lit-at whole k h))
 
-  -- the codes of a clause, in whichever order
-  pub clause-read : (i : ℕ) (codes : List ℕ) → ((c : ℕ) → has nat_eq codes c ≡ has nat_eq (codes_at e.clauses i) c) → AreCodesOf nodes (clause_at (clauses_at nodes e.clauses) i) codes
-  clause-read i codes same = record {
-    within = λ k d h. subst (λ (z : ℕ). IsCode nodes z) (sym (get_or_default codes k d 0 h)) (whole.clauses i (get_or codes k 0) (sym (same (get_or codes k 0)) ∙ has-at codes k h));
-    same = λ l. ends l (has same_lit (lits_at nodes codes) l) (has same_lit (clause_at (clauses_at nodes e.clauses) i) l) refl refl;
+  -- the codes of a clause
+  pub clause-read : (i : ℕ) → AreCodesOf nodes (clause_at (clauses_at nodes e.clauses) i) (codes_at e.clauses i)
+  clause-read i = record {
+    within = λ k d h. subst (λ (z : ℕ). IsCode nodes z) (sym (get_or_default codes k d 0 h)) (whole.clauses i (get_or codes k 0) (has-at codes k h));
+    same = λ l. sym (ap (λ (c : List Lit). has same_lit c l) (clause-at nodes e.clauses i));
   }
     where
-      there : (l : Lit) → has same_lit (clause_at (clauses_at nodes e.clauses) i) l ≡ has same_lit (lits_at nodes (codes_at e.clauses i)) l
-      there l = ap (λ (c : List Lit). has same_lit c l) (clause-at nodes e.clauses i)
-
-      over : (xs ys : List ℕ) → ((c : ℕ) → has nat_eq xs c ≡ has nat_eq ys c) → (l : Lit) → has same_lit (lits_at nodes xs) l ≡ true → has same_lit (lits_at nodes ys) l ≡ true
-      over xs ys eq l h = let w = code-of nodes xs l h in subst (λ (z : Lit). has same_lit (lits_at nodes ys) z ≡ true) w.2 (has-lits nodes ys w.0 (sym (eq w.0) ∙ w.1))
-
-      ends : (l : Lit) (a b : Bool) → has same_lit (lits_at nodes codes) l ≡ a → has same_lit (clause_at (clauses_at nodes e.clauses) i) l ≡ b → has same_lit (lits_at nodes codes) l ≡ has same_lit (clause_at (clauses_at nodes e.clauses) i) l
-      ends l true true f g = f ∙ sym g
-      ends l false false f g = f ∙ sym g
-      ends l true false f g = contrary _ (there l ∙ over codes (codes_at e.clauses i) same l f) g
-      ends l false true f g = contrary _ (over (codes_at e.clauses i) codes (λ c. sym (same c)) l (sym (there l) ∙ g)) f
-
-  pub work-read : (i : ℕ) → i < length e.work → AreCodesOf nodes (clause_at (clauses_at nodes e.clauses) i) (codes_at e.work i)
-  work-read i h = clause-read i (codes_at e.work i) (λ c. whole.engine.copies.same i c h)
+      codes : List ℕ
+      codes = codes_at e.clauses i
 
 -- a code that was made
 pub made : (nodes : List Node) (number : ℕ) (l : Lit) (code : ℕ) → number < length nodes → slice_index_or nodes number Const ≡ l.node → code ≡ code_of number l.neg

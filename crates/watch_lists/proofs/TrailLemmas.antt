@@ -16,7 +16,7 @@ use Rattle.watch_lists.specs.Codes.{flip}
 use Rattle.watch_lists.specs.Guard.{IsGuarded}
 use Rattle.watch_lists.specs.State.{codes_at, pair_at, is_met, AreGuards, AreTurned, AreWatched, IsMarked, AreLevels, IsJustified, AreSettled, AsksNothing}
 use Rattle.watch_lists.specs.declared.lists.Watch.{Watch}
-use Rattle.watch_lists.specs.declared.flat.Pair.{Pair}
+use Rattle.watch_lists.specs.declared.engine.Pair.{Pair}
 use Rattle.watch_lists.specs.declared.engine.Level.{Level}
 use Rattle.watch_lists.proofs.FlipLemmas.{is_literal-flip, same_exact, flip_differs, flip-below}
 use Rattle.watch_lists.proofs.GuardLemmas.{guarded-more}

@@ -1,22 +1,21 @@
 -- The turn after a put, a dropped watch and a moved watch.
 use Rattle.std.proofs.Common.{◌≡◌, ◌≢◌, ℕ, ◌+◌, ◌<◌, ◌≤◌, Bool, true, false, List, [], ◌∷◌, ◌++◌, length, refl, sym, ap, ◌∙◌, subst, arith, get_or, take, nat_eq, Option, Some, None, ◌⊎◌, inl, inr}
 use Rattle.std.specs.List.{swap_remove, All}
-use Rattle.std.specs.Prelude.{slice_index_or, slice_index, slice_set, is_none}
+use Rattle.std.specs.Prelude.{slice_index_or, slice_set, is_none}
 use Rattle.std.proofs.lemmas.List.{get_or-set_same, get_or_append_left, get_or_read, get_or_push, get_or-take, length-set, length_push, length-take, take-take, take_all, take_more, take-append-le}
 use Rattle.std.proofs.lemmas.Bool.{or_cases, cases_lt}
 use Rattle.lits.specs.Clause.{has}
 use Rattle.watch_lists.specs.Codes.{flip}
-use Rattle.watch_lists.specs.State.{codes_at, pair_at, list_at, watch_at, is_met, IsJustified, IsEngine, IsTurn, IsOther, IsLinked, HasWatch, Holds, Stays, Grows, Guards, pushed, pairs_of, moved, arranged}
+use Rattle.watch_lists.specs.State.{codes_at, pair_at, list_at, watch_at, is_met, IsJustified, IsEngine, IsTurn, IsOther, IsLinked, HasWatch, Holds, Stays, Grows, Guards, pushed}
 use Rattle.watch_lists.specs.Step.{IsSame, IsLike, IsPut}
 use Rattle.watch_lists.specs.declared.lists.Watch.{Watch}
-use Rattle.watch_lists.specs.declared.flat.Pair.{Pair}
+use Rattle.watch_lists.specs.declared.engine.Pair.{Pair}
 use Rattle.watch_lists.specs.declared.engine.Engine.{Engine}
 use Rattle.watch_lists.proofs.WatchLemmas.{watched-drop, length-swap_remove, watched-next}
 use Rattle.watch_lists.proofs.TrailLemmas.{trail-put, watched-put, turned-put, has-push_cases, trail-below, settled-put, levels-put, starts-most, heads-most, flips}
 use Rattle.watch_lists.proofs.FlipLemmas.{is_literal-flip, same_exact}
 use Rattle.watch_lists.proofs.GuardLemmas.{guarded-turned}
-use Rattle.watch_lists.proofs.VisitLemmas.{turned-drop, turn-false, moved-watched, moved-list, moved-size, moved-turned, turn-clause}
-use Rattle.watch_lists.proofs.CopyLemmas.{pairs-length, pairs-moved, pairs-push, copies-moved, copies-push}
+use Rattle.watch_lists.proofs.VisitLemmas.{turned-drop, turn-false, moved-watched, moved-list, moved-size, moved-turned}
 use Rattle.watch_lists.proofs.Facts.{has-at}
 
 pub engine-put : (old new : Engine) (x by : ℕ) → IsEngine old → IsPut old x (Some by) new → x < length old.truth.items
@@ -26,8 +25,7 @@ engine-put old new x by engine put within fresh free just = record {
   small = rw (put.truth, length-set old.truth.items x true) engine.small;
   few = rw put.clauses engine.few;
   settled = rw (put.clauses, put.trail, put.levels) (settled-put old.clauses old.trail.items old.levels.items engine.settled (starts-most engine.trail) x);
-  copies = rw (put.clauses, put.work) engine.copies;
-  watched = rw (put.clauses, put.work, put.lists, put.trail, put.levels, put.head) (watched-put engine.watched engine.trail.head_most (starts-most engine.trail) (heads-most engine.trail) x);
+  watched = rw (put.clauses, put.pairs, put.lists, put.trail, put.levels, put.head) (watched-put engine.watched engine.trail.head_most (starts-most engine.trail) (heads-most engine.trail) x);
   trail = rw (put.clauses, put.truth, put.places, put.trail, put.reasons, put.levels, put.head)
       (trail-put engine.trail x (Some by) old.levels.items (levels-put old.levels.items old.reasons.items by engine.trail.levels_are) within fresh free just);
 }
@@ -39,28 +37,27 @@ turn-put old new x by lit at turn put within fresh free just = record {
   next = rw (put.head, put.trail) (omega (arith, length_push old.trail.items x, turn.next));
   lit_in = rw put.truth (subst (λ (n : ℕ). lit < n) (sym (length-set old.truth.items x true)) turn.lit_in);
   is = rw (put.head, put.trail) (turn.is ∙ sym (get_or_append_left old.trail.items (x ∷ []) 0 old.head turn.next));
-  turned = rw (put.clauses, put.work, put.trail, put.lists) (turned-put x turn.turned);
+  turned = rw (put.clauses, put.pairs, put.trail, put.lists) (turned-put x turn.turned);
 }
 
-pub turn-drop : (old new : Engine) (lit at : ℕ) (d : Watch) → IsTurn old lit at → IsLike old new → new.work ≡ old.work
+pub turn-drop : (old new : Engine) (lit at : ℕ) (d : Watch) → IsTurn old lit at → IsLike old new → new.pairs.items ≡ old.pairs.items
     → new.lists ≡ slice_set old.lists lit (swap_remove (list_at old.lists lit) at d) → at < length (list_at old.lists lit)
-    → ((pair_at (pairs_of old.work) (watch_at (list_at old.lists lit) at).clause).first ≢ lit) × ((pair_at (pairs_of old.work) (watch_at (list_at old.lists lit) at).clause).second ≢ lit)
+    → ((pair_at old.pairs.items (watch_at (list_at old.lists lit) at).clause).first ≢ lit) × ((pair_at old.pairs.items (watch_at (list_at old.lists lit) at).clause).second ≢ lit)
     → IsTurn new lit at × (length (list_at new.lists lit) + 1 ≡ length (list_at old.lists lit))
-turn-drop old new lit at d turn like same_work same_lists within apart = (
+turn-drop old new lit at d turn like same_pairs same_lists within apart = (
   record {
     engine = record {
       lists = rw (same_lists, like.truth) (length-set old.lists lit _ ∙ turn.engine.lists);
       small = rw like.truth turn.engine.small;
       few = rw like.clauses turn.engine.few;
       settled = rw (like.clauses, like.trail, like.levels) turn.engine.settled;
-      copies = rw (like.clauses, same_work) turn.engine.copies;
-      watched = rw (like.clauses, same_work, same_lists, like.trail, like.levels, like.head) (watched-drop turn.engine.watched lit at d within gone);
+      watched = rw (like.clauses, same_pairs, same_lists, like.trail, like.levels, like.head) (watched-drop turn.engine.watched lit at d within gone);
       trail = rw (like.clauses, like.truth, like.places, like.trail, like.reasons, like.levels, like.head) turn.engine.trail;
     };
     next = rw (like.head, like.trail) turn.next;
     lit_in = rw like.truth turn.lit_in;
     is = rw (like.head, like.trail) turn.is;
-    turned = rw (like.clauses, same_work, like.trail, same_lists, there) (turned-drop (list_at old.lists lit) d within gone turn.turned);
+    turned = rw (like.clauses, same_pairs, like.trail, same_lists, there) (turned-drop (list_at old.lists lit) d within gone turn.turned);
   },
   rw (same_lists, there) (length-swap_remove (list_at old.lists lit) at d within),
 )
@@ -71,26 +68,24 @@ turn-drop old new lit at d turn like same_work same_lists within apart = (
     there : list_at (slice_set old.lists lit (swap_remove (list_at old.lists lit) at d)) lit ≡ swap_remove (list_at old.lists lit) at d
     there = get_or-set_same old.lists lit _ [] lit_in
 
-    gone : (i : ℕ) → i < length (pairs_of old.work) → (watch_at (list_at old.lists lit) at).clause ≡ i → ((pair_at (pairs_of old.work) i).first ≢ lit) × ((pair_at (pairs_of old.work) i).second ≢ lit)
-    gone i h e = subst (λ (k : ℕ). ((pair_at (pairs_of old.work) k).first ≢ lit) × ((pair_at (pairs_of old.work) k).second ≢ lit)) e apart
+    gone : (i : ℕ) → i < length old.pairs.items → (watch_at (list_at old.lists lit) at).clause ≡ i → ((pair_at old.pairs.items i).first ≢ lit) × ((pair_at old.pairs.items i).second ≢ lit)
+    gone i h e = subst (λ (k : ℕ). ((pair_at old.pairs.items k).first ≢ lit) × ((pair_at old.pairs.items k).second ≢ lit)) e apart
 
-pub turn-move : (old new : Engine) (lit at j other x place : ℕ) (d : Watch) (lists1 : List (List Watch)) → IsTurn old lit at → IsLike old new
-    → new.work ≡ slice_set old.work j (moved (codes_at old.work j) place lit other x)
+pub turn-move : (old new : Engine) (lit at j other x : ℕ) (d : Watch) (lists1 : List (List Watch)) → IsTurn old lit at → IsLike old new
+    → new.pairs.items ≡ slice_set old.pairs.items j (record { first = other; second = x })
     → lists1 ≡ slice_set old.lists x (list_at old.lists x ++ record { clause = j; blocker = other; is_two = false } ∷ [])
     → new.lists ≡ slice_set lists1 lit (swap_remove (list_at lists1 lit) at d)
     → at < length (list_at old.lists lit) → (watch_at (list_at old.lists lit) at).clause ≡ j
-    → 2 ≤ place → place < length (codes_at old.work j) → slice_index (codes_at old.work j) place ≡ x
-    → x < length old.truth.items → IsOther (pair_at (pairs_of old.work) j) lit other → nat_eq other lit ≡ false
+    → x < length old.truth.items → IsOther (pair_at old.pairs.items j) lit other → nat_eq other lit ≡ false
     → has nat_eq (codes_at old.clauses j) x ≡ true → has nat_eq old.trail.items (flip x) ≡ false → nat_eq other x ≡ false
     → IsTurn new lit at × (length (list_at new.lists lit) + 1 ≡ length (list_at old.lists lit))
-turn-move old new lit at j other x place d lists1 turn like new_work first_lists new_lists within here low high is_x x_in is_other apart inside free fresh = (
+turn-move old new lit at j other x d lists1 turn like new_pairs first_lists new_lists within here x_in is_other apart inside free fresh = (
   record {
     engine = record {
       lists = rw (new_lists, first_lists, like.truth) (length-set _ lit _ ∙ (length-set old.lists x _ ∙ turn.engine.lists));
       small = rw like.truth turn.engine.small;
       few = rw like.clauses turn.engine.few;
       settled = rw (like.clauses, like.trail, like.levels) turn.engine.settled;
-      copies = rw (like.clauses, new_work) (copies-moved old.clauses old.work j place lit other x turn.engine.copies j_in low high is_x is_other);
       watched = rw (like.clauses, new_pairs, new_lists, first_lists, like.trail, like.levels, like.head)
           (moved-watched turn.engine.watched lit at j other x within here lit_in (subst (λ (n : ℕ). x < n) (sym turn.engine.lists) x_in) is_other apart inside free fresh (turn-false turn) d);
       trail = rw (like.clauses, like.truth, like.places, like.trail, like.reasons, like.levels, like.head) turn.engine.trail;
@@ -104,12 +99,6 @@ turn-move old new lit at j other x place d lists1 turn like new_work first_lists
   rw (new_lists, first_lists, there) (moved-size turn.engine.watched lit at j other x within here lit_in (subst (λ (n : ℕ). x < n) (sym turn.engine.lists) x_in) is_other apart inside free fresh (turn-false turn) d),
 )
   where
-    j_in : j < length old.work
-    j_in = omega (arith, turn-clause turn j within here, pairs-length old.work)
-
-    new_pairs : pairs_of new.work ≡ slice_set (pairs_of old.work) j (record { first = other; second = x })
-    new_pairs = ap pairs_of new_work ∙ pairs-moved old.work j place lit other x low high
-
     lit_in : lit < length old.lists
     lit_in = subst (λ (n : ℕ). lit < n) (sym turn.engine.lists) turn.lit_in
 
@@ -172,7 +161,7 @@ pub stays-holds : (a b : Engine) → Holds a b → Stays a b
 stays-holds a b k = record { clauses = k.clauses; levels = k.levels; size = k.size; pairs = k.pairs; grows = k.grows }
 
 -- what keeps all but watches and copies
-pub holds-like : (a b : Engine) → IsLike a b → length a.work ≤ length b.work → Holds a b
+pub holds-like : (a b : Engine) → IsLike a b → length a.pairs.items ≤ length b.pairs.items → Holds a b
 holds-like a b like more = record {
   clauses = like.clauses;
   levels = like.levels;
@@ -186,7 +175,7 @@ pub like-same : (a b : Engine) → IsSame a b → IsLike a b
 like-same a b s = record { clauses = s.clauses; truth = s.truth; places = s.places; trail = s.trail; reasons = s.reasons; levels = s.levels; head = s.head }
 
 pub holds-same : (a b : Engine) → IsSame a b → Holds a b
-holds-same a b s = holds-like a b (like-same a b s) (omega (arith, ap length s.work))
+holds-same a b s = holds-like a b (like-same a b s) (omega (arith, ap length s.pairs))
 
 pub put-holds : (old new : Engine) (x by : ℕ) → IsPut old x (Some by) new → Holds old new
 put-holds old new x by put = record {
@@ -194,7 +183,7 @@ put-holds old new x by put = record {
   levels = put.levels;
   head = put.head;
   size = ap length put.truth ∙ length-set old.truth.items x true;
-  pairs = omega (arith, ap length put.work);
+  pairs = omega (arith, ap length put.pairs);
   grows = rw (put.trail, put.reasons) (grows-push old.trail.items old.reasons.items x by);
 }
 
@@ -208,13 +197,13 @@ turn-start e lit engine next is lit_in = record {
   turned = record { each = λ i h watches. inr (start i (or_cases _ _ watches) (engine.watched.linked i h)) };
 }
   where
-    start : (i : ℕ) → (nat_eq (pair_at (pairs_of e.work) i).first lit ≡ true) ⊎ (nat_eq (pair_at (pairs_of e.work) i).second lit ≡ true) → IsLinked e.lists i (pair_at (pairs_of e.work) i) → HasWatch (list_at e.lists lit) 0 i
+    start : (i : ℕ) → (nat_eq (pair_at e.pairs.items i).first lit ≡ true) ⊎ (nat_eq (pair_at e.pairs.items i).second lit ≡ true) → IsLinked e.lists i (pair_at e.pairs.items i) → HasWatch (list_at e.lists lit) 0 i
     start i (inl f) linked = subst (λ (l : ℕ). HasWatch (list_at e.lists l) 0 i) (same_exact _ lit f) linked.first
     start i (inr f) linked = subst (λ (l : ℕ). HasWatch (list_at e.lists l) 0 i) (same_exact _ lit f) linked.second
 
 pub record IsPast (old new : Engine) : Type 0 where
   pub clauses : new.clauses ≡ old.clauses
-  pub work : new.work ≡ old.work
+  pub pairs : new.pairs.items ≡ old.pairs.items
   pub lists : new.lists ≡ old.lists
   pub truth : new.truth.items ≡ old.truth.items
   pub places : new.places.items ≡ old.places.items
@@ -230,8 +219,7 @@ turn-end old new lit at turn past like = record {
   small = rw like.truth turn.engine.small;
   few = rw like.clauses turn.engine.few;
   settled = rw (like.clauses, like.trail, like.levels) turn.engine.settled;
-  copies = rw (like.clauses, like.work) turn.engine.copies;
-  watched = rw (like.clauses, like.work, like.lists, like.trail, like.levels, like.head) (record {
+  watched = rw (like.clauses, like.pairs, like.lists, like.trail, like.levels, like.head) (record {
     most = turn.engine.watched.most;
     linked = turn.engine.watched.linked;
     watches = turn.engine.watched.watches;
@@ -281,26 +269,22 @@ engine-same old new engine same = record {
   small = rw same.truth engine.small;
   few = rw same.clauses engine.few;
   settled = rw (same.clauses, same.trail, same.levels) engine.settled;
-  copies = rw (same.clauses, same.work) engine.copies;
-  watched = rw (same.clauses, same.work, same.lists, same.trail, same.levels, same.head) engine.watched;
+  watched = rw (same.clauses, same.pairs, same.lists, same.trail, same.levels, same.head) engine.watched;
   trail = rw (same.clauses, same.truth, same.places, same.trail, same.reasons, same.levels, same.head) engine.trail;
 }
 
-pub engine-watched : (old new : Engine) (at : ℕ) (pair : Pair) (is_two : Bool) → IsEngine old → at ≡ length old.work → at < length old.clauses
+pub engine-watched : (old new : Engine) (at : ℕ) (pair : Pair) (is_two : Bool) → IsEngine old → at ≡ length old.pairs.items → at < length old.clauses
     → Guards (take old.head old.trail.items) old.trail.items (codes_at old.clauses at) pair
     → All (λ v. Guards (take v.head old.trail.items) (take v.start old.trail.items) (codes_at old.clauses at) pair) old.levels.items
     → (is_two ≡ true → (l : ℕ) → has nat_eq (codes_at old.clauses at) l ≡ true → (l ≡ pair.first) ⊎ (l ≡ pair.second))
-    → new.work ≡ old.work ++ arranged pair (codes_at old.clauses at) ∷ []
+    → new.pairs.items ≡ old.pairs.items ++ pair ∷ []
     → new.lists ≡ pushed (pushed old.lists pair.first (record { clause = at; blocker = pair.second; is_two = is_two })) pair.second (record { clause = at; blocker = pair.first; is_two = is_two })
     → IsLike old new → IsEngine new
-engine-watched old new at pair is_two engine last room guard bounds only new_work new_lists like = record {
+engine-watched old new at pair is_two engine count room guard bounds only new_pairs new_lists like = record {
   lists = rw (new_lists, like.truth) (length-set _ pair.second _ ∙ (length-set old.lists pair.first _ ∙ engine.lists));
   small = rw like.truth engine.small;
   few = rw like.clauses engine.few;
   settled = rw (like.clauses, like.trail, like.levels) engine.settled;
-  copies = rw (like.clauses, new_work, last) (copies-push old.clauses old.work pair engine.copies
-      (subst (λ (n : ℕ). has nat_eq (codes_at old.clauses n) pair.first ≡ true) last guard.first_in)
-      (subst (λ (n : ℕ). has nat_eq (codes_at old.clauses n) pair.second ≡ true) last guard.second_in));
   watched = rw (like.clauses, new_pairs, new_lists, count, like.trail, like.levels, like.head)
       (watched-next engine.watched pair (omega (arith, count)) (in_lists pair.first guard.first_in) (in_lists pair.second guard.second_in)
       (subst (λ (n : ℕ). Guards (take old.head old.trail.items) old.trail.items (codes_at old.clauses n) pair) count guard)
@@ -309,11 +293,5 @@ engine-watched old new at pair is_two engine last room guard bounds only new_wor
   trail = rw (like.clauses, like.truth, like.places, like.trail, like.reasons, like.levels, like.head) engine.trail;
 }
   where
-    count : at ≡ length (pairs_of old.work)
-    count = last ∙ sym (pairs-length old.work)
-
-    new_pairs : pairs_of new.work ≡ pairs_of old.work ++ pair ∷ []
-    new_pairs = ap pairs_of new_work ∙ pairs-push old.work pair (codes_at old.clauses at)
-
     in_lists : (l : ℕ) → has nat_eq (codes_at old.clauses at) l ≡ true → l < length old.lists
     in_lists l h = subst (λ (n : ℕ). l < n) (sym engine.lists) (engine.trail.within at l h)

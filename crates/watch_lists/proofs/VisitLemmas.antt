@@ -1,7 +1,7 @@
 -- What a visit does to the turn.
-use Rattle.std.proofs.Common.{◌≡◌, ◌≢◌, ℕ, ◌+◌, ◌<◌, ◌≤◌, Bool, true, false, ◌||◌, List, [], ◌∷◌, ◌++◌, length, refl, sym, ap, ◌∙◌, subst, arith, get_or, nat_eq, ◌⊎◌, inl, inr, Option}
+use Rattle.std.proofs.Common.{◌≡◌, ◌≢◌, ℕ, ◌+◌, ◌<◌, Bool, true, false, ◌||◌, List, [], ◌∷◌, ◌++◌, length, refl, sym, ap, ◌∙◌, subst, arith, get_or, nat_eq, inl, inr, Option}
 use Rattle.std.specs.List.{swap_remove}
-use Rattle.std.specs.Prelude.{slice_index_or, slice_index, slice_set}
+use Rattle.std.specs.Prelude.{slice_index_or, slice_set}
 use Rattle.std.proofs.lemmas.List.{get_or-set_same, get_or-set_other, get_or_read, get_or_default, length-set}
 use Rattle.std.proofs.lemmas.Bool.{or_cases, or_left, or_right, cases_Bool}
 use Rattle.lits.specs.Clause.{has}
@@ -9,11 +9,10 @@ use Rattle.unit_prop.specs.Closure.{forces, is_negated}
 use Rattle.unit_prop.proofs.Facts.{contrary, all-true, passes}
 use Rattle.watch_lists.specs.Codes.{flip}
 use Rattle.watch_lists.specs.Guard.{IsGuarded}
-use Rattle.watch_lists.specs.State.{no_watch, no_pair, codes_at, pair_at, list_at, watch_at, is_met, HasWatch, AreTurned, AreWatched, IsLinked, IsWatch, IsMarked, IsOther, IsTurn, IsEngine, pairs_of, first_two}
-use Rattle.watch_lists.proofs.CopyLemmas.{in_copy, pair-at, pairs-length}
+use Rattle.watch_lists.specs.State.{no_watch, no_pair, codes_at, pair_at, list_at, watch_at, is_met, HasWatch, AreTurned, AreWatched, IsLinked, IsWatch, IsMarked, IsOther, IsTurn, IsEngine}
 use Rattle.watch_lists.specs.declared.engine.Engine.{Engine}
 use Rattle.watch_lists.specs.declared.lists.Watch.{Watch}
-use Rattle.watch_lists.specs.declared.flat.Pair.{Pair}
+use Rattle.watch_lists.specs.declared.engine.Pair.{Pair}
 use Rattle.watch_lists.specs.declared.engine.Level.{Level}
 use Rattle.watch_lists.proofs.Facts.{has-at}
 use Rattle.watch_lists.proofs.FlipLemmas.{is_literal-flip, same_exact}
@@ -228,26 +227,16 @@ turn-false {e} turn = subst (λ (z : ℕ). has nat_eq e.trail.items z ≡ true) 
 pub blocker-within : {e : Engine} {lit at : ℕ} → IsTurn e lit at → (w : Watch) → at < length (list_at e.lists lit) → watch_at (list_at e.lists lit) at ≡ w
     → w.blocker < length e.truth.items
 blocker-within {e} {lit} {at} turn w within read =
-    let is : IsWatch e.clauses (length (pairs_of e.work)) lit w = subst (λ (x : Watch). IsWatch e.clauses (length (pairs_of e.work)) lit x) read (turn.engine.watched.watches lit at no_watch within) in
+    let is : IsWatch e.clauses (length e.pairs.items) lit w = subst (λ (x : Watch). IsWatch e.clauses (length e.pairs.items) lit x) read (turn.engine.watched.watches lit at no_watch within) in
     turn.engine.trail.within w.clause w.blocker is.inside
 
 pub turn-clause : {e : Engine} {lit at : ℕ} → IsTurn e lit at → (j : ℕ) → at < length (list_at e.lists lit) → (watch_at (list_at e.lists lit) at).clause ≡ j
-    → j < length (pairs_of e.work)
-turn-clause {e} {lit} {at} turn j within here = subst (λ (k : ℕ). k < length (pairs_of e.work)) here (watch-within turn.engine.watched lit at within)
+    → j < length e.pairs.items
+turn-clause {e} {lit} {at} turn j within here = subst (λ (k : ℕ). k < length e.pairs.items) here (watch-within turn.engine.watched lit at within)
 
-pub turn-other : {e : Engine} {lit at : ℕ} → IsTurn e lit at → (j other : ℕ) → j < length (pairs_of e.work) → IsOther (pair_at (pairs_of e.work) j) lit other
+pub turn-other : {e : Engine} {lit at : ℕ} → IsTurn e lit at → (j other : ℕ) → j < length e.pairs.items → IsOther (pair_at e.pairs.items j) lit other
     → other < length e.truth.items
 turn-other turn j other h is = turn.engine.trail.within j other (other-in turn.engine.watched j _ other h is)
-
--- what stands in the work copy is in the clause
-pub copy-in : {e : Engine} → IsEngine e → (j place : ℕ) → j < length e.work → place < length (codes_at e.work j)
-    → has nat_eq (codes_at e.clauses j) (slice_index (codes_at e.work j) place) ≡ true
-copy-in {e} engine j place within below = sym (engine.copies.same j (slice_index (codes_at e.work j) place) within) ∙ has-at (codes_at e.work j) place below
-
--- and what is in the clause is watched or stands behind
-pub clause-in_copy : {e : Engine} → IsEngine e → (j q : ℕ) → j < length e.work → has nat_eq (codes_at e.clauses j) q ≡ true
-    → ((first_two (codes_at e.work j)).first ≡ q) ⊎ (((first_two (codes_at e.work j)).second ≡ q) ⊎ ((k : ℕ) × (2 ≤ k) × (k < length (codes_at e.work j)) × (slice_index (codes_at e.work j) k ≡ q)))
-clause-in_copy {e} engine j q within inside = in_copy (codes_at e.work j) q (engine.copies.same j q within ∙ inside)
 
 -- every literal but the blocker is false where the watch says that its clause has two literals
 pub others-two : {e : Engine} {lit at : ℕ} → IsTurn e lit at → (w : Watch) → at < length (list_at e.lists lit) → watch_at (list_at e.lists lit) at ≡ w
@@ -257,8 +246,8 @@ others-two {e} {lit} {at} turn w within read two l inside apart = elim (is.only 
   | inr same ↦ contrary _ (subst (λ (z : ℕ). nat_eq w.blocker z ≡ true) (sym same) (is_literal-flip.equivalence.refl w.blocker)) apart
 ]
   where
-    is : IsWatch e.clauses (length (pairs_of e.work)) lit w
-    is = subst (λ (x : Watch). IsWatch e.clauses (length (pairs_of e.work)) lit x) read (turn.engine.watched.watches lit at no_watch within)
+    is : IsWatch e.clauses (length e.pairs.items) lit w
+    is = subst (λ (x : Watch). IsWatch e.clauses (length e.pairs.items) lit x) read (turn.engine.watched.watches lit at no_watch within)
 
 pub blocker-in : {e : Engine} {lit at : ℕ} → IsTurn e lit at → (w : Watch) → at < length (list_at e.lists lit) → watch_at (list_at e.lists lit) at ≡ w
     → has nat_eq (codes_at e.clauses w.clause) w.blocker ≡ true
@@ -266,26 +255,7 @@ blocker-in {e} {lit} {at} turn w within read =
     subst (λ (x : Watch). has nat_eq (codes_at e.clauses x.clause) x.blocker ≡ true) read (turn.engine.watched.watches lit at no_watch within).inside
 
 -- every literal but the other watched one is false
-pub others-false : {e : Engine} {lit at : ℕ} → IsTurn e lit at → (j other : ℕ) → j < length e.work → IsOther (pair_at (pairs_of e.work) j) lit other
-    → ((k : ℕ) → 2 ≤ k → k < length (codes_at e.work j) → nat_eq other (slice_index (codes_at e.work j) k) ≡ false
-    → slice_index_or e.truth.items (flip (slice_index (codes_at e.work j) k)) false ≡ true)
-    → (l : ℕ) → has nat_eq (codes_at e.clauses j) l ≡ true → nat_eq other l ≡ false → has nat_eq e.trail.items (flip l) ≡ true
-others-false {e} {lit} turn j other within is behind l inside apart = elim (clause-in_copy turn.engine j l within inside) [
-  | inl f ↦ front f (elim two.either [ inl a ↦ inl a.0 | inr a ↦ inr a.1 ])
-  | inr g ↦ elim g [
-    | inl f ↦ front f (elim two.either [ inl a ↦ inr a.1 | inr a ↦ inl a.0 ])
-    | inr w ↦ subst (λ (z : ℕ). has nat_eq e.trail.items (flip z) ≡ true) w.3
-        (sym (turn.engine.trail.marks (flip (slice_index (codes_at e.work j) w.0))) ∙ behind w.0 w.1 w.2 (subst (λ (z : ℕ). nat_eq other z ≡ false) (sym w.3) apart))
-  ]
-]
-  where
-    two : IsOther (first_two (codes_at e.work j)) lit other
-    two = subst (λ (p : Pair). IsOther p lit other) (pair-at e.work j within) is
-
-    front : {x : ℕ} → x ≡ l → (x ≡ lit) ⊎ (x ≡ other) → has nat_eq e.trail.items (flip l) ≡ true
-    front f (inl same) = subst (λ (z : ℕ). has nat_eq e.trail.items (flip z) ≡ true) (sym same ∙ f) (turn-false turn)
-    front f (inr same) = contrary _ (subst (λ (z : ℕ). nat_eq other z ≡ true) (sym same ∙ f) (is_literal-flip.equivalence.refl other)) apart
-
-pub work-clause : {e : Engine} {lit at : ℕ} → IsTurn e lit at → (j : ℕ) → at < length (list_at e.lists lit) → (watch_at (list_at e.lists lit) at).clause ≡ j
-    → j < length e.work
-work-clause {e} turn j within here = omega (arith, turn-clause turn j within here, pairs-length e.work)
+pub others-false : {e : Engine} → IsEngine e → (clause : List ℕ) (other : ℕ)
+    → ((l : ℕ) → has nat_eq clause l ≡ true → nat_eq other l ≡ false → slice_index_or e.truth.items (flip l) false ≡ true)
+    → (l : ℕ) → has nat_eq clause l ≡ true → nat_eq other l ≡ false → has nat_eq e.trail.items (flip l) ≡ true
+others-false {e} engine clause other none l inside apart = sym (engine.trail.marks (flip l)) ∙ none l inside apart

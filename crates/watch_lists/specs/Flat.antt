@@ -12,7 +12,6 @@ span_at spans i = slice_index_or spans i no_span
 abbrev pub piece : List ℕ → Span → List ℕ
 piece lits s = take (s.end - s.start) (drop s.start lits)
 
--- the spans stand one after the other
+-- the spans lie within the list
 pub record AreSpans (spans : List Span) (lits : List ℕ) : Type 0 where
   pub within : (i : ℕ) → i < length spans → ((span_at spans i).start ≤ (span_at spans i).end) × ((span_at spans i).end ≤ length lits)
-  pub apart : (i j : ℕ) → i < j → j < length spans → (span_at spans i).end ≤ (span_at spans j).start

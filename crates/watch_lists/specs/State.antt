@@ -1,5 +1,5 @@
 -- What holds of the engine between its steps, over codes.
-use Rattle.std.specs.Prelude.{◌≡◌, ℕ, ◌+◌, ◌%◌, ◌<◌, ◌≤◌, ◌^◌, Bool, true, false, not, ◌||◌, ◌&&◌, ◌⊎◌, nat_eq, List, [], ◌∷◌, ◌++◌, slice_set, slice_index, take, filter, map, suc, if◌then◌else◌, length, is_none, Option, Some, None, slice_index_or}
+use Rattle.std.specs.Prelude.{◌≡◌, ℕ, ◌+◌, ◌%◌, ◌<◌, ◌≤◌, ◌^◌, Bool, true, false, ◌||◌, ◌⊎◌, nat_eq, List, [], ◌∷◌, ◌++◌, slice_set, take, suc, if◌then◌else◌, length, is_none, Option, Some, None, slice_index_or}
 use Rattle.std.specs.List.{list_any, All, IsDistinct}
 use Rattle.lits.specs.Clause.{has}
 use Rattle.unit_prop.specs.Closure.{forces, is_negated}
@@ -7,7 +7,7 @@ use Rattle.unit_prop.specs.Propagation.{IsSettled}
 use Rattle.watch_lists.specs.Codes.{flip}
 use Rattle.watch_lists.specs.Guard.{IsGuarded}
 use Rattle.watch_lists.specs.declared.lists.Watch.{Watch}
-use Rattle.watch_lists.specs.declared.flat.Pair.{Pair}
+use Rattle.watch_lists.specs.declared.engine.Pair.{Pair}
 use Rattle.watch_lists.specs.declared.engine.Level.{Level}
 use Rattle.watch_lists.specs.declared.engine.Engine.{Engine}
 use Rattle.watch_lists.specs.declared.engine.Visit.{Visit}
@@ -41,21 +41,6 @@ watch_at list k = slice_index_or list k no_watch
 
 abbrev pub level_at : List Level → ℕ → Level
 level_at levels i = slice_index_or levels i no_level
-
--- a clause of the work copy: its watched literals stand first, and then the others in any order
-abbrev pub first_two : List ℕ → Pair
-first_two codes = record { first = slice_index codes 0; second = slice_index codes 1 }
-
-abbrev pub pairs_of : List (List ℕ) → List Pair
-pairs_of work = map first_two work
-
--- the clause with that pair in front
-abbrev pub arranged : Pair → List ℕ → List ℕ
-arranged pair clause = pair.first ∷ pair.second ∷ filter (λ l. not (nat_eq l pair.first) && not (nat_eq l pair.second)) clause
-
--- the watch of `lit` moves to the literal at that place
-abbrev pub moved : List ℕ → ℕ → ℕ → ℕ → ℕ → List ℕ
-moved codes place lit other new = slice_set (slice_set (slice_set codes 0 other) 1 new) place lit
 
 -- the lists with one more watch of the literal
 abbrev pub pushed : List (List Watch) → ℕ → Watch → List (List Watch)
@@ -165,18 +150,12 @@ pub record IsBest (trail clause : List ℕ) (pair : Pair) : Type 0 where
   pub order : height trail pair.second ≤ height trail pair.first
   pub alone : pair.first ≡ pair.second → (m : ℕ) → has nat_eq clause m ≡ true → m ≡ pair.first
 
--- the work copy has the first clauses, each with its pair in front
-pub record AreCopies (clauses work : List (List ℕ)) : Type 0 where
-  pub two : All (λ c. 2 ≤ length c) work
-  pub same : (i l : ℕ) → i < length work → has nat_eq (codes_at work i) l ≡ has nat_eq (codes_at clauses i) l
-
 pub record IsEngine (e : Engine) : Type 0 where
   pub lists : length e.lists ≡ length e.truth.items
   pub small : length e.truth.items ≤ 2 ^ 32
   pub few : length e.clauses ≤ 2 ^ 32
   pub settled : AreSettled e.clauses e.trail.items e.levels.items
-  pub copies : AreCopies e.clauses e.work
-  pub watched : AreWatched e.clauses (pairs_of e.work) e.lists e.trail.items e.levels.items e.head
+  pub watched : AreWatched e.clauses (e.pairs.items) e.lists e.trail.items e.levels.items e.head
   pub trail : IsMarked e.clauses e.truth.items e.places.items e.trail.items e.reasons.items e.levels.items e.head
 
 -- in the turn of a literal that is false now: each clause that watches it is met, or its watch is still to come
@@ -190,7 +169,7 @@ pub record IsTurn (e : Engine) (lit at : ℕ) : Type 0 where
   pub next : e.head < length e.trail.items
   pub lit_in : lit < length e.truth.items
   pub is : flip lit ≡ slice_index_or e.trail.items e.head 0
-  pub turned : AreTurned e.clauses (pairs_of e.work) e.trail.items (list_at e.lists lit) lit at
+  pub turned : AreTurned e.clauses (e.pairs.items) e.trail.items (list_at e.lists lit) lit at
 
 -- what a visit of one watch makes of the turn
 abbrev pub IsVisited : Engine → Engine → ℕ → ℕ → Visit → Type 0
@@ -210,7 +189,7 @@ pub record Holds (old new : Engine) : Type 0 where
   pub levels : new.levels.items ≡ old.levels.items
   pub head : new.head ≡ old.head
   pub size : length new.truth.items ≡ length old.truth.items
-  pub pairs : length old.work ≤ length new.work
+  pub pairs : length old.pairs.items ≤ length new.pairs.items
   pub grows : Grows old.trail.items new.trail.items old.reasons.items new.reasons.items
 
 -- the same, but for what has been propagated
@@ -218,7 +197,7 @@ pub record Stays (old new : Engine) : Type 0 where
   pub clauses : new.clauses ≡ old.clauses
   pub levels : new.levels.items ≡ old.levels.items
   pub size : length new.truth.items ≡ length old.truth.items
-  pub pairs : length old.work ≤ length new.work
+  pub pairs : length old.pairs.items ≤ length new.pairs.items
   pub grows : Grows old.trail.items new.trail.items old.reasons.items new.reasons.items
 
 -- the clause is wholly negated

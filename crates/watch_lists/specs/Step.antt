@@ -7,7 +7,7 @@ use Rattle.watch_lists.specs.declared.engine.Level.{Level}
 -- it holds nothing
 pub record IsEmpty (e : Engine) : Type 0 where
   pub clauses : e.clauses ≡ []
-  pub work : e.work ≡ []
+  pub pairs : e.pairs.items ≡ []
   pub lists : e.lists ≡ []
   pub truth : e.truth.items ≡ []
   pub places : e.places.items ≡ []
@@ -19,7 +19,7 @@ pub record IsEmpty (e : Engine) : Type 0 where
 -- it holds the same
 pub record IsSame (old new : Engine) : Type 0 where
   pub clauses : new.clauses ≡ old.clauses
-  pub work : new.work ≡ old.work
+  pub pairs : new.pairs.items ≡ old.pairs.items
   pub lists : new.lists ≡ old.lists
   pub truth : new.truth.items ≡ old.truth.items
   pub places : new.places.items ≡ old.places.items
@@ -28,7 +28,7 @@ pub record IsSame (old new : Engine) : Type 0 where
   pub levels : new.levels.items ≡ old.levels.items
   pub head : new.head ≡ old.head
 
--- the same but for clauses' copies and watches
+-- the same but for clauses' pairs and watches
 pub record IsLike (old new : Engine) : Type 0 where
   pub clauses : new.clauses ≡ old.clauses
   pub truth : new.truth.items ≡ old.truth.items
@@ -41,7 +41,7 @@ pub record IsLike (old new : Engine) : Type 0 where
 -- a literal is put, for that reason
 pub record IsPut (old : Engine) (lit : ℕ) (by : Option ℕ) (new : Engine) : Type 0 where
   pub clauses : new.clauses ≡ old.clauses
-  pub work : new.work ≡ old.work
+  pub pairs : new.pairs.items ≡ old.pairs.items
   pub lists : new.lists ≡ old.lists
   pub truth : new.truth.items ≡ slice_set old.truth.items lit true
   pub places : new.places.items ≡ slice_set old.places.items lit (length old.trail.items)
@@ -53,7 +53,7 @@ pub record IsPut (old : Engine) (lit : ℕ) (by : Option ℕ) (new : Engine) : T
 -- there is one more variable
 pub record IsGrown (old new : Engine) : Type 0 where
   pub clauses : new.clauses ≡ old.clauses
-  pub work : new.work ≡ old.work
+  pub pairs : new.pairs.items ≡ old.pairs.items
   pub lists : new.lists ≡ old.lists ++ [] ∷ [] ∷ []
   pub truth : new.truth.items ≡ old.truth.items ++ false ∷ false ∷ []
   pub places : new.places.items ≡ old.places.items ++ 0 ∷ 0 ∷ []
@@ -65,7 +65,7 @@ pub record IsGrown (old new : Engine) : Type 0 where
 -- a clause is the last one
 pub record IsAdded (old : Engine) (clause : List ℕ) (new : Engine) : Type 0 where
   pub clauses : new.clauses ≡ old.clauses ++ clause ∷ []
-  pub work : new.work ≡ old.work
+  pub pairs : new.pairs.items ≡ old.pairs.items
   pub lists : new.lists ≡ old.lists
   pub truth : new.truth.items ≡ old.truth.items
   pub places : new.places.items ≡ old.places.items
@@ -77,7 +77,7 @@ pub record IsAdded (old : Engine) (clause : List ℕ) (new : Engine) : Type 0 wh
 -- a level begins at that place
 pub record IsRaised (old : Engine) (level : Level) (new : Engine) : Type 0 where
   pub clauses : new.clauses ≡ old.clauses
-  pub work : new.work ≡ old.work
+  pub pairs : new.pairs.items ≡ old.pairs.items
   pub lists : new.lists ≡ old.lists
   pub truth : new.truth.items ≡ old.truth.items
   pub places : new.places.items ≡ old.places.items
@@ -89,7 +89,7 @@ pub record IsRaised (old : Engine) (level : Level) (new : Engine) : Type 0 where
 -- the levels from that one on are given up
 pub record IsCut (old : Engine) (count : ℕ) (level : Level) (new : Engine) : Type 0 where
   pub clauses : new.clauses ≡ old.clauses
-  pub work : new.work ≡ old.work
+  pub pairs : new.pairs.items ≡ old.pairs.items
   pub lists : new.lists ≡ old.lists
   pub size : length new.truth.items ≡ length old.truth.items
   pub marks : (l : ℕ) → slice_index_or new.truth.items l false

@@ -6,8 +6,7 @@ ghost use Rattle.watch_lists.specs.Codes.{flip};
 ghost use Rattle.watch_lists.specs.State.{IsEngine, Guards, IsStuck, IsBest, height, Holds, codes_at};
 
 use crate::code::flip;
-use crate::engine::Engine;
-use crate::flat::Pair;
+use crate::engine::{Engine, Pair};
 use crate::lists::Watch;
 use std::alloc::AllocError;
 
@@ -84,10 +83,11 @@ impl Engine {
     /// Watches the next clause by its pair; false where it is wholly negated.
     fn attach_pair(&mut self, at: u32, pair: Pair) -> Result<bool, AllocError>
         requires engine { IsEngine self.old }
-        requires at { (at ≡ length self.old.work) × (at < length self.old.clauses) }
+        requires at { (at ≡ length self.old.pairs.items) × (at < length self.old.clauses) }
         requires best { IsBest self.old.trail.items (codes_at self.old.clauses at) pair }
         ensures engine { IsEngine self.new }
-        ensures more { IfOk result (λ b. b ≡ true → length self.new.work ≡ length self.old.work + 1) }
+        ensures more { IfOk result
+            (λ b. b ≡ true → length self.new.pairs.items ≡ length self.old.pairs.items + 1) }
         ensures conflict { IfOk result
             (λ b. b ≡ false
             → is_negated flip (has nat_eq self.new.trail.items) (codes_at self.new.clauses at) ≡ true) }
@@ -111,14 +111,15 @@ impl Engine {
     /// The first of the pair is free, and every other literal of the clause is false.
     fn force_first(&mut self, at: u32, pair: Pair) -> Result<bool, AllocError>
         requires engine { IsEngine self.old }
-        requires at { (at ≡ length self.old.work) × (at < length self.old.clauses) }
+        requires at { (at ≡ length self.old.pairs.items) × (at < length self.old.clauses) }
         requires best { IsBest self.old.trail.items (codes_at self.old.clauses at) pair }
         requires free { (has nat_eq self.old.trail.items pair.first ≡ false) ×
             (has nat_eq self.old.trail.items (flip pair.first) ≡ false) }
         requires forces { forces nat_eq flip (has nat_eq self.old.trail.items)
             (codes_at self.old.clauses at) pair.first ≡ true }
         ensures engine { IsEngine self.new }
-        ensures more { IfOk result (λ b. b ≡ true → length self.new.work ≡ length self.old.work + 1) }
+        ensures more { IfOk result
+            (λ b. b ≡ true → length self.new.pairs.items ≡ length self.old.pairs.items + 1) }
         ensures conflict { IfOk result
             (λ b. b ≡ false
             → is_negated flip (has nat_eq self.new.trail.items) (codes_at self.new.clauses at) ≡ true) }
@@ -131,7 +132,7 @@ impl Engine {
     /// Watches the next clause by a pair that guards it.
     fn watch(&mut self, at: u32, pair: Pair) -> Result<bool, AllocError>
         requires engine { IsEngine self.old }
-        requires at { (at ≡ length self.old.work) × (at < length self.old.clauses) }
+        requires at { (at ≡ length self.old.pairs.items) × (at < length self.old.clauses) }
         requires guards { Guards (take self.old.head self.old.trail.items) self.old.trail.items
             (codes_at self.old.clauses at) pair }
         requires bounds { All
@@ -139,11 +140,11 @@ impl Engine {
             (codes_at self.old.clauses at) pair)
             self.old.levels.items }
         ensures engine { IsEngine self.new }
-        ensures more { OnOk result (length self.new.work ≡ length self.old.work + 1) }
+        ensures more { OnOk result (length self.new.pairs.items ≡ length self.old.pairs.items + 1) }
         ensures ok { IfOk result (λ b. b ≡ true) }
         ensures keeps { Holds self.old self.new }
     {
-        self.work.push_arranged(pair, self.clauses.get(at))?;
+        self.pairs.reserve(1)?;
         let is_two = is_all(pair, self.clauses.get(at));
         let one = Watch {
             clause: at,
@@ -155,21 +156,18 @@ impl Engine {
             blocker: pair.first,
             is_two,
         };
-        match self.lists.push_two(pair.first, one, pair.second, two) {
-            Ok(()) => Ok(true),
-            Err(error) => {
-                self.work.pop();
-                Err(error)
-            }
-        }
+        self.lists.push_two(pair.first, one, pair.second, two)?;
+        self.pairs.push_reserved(pair);
+        Ok(true)
     }
 
     /// Watches the next clause; false where it is wholly negated.
     fn attach(&mut self, at: u32) -> Result<bool, AllocError>
         requires engine { IsEngine self.old }
-        requires at { (at ≡ length self.old.work) × (at < length self.old.clauses) }
+        requires at { (at ≡ length self.old.pairs.items) × (at < length self.old.clauses) }
         ensures engine { IsEngine self.new }
-        ensures more { IfOk result (λ b. b ≡ true → length self.new.work ≡ length self.old.work + 1) }
+        ensures more { IfOk result
+            (λ b. b ≡ true → length self.new.pairs.items ≡ length self.old.pairs.items + 1) }
         ensures conflict { IfOk result
             (λ b. b ≡ false
             → is_negated flip (has nat_eq self.new.trail.items) (codes_at self.new.clauses at) ≡ true) }
@@ -185,12 +183,12 @@ impl Engine {
     pub(crate) fn attach_all(&mut self) -> Result<Option<u32>, AllocError>
         requires { IsEngine self.old }
         ensures engine { IsEngine self.new }
-        ensures none { IfOk result (λ r. IfNone r (length self.new.work ≡ length self.new.clauses)) }
+        ensures none { IfOk result (λ r. IfNone r (length self.new.pairs.items ≡ length self.new.clauses)) }
         ensures conflict { IfOk result (λ r. IfSome r (λ i. IsStuck self.new i)) }
         ensures keeps { Holds self.old self.new }
     {
-        while self.work.len() < self.clauses.len() {
-            let at = self.work.len() as u32;
+        while self.pairs.len() < self.clauses.len() {
+            let at = self.pairs.len() as u32;
             if !self.attach(at)? {
                 return Ok(Some(at));
             }

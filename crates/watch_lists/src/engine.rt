@@ -5,6 +5,13 @@ use crate::flat::Flat;
 use crate::lists::Lists;
 use std::alloc::{AllocError, Global};
 
+/// The two watched literals of a clause.
+#[derive(Clone, Copy)]
+pub(crate) struct Pair {
+    pub(crate) first: u32,
+    pub(crate) second: u32,
+}
+
 /// Where a level began, and what had been propagated then.
 #[derive(Clone, Copy)]
 pub(crate) struct Level {
@@ -16,12 +23,13 @@ pub(crate) struct Level {
 /// 2001; blocking literals by Sörensson and Eén).
 ///
 /// Watches stay as they are when levels are given up. Clauses that were added since the last
-/// propagation have none yet: `work` has the first clauses only.
+/// propagation have none yet: `pairs` has those of the first clauses only.
 pub(crate) struct Engine {
     /// The clauses as they were added.
     pub(crate) clauses: Flat,
-    /// The first of them, each with its watched literals in front.
-    pub(crate) work: Flat,
+    /// The watched literals of the first of them. They stand apart, so that each clause is there once and stays
+    /// as it was added: a second copy with these two in front took some 200 instructions a clause at the start.
+    pub(crate) pairs: Vec<Pair>,
     /// The watches of each literal.
     pub(crate) lists: Lists,
     /// Whether each literal is on the trail.
@@ -41,7 +49,7 @@ impl Drop for Engine {
     fn drop(self) {
         let Engine {
             clauses: _,
-            work: _,
+            pairs: _,
             lists: _,
             truth: _,
             places: _,
@@ -69,7 +77,7 @@ impl Engine {
     {
         Engine {
             clauses: Flat::new(alloc),
-            work: Flat::new(alloc),
+            pairs: Vec::new(alloc),
             lists: Lists::new(alloc),
             truth: Vec::new(alloc),
             places: Vec::new(alloc),
@@ -85,7 +93,7 @@ impl Engine {
         ensures { IsEmpty self.new }
     {
         self.clauses.clear();
-        self.work.clear();
+        self.pairs.clear();
         self.lists.clear();
         self.truth.clear();
         self.places.clear();

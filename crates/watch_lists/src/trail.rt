@@ -269,12 +269,7 @@ impl Trail {
         requires { number < length self.now.clauses }
         ensures { AreCodesOf self.now.nodes (clause_at self.now.clauses number) result.now }
     {
-        let watched = self.engine.work.len() as u64;
-        if number < watched {
-            self.engine.work.get(number as u32)
-        } else {
-            self.engine.clauses.get(number as u32)
-        }
+        self.engine.clauses.get(number as u32)
     }
 
     /// The code of a literal, whose variable is numbered where it has no number.

@@ -1,28 +1,25 @@
-ghost use Rattle.std.specs.Prelude.{◌≡◌, ◌≢◌, ◌<◌, ◌≤◌, ℕ, true, false, nat_eq, length, slice_index, slice_index_or, OnErr, IfOk, IfSome, IfNone};
+ghost use Rattle.std.specs.Prelude.{◌≡◌, ◌≢◌, ◌<◌, ℕ, true, false, nat_eq, length, slice_index_or, OnErr, IfOk, IfSome, IfNone};
 ghost use Rattle.lits.specs.Clause.{has};
 ghost use Rattle.watch_lists.specs.Codes.{flip};
-ghost use Rattle.watch_lists.specs.State.{IsEngine, IsTurn, IsVisited, IsOther, IsTurnEnd, IsPropagated, Holds, Stays, codes_at, pair_at, pairs_of, list_at, watch_at};
+ghost use Rattle.watch_lists.specs.State.{IsEngine, IsTurn, IsVisited, IsOther, IsTurnEnd, IsPropagated, Holds, Stays, codes_at, pair_at, list_at, watch_at};
 
 use crate::code::flip;
-use crate::engine::{Engine, Visit};
-use crate::flat::Pair;
+use crate::engine::{Engine, Pair, Visit};
 use crate::lists::Watch;
 use std::alloc::AllocError;
 
-/// The first place behind the watched literals whose literal isn't false and isn't that one.
-fn replacement(clause: &[u32], truth: &[bool], other: u32) -> Option<usize>
+/// The first literal of a clause that isn't false and isn't that one. The watched literal whose turn it is is false,
+/// so that the loop passes over it as over all false ones.
+fn replacement(clause: &[u32], truth: &[bool], other: u32) -> Option<u32>
     requires { (l : ℕ) → has nat_eq clause.now l ≡ true → flip l < length truth.now }
-    ensures some { IfSome result (λ k. (2 ≤ k) × (k < length clause.now)
-        × (slice_index_or truth.now (flip (slice_index clause.now k)) false ≡ false)
-        × (nat_eq other (slice_index clause.now k) ≡ false)) }
-    ensures none { IfNone result ((k : ℕ) → 2 ≤ k → k < length clause.now
-        → nat_eq other (slice_index clause.now k) ≡ false
-        → slice_index_or truth.now (flip (slice_index clause.now k)) false ≡ true) }
+    ensures some { IfSome result (λ l. (has nat_eq clause.now l ≡ true)
+        × (slice_index_or truth.now (flip l) false ≡ false) × (nat_eq other l ≡ false)) }
+    ensures none { IfNone result ((l : ℕ) → has nat_eq clause.now l ≡ true → nat_eq other l ≡ false
+        → slice_index_or truth.now (flip l) false ≡ true) }
 {
-    for place in 2..clause.len() {
-        let lit = clause[place];
-        if lit != other && !truth[flip(lit) as usize] {
-            return Some(place);
+    for lit in clause {
+        if *lit != other && !truth[flip(*lit) as usize] {
+            return Some(*lit);
         }
     }
     None
@@ -70,7 +67,7 @@ impl Engine {
         ensures err { OnErr result (IsEngine self.new) }
         ensures keeps { Holds self.old self.new }
     {
-        match other_of(self.work.pair(clause), lit) {
+        match other_of(self.pairs[clause as usize], lit) {
             Some(other) => self.visit_pair(lit, at, clause, other),
             None => {
                 self.lists.drop_at(lit, at);
@@ -92,7 +89,7 @@ impl Engine {
         requires turn { IsTurn self.old lit at }
         requires at { at < length (list_at self.old.lists lit) }
         requires clause { (watch_at (list_at self.old.lists lit) at).clause ≡ clause }
-        requires other { IsOther (pair_at (pairs_of self.old.work) clause) lit other }
+        requires other { IsOther (pair_at self.old.pairs.items clause) lit other }
         ensures ok { IfOk result (λ v. IsVisited self.old self.new lit at v) }
         ensures err { OnErr result (IsEngine self.new) }
         ensures keeps { Holds self.old self.new }
@@ -104,8 +101,8 @@ impl Engine {
             self.lists.block(lit, at, other);
             return Ok(Visit::Next);
         }
-        match replacement(self.work.get(clause), self.truth.as_slice(), other) {
-            Some(place) => self.move_watch(lit, at, clause, other, place),
+        match replacement(self.clauses.get(clause), self.truth.as_slice(), other) {
+            Some(new) => self.move_watch(lit, at, clause, other, new),
             None => self.force(lit, at, clause, other),
         }
     }
@@ -137,22 +134,20 @@ impl Engine {
         at: usize,
         clause: u32,
         other: u32,
-        place: usize,
+        new: u32,
     ) -> Result<Visit, AllocError>
         requires turn { IsTurn self.old lit at }
         requires at { at < length (list_at self.old.lists lit) }
         requires clause { (watch_at (list_at self.old.lists lit) at).clause ≡ clause }
-        requires other { IsOther (pair_at (pairs_of self.old.work) clause) lit other }
+        requires other { IsOther (pair_at self.old.pairs.items clause) lit other }
         requires apart { nat_eq other lit ≡ false }
-        requires place { (2 ≤ place) × (place < length (codes_at self.old.work clause)) }
-        requires free { slice_index_or self.old.truth.items
-            (flip (slice_index (codes_at self.old.work clause) place)) false ≡ false }
-        requires fresh { nat_eq other (slice_index (codes_at self.old.work clause) place) ≡ false }
+        requires inside { has nat_eq (codes_at self.old.clauses clause) new ≡ true }
+        requires free { slice_index_or self.old.truth.items (flip new) false ≡ false }
+        requires fresh { nat_eq other new ≡ false }
         ensures ok { IfOk result (λ v. IsVisited self.old self.new lit at v) }
         ensures err { OnErr result (IsEngine self.new) }
         ensures keeps { Holds self.old self.new }
     {
-        let new = self.work.get(clause)[place];
         self.lists.push(
             new,
             Watch {
@@ -161,7 +156,10 @@ impl Engine {
                 is_two: false,
             },
         )?;
-        self.work.turn(clause, place, lit, other, new);
+        self.pairs[clause as usize] = Pair {
+            first: other,
+            second: new,
+        };
         self.lists.drop_at(lit, at);
         Ok(Visit::Gone)
     }

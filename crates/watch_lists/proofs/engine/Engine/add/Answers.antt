@@ -11,5 +11,5 @@ cases A (Err e) p q f g = g q
 
 pub returns-clause-engine : goal.returns-clause-engine
 returns-clause-engine c = cases _ c.push.result c.push.ensures.ok c.push.ensures.err
-    (λ p. engine-added c.args.self.now _ c.args.clause.now c.requires.engine (record { clauses = p; work = refl; lists = refl; levels = refl; head = refl; trail = refl; reasons = refl; truth = refl; places = refl }) c.requires.within (omega arith) c.requires.settled)
-    (λ q. engine-same c.args.self.now _ c.requires.engine (record { clauses = q; work = refl; lists = refl; levels = refl; head = refl; trail = refl; reasons = refl; truth = refl; places = refl }))
+    (λ p. engine-added c.args.self.now _ c.args.clause.now c.requires.engine (record { clauses = p; pairs = refl; lists = refl; levels = refl; head = refl; trail = refl; reasons = refl; truth = refl; places = refl }) c.requires.within (omega arith) c.requires.settled)
+    (λ q. engine-same c.args.self.now _ c.requires.engine (record { clauses = q; pairs = refl; lists = refl; levels = refl; head = refl; trail = refl; reasons = refl; truth = refl; places = refl }))

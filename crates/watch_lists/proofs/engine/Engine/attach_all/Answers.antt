@@ -1,7 +1,6 @@
 -- Each clause that is watched leaves one less, and one that is wholly negated ends the walk.
 use Rattle.std.proofs.Common.{arith, ap, length}
 use Rattle.watch_lists.proofs.TurnLemmas.{holds-trans, holds_refl}
-use Rattle.watch_lists.proofs.CopyLemmas.{pairs-length}
 use Rattle.watch_lists.proofs.engine.Engine.attach_all.Goals as goal
 
 pub loop-self-init : goal.loop-self-init
@@ -29,4 +28,4 @@ returns-then-not-branch-clause-conflict c = (
 
 pub returns-clause-none : goal.returns-clause-none
 returns-clause-none c =
-    omega (arith, c.loop-self-test.false, c.len.ensures, c.len-in-loop-self.ensures, c.loop-self.invariant.engine.watched.most, pairs-length c.loop-self.self.work)
+    omega (arith, c.loop-self-test.false, c.len.ensures, c.len-in-loop-self.ensures, c.loop-self.invariant.engine.watched.most)

@@ -6,4 +6,4 @@ abbrev pub invariant-loop-self : goal.invariant-loop-self
 invariant-loop-self l = record { engine : IsEngine l.self; keeps : Holds l.initial.self l.self }
 
 abbrev pub decreases-loop-self : goal.decreases-loop-self
-decreases-loop-self l = length l.self.clauses - length l.self.work
+decreases-loop-self l = length l.self.clauses - length l.self.pairs.items

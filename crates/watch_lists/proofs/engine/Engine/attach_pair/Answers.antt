@@ -5,7 +5,7 @@ use Rattle.unit_prop.specs.Closure.{forces}
 use Rattle.watch_lists.specs.Codes.{flip}
 use Rattle.watch_lists.specs.State.{codes_at, IsEngine, IsBest, Guards}
 use Rattle.watch_lists.specs.declared.engine.Engine.{Engine}
-use Rattle.watch_lists.specs.declared.flat.Pair.{Pair}
+use Rattle.watch_lists.specs.declared.engine.Pair.{Pair}
 use Rattle.std.specs.List.{All}
 use Rattle.std.proofs.lemmas.Bool.{cases_Bool}
 use Rattle.watch_lists.proofs.VisitLemmas.{mark-true, mark-false}

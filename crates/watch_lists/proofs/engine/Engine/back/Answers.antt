@@ -25,7 +25,7 @@ returns-clause-engine c =
     ap (λ (z : List ℕ). take (length z - start) (drop start z)) c.as_slice.ensures.value ∙ take_rest e.trail.items start in
     engine-cut e _ c.args.count level c.requires.engine (record {
       clauses = refl;
-      work = refl;
+      pairs = refl;
       lists = refl;
       size = c.unmark.ensures.len;
       marks = λ l. c.unmark.ensures.marks l ∙ ap (λ (z : List ℕ). slice_index_or e.truth.items l false && not (has nat_eq z l)) same;
@@ -46,7 +46,7 @@ returns-clause-cut c =
     ap (λ (z : List ℕ). take (length z - start) (drop start z)) c.as_slice.ensures.value ∙ take_rest e.trail.items start in
     rw (sym is) (record {
       clauses = refl;
-      work = refl;
+      pairs = refl;
       lists = refl;
       size = c.unmark.ensures.len;
       marks = λ l. c.unmark.ensures.marks l ∙ ap (λ (z : List ℕ). slice_index_or e.truth.items l false && not (has nat_eq z l)) same;

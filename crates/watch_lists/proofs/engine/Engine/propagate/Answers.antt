@@ -13,7 +13,7 @@ after-turns e (Ok o) ok err = propagated-engine e o ok
 after-turns e (Err x) ok err = err
 
 -- no clause is left without a pair
-all-watched : (mid new : Engine) → length mid.work ≡ length mid.clauses → Stays mid new → length new.clauses ≤ length new.work
+all-watched : (mid new : Engine) → length mid.pairs.items ≡ length mid.clauses → Stays mid new → length new.clauses ≤ length new.pairs.items
 all-watched mid new all stays = let p = stays.pairs in omega (arith, all, ap length stays.clauses)
 
 pub returns-in-Some-clause-clash : goal.returns-in-Some-clause-clash
@@ -22,12 +22,12 @@ returns-in-Some-clause-clash c = conflict-clashes c.attach_all.new.self c.in-Som
 
 pub returns-in-None-clause-none : goal.returns-in-None-clause-none
 returns-in-None-clause-none c =
-    let all = all-watched c.attach_all.new.self c.turns.new.self (subst (λ (r : Option ℕ). IfNone r (length c.attach_all.new.self.work ≡ length c.attach_all.new.self.clauses)) c.in-None.is c.in_ok-clause.ensures.none) c.turns.ensures.keeps in
+    let all = all-watched c.attach_all.new.self c.turns.new.self (subst (λ (r : Option ℕ). IfNone r (length c.attach_all.new.self.pairs.items ≡ length c.attach_all.new.self.clauses)) c.in-None.is c.in_ok-clause.ensures.none) c.turns.ensures.keeps in
     IfOk-weaker c.turns.result _ _ (λ r h. (propagated c.turns.new.self r all h).0) c.turns.ensures.ok
 
 pub returns-in-None-clause-clash : goal.returns-in-None-clause-clash
 returns-in-None-clause-clash c =
-    let all = all-watched c.attach_all.new.self c.turns.new.self (subst (λ (r : Option ℕ). IfNone r (length c.attach_all.new.self.work ≡ length c.attach_all.new.self.clauses)) c.in-None.is c.in_ok-clause.ensures.none) c.turns.ensures.keeps in
+    let all = all-watched c.attach_all.new.self c.turns.new.self (subst (λ (r : Option ℕ). IfNone r (length c.attach_all.new.self.pairs.items ≡ length c.attach_all.new.self.clauses)) c.in-None.is c.in_ok-clause.ensures.none) c.turns.ensures.keeps in
     IfOk-weaker c.turns.result _ _ (λ r h. (propagated c.turns.new.self r all h).1) c.turns.ensures.ok
 
 pub returns-in-None-clause-some : goal.returns-in-None-clause-some

@@ -17,7 +17,7 @@ loop-self-smaller c =
 
 pub loop-self-preserved : goal.loop-self-preserved
 loop-self-preserved c = record {
-  engine = turn-end c.turn.new.self _ c.flip-lit.result _ (subst (λ (r : Option ℕ). IsTurnEnd c.turn.new.self c.flip-lit.result r) c.in-None.is c.in_ok-clause.ensures.ok) (omega arith) (record { clauses = refl; work = refl; lists = refl; levels = refl; head = refl; trail = refl; reasons = refl; truth = refl; places = refl });
+  engine = turn-end c.turn.new.self _ c.flip-lit.result _ (subst (λ (r : Option ℕ). IsTurnEnd c.turn.new.self c.flip-lit.result r) c.in-None.is c.in_ok-clause.ensures.ok) (omega arith) (record { clauses = refl; pairs = refl; lists = refl; levels = refl; head = refl; trail = refl; reasons = refl; truth = refl; places = refl });
   stays = let s = stays-trans c.args.self.now c.loop-self.self c.turn.new.self c.loop-self.invariant.stays (stays-holds c.loop-self.self c.turn.new.self c.turn.ensures.keeps) in record { clauses = s.clauses; levels = s.levels; size = s.size; pairs = s.pairs; grows = s.grows };
 }
 
