@@ -30,12 +30,13 @@ use Rattle.unit_prop.specs.Variables.{variables}
 use Rattle.unit_prop.proofs.Facts.{in_turn-append, log-grows, step-more, all-base}
 use Rattle.lemma_book.specs.declared.entry.Task.{Task}
 use Rattle.lemma_book.specs.declared.entry.Entry.{Entry}
-use Rattle.lemma_book.specs.declared.entry.Entry.TheVariants.{Merge, Apart, Spent}
+use Rattle.lemma_book.specs.declared.entry.Entry.TheVariants.{Merge, Apart, Spent, Out, OutApart, OutSpent}
 use Rattle.lemma_book.specs.Cone.{AreThere, AreIn, next_of, IsReach, IsCone}
 use Rattle.lemma_book.specs.Entry.{Entries, merge_clauses}
 use Rattle.lemma_book.specs.Good.{ArePlaced, IsBefore, AreOver, EndsIn, node_clause}
 use Rattle.lemma_book.proofs.Facts.{cone-over, good-merge, good-apart, good-spent, is_some-variable, placed-there, step_after-more, root-unsettled}
 use Rattle.cone_query.specs.Input.{input_from}
+use Rattle.cone_query.specs.Query.{IsBuilt, IsSetAlone}
 use Rattle.cone_query.specs.declared.pair_query.Asked.{Asked}
 use Rattle.cone_query.specs.declared.pair_query.Asked.TheVariants.{Shown as Asks_shown}
 use Rattle.cone_query.specs.Asked.{IsPair, IsBaseOf, IsQuery, IsImplication, IsShown, IsAsked, Settles, seeds_of, forth, back}
@@ -58,6 +59,15 @@ if_ok-all P (Err e) all = tt
 pub on_ok-all : {T E : Type 0} (P : Type 0) (r : Result T E) → P → OnOk r P
 on_ok-all P (Ok t) p = p
 on_ok-all P (Err e) p = tt
+
+-- an entry that is settled without a query is an Apart, so nothing is asked of how it is built
+pub alone-built : (log : List Step) (e : Entry) → IsSetAlone e → IsBuilt log e
+alone-built log (Apart node lit input) alone = tt
+alone-built log (Merge node lit steps) alone = absurd alone
+alone-built log (Spent node lit seen steps) alone = absurd alone
+alone-built log (Out j steps) alone = absurd alone
+alone-built log (OutApart j input) alone = absurd alone
+alone-built log (OutSpent j seen steps) alone = absurd alone
 
 -- a literal's variable occurs where its negation's does
 pub over-opposite : (base : List Named) (l : Lit) → is_over base l ≡ true → is_over base (opposite l) ≡ true
@@ -300,3 +310,23 @@ module _ (net : AigPair) (book : Entries) (task : Task) (pair : IsPair net book 
       (subst (λ (b : List Named). IsShown b mid clause' end left'' again) same (subst (λ (x : Asked). IsAsked net book task base' mid clause' end left'' x) shown' asked')))
       (subst (λ (b : List Named). IsQuery net book task b end left'') (same' ∙ same) query)
       (made ∙ ap (λ (l : List Step). Merge task.node task.lit ((l ++ there ∷ []) ++ again ∷ [])) lend)
+
+  -- the step that an answer shows is one of the clause that was asked about
+  shown-clause : (base : List Named) (log log' : List Step) (left' : ℕ) (clause : List Lit) (a : Asked) (step : Step)
+      → IsAsked net book task base log clause log' left' a → a ≡ Asks_shown step → step.clause ≡ clause
+  shown-clause base log log' left' clause a step asked shown =
+      (subst (λ (x : Asked). IsAsked net book task base log clause log' left' x) shown asked).clause_is
+
+  -- that entry is built of the log and the two steps
+  pub merged-built : {E : Type 0} (base base' : List Named) (log mid end lent : List Step) (left' left'' : ℕ) (clause clause' : List Lit)
+      (a a' : Asked) (there again : Step) (r : Result Entry E)
+      → IsAsked net book task base log clause mid left' a → a ≡ Asks_shown there → clause ≡ forth task
+      → IsAsked net book task base' mid clause' end left'' a' → a' ≡ Asks_shown again → clause' ≡ back task → lent ≡ end
+      → IfOk r (λ e. e ≡ Merge task.node task.lit ((lent ++ there ∷ []) ++ again ∷ []))
+      → IfOk r (IsBuilt end)
+  merged-built base base' log mid end lent left' left'' clause clause' a a' there again r asked shown is asked' shown' is' lend made =
+      if_ok-same (IsBuilt end) (Merge task.node task.lit ((lent ++ there ∷ []) ++ again ∷ [])) r made (
+        there ∷ again ∷ [],
+        append_assoc lent (there ∷ []) (again ∷ []) ∙ ap (λ (l : List Step). l ++ there ∷ again ∷ []) lend,
+        rw (shown-clause base log mid left' clause a there asked shown ∙ is, shown-clause base' mid end left'' clause' a' again asked' shown' ∙ is') refl,
+      )

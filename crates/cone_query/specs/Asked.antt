@@ -1,5 +1,5 @@
 -- What is known while a pair is asked about, and what an answer settles.
-use Rattle.std.specs.Prelude.{◌≡◌, ℕ, true, ◌+◌, ◌≤◌, ◌⊎◌, Some, List, [], ◌∷◌, ◌++◌, length, take}
+use Rattle.std.specs.Prelude.{◌≡◌, ℕ, true, ◌+◌, ◌≤◌, ◌⊎◌, ⊤, Some, List, [], ◌∷◌, ◌++◌, length, take}
 use Rattle.std.specs.List.{AllByRecursion}
 use Rattle.lits.specs.declared.node.Node.{Node}
 use Rattle.lits.specs.declared.node.Node.TheVariants.{Input}
@@ -20,7 +20,7 @@ use Rattle.lemma_book.specs.Cone.{IsCone}
 use Rattle.lemma_book.specs.Entry.{Entries}
 use Rattle.lemma_book.specs.Good.{OfCone, IsGood, IsEarlier}
 use Rattle.lemma_book.specs.Root.{IsRoot}
-use Rattle.cone_query.specs.Query.{task_of, SeesAll, IsFalseOutside, IsWithin}
+use Rattle.cone_query.specs.Query.{task_of, SeesAll, IsFalseOutside, IsWithin, IsBuilt}
 use Rattle.cone_query.specs.declared.pair_query.Asked.{Asked}
 use Rattle.cone_query.specs.declared.pair_query.Asked.TheVariants.{Shown, Settled}
 
@@ -83,3 +83,8 @@ pub record IsShown (base : List Named) (log : List Step) (clause : List Lit) (lo
 abbrev pub IsAsked : AigPair → Entries → Task → List Named → List Step → List Lit → List Step → ℕ → Asked → Type 0
 IsAsked net book task base log clause log' left' (Shown step) = IsShown base log clause log' left' step
 IsAsked net book task base log clause log' left' (Settled e) = Settles net book task e
+
+-- an entry that settles the pair is built of the log
+abbrev pub IsBuiltAsked : List Step → Asked → Type 0
+IsBuiltAsked log (Shown step) = ⊤
+IsBuiltAsked log (Settled e) = IsBuilt log e

@@ -7,8 +7,8 @@ ghost use Rattle.lemma_book.specs.Cone.{AreThere};
 ghost use Rattle.lemma_book.specs.Good.{IsGood, IsEarlier};
 ghost use Rattle.lemma_book.specs.Root.{IsRoot};
 ghost use Rattle.cone_query.specs.Input.{input_from};
-ghost use Rattle.cone_query.specs.Query.{task_of, SeesAll, IsFalseOutside, IsWithin, IsUnnamed, IsSetAlone, IsGate};
-ghost use Rattle.cone_query.specs.Asked.{IsPair, IsQuery, IsImplication, IsAsked, IsBaseOf, IsNamedInput, Settles};
+ghost use Rattle.cone_query.specs.Query.{task_of, SeesAll, IsFalseOutside, IsWithin, IsBuilt, IsUnnamed, IsSetAlone, IsGate};
+ghost use Rattle.cone_query.specs.Asked.{IsPair, IsQuery, IsImplication, IsAsked, IsBaseOf, IsNamedInput, Settles, IsBuiltAsked};
 
 use crate::copies::copied;
 use crate::input::{input_of, other_value, set};
@@ -41,6 +41,7 @@ pub fn pair<R: Refuter + Send>(
     ensures seen { IfOk result (SeesAll seen.now) }
     ensures outside { IfOk result (IsFalseOutside net.now seen.now.entries) }
     ensures within { IfOk result (IsWithin net.now seen.now) }
+    ensures built { IfOk result (IsBuilt (R.Refuter.log_of refuter.new)) }
     ensures alone { IfOk result (λ e. IsUnnamed net.now seen.now.entries task.now → IsSetAlone e) }
     ensures unasked { OnOk result (IsUnnamed net.now seen.now.entries task.now → refuter.new ≡ refuter.old) }
 {
@@ -60,6 +61,7 @@ pub(crate) fn settle<R: Refuter + Send>(
     requires pair { IsPair net.now seen.now task.now }
     requires gate { IsGate task.now.node }
     ensures settles { IfOk result (Settles net.now seen.now task.now) }
+    ensures built { IfOk result (IsBuilt (R.Refuter.log_of refuter.new)) }
     ensures alone { IfOk result (λ e. IsUnnamed net.now seen.now.entries task.now → IsSetAlone e) }
     ensures unasked { OnOk result (IsUnnamed net.now seen.now.entries task.now → refuter.new ≡ refuter.old) }
 {
@@ -107,7 +109,8 @@ fn both_ways<R: Refuter + Send>(
         (R.Refuter.base_of refuter.old) (R.Refuter.log_of refuter.old) left.old }
     requires ready { R.Refuter.is_ready refuter.old ≡ true }
     requires budget { 1 ≤ left.old }
-    ensures { IfOk result (Settles net.now seen.now task.now) }
+    ensures settles { IfOk result (Settles net.now seen.now task.now) }
+    ensures built { IfOk result (IsBuilt (R.Refuter.log_of refuter.new)) }
 {
     let node = Lit {
         node: task.node,
@@ -201,6 +204,7 @@ fn ask<R: Refuter + Send>(
     requires budget { 1 ≤ left.old }
     ensures asked { IfOk result (IsAsked net.now seen.now task.now (R.Refuter.base_of refuter.old)
         (R.Refuter.log_of refuter.old) implication.now (R.Refuter.log_of refuter.new) left.new) }
+    ensures built { IfOk result (IsBuiltAsked (R.Refuter.log_of refuter.new)) }
     ensures query { OnOk result (IsQuery net.now seen.now task.now
         (R.Refuter.base_of refuter.new) (R.Refuter.log_of refuter.new) left.new) }
     ensures base { OnOk result (R.Refuter.base_of refuter.new ≡ R.Refuter.base_of refuter.old) }

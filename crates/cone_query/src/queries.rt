@@ -35,6 +35,9 @@ impl Queries {
     /// Each of the two implications is a query over the cone of both nodes, and one budget pays for both. A
     /// literal of an input that no clause of the gate's cone names needs no query: the input is set so that
     /// they differ.
+    ///
+    /// The entry is built of what the query leaves: a `Merge` of the log and then the step of each implication,
+    /// a `Spent` of the log.
     pub fn pair<R: Refuter + Send>(
         &mut self,
         alloc: Global,
@@ -52,6 +55,7 @@ impl Queries {
         ensures seen { IfOk result (SeesAll seen.now) }
         ensures outside { IfOk result (IsFalseOutside net.now seen.now.entries) }
         ensures within { IfOk result (IsWithin net.now seen.now) }
+        ensures built { IfOk result (IsBuilt (R.Refuter.log_of refuter.new)) }
         ensures alone { IfOk result (λ e. IsUnnamed net.now seen.now.entries task.now → IsSetAlone e) }
         ensures unasked { OnOk result (IsUnnamed net.now seen.now.entries task.now → refuter.new ≡ refuter.old) }
     {

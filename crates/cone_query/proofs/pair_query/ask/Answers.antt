@@ -5,7 +5,7 @@ use Rattle.lits.specs.declared.step.Step.{Step}
 use Rattle.lemma_book.specs.Cone.{AreThere}
 use Rattle.lemma_book.specs.declared.entry.Entry.TheVariants.{Apart, Spent}
 use Rattle.cone_query.specs.Input.{input_from}
-use Rattle.cone_query.specs.Asked.{IsAsked, IsImplication}
+use Rattle.cone_query.specs.Asked.{IsAsked, IsBuiltAsked, IsImplication}
 use Rattle.cone_query.specs.declared.pair_query.Asked.TheVariants.{Settled}
 use Rattle.cone_query.proofs.PairLemmas.{implication-over, query-next, model-there, model-settles, log-settles, if_ok-same, on_ok-all}
 use Rattle.cone_query.proofs.StartLemmas.{implication-clause}
@@ -70,3 +70,14 @@ returns-in-Spent-clause-query g c =
     (query-next c.args.net.now c.args.seen.now c.args.task.now c.requires.pair (g.R.Refuter.base_of c.args.refuter.now)
     (g.R.Refuter.log_of c.args.refuter.now) c.args.left.now c.requires.query c.in_ok-clause.clause (subst (IsImplication c.args.task.now) (sym c.in_ok-clause.ensures) c.requires.implication)
     (g.R.Refuter.log_of c.refute.new.self) c.refute.new.left c.in_ok-hints.field-0 c.in_ok-hints.ensures.answer))
+
+pub returns-in-No-clause-built : goal.returns-in-No-clause-built
+returns-in-No-clause-built g c =
+    if_ok-same (IsBuiltAsked (g.R.Refuter.log_of c.refute.new.self))
+    (Settled (Apart c.args.task.now.node c.args.task.now.lit (input_from c.args.net.now c.as_slice.result.now))) c.apart.result c.apart.ensures tt
+
+pub returns-in-Spent-clause-built : goal.returns-in-Spent-clause-built
+returns-in-Spent-clause-built g c =
+    if_ok-same (IsBuiltAsked (g.R.Refuter.log_of c.refute.new.self))
+    (Settled (Spent c.args.task.now.node c.args.task.now.lit (length c.args.seen.now.entries) c.log.result.now)) c.spent.result c.spent.ensures
+    c.log.ensures
