@@ -26,6 +26,7 @@ FIRST_STEP = FIRST_TIME + len(CAUSES) * len(PARTS)
 SIZE = FIRST_STEP + len(STEPS) + 3
 
 SEARCH, SESSION, SWEEP = "circuit_search/src/search.rt", "check_session/src/session.rt", "check_session/src/sweep.rt"
+RARE = "check_session/src/rare.rt"
 WORKER, ROUNDS = "sweep_workers/src/worker.rt", "sweep_workers/src/rounds.rt"
 
 # Methods that count in the copy: a worker's times by the kind of entry that it came to, and the steps of what it found.
@@ -74,6 +75,15 @@ impl Search {{
         self.tally[9] = self.dropped;
     }}
 
+    /// A pair that no worker asks about isn't counted.
+    pub fn uncounted(&mut self, alloc: Global, net: &Net, book: &Book, task: &Task, caps: Caps) -> Result<Option<Entry>, AllocError> {{
+        self.catch_up(net, book);
+        match self.engine.pair(alloc, net, task, caps)? {{
+            Some(entry) => judged(alloc, net, book, &mut self.judge, entry),
+            None => Ok(None),
+        }}
+    }}
+
     fn steps(&mut self, many: usize) {{
         let limits = {STEPS};
         let mut place = 0;
@@ -99,8 +109,11 @@ TIMED = """        let begun = now(rt);
         Ok(entry)
 """
 
-PAIR_CALL, PAIR_QUERY = "pair(alloc, net, seen, task, caps)", "cone_query::pair(alloc, net, seen, task, &mut self.refuter)"
-OUTPUT_CALL, OUTPUT_QUERY = "output(alloc, net, seen, output, caps)", "cone_query::output(alloc, net, seen, output, &mut self.refuter)"
+QUERY = """self
+                    .queries
+                    .{call}(alloc, net, seen, {asked}, &mut self.refuter)"""
+PAIR_CALL, PAIR_QUERY = "pair(alloc, net, seen, task, caps)", QUERY.format(call="pair", asked="task")
+OUTPUT_CALL, OUTPUT_QUERY = "output(alloc, net, seen, output, caps)", QUERY.format(call="output", asked="output")
 
 # How a worker asks the search and then the whole cone, of a pair and of an output.
 PAIR = f"""        let search = made(&mut self.search, alloc, net)?;
@@ -156,6 +169,7 @@ CHANGES = [
     (SEARCH, "        let judged = judged(alloc, net, book, &mut self.judge, entry)?;\n",
      "        let begun = now(rt);\n        let judged = judged(alloc, net, book, &mut self.judge, entry)?;\n"
      "        self.judging += now(rt) - begun;\n"),
+    (RARE, "search.pair(", "search.uncounted("),
     ("circuit_search/src/lib.rt", "pub use search::Search;", "pub use search::{Search, now};"),
     (WORKER, "use circuit_search::{Caps, Search, Sieve, apart};", "use circuit_search::{Caps, Search, Sieve, apart, now};"),
     (WORKER, PAIR, timed(PAIR_CALL, PAIR_QUERY)),
