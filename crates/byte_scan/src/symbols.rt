@@ -11,8 +11,8 @@ use symbol_names::{NameList, Names};
 
 /// Reads what stands behind the last gate: symbols of the inputs and outputs, of which there are so many, up
 /// to the end of the input or to a comment. A name is that of the last symbol for its place, and an empty one
-/// is none. Names take memory where there are symbols, and only there. The scan then stands behind the line that
-/// begins the comment or is no symbol line, and else at the end.
+/// is none. Names take memory where there are symbols, and only there. The scan then stands behind the line
+/// that begins the comment or is no symbol line, and else at the end.
 pub fn tail(alloc: Global, scan: &mut Scan, inputs: u32, outputs: u32) -> Result<Names, AigerErr>
     ensures reads { Gives result (tail_of inputs outputs (lines_ahead scan.old)) }
     ensures names { IfOk result (AreNames inputs outputs) }

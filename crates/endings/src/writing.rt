@@ -41,7 +41,8 @@ pub fn write_file<D: Desk, C: Content>(
         (D.state desk.new) result }
     ensures sizes { OnOk result (D.sizes desk.new
         ≡ and_sizes (D.sizes desk.old) (piece_sizes (length (C.bytes content.now)))) }
-    ensures refused { IfErr result (StopsBetweenWrites (record { name = name.now; bytes = C.bytes content.now })
+    ensures refused { IfErr result (StopsBetweenWrites
+        (record { name = name.now; bytes = C.bytes content.now })
         (D.state desk.old) (D.state desk.new) (D.sizes desk.old) (D.sizes desk.new)) }
     ensures tells { IfOk result (C.tells content.now) }
 {

@@ -42,8 +42,8 @@ impl<'a> Lines<'a> {
         }
     }
 
-    /// The next line that says a step, if there is one, whatever the lines behind it are. Lines are ended by LF or
-    /// by the end of the bytes.
+    /// The next line that says a step, if there is one, whatever the lines behind it are. Lines are ended by
+    /// LF or by the end of the bytes.
     pub fn next(&mut self, alloc: Global) -> Result<Option<Line>, LratErr>
         ensures { GivesNext result self.old self.new }
     {
