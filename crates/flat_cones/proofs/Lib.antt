@@ -1,4 +1,5 @@
 mod FaninLemmas
+mod GateLemmas
 mod SpotLemmas
 mod WalkLemmas
 mod VariableLemmas

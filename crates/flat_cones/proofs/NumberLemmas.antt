@@ -1,6 +1,6 @@
 -- How nodes get numbers, literals codes, and a base its clauses.
 use Rattle.std.proofs.Common.{◌≡◌, ℕ, ◌+◌, ◌*◌, ◌/◌, ◌%◌, ◌<◌, Bool, true, false, ◌==◌, ◌||◌, Option, None, Some, List, [], ◌∷◌, ◌++◌, length, refl, sym, ap, ap₂, ◌∙◌, arith, subst, append_assoc, append-nil, length-append}
-use Rattle.std.specs.Prelude.{slice_get, if◌then◌else◌, get_or}
+use Rattle.std.specs.Prelude.{slice_get, if◌then◌else◌, get_or, Result, Ok, Err, OnOk}
 use Rattle.std.specs.Option.{option_map, option_and_then, is_some}
 use Rattle.std.specs.List.{AllByRecursion, list_any}
 use Rattle.std.proofs.lemmas.List.{map-append}
@@ -281,9 +281,19 @@ module _ (net : AigPair) where
       ap is_some (sym (ap (option_and_then (number_at t)) at) ∙ is.places n) ∙ (is_some-place (λ m. same_node m n) f.nodes ∙ is.named n)
 
   -- the clauses of a merge
-  pub merge-adds : (f g : Flat) (u : Table) (place : ℕ) (node : Node) (target x y : Lit) → x ≡ negative node → y ≡ opposite target
-      → Adds net f (record { clause = x ∷ target ∷ []; by = Shown place 0 } ∷ record { clause = positive node ∷ y ∷ []; by = Shown place 1 } ∷ []) u g
+  pub merge-adds : (f g : Flat) (u : Table) (place : ℕ) (node : Node) (target x y z w : Lit)
+      → x ≡ negative node → y ≡ target → z ≡ positive node → w ≡ opposite target
+      → Adds net f (record { clause = x ∷ y ∷ []; by = Shown place 0 } ∷ record { clause = z ∷ w ∷ []; by = Shown place 1 } ∷ []) u g
       → Adds net f (named_from (Shown place) 0 (merge_clauses node target)) u g
-  merge-adds f g u place node target x y ex ey adds =
-      subst (λ (l : Lit). Adds net f (record { clause = negative node ∷ target ∷ []; by = Shown place 0 } ∷ record { clause = positive node ∷ l ∷ []; by = Shown place 1 } ∷ []) u g) ey
-      (subst (λ (l : Lit). Adds net f (record { clause = l ∷ target ∷ []; by = Shown place 0 } ∷ record { clause = positive node ∷ y ∷ []; by = Shown place 1 } ∷ []) u g) ex adds)
+  merge-adds f g u place node target x y z w ex ey ez ew adds =
+      subst (λ (cs : List (List Lit)). Adds net f (named_from (Shown place) 0 cs) u g) same adds
+    where
+      same : (x ∷ y ∷ []) ∷ (z ∷ w ∷ []) ∷ [] ≡ merge_clauses node target
+      same =
+          ap₂ (λ (a b : Lit). (a ∷ b ∷ []) ∷ (z ∷ w ∷ []) ∷ []) ex ey
+          ∙ ap₂ (λ (a b : Lit). (negative node ∷ target ∷ []) ∷ (a ∷ b ∷ []) ∷ []) ez ew
+
+-- what follows from what an answer promises is promised too
+pub on_ok-weaker : {T E : Type 0} (P Q : Type 0) (r : Result T E) → (P → Q) → OnOk r P → OnOk r Q
+on_ok-weaker P Q (Ok t) f p = f p
+on_ok-weaker P Q (Err e) f p = tt

@@ -28,7 +28,7 @@ range-place (suc n) a q (suc k) e l =
     let rest : place_of (λ x. x == q) (range_with_len (a + 1) n) ≡ Some k = range-place n (a + 1) q k (omega arith) (omega arith) in
     rw (t, rest) (ap Some (add-one k))
 
-count-xors : (net : AigPair) → length (xors_of net) ≡ length net.a.outputs
+pub count-xors : (net : AigPair) → length (xors_of net) ≡ length net.a.outputs
 count-xors net = length-map-range_with_len Xor 0 (length net.a.outputs)
 
 pub xor-at : (net : AigPair) (j : ℕ) → j < length net.a.outputs → slice_get (variables_of net) (length (nodes_of net) + j) ≡ Some (Xor j)

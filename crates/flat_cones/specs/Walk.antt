@@ -1,13 +1,16 @@
 -- A walk through a cone: the variables that it has found, in the order in which it came to them.
-use Rattle.std.specs.Prelude.{◌≡◌, ℕ, ◌≤◌, Bool, true, false, ◌==◌, ◌||◌, ◌-◌, None, List, [], ◌++◌, length, slice_index_or}
+use Rattle.std.specs.Prelude.{◌≡◌, ℕ, ◌<◌, ◌≤◌, Bool, true, false, ◌==◌, ◌||◌, ◌-◌, None, Some, List, [], ◌++◌, length, slice_index_or}
 use Rattle.std.specs.Option.{option_map_or}
 use Rattle.std.specs.List.{list_any, IsDistinct}
 use Rattle.lits.specs.Clause.{has}
 use Rattle.lits.specs.Same.{same_node}
 use Rattle.lits.specs.declared.node.Node.{Node}
 use Rattle.lits.specs.declared.node.Node.TheVariants.{Const}
-use Rattle.netlist.specs.Net.{AigPair}
-use Rattle.netlist.specs.Miter.{variables_of, variable_of}
+use Rattle.lits.specs.declared.literal.Lit.{Lit}
+use Rattle.lits.specs.Dimacs.{DimacsLiteral}
+use Rattle.netlist.specs.declared.gate.Definition.{Definition}
+use Rattle.netlist.specs.Net.{AigPair, defined_by}
+use Rattle.netlist.specs.Miter.{variables_of, variable_of, axioms_of, gate_clauses, kept}
 use Rattle.flat_cones.specs.Spots.{Table, is_marked, number_at}
 use Rattle.flat_cones.specs.declared.walk.Walk.{Walk}
 
@@ -22,6 +25,25 @@ IsVariable net v = (1 ≤ v) × (v ≤ length (variables_of net))
 -- the node of a variable
 abbrev pub node_by : AigPair → ℕ → Node
 node_by net v = slice_index_or (variables_of net) (v - 1) Const
+
+-- the literal of a variable's literal
+abbrev pub lit_by : AigPair → DimacsLiteral → Lit
+lit_by net d = record { node = node_by net d.var; neg = d.neg }
+
+-- the variable is a lower one
+abbrev pub IsLower : ℕ → DimacsLiteral → Type 0
+IsLower v d = (1 ≤ d.var) × (d.var < v)
+
+-- the variable is that of a gate, and these are its fanins
+pub record IsGateOf (net : AigPair) (v : ℕ) (left right : DimacsLiteral) : Type 0 where
+  pub gate : Definition
+  pub node : gate.node ≡ node_by net v
+  pub left_is : gate.left ≡ lit_by net left
+  pub right_is : gate.right ≡ lit_by net right
+  pub left_lower : IsLower v left
+  pub right_lower : IsLower v right
+  pub defined : defined_by net (node_by net v) ≡ Some gate
+  pub axioms : axioms_of net (node_by net v) ≡ kept (gate_clauses gate)
 
 -- the variables found are those that are marked, each once, and none has a number
 pub record IsWalk (net : AigPair) (w : Walk) : Type 0 where

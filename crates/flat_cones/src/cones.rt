@@ -12,7 +12,7 @@ ghost use Rattle.flat_cones.specs.Spots.{number_at};
 ghost use Rattle.flat_cones.specs.Walk.{node_by, BeginsAt, IsVariable, IsWalk};
 
 use crate::clauses::Clauses;
-use crate::nodes::{node_of, variable};
+use crate::nodes::variable;
 use crate::walk::Walk;
 use flat_base::FlatBase;
 use lemma_book::Book;
@@ -124,8 +124,7 @@ fn fill(net: &Net, book: &Book, walk: &mut Walk, clauses: &mut Clauses) -> Resul
     clauses.base.clear();
     for place in 0..walk.found.len() {
         let variable = walk.found[place];
-        let node = node_of(net, variable);
-        clauses.add_node(net, book, &mut walk.spots, node)?;
+        clauses.add_node(net, book, &mut walk.spots, variable)?;
     }
     Ok(())
 }

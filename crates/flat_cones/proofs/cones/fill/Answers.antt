@@ -2,14 +2,13 @@
 use Rattle.std.proofs.Common.{◌≡◌, ◌∙◌, ◌<◌, ◌++◌, ℕ, List, Some, length, ap, refl, arith, map}
 use Rattle.std.specs.Prelude.{slice_get}
 use Rattle.std.specs.List.{flat_map}
-use Rattle.std.specs.Option.{is_some}
 use Rattle.std.proofs.lemmas.List.{take_all}
 use Rattle.lits.specs.declared.step.Named.{Named}
 use Rattle.lemma_book.specs.Cone.{named_clauses}
 use Rattle.flat_cones.specs.Walk.{node_by}
 use Rattle.flat_cones.proofs.WalkLemmas.{any-at}
 use Rattle.flat_cones.proofs.NumberLemmas.{numbered-empty}
-use Rattle.flat_cones.proofs.ConeLemmas.{at-index, node-at, node-variable, clauses-next}
+use Rattle.flat_cones.proofs.ConeLemmas.{at-index, clauses-next}
 use Rattle.flat_cones.proofs.cones.fill.Goals as goal
 
 pub loop-place-init : goal.loop-place-init
@@ -18,15 +17,6 @@ loop-place-init c = (
   (rw c.clear.ensures (numbered-empty c.args.net.now c.args.walk.now.spots c.requires.unnumbered), rw c.clear.ensures refl),
 )
 
-pub node_of-node-requires : goal.node_of-node-requires
-node_of-node-requires c =
-    let old = c.args.walk.now.found.items in
-    let v = c.index-variable.result.now in
-    let below : c.loop-place.place < length c.args.walk.now.found.items = omega (arith, c.loop-place-test.true, c.len-place-end.ensures, c.args.walk.now.found.ok.0) in
-    let here : slice_get c.args.walk.now.found.items c.loop-place.place ≡ Some c.index-variable.result.now =
-    at-index old c.loop-place.place v below (rw c.loop-place.invariant.0 at c.index-variable.ensures) in
-    c.requires.there v (any-at old c.loop-place.place v here)
-
 pub add_node-requires-clause-there : goal.add_node-requires-clause-there
 add_node-requires-clause-there c =
     let old = c.args.walk.now.found.items in
@@ -34,8 +24,7 @@ add_node-requires-clause-there c =
     let below : c.loop-place.place < length c.args.walk.now.found.items = omega (arith, c.loop-place-test.true, c.len-place-end.ensures, c.args.walk.now.found.ok.0) in
     let here : slice_get c.args.walk.now.found.items c.loop-place.place ≡ Some c.index-variable.result.now =
     at-index old c.loop-place.place v below (rw c.loop-place.invariant.0 at c.index-variable.ensures) in
-    ap is_some
-    (node-variable c.args.net.now c.requires.net v c.node_of-node.result (c.requires.there v (any-at old c.loop-place.place v here)) c.node_of-node.ensures)
+    c.requires.there v (any-at old c.loop-place.place v here)
 
 pub add_node-requires-clause-numbered : goal.add_node-requires-clause-numbered
 add_node-requires-clause-numbered c = c.loop-place.invariant.1.0
@@ -51,9 +40,8 @@ loop-place-preserved c =
       (
         c.in_ok-add_node.ensures.numbered,
         c.in_ok-add_node.ensures.named
-            ∙ ap (λ (l : List Named). l ++ named_clauses c.args.net.now c.args.book.now.entries c.node_of-node.result) c.loop-place.invariant.1.1
-            ∙ clauses-next c.args.net.now (named_clauses c.args.net.now c.args.book.now.entries) old c.loop-place.place v c.node_of-node.result here
-            (node-at c.args.net.now v c.node_of-node.result c.node_of-node.ensures),
+            ∙ ap (λ (l : List Named). l ++ named_clauses c.args.net.now c.args.book.now.entries (node_by c.args.net.now v)) c.loop-place.invariant.1.1
+            ∙ clauses-next c.args.net.now (named_clauses c.args.net.now c.args.book.now.entries) old c.loop-place.place v (node_by c.args.net.now v) here refl,
       ),
     )
 
