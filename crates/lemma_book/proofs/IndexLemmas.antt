@@ -1,9 +1,8 @@
--- How the index of a list of entries grows, and what it finds.
+-- How the index of a list of entries grows, and what it finds; equal subjects and keys.
 use Rattle.std.proofs.Common.{◌≡◌, ℕ, ◌+◌, Bool, true, false, cond, Option, None, Some, List, [], ◌∷◌, ◌++◌, length, refl, sym, ap, ◌∙◌, subst, add-zero, rules}
 use Rattle.std.specs.Option.{option_map, option_or, is_some}
-use Rattle.std.specs.HashMap.{HashMap, get}
 use Rattle.netlist.specs.Place.{place_of}
-use Rattle.netlist.proofs.Facts.{place_of-append, or_place, find-place, is_some-place, none_from_is_some, list_any-same}
+use Rattle.netlist.proofs.Facts.{place_of-append, or_place, find-place, is_some-place, list_any-same}
 use Rattle.std.specs.Prelude.{slice_get, option_and_then}
 use Rattle.std.specs.List.{AllByRecursion}
 use Rattle.std.proofs.lemmas.Option.{none-some, same_Some}
@@ -15,11 +14,13 @@ use Rattle.lits.specs.declared.literal.Lit.{Lit}
 use Rattle.lemma_book.specs.declared.entry.Entry.TheVariants.{Merge, Apart, Spent, Out, OutApart, OutSpent}
 use Rattle.lemma_book.specs.declared.entry.Subject.{Subject}
 use Rattle.lemma_book.specs.declared.entry.Subject.TheVariants.{Merged, Output}
-use Rattle.lemma_book.specs.declared.shelf.Key.TheVariants.{On, SpentOn}
+use Rattle.lemma_book.specs.declared.index.Key.TheVariants.{On, SpentOn}
 use Rattle.lemma_book.specs.Entry.{same_subject, place_on, is_on, about, is_spent_on, has_spent_on}
 use Rattle.lemma_book.specs.declared.entry.Entry.{Entry}
-use Rattle.lemma_book.specs.declared.shelf.Key.{Key}
-use Rattle.lemma_book.specs.Shelf.{same_key, key_of, has_key, number_of, IsIndex, Notes}
+use Rattle.lemma_book.specs.declared.index.Key.{Key}
+use Rattle.lemma_book.specs.Shelf.{same_key, key_of, has_key, number_of}
+use Rattle.lemma_book.specs.Index.{IsIndex, Notes}
+use Rattle.lemma_book.specs.declared.index.Index.{Index}
 
 last_place : {X : Type 0} (test : X → Bool) (xs : List X) (x : X)
     → place_of test (xs ++ x ∷ []) ≡ option_or (place_of test xs) (cond (test x) (Some (length xs)) None)
@@ -31,7 +32,7 @@ last_place test xs x = place_of-append test xs (x ∷ []) ∙ go (place_of test 
     go None true = ap Some (add-zero (length xs))
     go None false = refl
 
-index-more : {S : Type 0} (es : List Entry) (e : Entry) (old new : HashMap Key ℕ S) → IsIndex es old → Notes old (key_of e) (length es) new → IsIndex (es ++ e ∷ []) new
+index-more : (es : List Entry) (e : Entry) (old new : Index) → IsIndex es old → Notes old (key_of e) (length es) new → IsIndex (es ++ e ∷ []) new
 index-more es e old new is notes = record {
   finds = λ k. notes.finds k
       ∙ ap (λ (o : Option ℕ). option_or o (cond (has_key k e) (Some (length es)) None)) (is.finds k)
@@ -39,7 +40,7 @@ index-more es e old new is notes = record {
 }
 
 -- the index of one more entry
-pub index-put : {S : Type 0} (es fs : List Entry) (e : Entry) (number : ℕ) (key : Option Key) (old new : HashMap Key ℕ S) → IsIndex es old
+pub index-put : (es fs : List Entry) (e : Entry) (number : ℕ) (key : Option Key) (old new : Index) → IsIndex es old
     → Notes old key number new → key ≡ key_of e → number ≡ length es → fs ≡ es ++ e ∷ [] → IsIndex fs new
 index-put es fs e number key old new is notes of_entry counts more =
     let noted : Notes old (key_of e) (length es) new =
@@ -72,7 +73,7 @@ exact-subject = search rules
 pub same-subject_self : (x : Subject) → same_subject x x ≡ true
 same-subject_self = search rules
 
-exact-key : (x y : Key) → same_key x y ≡ true → x ≡ y
+pub exact-key : (x y : Key) → same_key x y ≡ true → x ≡ y
 exact-key (On (Merged n)) (On (Merged m)) e = ap (λ (x : Node). On (Merged x)) (exact-node n m e)
 exact-key (On (Output j)) (On (Output k)) e = ap (λ (x : ℕ). On (Output x)) (search (rules, e))
 exact-key (On (Merged n)) (On (Output k)) e = cc
@@ -83,35 +84,6 @@ exact-key (SpentOn s) (SpentOn t) e =
     ∙ ap (λ (l : Lit). SpentOn (record { node = t.node; lit = l })) (exact-lit s.lit t.lit same.1)
 exact-key (On s) (SpentOn t) e = cc
 exact-key (SpentOn s) (On t) e = cc
-
-or_none : (o : Option ℕ) → o ≡ option_or o None
-or_none None = refl
-or_none (Some k) = refl
-
-some_or : (o p : Option ℕ) → is_some o ≡ true → o ≡ option_or o p
-some_or None p e = cc
-some_or (Some k) p e = refl
-
-module _ {S : Type 0} (old new : HashMap Key ℕ S) (key : Key) (number : ℕ) where
-  -- a key that was there stays at its first entry
-  pub notes-known : is_some (get same_key old key) ≡ true → Notes old (Some key) number old
-  notes-known known = record { finds = λ k. go k (same_key key k) refl }
-    where
-      go : (k : Key) (b : Bool) → same_key key k ≡ b → get same_key old k ≡ option_or (get same_key old k) (cond b (Some number) None)
-      go k false e = or_none (get same_key old k)
-      go k true e = some_or (get same_key old k) (Some number) (ap (λ (q : Key). is_some (get same_key old q)) (sym (exact-key key k e)) ∙ known)
-
-  -- a key that is new is put
-  pub notes-new : is_some (get same_key old key) ≡ false → ((k : Key) → get same_key new k ≡ cond (same_key key k) (Some number) (get same_key old k))
-      → Notes old (Some key) number new
-  notes-new unknown puts = record { finds = λ k. puts k ∙ go k (same_key key k) refl }
-    where
-      none_at : (k : Key) → same_key key k ≡ true → get same_key old k ≡ None
-      none_at k e = ap (get same_key old) (sym (exact-key key k e)) ∙ none_from_is_some (get same_key old key) unknown
-
-      go : (k : Key) (b : Bool) → same_key key k ≡ b → cond b (Some number) (get same_key old k) ≡ option_or (get same_key old k) (cond b (Some number) None)
-      go k true e = sym (ap (λ (o : Option ℕ). option_or o (Some number)) (none_at k e))
-      go k false e = or_none (get same_key old k)
 
 -- what holds of each entry holds of the one about an output, if there is one
 pub about-all : (P : Entry → Type 0) (entries : List Entry) (j : ℕ) (x : Entry) → AllByRecursion P entries → about entries j ≡ Some x → P x

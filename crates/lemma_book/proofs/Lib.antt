@@ -6,6 +6,7 @@ mod MoreClauses
 mod LongerBooks
 mod TrueEntries
 mod IndexLemmas
+mod KeyRoom
 mod RootLemmas
 mod RepeatLemmas
 mod ThereLemmas

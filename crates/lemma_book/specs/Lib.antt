@@ -1,5 +1,7 @@
 pub mod Entry
 pub mod Shelf
+pub mod MergeTable
+pub mod Index
 pub mod NodeHasher
 pub mod Root
 pub mod Cone

@@ -1,13 +1,12 @@
--- The index of a list of entries: by what an entry is looked for, and that the index finds the first one with each key.
-use Rattle.std.specs.Prelude.{◌≡◌, ℕ, Bool, false, Option, None, Some, List, if◌then◌else◌}
-use Rattle.std.specs.Option.{option_map, option_map_or, option_or}
-use Rattle.std.specs.HashMap.{HashMap, get}
+-- By what an entry of a list is looked for, and the first one that is found by it.
+use Rattle.std.specs.Prelude.{ℕ, Bool, false, Option, Some, List}
+use Rattle.std.specs.Option.{option_map, option_map_or}
 use Rattle.netlist.specs.Place.{place_of}
 use Rattle.lemma_book.specs.declared.entry.Entry.{Entry}
 use Rattle.lemma_book.specs.declared.entry.Entry.TheVariants.{Spent}
-use Rattle.lemma_book.specs.declared.shelf.Key.{Key}
-use Rattle.lemma_book.specs.declared.shelf.Key.TheVariants.{On, SpentOn}
-use Rattle.lemma_book.specs.contracts.shelf.KeyPartialEq.TheImpl as key_eq
+use Rattle.lemma_book.specs.declared.index.Key.{Key}
+use Rattle.lemma_book.specs.declared.index.Key.TheVariants.{On, SpentOn}
+use Rattle.lemma_book.specs.contracts.index.KeyPartialEq.TheImpl as key_eq
 use Rattle.lemma_book.specs.Entry.{subject_of}
 
 -- the `==` of keys
@@ -28,11 +27,3 @@ has_key k e = is_key k (key_of e)
 -- the number of the first entry with the key
 abbrev pub number_of : List Entry → Key → Option ℕ
 number_of entries k = place_of (has_key k) entries
-
--- the index finds it
-pub record IsIndex {S : Type 0} (entries : List Entry) (index : HashMap Key ℕ S) : Type 0 where
-  pub finds : (k : Key) → get same_key index k ≡ number_of entries k
-
--- one more entry with this key and number is noted, unless an earlier one has the key
-pub record Notes {S : Type 0} (old : HashMap Key ℕ S) (key : Option Key) (number : ℕ) (new : HashMap Key ℕ S) : Type 0 where
-  pub finds : (k : Key) → get same_key new k ≡ option_or (get same_key old k) (if is_key k key then Some number else None)

@@ -7,8 +7,9 @@ ghost use Rattle.lemma_book.specs.Book.{IsLegal, StartsWith};
 
 use crate::cones::{clauses_on, cone_over};
 use crate::entry::{Entry, Subject, Task};
+use crate::index::Key;
 use crate::output_cone::output_cone_over;
-use crate::shelf::{Key, Shelf};
+use crate::shelf::Shelf;
 use lits::{Lit, Literal, Named, Node};
 use netlist::Net;
 use std::alloc::{AllocError, Global};

@@ -14,8 +14,9 @@
 //! `specs/Cone.antt` (cones), `specs/Good.antt` (good entry), `specs/Fault.antt` (first cause of a refusal),
 //! `specs/Book.antt` (legal book), `specs/Agreement.antt` (what entries say of all inputs, or of all admitted
 //! ones), `specs/Machine.antt` (many workers at one book). For the crate's own functions:
-//! `specs/Judging.antt`, `specs/Walk.antt` (through a cone), `specs/Shelf.antt` (the index of entries),
-//! `specs/NodeHasher.antt` (its hash). Begin to read at `entry.rt`, then `book.rt`, `judge.rt`.
+//! `specs/Judging.antt`, `specs/Walk.antt` (through a cone), `specs/Shelf.antt` (by what entries are found),
+//! `specs/Index.antt` (the index of entries), `specs/MergeTable.antt` (merged gates in it),
+//! `specs/NodeHasher.antt` (the hash of all else). Begin to read at `entry.rt`, then `book.rt`, `judge.rt`.
 #![tactic(auto)]
 
 pub use book::Book;
@@ -30,8 +31,10 @@ mod book;
 mod cone_value;
 mod cones;
 mod entry;
+mod index;
 mod judge;
 pub mod laws;
+mod merge_table;
 mod newness;
 mod node_hasher;
 mod offer;

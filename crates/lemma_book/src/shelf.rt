@@ -1,43 +1,16 @@
 ghost use Rattle.std.specs.Prelude.{◌≡◌, ◌<◌, ◌≤◌, ◌+◌, [], ◌∷◌, ◌++◌, length, drop, map, slice_get, vec_len, vec_capacity, IfOk, IfErr, IfSome, OnOk, OnErr};
 ghost use Rattle.std.specs.Arc.{arc_value};
 ghost use Rattle.std.specs.Option.{option_copied};
-ghost use Rattle.std.specs.HashMap.{spare};
-ghost use Rattle.lemma_book.specs.Shelf.{number_of, key_of, IsIndex, Notes};
+ghost use Rattle.lemma_book.specs.Shelf.{key_of, number_of};
+ghost use Rattle.lemma_book.specs.Index.{IsIndex, FindsSame, HasRoom, TakesRoom};
 
-use crate::entry::{Entry, Subject, Task};
-use crate::node_hasher::NodeHasher;
+use crate::entry::Entry;
+use crate::index::{Index, Key};
+use crate::merge_table::MOST;
 use std::alloc::{AllocError, Global};
-use std::collections::{HashMap, VecDeque};
+use std::collections::VecDeque;
 use std::marker::Model;
 use std::sync::Arc;
-
-/// By what an entry is found: its subject, or the pair for which it spent a budget.
-#[derive(Clone, Copy, PartialEq, Eq, Hash)]
-pub enum Key {
-    On(Subject),
-    SpentOn(Task),
-}
-
-impl Entry {
-    /// By what the entry is found; an `Apart` is never looked for.
-    fn key(&self) -> Option<Key>
-        ensures { result ≡ key_of self.now }
-    {
-        match self {
-            Entry::Spent { node, lit, .. } => Some(Key::SpentOn(Task {
-                node: *node,
-                lit: *lit,
-            })),
-            _ => match self.subject() {
-                Some(subject) => Some(Key::On(subject)),
-                None => None,
-            },
-        }
-    }
-}
-
-/// By key the number of the first entry that has it.
-type Index = HashMap<Key, u64, NodeHasher>;
 
 /// Entries in order, shared, and an index from what they settle to their numbers.
 #[derive(Drop)]
@@ -50,7 +23,7 @@ impl Model for Shelf {
     ghost use Rattle.std.specs.Prelude.{List, map};
     ghost use Rattle.std.specs.Arc.{arc_value};
     ghost use Rattle.lemma_book.specs.declared.entry.Entry.{Entry};
-    ghost use Rattle.lemma_book.specs.Shelf.{IsIndex};
+    ghost use Rattle.lemma_book.specs.Index.{IsIndex};
 
     ghost Value = { List Entry };
 
@@ -66,7 +39,7 @@ impl Shelf {
     {
         Shelf {
             entries: Vec::new(alloc),
-            index: HashMap::with_hasher(alloc, NodeHasher::new()),
+            index: Index::new(alloc),
         }
     }
 
@@ -93,7 +66,7 @@ impl Shelf {
         ensures err { OnErr result (self.new ≡ self.old) }
         ensures returned { IfErr result (λ e. e.0 ≡ entry) }
     {
-        if self.entries.reserve(1).is_err() || self.index.reserve(1).is_err() {
+        if make_room(&mut self.entries, &mut self.index, entry.key()).is_err() {
             return Err((entry, AllocError));
         }
         match Arc::new(alloc, entry) {
@@ -111,9 +84,8 @@ impl Shelf {
         ensures ok { OnOk result (IfSome (slice_get from.now i) (λ e. self.new ≡ self.old ++ e ∷ [])) }
         ensures err { OnErr result (self.new ≡ self.old) }
     {
-        self.entries.reserve(1)?;
-        self.index.reserve(1)?;
         let shared = Arc::try_clone(&from.entries[i as usize])?;
+        make_room(&mut self.entries, &mut self.index, shared.key())?;
         put(&mut self.entries, &mut self.index, shared);
         Ok(())
     }
@@ -125,9 +97,14 @@ impl Shelf {
         ensures ok { OnOk result (self.new ≡ self.old ++ drop (length self.old) longer.now) }
         ensures err { OnErr result (self.new ≡ self.old) }
     {
-        let more = shared(alloc, &longer.entries[self.entries.len()..])?;
+        if longer.entries.len() > MOST {
+            return Err(AllocError);
+        }
+        let known = self.entries.len();
+        let behind = &longer.entries[known..];
+        let more = shared(alloc, behind)?;
         self.entries.reserve(more.len())?;
-        self.index.reserve(more.len())?;
+        self.index.make_room_for(behind)?;
         put_all(&mut self.entries, &mut self.index, more);
         Ok(())
     }
@@ -136,7 +113,7 @@ impl Shelf {
     pub fn number(&self, key: Key) -> Option<u64>
         ensures { result ≡ number_of self.now key }
     {
-        self.index.get(&key).copied()
+        self.index.place(key)
     }
 }
 
@@ -151,11 +128,31 @@ fn shared(alloc: Global, entries: &[Arc<Entry>]) -> Result<VecDeque<Arc<Entry>>,
     Ok(all)
 }
 
+/// Makes room for one more entry, which has this key.
+fn make_room(
+    entries: &mut Vec<Arc<Entry>>,
+    index: &mut Index,
+    key: Option<Key>,
+) -> Result<(), AllocError>
+    ensures few { OnOk result (vec_len entries.new < 4294967295) }
+    ensures room { OnOk result (vec_len entries.new < vec_capacity entries.new) }
+    ensures index { OnOk result (HasRoom index.new (key ∷ [])) }
+    ensures entries { entries.new.items ≡ entries.old.items }
+    ensures keeps { FindsSame index.old index.new }
+{
+    if entries.len() >= MOST {
+        return Err(AllocError);
+    }
+    entries.reserve(1)?;
+    index.make_room(key)
+}
+
 /// Puts the entries last, one by one, for which there is room.
 fn put_all(entries: &mut Vec<Arc<Entry>>, index: &mut Index, more: VecDeque<Arc<Entry>>)
     requires index { IsIndex (map arc_value entries.old.items) index.old }
+    requires few { vec_len entries.old + length more.items ≤ 4294967295 }
     requires room { vec_len entries.old + length more.items ≤ vec_capacity entries.old }
-    requires spare { length more.items ≤ spare index.old }
+    requires keys { HasRoom index.old (map key_of (map arc_value more.items)) }
     ensures index { IsIndex (map arc_value entries.new.items) index.new }
     ensures entries { map arc_value entries.new.items
         ≡ map arc_value entries.old.items ++ map arc_value more.items }
@@ -169,26 +166,14 @@ fn put_all(entries: &mut Vec<Arc<Entry>>, index: &mut Index, more: VecDeque<Arc<
 /// Puts an entry last, for which there is room.
 fn put(entries: &mut Vec<Arc<Entry>>, index: &mut Index, entry: Arc<Entry>)
     requires index { IsIndex (map arc_value entries.old.items) index.old }
+    requires few { vec_len entries.old < 4294967295 }
     requires room { vec_len entries.old < vec_capacity entries.old }
-    requires spare { 0 < spare index.old }
+    requires key { HasRoom index.old (key_of (arc_value entry) ∷ []) }
     ensures index { IsIndex (map arc_value entries.new.items) index.new }
     ensures entries { entries.new.items ≡ entries.old.items ++ entry ∷ [] }
     ensures capacity { vec_capacity entries.new ≡ vec_capacity entries.old }
-    ensures spare { spare index.old ≤ spare index.new + 1 }
+    ensures taken { TakesRoom index.old (key_of (arc_value entry)) index.new }
 {
-    note(index, entry.key(), entries.len() as u64);
+    index.note(entry.key(), entries.len() as u64);
     entries.push_reserved(entry);
-}
-
-/// Notes the number of one more entry by its key, unless an earlier one has that.
-fn note(index: &mut Index, key: Option<Key>, number: u64)
-    requires { 0 < spare index.old }
-    ensures notes { Notes index.old key number index.new }
-    ensures spare { spare index.old ≤ spare index.new + 1 }
-{
-    if let Some(key) = key {
-        if !index.contains_key(&key) {
-            let _ = index.insert(key, number);
-        }
-    }
 }

@@ -9,7 +9,7 @@ use Rattle.lemma_book.proofs.shelf.put.Goals as goal
 pub returns-clause-index : goal.returns-clause-index
 returns-clause-index c =
     let before = c.args.entries.now.items in
-    index-put (map arc_value before) _ (arc_value c.args.entry) _ _ c.args.index.now c.note.new.index c.requires.index c.note.ensures.notes
+    index-put (map arc_value before) _ (arc_value c.args.entry) _ _ c.args.index.now c.note.new.self c.requires.index c.note.ensures.notes
     (c.key.ensures ∙ ap key_of c.deref.ensures)
     (c.len.ensures ∙ c.args.entries.now.ok.0 ∙ sym (length-map before arc_value))
     (ap (map arc_value) c.push_reserved.ensures.items ∙ map-append arc_value before (c.args.entry ∷ []))

@@ -16,5 +16,5 @@ pub returns-clause-ok : goal.returns-clause-ok
 returns-clause-ok c =
     c.put_all.ensures.entries
     ∙ joined _ _ _ _ (ap (map arc_value) c.reserve.ensures.items ∙ c.self.view_is)
-    (c.in_ok-more.ensures ∙ behind _ _ _ _ c.len.result (ap (map arc_value) c.deref.ensures.value ∙ c.longer.view_is)
-    (c.len.ensures ∙ c.self.inside.entries.ok.0 ∙ sym (length-map c.self.inside.entries.items arc_value) ∙ ap length c.self.view_is))
+    (c.in_ok-more.ensures ∙ behind _ _ _ _ c.len-known.result (ap (map arc_value) c.deref.ensures.value ∙ c.longer.view_is)
+    (c.len-known.ensures ∙ c.self.inside.entries.ok.0 ∙ sym (length-map c.self.inside.entries.items arc_value) ∙ ap length c.self.view_is))

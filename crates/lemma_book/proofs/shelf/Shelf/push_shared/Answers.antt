@@ -19,5 +19,5 @@ returns-clause-ok c =
     ∙ ap Some (sym c.index.ensures))
     ∙ ap Some (sym c.in_ok-shared.ensures) in
     subst (λ (o : Option Entry). IfSome o (λ e. map arc_value c.put.new.entries.items ≡ c.args.self.now ++ e ∷ [])) (sym at)
-    (ap (map arc_value) c.put.ensures.entries ∙ map-append arc_value c.reserve.new.self.items (c.in_ok-shared.shared ∷ [])
-    ∙ ap (λ (l : List Entry). l ++ new ∷ []) (ap (map arc_value) c.in_ok-reserve.ensures.items ∙ c.self.view_is))
+    (ap (map arc_value) c.put.ensures.entries ∙ map-append arc_value c.make_room.new.entries.items (c.in_ok-shared.shared ∷ [])
+    ∙ ap (λ (l : List Entry). l ++ new ∷ []) (ap (map arc_value) c.make_room.ensures.entries ∙ c.self.view_is))
