@@ -6,6 +6,7 @@ ghost use Rattle.std.specs.Bool.{OnTrue};
 
 use crate::entries;
 use crate::pairs::{Case, check, expect, expect_text, swapped_ands, two_xors};
+use crate::structure::folds;
 use lemma_book::{Book, Judgement, Offered, Refused, Subject};
 use lits::{Lit, Named, Node, Side, Step};
 use netlist::Net;
@@ -476,6 +477,8 @@ impl Case for SpentPair {
     fn check<A: Abort>(&self, rt: &A, alloc: Global, net: &Net) {
         let book = book_of(rt, alloc, net, 1, SPENT);
         expect(rt, "the spent pair", has_spent(&book));
+        let copy = book.copy(alloc).expect(rt, "memory");
+        expect(rt, "the spent pair in a copy", has_spent(&copy));
     }
 }
 
@@ -483,4 +486,55 @@ impl Case for SpentPair {
 fn spent_pair(rt: HostRuntime) {
     let alloc = rt.alloc();
     check(&rt, alloc, two_xors(&rt, alloc), &SpentPair);
+}
+
+/// Merges of gates of both circuits, some of them with one variable, and the entry of an output.
+const OF_BOTH_SIDES: &str = "\
+merge b3 -t: -b3 -t by b3.0; b3 t by t.0 => Ok(At(0))
+merge a2 i0: -a2 i0 by a2.0; a2 -i0 by a2.2 => Ok(At(1))
+merge a3 -t: -a3 -t by a3.0 a3.1; a3 t by t.0 => Ok(At(2))
+out 1: -d1 by t.0 e2.0 e0.0 d1.0 => Ok(At(3))
+merge b4 -t: -b4 -t by b4.0 b4.1; b4 t by t.0 => Ok(At(4))
+";
+
+/// The places of the gates' merges; of the last two gates there are none.
+static PLACES: [(&str, Option<u64>); 6] = [
+    ("b3", Some(0)),
+    ("a2", Some(1)),
+    ("a3", Some(2)),
+    ("b4", Some(4)),
+    ("b2", None),
+    ("a4", None),
+];
+
+/// Whether each entry is found at its place, and nothing by other subjects.
+fn has_places(rt: &impl Abort, book: &Book) -> bool {
+    for (gate, place) in PLACES.as_slice() {
+        let subject = Subject::Merged(entries::lit(rt, gate).node);
+        if book.place_on(subject) != *place {
+            return false;
+        }
+    }
+    book.place_on(Subject::Output(1)) == Some(3) && book.place_on(Subject::Output(0)).is_none()
+}
+
+/// What is found in a book with merges on both sides is found in a copy, and in a book that catches up with it.
+struct BothSides;
+
+impl Case for BothSides {
+    fn check<A: Abort>(&self, rt: &A, alloc: Global, net: &Net) {
+        let book = book_of(rt, alloc, net, 1, OF_BOTH_SIDES);
+        expect(rt, "the places", has_places(rt, &book));
+        let copy = book.copy(alloc).expect(rt, "memory");
+        expect(rt, "the places in a copy", has_places(rt, &copy));
+        let mut other = Book::new(alloc, 1, 1);
+        other.catch_up(alloc, &book).expect(rt, "memory");
+        expect(rt, "the places that were caught up", has_places(rt, &other));
+    }
+}
+
+#[test]
+fn places_on_both_sides(rt: HostRuntime) {
+    let alloc = rt.alloc();
+    check(&rt, alloc, folds(&rt, alloc), &BothSides);
 }

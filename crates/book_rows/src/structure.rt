@@ -87,7 +87,7 @@ fn strash(rt: HostRuntime) {
 
 /// In A an AND of one literal twice, of a literal and its negation, of an input and true; in B one of true
 /// and an input, of false and an input, of an input and false.
-fn folds(rt: &impl Abort, alloc: Global) -> Net {
+pub(crate) fn folds(rt: &impl Abort, alloc: Global) -> Net {
     let gates = [and(2, 2, 2), and(3, 2, 3), and(4, 1, 2)];
     let a = circuit(alloc, &[1], &gates, &[4, 6]);
     let gates = [and(2, 3, 1), and(3, 0, 2), and(4, 2, 0)];
