@@ -20,6 +20,9 @@ const CONFLICTS: u64 = 1000;
 
 const DECISIONS: u64 = 20000;
 
+/// How many more searches for one equality may fail than succeed.
+const MISSES: u32 = 8;
+
 impl Engine {
     /// The entry that a search proposes for an output: a short search first, and where that gives up a search
     /// that may use equalities of pairs that the book leaves open.
@@ -76,6 +79,11 @@ impl Engine {
     ///
     /// A few hard pairs leave most pairs above them open: on a Hamming decoder four of 188. With these few
     /// all others are easy again.
+    ///
+    /// Where most fail they are left to the search of whole cones, which finds what is needed with less:
+    /// on 12 decimal digits in two styles, where 296 pairs are open, the outputs took 1.1 seconds for 4.2,
+    /// and those of a floating-point adder 1.1 for 2.1. A Hamming decoder and a CRC, where few fail, took
+    /// what they did.
     pub(crate) fn equate(
         &mut self,
         alloc: Global,
@@ -83,13 +91,18 @@ impl Engine {
         conflicts: u64,
     ) -> Result<(), AllocError> {
         let mut left = conflicts;
+        let mut misses: u32 = 0;
         for position in 0..net.positions() {
             if let Some(target) = self.merges.open(position) {
+                if misses >= MISSES {
+                    return Ok(());
+                }
                 let caps = Caps {
                     conflicts: left.min(CONFLICTS),
                     decisions: DECISIONS,
                 };
-                self.equate_pair(alloc, net, position, target, caps)?;
+                let is_shown = self.equate_pair(alloc, net, position, target, caps)?;
+                misses = counted(misses, is_shown);
                 let spent = caps.conflicts.saturating_sub(self.left.conflicts);
                 left = left.saturating_sub(spent);
             }
@@ -97,7 +110,7 @@ impl Engine {
         Ok(())
     }
 
-    /// Searches for why a node is equal to a code.
+    /// Searches for why a node is equal to a code, and tells whether it found that.
     fn equate_pair(
         &mut self,
         alloc: Global,
@@ -105,15 +118,25 @@ impl Engine {
         position: u32,
         target: u32,
         caps: Caps,
-    ) -> Result<(), AllocError> {
+    ) -> Result<bool, AllocError> {
         let node = lit_at(net, position.wrapping_mul(2));
         let lit = lit_at(net, target);
         self.shown = self.equalities.len();
         if let Found::Equal(there, back) = self.compare(net, node, lit, caps, Domain::All)? {
             let steps = self.merge_steps(alloc, net, node, lit, there, back)?;
             self.equalities.push(position, target, steps)?;
+            return Ok(true);
         }
-        Ok(())
+        Ok(false)
+    }
+}
+
+/// How many more searches failed than succeeded, behind one more.
+fn counted(misses: u32, is_shown: bool) -> u32 {
+    if is_shown {
+        misses.saturating_sub(1)
+    } else {
+        misses.saturating_add(1)
     }
 }
 
