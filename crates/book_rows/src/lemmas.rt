@@ -385,11 +385,15 @@ fn is_copied(rt: &impl Abort, alloc: Global, book: &Book) -> bool {
     has_merge(rt, alloc, &book.copy(alloc).expect(rt, "memory"))
 }
 
-/// Whether an empty book that catches up with it is the same.
-fn is_caught_up(rt: &impl Abort, alloc: Global, book: &Book) -> bool {
+/// An empty book that caught up with this one.
+fn caught_up(rt: &impl Abort, alloc: Global, book: &Book) -> Book {
     let mut other = Book::new(alloc, book.sweep_budget(), book.out_budget());
     other.catch_up(alloc, book).expect(rt, "memory");
-    has_merge(rt, alloc, &other)
+    other
+}
+
+fn is_caught_up(rt: &impl Abort, alloc: Global, book: &Book) -> bool {
+    has_merge(rt, alloc, &caught_up(rt, alloc, book))
 }
 
 /// Whether the first entry of a book is there, and good over another one.
@@ -527,8 +531,7 @@ impl Case for BothSides {
         expect(rt, "the places", has_places(rt, &book));
         let copy = book.copy(alloc).expect(rt, "memory");
         expect(rt, "the places in a copy", has_places(rt, &copy));
-        let mut other = Book::new(alloc, 1, 1);
-        other.catch_up(alloc, &book).expect(rt, "memory");
+        let other = caught_up(rt, alloc, &book);
         expect(rt, "the places that were caught up", has_places(rt, &other));
     }
 }

@@ -2,7 +2,7 @@
 use Rattle.std.proofs.Common.{◌≡◌, [], ℕ, refl, sym, subst}
 use Rattle.lemma_book.specs.Entry.{Entries}
 use Rattle.lemma_book.specs.Book.{StartsWith}
-use Rattle.book_rows.proofs.lemmas.is_caught_up.Goals as goal
+use Rattle.book_rows.proofs.lemmas.caught_up.Goals as goal
 
 starts : (book first : Entries) (s o : ℕ)
     → first ≡ record { sweep_budget = s; out_budget = o; entries = [] }
