@@ -31,9 +31,9 @@ mod trail;
 mod watches;
 
 /// How many conflicts an output's search may have in vain: what shows a pair equal counts for nothing, since
-/// it stays. A conflict takes less than half of one of the query, which drops and shortens nothing: with 2,000
-/// a product of 8 bits in a field took 5.0 seconds for 1.5, and a parity of 1,024 bits, a chain and a tree, 2.2
-/// for 0.7. Where outputs are hard all the same, as of multipliers of 7 bits, it is as fast as the query.
+/// it stays. With 2,000 the query took 5.0 seconds where 1.5 are enough for a product of 8 bits in a field, and
+/// 2.2 for 0.7 on a parity of 1,024 bits, a chain and a tree. Multipliers of 6 and 7 bits take 1.1 to 1.8 times
+/// as long as with 2,000, since the proofs that are found here are longer than those of the query.
 const VAIN: u64 = 20000;
 
 /// How far the search for one equality goes, and then those for what is left.
