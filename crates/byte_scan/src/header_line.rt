@@ -1,4 +1,4 @@
-ghost use Rattle.std.specs.Prelude.{◌≡◌, ◌+◌, ◌≤◌, All, length, nat_lt, IfNone, IfOk, IfErr, Some, None, if◌then◌else◌, option_map};
+ghost use Rattle.std.specs.Prelude.{◌≡◌, ◌+◌, ◌≤◌, All, length, nat_lt, IfNone, IfOk, IfErr, Err, Some, None, if◌then◌else◌, option_map};
 ghost use Rattle.std.specs.List.{find};
 ghost use Rattle.byte_scan.specs.Scanning.{ahead, line_of, moved, value};
 ghost use Rattle.byte_scan.specs.Reading.{Reads, header_at};
@@ -16,6 +16,7 @@ pub const VARIABLE_LIMIT: u64 = 16_777_216;
 /// numbers M I L O A B C J F, each after one space. The line is consumed, also where it has a fault.
 pub fn header(scan: &mut Scan, letter: u8) -> Result<Header, AigerErr>
     ensures reads { Reads result scan.new (header_at letter scan.old) }
+    ensures fault { IfErr result (λ e. header_at letter scan.old ≡ Err e) }
     ensures fits { IfOk result (IsFit letter) }
     ensures behind { scan.new ≡ moved scan.old (length (line_of (ahead scan.old)) + 1) }
 {

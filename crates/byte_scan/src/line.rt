@@ -1,13 +1,16 @@
-ghost use Rattle.std.specs.Prelude.{◌≡◌, ◌+◌, ◌*◌, ◌≤◌, IfOk};
+ghost use Rattle.std.specs.Prelude.{◌≡◌, ◌+◌, ◌*◌, ◌≤◌, length, Err, IfOk, IfErr, OnErr};
+ghost use Rattle.byte_scan.specs.Scanning.{ahead, digits, moved};
 ghost use Rattle.byte_scan.specs.Reading.{Passes, Reads, number_at, space_at, line_end_at, number_line_at, literal_line_at, misplaced_as, used};
 
 use crate::errors::AigerErr;
 use crate::header_line::VARIABLE_LIMIT;
 use crate::scan::Scan;
 
-/// Reads the number that is due.
+/// Reads the number that is due. Where none stands, the byte that stands there then lies behind.
 pub fn number(scan: &mut Scan) -> Result<u64, AigerErr>
-    ensures { Reads result scan.new (number_at scan.old) }
+    ensures reads { Reads result scan.new (number_at scan.old) }
+    ensures fault { IfErr result (λ e. number_at scan.old ≡ Err e) }
+    ensures behind { OnErr result (scan.new ≡ moved scan.old 1) }
 {
     let at = scan.at();
     match scan.number() {
@@ -16,9 +19,11 @@ pub fn number(scan: &mut Scan) -> Result<u64, AigerErr>
     }
 }
 
-/// Reads the space that is due.
+/// Reads the space that is due. The byte that stands there then lies behind, whatever it is.
 pub fn space(scan: &mut Scan) -> Result<(), AigerErr>
-    ensures { Passes result scan.new (space_at scan.old) }
+    ensures reads { Passes result scan.new (space_at scan.old) }
+    ensures fault { IfErr result (λ e. space_at scan.old ≡ Err e) }
+    ensures behind { scan.new ≡ moved scan.old 1 }
 {
     let at = scan.at();
     match scan.byte() {
@@ -29,7 +34,9 @@ pub fn space(scan: &mut Scan) -> Result<(), AigerErr>
 
 /// Reads the end of the line that is due: its LF, or the end of input.
 fn line_end(scan: &mut Scan) -> Result<(), AigerErr>
-    ensures { Passes result scan.new (line_end_at scan.old) }
+    ensures reads { Passes result scan.new (line_end_at scan.old) }
+    ensures fault { IfErr result (λ e. line_end_at scan.old ≡ Err e) }
+    ensures behind { scan.new ≡ moved scan.old 1 }
 {
     let at = scan.at();
     match scan.byte() {
@@ -48,20 +55,26 @@ fn misplaced(at: u64, found: Option<u8>) -> AigerErr
     }
 }
 
-/// Reads a line of one number.
+/// Reads a line of one number. The digits in front and the byte behind them then lie behind, also where there
+/// is a fault.
 pub fn number_line(scan: &mut Scan) -> Result<u64, AigerErr>
-    ensures { Reads result scan.new (number_line_at scan.old) }
+    ensures reads { Reads result scan.new (number_line_at scan.old) }
+    ensures fault { IfErr result (λ e. number_line_at scan.old ≡ Err e) }
+    ensures behind { scan.new ≡ moved scan.old (length (digits (ahead scan.old)) + 1) }
 {
     let n = number(scan)?;
     line_end(scan)?;
     Ok(n)
 }
 
-/// Reads a line of one literal that is used, where `most` is the greatest variable.
+/// Reads a line of one literal that is used, where `most` is the greatest variable. The digits in front and
+/// the byte behind them then lie behind, also where there is a fault.
 pub fn literal_line(scan: &mut Scan, most: u32) -> Result<u32, AigerErr>
     requires { most ≤ VARIABLE_LIMIT }
     ensures reads { Reads result scan.new (literal_line_at most scan.old) }
+    ensures fault { IfErr result (λ e. literal_line_at most scan.old ≡ Err e) }
     ensures within { IfOk result (λ n. n ≤ 2 * most + 1) }
+    ensures behind { scan.new ≡ moved scan.old (length (digits (ahead scan.old)) + 1) }
 {
     let n = number_line(scan)?;
     used(n, most)
