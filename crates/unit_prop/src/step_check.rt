@@ -1,8 +1,9 @@
-ghost use Rattle.std.specs.Prelude.{◌≡◌, true, false, not, ◌++◌, [], ◌∷◌, Ok, Err, OnOk, OnErr, IfErr, if◌then◌else◌, ◌&&◌};
+ghost use Rattle.std.specs.Prelude.{◌≡◌, true, false, not, ◌++◌, [], ◌∷◌, Ok, Err, OnOk, OnErr, IfErr, if◌then◌else◌, ◌&&◌, map};
 ghost use Rattle.std.specs.List.{list_any};
-ghost use Rattle.lits.specs.Clause.{has, has_pair};
+ghost use Rattle.lits.specs.Clause.{firsts, has, has_pair};
 ghost use Rattle.lits.specs.Finder.{HasOwnCodes};
 ghost use Rattle.unit_prop.specs.Step.{IfBad, start_of, open_in, is_satisfied, after_hint};
+ghost use Rattle.unit_prop.specs.Propagation.{IsConsistent};
 ghost use Rattle.unit_prop.specs.StepCheck.{Assumes, IsOpenPart};
 
 use crate::why::{StepErr, Why};
@@ -58,7 +59,7 @@ impl<L: Literal> StepCheck<L> {
     }
 
     /// Begins the step that adds the clause, and forgets the one before. The negations of the clause's
-    /// literals are assumed. After a refusal the next call is `begin`.
+    /// literals are assumed. After a refusal no step is begun, and the next call is `begin`.
     pub fn begin(&mut self, clause: &[L]) -> Result<(), StepErr>
         ensures state { OnOk result
             (self.new ≡ start_of L.PartialEq.eq L.Literal.opposite clause.now) }
@@ -67,13 +68,14 @@ impl<L: Literal> StepCheck<L> {
         ensures bad { IfErr result (λ e. IfBad e (λ w. w ≡ Why.Tautology)) }
         ensures tautology { IfErr result (λ e. IfBad e (λ _.
             has_pair L.PartialEq.eq L.Literal.opposite clause.now ≡ true)) }
+        ensures refused { OnErr result (self.new ≡ record { set = []; clashed = false }) }
     {
-        self.set.clear();
         self.clashed = false;
-        for lit in clause {
-            assume(&mut self.set, *lit)?;
+        let begun = assume_all(&mut self.set, clause);
+        if begun.is_err() {
+            self.set.clear();
         }
-        Ok(())
+        begun
     }
 
     /// Takes the clause of the step's next hint. After a refusal the next call is `begin`.
@@ -110,6 +112,23 @@ impl<L: Literal> StepCheck<L> {
         self.clashed = false;
         if clashed { Ok(()) } else { Err(Why::NotFalse) }
     }
+}
+
+/// Makes the set that of the negations of the clause's literals. Where this is refused, a first part of them
+/// may stand, which the caller takes back.
+fn assume_all<L: Literal>(set: &mut LiteralSet<L>, clause: &[L]) -> Result<(), StepErr>
+    ensures set { OnOk result (set.new ≡ map L.Literal.opposite (firsts L.PartialEq.eq clause.now)) }
+    ensures clause { OnOk result (has_pair L.PartialEq.eq L.Literal.opposite clause.now ≡ false) }
+    ensures consistent { OnOk result (IsConsistent L.PartialEq.eq L.Literal.opposite set.new) }
+    ensures bad { IfErr result (λ e. IfBad e (λ w. w ≡ Why.Tautology)) }
+    ensures tautology { IfErr result (λ e. IfBad e (λ _.
+        has_pair L.PartialEq.eq L.Literal.opposite clause.now ≡ true)) }
+{
+    set.clear();
+    for lit in clause {
+        assume(set, *lit)?;
+    }
+    Ok(())
 }
 
 /// Puts the negation of a literal into the set, unless it is there already.
