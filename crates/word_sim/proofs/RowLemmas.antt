@@ -76,6 +76,15 @@ kept-later words p q old mid new most first next = next ∙ later mid ∙ ap (dr
         let from : q * words ≡ p * words + (q * words - p * words) = omega (arith, times-mono p q words most) in
         ap (λ (n : ℕ). drop n xs) from ∙ sym (drop-drop (q * words - p * words) (p * words) xs)
 
+-- so a row behind one that is written is as it was
+pub row-behind : (words p q : ℕ) (old new : List ℕ) → p < q → IsKeptFrom words (p + 1) old new → row_at words q new ≡ row_at words q old
+row-behind words p q old new below kept = ap (take words) (later new ∙ ap (drop (q * words - (p + 1) * words)) kept ∙ sym (later old))
+  where
+    later : (xs : List ℕ) → drop (q * words) xs ≡ drop (q * words - (p + 1) * words) (drop ((p + 1) * words) xs)
+    later xs =
+        let from : q * words ≡ (p + 1) * words + (q * words - (p + 1) * words) = omega (arith, times-mono (p + 1) q words (omega (arith, below))) in
+        ap (λ (n : ℕ). drop n xs) from ∙ sym (drop-drop (q * words - (p + 1) * words) ((p + 1) * words) xs)
+
 -- one row is written behind what is done
 pub put-part : (words p k : ℕ) (old done rest row : List ℕ) → old ≡ done ++ rest → length done ≡ p * words
     → (p + 1) * words ≤ length old → length row ≡ words → k ≡ words → IsPut words p old (done ++ (row ++ drop k rest))

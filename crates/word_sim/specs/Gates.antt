@@ -1,6 +1,6 @@
 -- Gates that are simulated, in order, and what their rows are.
 use Rattle.std.specs.Prelude.{◌≡◌, ℕ, ◌*◌, ◌<◌, ◌==◌, ◌||◌, ◌&&◌, Bool, true, ⊤, List, [], ◌∷◌}
-use Rattle.std.specs.List.{AllByRecursion}
+use Rattle.std.specs.List.{AllByRecursion, list_any}
 use Rattle.word_sim.specs.declared.gates.GateAt.{GateAt}
 use Rattle.word_sim.specs.Rows.{HasBits, row_at, turned}
 
@@ -17,6 +17,10 @@ pub record IsInside (places : ℕ) (gate : GateAt) : Type 0 where
 
 abbrev pub AreInside : ℕ → List GateAt → Type 0
 AreInside places gates = AllByRecursion (IsInside places) gates
+
+-- some gate of the list has its row at this place
+abbrev pub has_place : List GateAt → ℕ → Bool
+has_place gates q = list_any (λ g. q == g.place) gates
 
 -- a place more whose row is known
 abbrev pub with_place : ℕ → (ℕ → Bool) → ℕ → Bool

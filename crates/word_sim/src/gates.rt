@@ -1,5 +1,6 @@
-ghost use Rattle.std.specs.Prelude.{◌≡◌, ◌<◌, ◌*◌, ◌^◌, ◌∷◌, ◌++◌, [], ℕ, Bool, length, OnOk, OnErr};
-ghost use Rattle.word_sim.specs.Gates.{AreAnds, HaveRows, IsInside, known_after};
+ghost use Rattle.std.specs.Prelude.{◌≡◌, ◌<◌, ◌*◌, ◌^◌, ◌∷◌, ◌++◌, [], ℕ, Bool, false, length, OnOk, OnErr};
+ghost use Rattle.word_sim.specs.Gates.{AreAnds, HaveRows, IsInside, has_place, known_after};
+ghost use Rattle.word_sim.specs.Rows.{row_at};
 
 use crate::rows::fill_gate;
 use netlist::Fanins;
@@ -71,13 +72,16 @@ impl GateList {
 
     /// Writes the row of each gate, of so many whole words, where the rows of constants and inputs stand:
     /// where the values of the nodes are such that each listed gate is the AND of its fanins, bit b of word
-    /// w of a gate's row is its value on pattern 64 w + b.
+    /// w of a gate's row is its value on pattern 64 w + b. Rows of other places stay as they are.
     pub fn fill(&self, words: usize, rows: &mut [u64])
         requires words { words < 2 ^ 32 }
         requires room { length rows.old ≡ self.now.places * words }
-        ensures { (truth : ℕ → ℕ → Bool) (known : ℕ → Bool) → AreAnds truth known self.now.gates
+        ensures rows { (truth : ℕ → ℕ → Bool) (known : ℕ → Bool) → AreAnds truth known self.now.gates
             → HaveRows words truth known rows.old
             → HaveRows words truth (known_after known self.now.gates) rows.new }
+        ensures others { (q : ℕ) → has_place self.now.gates q ≡ false
+            → row_at words q rows.new ≡ row_at words q rows.old }
+        ensures size { length rows.new ≡ length rows.old }
     {
         for gate in &self.gates {
             fill_gate(

@@ -104,6 +104,7 @@ pub(crate) fn fill_gate(gate: Fanins, buf: &mut [u64], position: usize, words: u
     requires words { words ≡ words_of count }
     requires room { (position + 1) * words ≤ length buf.old }
     ensures put { IsPut words position buf.old buf.new }
+    ensures rest { IsKeptFrom words (position + 1) buf.old buf.new }
     ensures row { (f g : ℕ → Bool) → HasBits count f (row_at words gate.left.position buf.old)
         → HasBits count g (row_at words gate.right.position buf.old)
         → HasBits count (λ p. turned gate.left.neg (f p) && turned gate.right.neg (g p))

@@ -1,6 +1,6 @@
 use Rattle.std.proofs.Common.{refl, ◌≡◌, ◌∙◌, ◌&&◌, ℕ, List, ap, sym, subst, drop}
 use Rattle.word_sim.specs.Rows.{HasBits, row_at, turned}
-use Rattle.word_sim.proofs.RowLemmas.{put-part, row-kept, row-there}
+use Rattle.word_sim.proofs.RowLemmas.{part-kept, put-part, row-kept, row-there}
 use Rattle.word_sim.proofs.rows.fill_gate.Goals as goal
 
 pub returns-clause-put : goal.returns-clause-put
@@ -8,6 +8,12 @@ returns-clause-put c =
     let parts = c.split_at_mut-done in
     put-part c.args.words c.args.position c.args.words c.args.buf.now parts.result.0.now parts.result.1.now c.put_gate.new.words
     parts.ensures.value parts.ensures.front_len c.requires.room (c.put_gate.ensures.size ∙ sym c.requires.words) refl
+
+pub returns-clause-rest : goal.returns-clause-rest
+returns-clause-rest c =
+    let parts = c.split_at_mut-done in
+    part-kept c.args.words c.args.position c.args.words c.args.buf.now parts.result.0.now parts.result.1.now c.put_gate.new.words
+    parts.ensures.value parts.ensures.front_len (c.put_gate.ensures.size ∙ sym c.requires.words) refl
 
 pub returns-clause-row : goal.returns-clause-row
 returns-clause-row c = λ f g first second.

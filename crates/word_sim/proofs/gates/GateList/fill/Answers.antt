@@ -12,4 +12,4 @@ none = record {
 pub loop-gate-preserved : goal.loop-gate-preserved
 loop-gate-preserved c =
     filling-next c.args.words c.args.rows.now c.deref-gate-items.result.now c.loop-gate.gate-index none c.loop-gate.rows c.fill_gate.new.buf
-    c.loop-gate.invariant c.loop-gate-test.true c.fill_gate.ensures.put c.fill_gate.ensures.row
+    c.loop-gate.invariant c.loop-gate-test.true c.fill_gate.ensures.put c.fill_gate.ensures.rest c.fill_gate.ensures.row
