@@ -1,2 +1,3 @@
 mod DeltaLemmas
 mod SymbolLemmas
+mod BeginLemmas

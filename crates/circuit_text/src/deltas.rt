@@ -1,4 +1,5 @@
-ghost use Rattle.std.specs.Prelude.{◌≡◌, ◌+◌, ◌*◌, ◌≤◌, ◌<◌, ◌++◌, OnOk};
+ghost use Rattle.std.specs.Prelude.{◌≡◌, ◌+◌, ◌*◌, ◌≤◌, ◌<◌, ◌++◌, OnOk, OnErr};
+ghost use Rattle.tokens.specs.Text.{Begins};
 ghost use Rattle.std.specs.List.{flat_map};
 ghost use Rattle.circuit_text.specs.BinaryText.{delta_text, gate_deltas, groups, power_of, IsInSequence};
 ghost use Rattle.netlist.specs.Circuit.{most};
@@ -9,7 +10,8 @@ use std::alloc::AllocError;
 /// Appends the deltas of the circuit's gates.
 pub(crate) fn push_deltas(text: &mut Vec<u8>, circuit: &Circuit) -> Result<(), AllocError>
     requires { IsInSequence circuit.now }
-    ensures { OnOk result (text.new.items ≡ text.old.items ++ flat_map gate_deltas circuit.now.gates) }
+    ensures ok { OnOk result (text.new.items ≡ text.old.items ++ flat_map gate_deltas circuit.now.gates) }
+    ensures err { OnErr result (Begins text.old.items text.new.items) }
 {
     for gate in circuit.gates() {
         push_gate(text, *gate)?;
@@ -22,7 +24,8 @@ fn push_gate(text: &mut Vec<u8>, gate: And) -> Result<(), AllocError>
     requires var { gate.var ≤ most }
     requires left { gate.left < 2 * gate.var }
     requires right { gate.right ≤ gate.left }
-    ensures { OnOk result (text.new.items ≡ text.old.items ++ gate_deltas gate) }
+    ensures ok { OnOk result (text.new.items ≡ text.old.items ++ gate_deltas gate) }
+    ensures err { OnErr result (Begins text.old.items text.new.items) }
 {
     push_delta(text, 2 * gate.var - gate.left)?;
     push_delta(text, gate.left - gate.right)
@@ -31,7 +34,8 @@ fn push_gate(text: &mut Vec<u8>, gate: And) -> Result<(), AllocError>
 /// Appends a difference of literals in the binary form's groups of 7 bits; 32 bits take at most five.
 #[tactic(auto, unfolding(crate::specs::BinaryText::delta_text))]
 fn push_delta(text: &mut Vec<u8>, delta: u32) -> Result<(), AllocError>
-    ensures { OnOk result (text.new.items ≡ text.old.items ++ delta_text delta) }
+    ensures ok { OnOk result (text.new.items ≡ text.old.items ++ delta_text delta) }
+    ensures err { OnErr result (Begins text.old.items text.new.items) }
 {
     push_groups(text, delta, 4)
 }
@@ -40,7 +44,8 @@ fn push_delta(text: &mut Vec<u8>, delta: u32) -> Result<(), AllocError>
 fn push_groups(text: &mut Vec<u8>, number: u32, more: u32) -> Result<(), AllocError>
     requires more { more ≤ 4 }
     requires fits { number < power_of (more + 1) }
-    ensures { OnOk result (text.new.items ≡ text.old.items ++ groups more number) }
+    ensures ok { OnOk result (text.new.items ≡ text.old.items ++ groups more number) }
+    ensures err { OnErr result (Begins text.old.items text.new.items) }
 {
     if more == 0 || number < 128 {
         text.push(number as u8)?;

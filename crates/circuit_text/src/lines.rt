@@ -1,4 +1,5 @@
-ghost use Rattle.std.specs.Prelude.{◌≡◌, ◌++◌, ◌∷◌, OnOk};
+ghost use Rattle.std.specs.Prelude.{◌≡◌, ◌++◌, ◌∷◌, OnOk, OnErr};
+ghost use Rattle.tokens.specs.Text.{Begins};
 ghost use Rattle.std.specs.List.{flat_map};
 ghost use Rattle.circuit_text.specs.AsciiText.{gate_line, input_line};
 ghost use Rattle.circuit_text.specs.Lines.{header_line, literal_line, number_line};
@@ -14,7 +15,8 @@ pub(crate) fn push_header(
     m: u32,
     circuit: &Circuit,
 ) -> Result<(), AllocError>
-    ensures { OnOk result (text.new.items ≡ text.old.items ++ header_line letter m circuit.now) }
+    ensures ok { OnOk result (text.new.items ≡ text.old.items ++ header_line letter m circuit.now) }
+    ensures err { OnErr result (Begins text.old.items text.new.items) }
 {
     let inputs = circuit.inputs().len() as u64;
     let outputs = circuit.outputs().len() as u64;
@@ -34,7 +36,8 @@ pub(crate) fn push_header(
 
 /// Appends the lines of the inputs.
 pub(crate) fn push_inputs(text: &mut Vec<u8>, inputs: &[u32]) -> Result<(), AllocError>
-    ensures { OnOk result (text.new.items ≡ text.old.items ++ flat_map input_line inputs.now) }
+    ensures ok { OnOk result (text.new.items ≡ text.old.items ++ flat_map input_line inputs.now) }
+    ensures err { OnErr result (Begins text.old.items text.new.items) }
 {
     for var in inputs {
         push_line(text, 2 * u64::from(*var), &[])?;
@@ -47,8 +50,9 @@ pub(crate) fn push_outputs_and_constraints(
     text: &mut Vec<u8>,
     circuit: &Circuit,
 ) -> Result<(), AllocError>
-    ensures { OnOk result (text.new.items ≡ text.old.items
+    ensures ok { OnOk result (text.new.items ≡ text.old.items
         ++ flat_map literal_line circuit.now.outputs ++ flat_map literal_line circuit.now.constraints) }
+    ensures err { OnErr result (Begins text.old.items text.new.items) }
 {
     push_literals(text, circuit.outputs())?;
     push_literals(text, circuit.constraints())
@@ -56,7 +60,8 @@ pub(crate) fn push_outputs_and_constraints(
 
 /// Appends a line for each literal.
 fn push_literals(text: &mut Vec<u8>, literals: &[u32]) -> Result<(), AllocError>
-    ensures { OnOk result (text.new.items ≡ text.old.items ++ flat_map literal_line literals.now) }
+    ensures ok { OnOk result (text.new.items ≡ text.old.items ++ flat_map literal_line literals.now) }
+    ensures err { OnErr result (Begins text.old.items text.new.items) }
 {
     for literal in literals {
         push_line(text, u64::from(*literal), &[])?;
@@ -66,7 +71,8 @@ fn push_literals(text: &mut Vec<u8>, literals: &[u32]) -> Result<(), AllocError>
 
 /// Appends the lines of the gates.
 pub(crate) fn push_gates(text: &mut Vec<u8>, gates: &[And]) -> Result<(), AllocError>
-    ensures { OnOk result (text.new.items ≡ text.old.items ++ flat_map gate_line gates.now) }
+    ensures ok { OnOk result (text.new.items ≡ text.old.items ++ flat_map gate_line gates.now) }
+    ensures err { OnErr result (Begins text.old.items text.new.items) }
 {
     for gate in gates {
         let fanins = [u64::from(gate.left), u64::from(gate.right)];
@@ -78,7 +84,8 @@ pub(crate) fn push_gates(text: &mut Vec<u8>, gates: &[And]) -> Result<(), AllocE
 /// Appends a line of numbers.
 #[tactic(auto, unfolding(crate::specs::Lines::number_line))]
 fn push_line(text: &mut Vec<u8>, first: u64, rest: &[u64]) -> Result<(), AllocError>
-    ensures { OnOk result (text.new.items ≡ text.old.items ++ number_line (first ∷ rest.now)) }
+    ensures ok { OnOk result (text.new.items ≡ text.old.items ++ number_line (first ∷ rest.now)) }
+    ensures err { OnErr result (Begins text.old.items text.new.items) }
 {
     push_number(text, first)?;
     for number in rest {

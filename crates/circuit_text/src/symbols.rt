@@ -1,4 +1,5 @@
-ghost use Rattle.std.specs.Prelude.{◌≡◌, ◌++◌, OnOk};
+ghost use Rattle.std.specs.Prelude.{◌≡◌, ◌++◌, OnOk, OnErr};
+ghost use Rattle.tokens.specs.Text.{Begins};
 ghost use Rattle.std.specs.Option.{option_copied};
 ghost use Rattle.circuit_text.specs.Symbols.{symbol_line, symbol_lines, symbols_text};
 
@@ -8,14 +9,16 @@ use tokens::push_number;
 
 /// Appends the symbols: the names of the inputs, then those of the outputs.
 pub(crate) fn push_symbols(text: &mut Vec<u8>, circuit: &Circuit) -> Result<(), AllocError>
-    ensures { OnOk result (text.new.items ≡ text.old.items ++ symbols_text circuit.now.names) }
+    ensures ok { OnOk result (text.new.items ≡ text.old.items ++ symbols_text circuit.now.names) }
+    ensures err { OnErr result (Begins text.old.items text.new.items) }
 {
     push_input_symbols(text, circuit)?;
     push_output_symbols(text, circuit)
 }
 
 fn push_input_symbols(text: &mut Vec<u8>, circuit: &Circuit) -> Result<(), AllocError>
-    ensures { OnOk result (text.new.items ≡ text.old.items ++ symbol_lines 105 0 circuit.now.names.inputs) }
+    ensures ok { OnOk result (text.new.items ≡ text.old.items ++ symbol_lines 105 0 circuit.now.names.inputs) }
+    ensures err { OnErr result (Begins text.old.items text.new.items) }
 {
     let count = circuit.inputs().len() as u32;
     for k in 0..count {
@@ -25,7 +28,8 @@ fn push_input_symbols(text: &mut Vec<u8>, circuit: &Circuit) -> Result<(), Alloc
 }
 
 fn push_output_symbols(text: &mut Vec<u8>, circuit: &Circuit) -> Result<(), AllocError>
-    ensures { OnOk result (text.new.items ≡ text.old.items ++ symbol_lines 111 0 circuit.now.names.outputs) }
+    ensures ok { OnOk result (text.new.items ≡ text.old.items ++ symbol_lines 111 0 circuit.now.names.outputs) }
+    ensures err { OnErr result (Begins text.old.items text.new.items) }
 {
     let count = circuit.outputs().len() as u32;
     for j in 0..count {
@@ -42,8 +46,9 @@ fn push_symbol(
     place: u32,
     name: Option<&[u8]>,
 ) -> Result<(), AllocError>
-    ensures { OnOk result
+    ensures ok { OnOk result
         (text.new.items ≡ text.old.items ++ symbol_line letter place (option_copied name.entry)) }
+    ensures err { OnErr result (Begins text.old.items text.new.items) }
 {
     let Some(name) = name else {
         return Ok(());

@@ -18,4 +18,4 @@ returns-clause-spells c =
     let made = c.in_ok-circuit.ensures in
     let bound = is_bound c.in_ok-circuit.circuit _ made.circuit made.sequence
     (omega (arith, ap length c.inputs.ensures.inputs, ap length c.gates.ensures.gates)) in
-    ascii-spells c.in_ok-circuit.circuit _ _ _ _ made.same made.circuit bound c.new-text.ensures.items c.in_ok-push_ascii.ensures
+    ascii-spells c.in_ok-circuit.circuit _ _ _ _ made.same made.circuit bound c.new-text.ensures.items c.in_ok-push_ascii.ensures.ok
