@@ -6,3 +6,5 @@ mod DerivationLemmas
 mod PlaceLemmas
 mod ReadLemmas
 mod LoopLemmas
+mod FaultLemmas
+mod StopLemmas

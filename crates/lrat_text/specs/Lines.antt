@@ -1,11 +1,12 @@
 -- A proof text that is read line by line: what is left of it, and what the next line makes of that.
-use Rattle.std.specs.Prelude.{◌≡◌, ◌⊎◌, ℕ, ◌+◌, ◌<◌, ◌≤◌, ◌^◌, List, [], ◌∷◌, length, Option, Some, None, Result, Ok, Err}
+use Rattle.std.specs.Prelude.{◌≡◌, ◌⊎◌, ℕ, ◌+◌, ◌<◌, ◌≤◌, ◌^◌, List, [], ◌∷◌, ◌++◌, length, Option, Some, None, Result, Ok, Err}
 use Rattle.byte_scan.specs.Scanning.{Place}
 use Rattle.lrat_text.specs.declared.error.LratErr.{LratErr}
+use Rattle.lrat_text.specs.declared.error.LratErr.TheVariants.{BadNumber, Truncated, Order, Rat, NoMemory}
 use Rattle.lrat_text.specs.declared.step.Line.{Line}
 use Rattle.lrat_text.specs.declared.step.LratStep.{LratStep}
 use Rattle.lrat_text.specs.Reading.{step_of, steps_from, id_behind, words_in, Gives}
-use Rattle.lrat_text.specs.Steps.{id_after}
+use Rattle.lrat_text.specs.Steps.{id_after, last_id}
 use Rattle.tokens.specs.Reading.{◌>>=◌}
 use Rattle.tokens.specs.Words.{lines_in}
 
@@ -58,11 +59,33 @@ pub record IsNext (line : Line) (old new : Rest) : Type 0 where
   pub last : new.last ≡ id_after old.last line.step
   pub fewer : length new.bytes < length old.bytes
 
--- What the next line is; or none is left, and no bytes are; or its fault, behind which nothing is said of what is left.
+-- the fault is one of line `at`; memory may be refused for any line
+abbrev pub IsOf : ℕ → LratErr → Type 0
+IsOf at (BadNumber n) = n ≡ at
+IsOf at (Truncated n) = n ≡ at
+IsOf at (Order n) = n ≡ at
+IsOf at (Rat n) = n ≡ at
+IsOf at NoMemory = Unit {0}
+
+-- Lines are read up to one that has the fault, or for which memory was refused. Those before it say these steps, and what is
+-- left are the lines behind it.
+pub record StopsAt (e : LratErr) (steps : List Line) (old new : Rest) : Type 0 where
+  pub before : List (List ℕ)
+  pub later : List (List ℕ)
+  pub line : List ℕ
+  pub lines : lines_in old.bytes ≡ before ++ line ∷ later
+  pub said : steps_from (old.behind + 1) old.last before ≡ Ok steps
+  pub fault : IsOf new.behind e
+  pub left : AreLeft later new.bytes
+  pub behind : new.behind ≡ old.behind + length before + 1
+  pub last : new.last ≡ last_id old.last steps
+  pub fewer : length new.bytes < length old.bytes
+
+-- What the next line is; or none is left, and no bytes are; or its fault, behind which the later lines are left.
 abbrev pub GivesNext : Result (Option Line) LratErr → Rest → Rest → Type 0
 GivesNext (Ok (Some line)) old new = IsNext line old new
 GivesNext (Ok None) old new = (next_left old ≡ Ok None) × (new.bytes ≡ [])
-GivesNext (Err e) old new = Gives (Err e) (next_left old)
+GivesNext (Err e) old new = Gives (Err e) (next_left old) × StopsAt e [] old new
 
 -- what is read has no fault
 abbrev pub HasForm : Result (List Line) LratErr → Type 0

@@ -12,8 +12,8 @@
 //!
 //! Definitions: `specs/Reading.antt` (the grammar, with the first fault of a text that isn't in it) stands on
 //! `specs/Numbers.antt` (which numbers may stand where) and `specs/Steps.antt` (ids); `specs/Lines.antt` says
-//! what is left of a text, `specs/Parts.antt` a line as far as it is read; `specs/Writing.antt` has the one
-//! text of each step, `specs/Derivation.antt` what lines derive and refute.
+//! what is left of a text, also behind a fault, `specs/Parts.antt` a line as far as it is read;
+//! `specs/Writing.antt` has the one text of each step, `specs/Derivation.antt` what lines derive and refute.
 #![tactic(auto)]
 
 pub use error::LratErr;

@@ -1,6 +1,7 @@
-ghost use Rattle.std.specs.Prelude.{◌≡◌, [], IfSome, IfNone, IfOk};
+ghost use Rattle.std.specs.Prelude.{◌≡◌, List, [], IfSome, IfNone, IfOk, IfErr, OnErr};
+ghost use Rattle.lrat_text.specs.declared.step.Line.{Line};
 ghost use Rattle.lrat_text.specs.Reading.{step_of, steps_in, words_in, listed, Gives};
-ghost use Rattle.lrat_text.specs.Lines.{steps_left, whole_text, GivesNext, GivesForm, IsNextLine, behind_said};
+ghost use Rattle.lrat_text.specs.Lines.{steps_left, whole_text, GivesNext, GivesForm, IsNextLine, StopsAt, behind_said};
 
 use crate::error::LratErr;
 use crate::reading::{id_after, step_of};
@@ -43,7 +44,8 @@ impl<'a> Lines<'a> {
     }
 
     /// The next line that says a step, if there is one, whatever the lines behind it are. Lines are ended by
-    /// LF or by the end of the bytes.
+    /// LF or by the end of the bytes. A line that has a fault, or for which memory is refused, then lies behind,
+    /// and the next call goes on with the line behind it.
     pub fn next(&mut self, alloc: Global) -> Result<Option<Line>, LratErr>
         ensures { GivesNext result self.old self.new }
     {
@@ -56,10 +58,12 @@ impl<'a> Lines<'a> {
         Ok(None)
     }
 
-    /// Reads the lines that are left for their form alone.
+    /// Reads the lines that are left for their form alone. Where one has a fault, or memory is refused for it,
+    /// the lines behind it are left.
     pub fn skip_rest(&mut self, alloc: Global) -> Result<(), LratErr>
         ensures form { GivesForm result (steps_left self.old) }
         ensures end { IfOk result (λ u. self.new.bytes ≡ []) }
+        ensures stops { IfErr result (λ e. (steps : List Line) × StopsAt e steps self.old self.new) }
     {
         while let Some(_) = self.next(alloc)? {}
         Ok(())
@@ -79,6 +83,7 @@ impl<'a> Lines<'a> {
     fn step_in(&mut self, alloc: Global, line: &[u8]) -> Result<Option<LratStep>, LratErr>
         ensures said { Gives result (step_of self.old.behind self.old.last (words_in line.now)) }
         ensures rest { IfOk result (λ said. self.new ≡ behind_said self.old said) }
+        ensures fault { OnErr result (self.new ≡ self.old) }
     {
         let said = step_of(alloc, self.behind, self.last, line)?;
         if let Some(step) = &said {

@@ -18,7 +18,7 @@ returns-in_err-line c =
     let l = c.loop-steps in
     rw (p.1, p.2)
     (judged-fault c.args.formula.now c.args.text.now (steps_left l.lines) (clauses_of l.live) l.has_empty l.invariant
-    c.in_err-line.field-0.0 (next-fault c.in_err-line.field-0.0 l.lines c.in_err-line.ensures))
+    c.in_err-line.field-0.0 (next-fault c.in_err-line.field-0.0 l.lines c.in_err-line.ensures.0))
 
 pub returns-in_err-skip_rest : goal.returns-in_err-skip_rest
 returns-in_err-skip_rest c =

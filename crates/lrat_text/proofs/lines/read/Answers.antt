@@ -13,7 +13,7 @@ returns-in_err-line c =
     let p = err_from_is_err_and c.from_residual.result c.from_residual.ensures.1 in
     rw (p.1, p.2)
     (front-fault c.loop-lines.lines.items (steps_in c.args.m c.args.bytes.now) (steps_left c.loop-lines.text)
-    c.in_err-line.field-0.0 c.loop-lines.invariant (next-fault c.in_err-line.field-0.0 c.loop-lines.text c.in_err-line.ensures))
+    c.in_err-line.field-0.0 c.loop-lines.invariant (next-fault c.in_err-line.field-0.0 c.loop-lines.text c.in_err-line.ensures.0))
 
 pub loop-lines-preserved : goal.loop-lines-preserved
 loop-lines-preserved c =
