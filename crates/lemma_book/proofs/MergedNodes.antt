@@ -2,7 +2,7 @@
 -- target is earlier.
 use Rattle.std.proofs.Common.{◌≡◌, ℕ, zero, suc, ◌+◌, ◌<◌, ◌≤◌, Bool, true, false, cond, Option, Some, None, List, [], ◌∷◌, take, refl, sym, ap, ◌∙◌, subst, arith}
 use Rattle.std.specs.Prelude.{slice_get, nat_lt, if◌then◌else◌}
-use Rattle.std.specs.Option.{option_map, option_and_then, IsSome}
+use Rattle.std.specs.Option.{option_map, option_and_then, is_some, IsSome}
 use Rattle.std.proofs.lemmas.Bool.Decides.{nat_tests}
 use Rattle.std.proofs.lemmas.Option.{none-some, same_Some}
 use Rattle.lits.specs.declared.node.Node.{Node}
@@ -121,6 +121,16 @@ module _ (es : List Entry) (n : Node) where
           let h : option_and_then (merge_in place) (slice_get es place) ≡ None = rw f at e in
           let i : merge_in place at.0 ≡ None = rw at.1 at h in
           absurd (none-some some.0 (sym i ∙ some.1))
+
+  -- a node is merged exactly where some entry is its merge
+  pub is_some-merge : is_some (place_on es (Merged n)) ≡ is_some (merge_of es n)
+  is_some-merge = go (place_on es (Merged n)) (merge_of es n) refl refl
+    where
+      go : (o : Option ℕ) (m : Option MergeAt) → place_on es (Merged n) ≡ o → merge_of es n ≡ m
+          → is_some (place_on es (Merged n)) ≡ is_some (merge_of es n)
+      go None m e f = rw e refl
+      go (Some place) None e f = absurd (none-some place (sym (root-unsettled f) ∙ e))
+      go (Some place) (Some m) e f = ap is_some e ∙ sym (ap is_some f)
 
   among : ℕ → MergeAt → Option MergeAt
   among k m = if nat_lt m.entry k then Some m else None
