@@ -4,7 +4,8 @@ use Rattle.std.proofs.lemmas.Bool.{or_cases, or_left, or_right}
 use Rattle.lits.specs.Clause.{has}
 use Rattle.unit_prop.proofs.Facts.{contrary}
 use Rattle.watch_lists.specs.Codes.{flip}
-use Rattle.watch_lists.specs.State.{height, IsMarked}
+use Rattle.watch_lists.specs.State.{height, IsBest, IsLed, IsMarked}
+use Rattle.watch_lists.specs.declared.attach.Lead.{Lead}
 use Rattle.watch_lists.specs.declared.engine.Level.{Level}
 use Rattle.watch_lists.proofs.LevelLemmas.{place_of}
 use Rattle.watch_lists.proofs.TrailLemmas.{has-take}
@@ -62,3 +63,36 @@ inside-whole xs i m h inside = elim (or_cases (nat_eq (get_or xs 0 0) m) (has na
   | inl e ↦ subst (λ (z : ℕ). has nat_eq xs z ≡ true) (same_exact _ m e) (has-at xs 0 h)
   | inr f ↦ has-take i xs m f
 ]
+
+-- no literal isn't false for longer than the trail is long
+pub height-most : (xs : List ℕ) (l : ℕ) → height xs l ≤ length xs
+height-most [] l = omega arith
+height-most (x ∷ xs) l = go (nat_eq x (flip l)) refl (height-most xs l)
+  where
+    go : (b : Bool) → nat_eq x (flip l) ≡ b → height xs l ≤ length xs → height (x ∷ xs) l ≤ length (x ∷ xs)
+    go true f rest = rw f (omega arith)
+    go false f rest = rw f (omega arith)
+
+-- those that lead among the first literals lead the clause, where neither is false
+pub best-highest : (trail clause seen : List ℕ) (lead : Lead) → ((m : ℕ) → has nat_eq seen m ≡ true → has nat_eq clause m ≡ true)
+    → IsLed trail seen lead → lead.first ≢ lead.second → lead.second_height ≡ length trail
+    → IsBest trail clause (record { first = lead.first; second = lead.second })
+best-highest trail clause seen lead inside led apart highest = record {
+  first_in = inside lead.first led.best.first_in;
+  second_in = inside lead.second led.best.second_in;
+  rest = λ m _. inr (let most = height-most trail m in omega (arith, led.second_is, highest));
+  order = led.best.order;
+  alone = λ same. absurd (apart same);
+}
+
+-- those that lead among literals that are the clause's lead the clause
+pub best-all : (trail clause seen : List ℕ) (lead : Lead) → ((m : ℕ) → has nat_eq seen m ≡ true → has nat_eq clause m ≡ true)
+    → ((m : ℕ) → has nat_eq clause m ≡ true → has nat_eq seen m ≡ true)
+    → IsLed trail seen lead → IsBest trail clause (record { first = lead.first; second = lead.second })
+best-all trail clause seen lead inside back led = record {
+  first_in = inside lead.first led.best.first_in;
+  second_in = inside lead.second led.best.second_in;
+  rest = λ m h. led.best.rest m (back m h);
+  order = led.best.order;
+  alone = λ same m h. led.best.alone same m (back m h);
+}

@@ -7,6 +7,7 @@ use Rattle.unit_prop.specs.Propagation.{IsSettled}
 use Rattle.watch_lists.specs.Codes.{flip}
 use Rattle.watch_lists.specs.Guard.{IsGuarded}
 use Rattle.watch_lists.specs.declared.lists.Watch.{Watch}
+use Rattle.watch_lists.specs.declared.attach.Lead.{Lead}
 use Rattle.watch_lists.specs.declared.engine.Pair.{Pair}
 use Rattle.watch_lists.specs.declared.engine.Level.{Level}
 use Rattle.watch_lists.specs.declared.engine.Engine.{Engine}
@@ -149,6 +150,12 @@ pub record IsBest (trail clause : List ℕ) (pair : Pair) : Type 0 where
   pub rest : (m : ℕ) → has nat_eq clause m ≡ true → (m ≡ pair.first) ⊎ (height trail m ≤ height trail pair.second)
   pub order : height trail pair.second ≤ height trail pair.first
   pub alone : pair.first ≡ pair.second → (m : ℕ) → has nat_eq clause m ≡ true → m ≡ pair.first
+
+-- the two literals have those of the clause that aren't false for longest, and tell how long they aren't
+pub record IsLed (trail clause : List ℕ) (lead : Lead) : Type 0 where
+  pub best : IsBest trail clause (record { first = lead.first; second = lead.second })
+  pub first_is : lead.first_height ≡ height trail lead.first
+  pub second_is : lead.second_height ≡ height trail lead.second
 
 pub record IsEngine (e : Engine) : Type 0 where
   pub lists : length e.lists ≡ length e.truth.items

@@ -1,9 +1,9 @@
-ghost use Rattle.std.specs.Prelude.{◌≡◌, ◌<◌, ◌+◌, ◌⊎◌, ◌++◌, ◌∷◌, [], ℕ, true, false, List, take, nat_eq, length, OnOk, IfOk, IfSome, IfNone};
+ghost use Rattle.std.specs.Prelude.{◌≡◌, ◌≢◌, ◌<◌, ◌+◌, ◌⊎◌, ◌++◌, ◌∷◌, [], ℕ, true, false, List, take, nat_eq, length, OnOk, IfOk, IfSome, IfNone};
 ghost use Rattle.std.specs.List.{All};
 ghost use Rattle.unit_prop.specs.Closure.{is_negated, forces};
 ghost use Rattle.lits.specs.Clause.{has};
 ghost use Rattle.watch_lists.specs.Codes.{flip};
-ghost use Rattle.watch_lists.specs.State.{IsEngine, Guards, IsStuck, IsBest, height, Holds, codes_at};
+ghost use Rattle.watch_lists.specs.State.{IsEngine, Guards, IsStuck, IsBest, IsLed, height, Holds, codes_at};
 
 use crate::code::flip;
 use crate::engine::{Engine, Pair};
@@ -16,6 +16,28 @@ fn is_all(pair: Pair, clause: &[u32]) -> bool
         → (l : ℕ) → has nat_eq clause.now l ≡ true → (l ≡ pair.first) ⊎ (l ≡ pair.second) }
 {
     pair.first != pair.second && clause.len() == 2
+}
+
+/// The two literals of those seen that aren't false for longest, with how long they aren't.
+///
+/// It is changed where it stands, and knows its heights. A pair that was handed on by value was written in two
+/// halves and read as one at each literal, and that wait took up to a sixth of the solver's time.
+#[derive(Drop)]
+struct Lead {
+    first: u32,
+    second: u32,
+    first_height: usize,
+    second_height: usize,
+}
+
+/// The two literals alone.
+fn pair_of(lead: &Lead) -> Pair
+    ensures { result ≡ record { first = lead.now.first; second = lead.now.second } }
+{
+    Pair {
+        first: lead.first,
+        second: lead.second,
+    }
 }
 
 impl Engine {
@@ -33,32 +55,30 @@ impl Engine {
         }
     }
 
-    /// The pair for one more literal of the clause.
-    fn better(&self, pair: Pair, lit: u32) -> Pair
+    /// Takes one more literal of the clause in.
+    fn better(&self, lead: &mut Lead, lit: u32)
         requires engine { IsEngine self.now }
-        requires within { (lit < length self.now.truth.items) ×
-            (pair.first < length self.now.truth.items) × (pair.second < length self.now.truth.items) }
-        ensures { (seen : List ℕ) → IsBest self.now.trail.items seen pair
-            → IsBest self.now.trail.items (seen ++ lit ∷ []) result }
+        requires within { lit < length self.now.truth.items }
+        ensures { (seen : List ℕ) → IsLed self.now.trail.items seen lead.old
+            → IsLed self.now.trail.items (seen ++ lit ∷ []) lead.new }
     {
-        if lit == pair.first {
-            pair
-        } else if self.height(lit) > self.height(pair.first) {
-            Pair {
-                first: lit,
-                second: pair.first,
-            }
-        } else if pair.first == pair.second || self.height(lit) > self.height(pair.second) {
-            Pair {
-                first: pair.first,
-                second: lit,
-            }
-        } else {
-            pair
+        if lit == lead.first {
+            return;
+        }
+        let height = self.height(lit);
+        if height > lead.first_height {
+            lead.second = lead.first;
+            lead.second_height = lead.first_height;
+            lead.first = lit;
+            lead.first_height = height;
+        } else if lead.first == lead.second || height > lead.second_height {
+            lead.second = lit;
+            lead.second_height = height;
         }
     }
 
-    /// The two literals of the clause that aren't false for longest.
+    /// The two literals of the clause that aren't false for longest. Where two aren't false at all, no other
+    /// literal is looked at.
     ///
     /// Where levels are given up these are free again no later than any other, so the watches may stay.
     fn best(&self, clause: &[u32]) -> Option<Pair>
@@ -70,14 +90,37 @@ impl Engine {
         if clause.is_empty() {
             return None;
         }
-        let mut pair = Pair {
-            first: clause[0],
-            second: clause[0],
-        };
+        let mut lead = self.alone(clause[0]);
         for lit in clause {
-            pair = self.better(pair, *lit);
+            self.better(&mut lead, *lit);
+            if self.is_highest(&lead) {
+                return Some(pair_of(&lead));
+            }
         }
-        Some(pair)
+        Some(pair_of(&lead))
+    }
+
+    /// The literal alone.
+    fn alone(&self, lit: u32) -> Lead
+        requires engine { IsEngine self.now }
+        requires within { lit < length self.now.truth.items }
+        ensures { IsLed self.now.trail.items (lit ∷ []) result }
+    {
+        let height = self.height(lit);
+        Lead {
+            first: lit,
+            second: lit,
+            first_height: height,
+            second_height: height,
+        }
+    }
+
+    /// Whether there are two literals that aren't false.
+    fn is_highest(&self, lead: &Lead) -> bool
+        ensures { result ≡ true → (lead.now.first ≢ lead.now.second)
+            × (lead.now.second_height ≡ length self.now.trail.items) }
+    {
+        lead.first != lead.second && lead.second_height == self.trail.len()
     }
 
     /// Watches the next clause by its pair; false where it is wholly negated.
