@@ -250,7 +250,7 @@ impl Engine {
         hints(
             alloc,
             &self.formula,
-            &self.cut.marks,
+            &self.cut,
             0,
             target.lits(),
             target.lits(),

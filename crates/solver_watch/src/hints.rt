@@ -7,6 +7,7 @@ ghost use Rattle.watch_lists.specs.Trail.{put_at};
 ghost use Rattle.solver_watch.specs.Known.{IsKnown, clauses_known};
 ghost use Rattle.solver_watch.specs.Marked.{is_marked, IsResolved, IsSupported, IsReason};
 
+use crate::cut::Cut;
 use crate::formula::Formula;
 use crate::marks::Marks;
 use lits::{Listed, Lit, Literal, Ref};
@@ -16,11 +17,12 @@ use std::alloc::{AllocError, Global};
 /// propagated, and then the conflict.
 ///
 /// A place of which the goal has the negation needs no reason, and one of which it has the literal is a
-/// conflict itself. `shown` tells both, so that the goal need not be looked through.
+/// conflict itself. `shown` tells both, so that the goal need not be looked through. A learned clause has
+/// as many hints as places of the last level are marked, so that their list has no room to spare.
 pub(crate) fn hints(
     alloc: Global,
     formula: &Formula,
-    marks: &Marks,
+    cut: &Cut,
     from: usize,
     shown: &[Lit],
     goal: &[Lit],
@@ -28,14 +30,14 @@ pub(crate) fn hints(
 ) -> Result<Listed<Ref>, AllocError>
     requires known { IsKnown formula.now }
     requires apart { has_pair same_lit opposite goal.now ≡ false }
-    requires supported { IsSupported formula.now.trail marks.now from shown.now goal.now conflict }
+    requires supported { IsSupported formula.now.trail cut.now.marks from shown.now goal.now conflict }
     ensures { IfOk result (IsStep same_lit opposite (clause_named (clauses_known formula.now)) goal.now) }
 {
     let _ = goal;
     let puts = formula.trail.lits();
-    let mut hints = Vec::new(alloc);
+    let mut hints = Vec::with_capacity(alloc, cut.count)?;
     for place in from..puts.len() {
-        match reason(formula, marks, shown, place) {
+        match reason(formula, &cut.marks, shown, place) {
             None => {}
             Some(by) => {
                 hints.push(formula.name(by))?;

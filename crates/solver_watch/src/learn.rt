@@ -51,15 +51,7 @@ pub(crate) fn analyse(
     let clause = negated(alloc, puts, cut.below.as_slice(), point)?;
     let level = second_level(puts, cut.below.as_slice());
     write_codes(&formula.trail, cut.below.as_slice(), point, codes)?;
-    let hints = hints(
-        alloc,
-        formula,
-        &cut.marks,
-        point + 1,
-        &[],
-        clause.lits(),
-        conflict,
-    )?;
+    let hints = hints(alloc, formula, cut, point + 1, &[], clause.lits(), conflict)?;
     Ok(Lesson {
         step: Step { clause, hints },
         level,

@@ -6,4 +6,4 @@ use Rattle.solver_watch.proofs.hints.hints.Given as goal
 
 abbrev pub invariant-loop-place : goal.invariant-loop-place
 invariant-loop-place l =
-    (l.from ≤ l.place) × IsHinting (clause_named (clauses_known l.formula)) l.formula.trail l.marks l.goal l.place l.hints.items
+    (l.from ≤ l.place) × IsHinting (clause_named (clauses_known l.formula)) l.formula.trail l.cut.marks l.goal l.place l.hints.items
