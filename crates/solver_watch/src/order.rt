@@ -9,6 +9,14 @@ const LARGE: f64 = 1e100;
 /// The place of a variable that isn't in the heap.
 const ABSENT: usize = usize::MAX;
 
+/// A variable of the heap, with its activity once more: comparisons go through the heap alone, where an activity
+/// that is looked up by its variable is a second memory access for each.
+#[derive(Clone, Copy)]
+struct Entry {
+    variable: u32,
+    activity: f64,
+}
+
 /// Hands out variables, those first that conflicts met most of late (Moskewicz, Madigan, Zhao, Zhang
 /// and Malik 2001; the growing step is that of MiniSat, Eén and Sörensson 2003).
 ///
@@ -18,7 +26,7 @@ const ABSENT: usize = usize::MAX;
 pub(crate) struct Order {
     activity: Vec<f64>,
     /// A binary heap, the variable of the greatest activity at its top.
-    heap: Vec<u32>,
+    heap: Vec<Entry>,
     /// Where each variable is in the heap.
     places: Vec<usize>,
     /// What a bump adds.
@@ -87,18 +95,13 @@ impl Order {
     /// Hands out the variable of the greatest activity.
     pub(crate) fn pop(&mut self) -> Option<u32> {
         let last = self.heap.pop()?;
-        let first = match self.heap.as_mut_slice() {
+        let first = match self.heap.as_slice() {
             [] => last,
-            [top, ..] => {
-                let first = *top;
-                *top = last;
-                first
-            }
+            [top, ..] => *top,
         };
-        self.set_place(last, 0);
-        self.set_place(first, ABSENT);
-        self.sift_down();
-        Some(first)
+        self.set_place(first.variable, ABSENT);
+        self.sift_down(last);
+        Some(first.variable)
     }
 
     /// Takes a variable back, unless it is there.
@@ -107,9 +110,12 @@ impl Order {
             return Ok(());
         }
         let place = self.heap.len();
-        self.heap.push(variable)?;
-        self.set_place(variable, place);
-        self.sift_up(place);
+        let entry = Entry {
+            variable,
+            activity: self.activity_of(variable),
+        };
+        self.heap.push(entry)?;
+        self.sift_up(place, entry);
         Ok(())
     }
 
@@ -124,7 +130,8 @@ impl Order {
         }
         let place = self.place(variable);
         if place != ABSENT {
-            self.sift_up(place);
+            let activity = self.activity_of(variable);
+            self.sift_up(place, Entry { variable, activity });
         }
     }
 
@@ -138,6 +145,9 @@ impl Order {
     fn rescale(&mut self) {
         for activity in self.activity.iter_mut() {
             *activity /= LARGE;
+        }
+        for entry in self.heap.iter_mut() {
+            entry.activity /= LARGE;
         }
         self.step /= LARGE;
     }
@@ -157,10 +167,10 @@ impl Order {
         }
     }
 
-    /// The variable at a place of the heap. No contract keeps the heap, so each look-up allows for a place
-    /// that isn't there.
+    /// What stands at a place of the heap. No contract keeps the heap, so each look-up allows for a place that
+    /// isn't there.
     #[inline(always)]
-    fn variable_at(&self, place: usize) -> Option<u32> {
+    fn entry_at(&self, place: usize) -> Option<Entry> {
         self.heap.as_slice().get(place).copied()
     }
 
@@ -174,66 +184,58 @@ impl Order {
 
     /// Writes a variable down at a place of the heap.
     #[inline(always)]
-    fn set(&mut self, place: usize, variable: u32) {
+    fn set(&mut self, place: usize, entry: Entry) {
         if let Some(slot) = self.heap.as_mut_slice().get_mut(place) {
-            *slot = variable;
+            *slot = entry;
+            self.set_place(entry.variable, place);
         }
-        self.set_place(variable, place);
     }
 
-    /// Lets the variable at a place rise in the heap, until none above it has less activity.
+    /// Lets a variable rise in the heap from a place that is free, until none above it has less activity.
     ///
-    /// Those that it passes come down into the hole that it leaves, and it is written down once, at its last
-    /// place: with a swap at each step the heap took a tenth of all instructions on a Hamming decoder.
-    fn sift_up(&mut self, place: usize) {
-        let Some(variable) = self.variable_at(place) else {
-            return;
-        };
-        let own = self.activity_of(variable);
+    /// Those that it passes come down into the hole, and it is written down once, at its last place: with a swap
+    /// at each step the heap took a tenth of all instructions on a Hamming decoder.
+    fn sift_up(&mut self, place: usize, entry: Entry) {
         let mut at = place;
         while at > 0 {
             let parent = (at - 1) / 2;
-            let Some(above) = self.variable_at(parent) else {
+            let Some(above) = self.entry_at(parent) else {
                 break;
             };
-            if own <= self.activity_of(above) {
+            if entry.activity <= above.activity {
                 break;
             }
             self.set(at, above);
             at = parent;
         }
-        self.set(at, variable);
+        self.set(at, entry);
     }
 
-    /// Lets the variable at the top sink to its place, as `sift_up` lets one rise. A heap is never deeper than
+    /// Lets a variable sink from the top, which is free, as `sift_up` lets one rise. A heap is never deeper than
     /// its length has bits.
-    fn sift_down(&mut self) {
-        let Some(variable) = self.variable_at(0) else {
-            return;
-        };
-        let own = self.activity_of(variable);
+    fn sift_down(&mut self, entry: Entry) {
         let mut at: usize = 0;
         for _ in 0..usize::BITS {
             let Some((place, below)) = self.greater_child(at) else {
                 break;
             };
-            if own >= self.activity_of(below) {
+            if entry.activity >= below.activity {
                 break;
             }
             self.set(at, below);
             at = place;
         }
-        self.set(at, variable);
+        self.set(at, entry);
     }
 
     /// The child of a place that has the greater activity, the left one where both have the same.
     #[inline(always)]
-    fn greater_child(&self, at: usize) -> Option<(usize, u32)> {
+    fn greater_child(&self, at: usize) -> Option<(usize, Entry)> {
         let left = at.saturating_mul(2).saturating_add(1);
         let right = left.saturating_add(1);
-        let one = self.variable_at(left)?;
-        match self.variable_at(right) {
-            Some(two) if self.activity_of(two) > self.activity_of(one) => Some((right, two)),
+        let one = self.entry_at(left)?;
+        match self.entry_at(right) {
+            Some(two) if two.activity > one.activity => Some((right, two)),
             _ => Some((left, one)),
         }
     }
