@@ -25,6 +25,7 @@ use Rattle.proof_stitch.specs.Trimmed.{has_id, id_in, is_addition, is_asked, is_
 use Rattle.proof_stitch.specs.Written.{shown_ids, book_additions}
 use Rattle.proof_stitch.proofs.BookLemmas.{IsSoundBook, log-derived, total}
 use Rattle.proof_stitch.proofs.DerivationLemmas.{length-log_lines, lines-few, lines-row}
+use Rattle.proof_stitch.proofs.TrimmedLemmas.{trimmed-short}
 use Rattle.proof_stitch.proofs.MarkLemmas.{last_use-none, same-ids}
 use Rattle.proof_stitch.proofs.ProgressLemmas.{at-start}
 use Rattle.proof_stitch.proofs.ReachLemmas.{marks-next, marks-nothing, number-zero}
@@ -396,10 +397,10 @@ asks-none net entries old now j n next past rest =
 
 -- before the first line
 pub derivation-start : (net : AigPair) (out : ℕ) (entries : List Entry) → IsSoundBook net out entries → (names : ByStep) (proof : ProofText)
-    → proof.text.items ≡ [] → proof.last ≡ length (miter_of net)
+    → proof.text.items ≡ [] → proof.last ≡ length (miter_of net) → proof.lines ≡ 0
     → IsAtLine (length (miter_of net)) (is_for_logs net entries) (all_lines net entries) (all_lines net entries) (length (miter_of net) + 1) names proof
-derivation-start net out entries book names proof text last =
-    at-start (length (miter_of net)) (is_for_logs net entries) (all_lines net entries) names proof (lines-row net out entries book) text last
+derivation-start net out entries book names proof text last lines =
+    at-start (length (miter_of net)) (is_for_logs net entries) (all_lines net entries) names proof (lines-row net out entries book) text last lines
 
 -- before the first log
 pub derivation-last : (net : AigPair) (entries : List Entry) (next : ℕ) (names : ByStep) (proof : ProofText)
@@ -420,3 +421,16 @@ pub derivation-text : (net : AigPair) (entries : List Entry) (next : ℕ) (names
     → proof.text.items ≡ proof_text net (derivation_of net entries)
 unfolding derivation_of
 derivation-text net entries next names proof at = sym (append-nil proof.text.items) ∙ at.text_is
+
+pub derivation-lines : (net : AigPair) (out : ℕ) (entries : List Entry) → IsSoundBook net out entries → (next : ℕ) (names : ByStep) (proof : ProofText)
+    → length (miter_of net) < 2 ^ 32
+    → IsAtLine (length (miter_of net)) (is_for_logs net entries) (all_lines net entries) [] next names proof
+    → proof.lines ≡ length (derivation_of net entries)
+unfolding derivation_of
+derivation-lines net out entries book next names proof few at =
+    omega (
+      arith,
+      at.lines_is,
+      trimmed-short (length (miter_of net)) (is_for_logs net entries) (all_lines net entries),
+      lines-few net out entries book few,
+    )

@@ -4,7 +4,7 @@ use Rattle.std.specs.Prelude.{filter}
 use Rattle.std.specs.List.{AllByRecursion}
 use Rattle.std.specs.List.Sorted.{IsStrictlyIncreasing}
 use Rattle.std.proofs.lemmas.Bool.{eqb-true, eq-eqb, ne_eqb, le-leb, lt-leb, cases_eq, or_left, or_right}
-use Rattle.std.proofs.lemmas.List.{map-append, append-nil}
+use Rattle.std.proofs.lemmas.List.{map-append, append-nil, length-map}
 use Rattle.std.proofs.lemmas.List.Folds.{list_any-append}
 use Rattle.lits.specs.Dimacs.{DimacsLiteral}
 use Rattle.lits.proofs.Facts.{all-append}
@@ -15,7 +15,7 @@ use Rattle.lits.specs.declared.step.Step.{Step}
 use Rattle.netlist.specs.Net.{AigPair}
 use Rattle.netlist.specs.Miter.{numbered}
 use Rattle.proof_stitch.specs.Steps.{addition, id_of}
-use Rattle.proof_stitch.specs.Progress.{InRow, IsAtLine, Rises, WritesStep}
+use Rattle.proof_stitch.specs.Progress.{InRow, IsAtLine, Rises, WritesStep, counted}
 use Rattle.proof_stitch.specs.declared.by_step.ByStep.{ByStep}
 use Rattle.proof_stitch.specs.Table.{HasMarks, IsPut, IsStepId, KeepsShape, always, last_use, named_in, number_at}
 use Rattle.proof_stitch.specs.Trimmed.{id_in, has_id, cites, is_cited, reached, last_cited, deletion, with_deletions, new_id, renamed, trimmed}
@@ -39,6 +39,10 @@ map-same : (f g : ℕ → ℕ) (ids : List ℕ) → AllByRecursion (λ n. f n �
 map-same f g [] all = refl
 map-same f g (i ∷ is) all = ap₂ (λ (n : ℕ) (ns : List ℕ). n ∷ ns) all.0 (map-same f g is all.1)
 
+-- counts of more lines
+counted-more : (a b c : ℕ) → counted a ≡ counted b → counted (a + c) ≡ counted (b + c)
+counted-more a b c same = omega (arith, same)
+
 -- a deletion by new ids
 renamed-deletion : (name : ℕ → ℕ) (ids : List ℕ) → map (renamed name) (deletion ids) ≡ deletion (map name ids)
 renamed-deletion name [] = refl
@@ -59,6 +63,11 @@ text-behind last id clause hints (n ∷ ns) rest =
 named-above : (t : ByStep) (n : ℕ) → t.clauses < n → named_in t n ≡ number_at t n
 named-above t n above = ap (λ (b : Bool). if b then n else number_at t n) (lt-leb n t.clauses above)
 
+-- how many lines a step and its deletion are
+pub step-lines : (lines lines' lines'' n k : ℕ) → counted lines' ≡ counted (lines + 1) → counted lines'' ≡ counted (lines' + n) → n ≡ k
+    → counted lines'' ≡ counted (lines + 1 + k)
+step-lines lines lines' lines'' n k p q r = q ∙ counted-more lines' (lines + 1) n p ∙ ap (λ (j : ℕ). counted (lines + 1 + j)) r
+
 -- the text of a step and its deletion
 pub step-text : (text text' text'' : List ℕ) (last last' : ℕ) (clause clause' : List DimacsLiteral) (hints hints' gone gone' : List ℕ)
     → text' ≡ text ++ line_text last (Add (last + 1) clause hints) → last' ≡ last + 1 → text'' ≡ text' ++ text_from last' (deletion gone)
@@ -70,8 +79,8 @@ step-text text text' text'' last last' clause clause' hints hints' gone gone' p 
 
 -- before the first line
 pub at-start : (m : ℕ) (asked : ℕ → Bool) (all : List LratStep) (names : ByStep) (proof : ProofText) → InRow m all
-    → proof.text.items ≡ [] → proof.last ≡ m → IsAtLine m asked all all (m + 1) names proof
-at-start m asked all names proof row text last = record {
+    → proof.text.items ≡ [] → proof.last ≡ m → proof.lines ≡ 0 → IsAtLine m asked all all (m + 1) names proof
+at-start m asked all names proof row text last lines = record {
   last = m;
   next_is = refl;
   row = row;
@@ -85,6 +94,7 @@ at-start m asked all names proof row text last = record {
   names_are = λ n h. cc;
   last_is = omega (arith, last);
   text_is = rw (text, last) refl;
+  lines_is = omega (arith, lines, length-map (with_deletions asked [] (reached asked all)) (renamed (new_id m (reached asked all))));
 }
 
 module _ {m : ℕ} {asked : ℕ → Bool} {all left : List LratStep} {next : ℕ} {names : ByStep} {proof : ProofText} (line : LratStep)
@@ -132,6 +142,7 @@ module _ {m : ℕ} {asked : ℕ → Bool} {all left : List LratStep} {next : ℕ
       names_are = at.names_are;
       last_is = at.last_is;
       text_is = subst (λ (l : List LratStep). proof.text.items ++ text_from proof.last (map (renamed name) (with_deletions asked at.done l)) ≡ text_from m (trimmed m asked all)) behind at.text_is;
+      lines_is = subst (λ (l : List LratStep). counted (proof.lines + length (with_deletions asked at.done l)) ≡ counted (length (trimmed m asked all))) behind at.lines_is;
     }
       where
         known : (n : ℕ) → (asked n || is_cited (reached asked left) n) ≡ true → n ≤ at.last + 1 → ((n ≡ id_in line) ⊎ (n ≡ id_in line → ⊥))
@@ -232,6 +243,13 @@ module _ {m : ℕ} {asked : ℕ → Bool} {all left : List LratStep} {next : ℕ
               (map-same name (named_in names) hints
               (all-has_id (λ k. name k ≡ named_in names k) hints
               (λ k h. sym (named-now k (subst (λ (l : LratStep). cites l k ≡ true) (sym is) h)))))
+
+      -- how many lines are written
+      pub end-lines : counted (proof.lines + 1) ≡ counted (length (trimmed m asked all))
+      end-lines =
+          sym (ap (λ (l : List LratStep). counted (proof.lines + length (with_deletions asked at.done l))) (ahead ∙ ap (λ (l : List LratStep). line ∷ l) none-behind)
+          ∙ ap (λ (l : List ℕ). counted (proof.lines + length (line ∷ (deletion l ++ [])))) none-falls)
+          ∙ at.lines_is
 
       -- how many lines stay
       pub end-count : length kept ≡ length at.done + 1
@@ -344,8 +362,9 @@ module _ {m : ℕ} {asked : ℕ → Bool} {all left : List LratStep} {next : ℕ
             → proof'.text.items
             ≡ proof.text.items
             ++ text_from proof.last (Add (proof.last + 1) clause (map (named_in names') hints) ∷ deletion (map (named_in names') gone))
+            → counted proof'.lines ≡ counted (proof.lines + 1 + length (deletion gone))
             → IsAtLine m asked all left (next + 1) names' proof'
-        at-write proof' clause hints is last text = record {
+        at-write proof' clause hints is last text lines = record {
           last = at.last + 1;
           next_is = omega (arith, at.next_is);
           row = at.row.1;
@@ -364,6 +383,7 @@ module _ {m : ℕ} {asked : ℕ → Bool} {all left : List LratStep} {next : ℕ
           names_are = λ n h. names_are n (has_id (map id_in at.done) n) refl (sym (has_id-append at.done (line ∷ []) n) ∙ h);
           last_is = omega (arith, last, at.last_is, length-append at.done (line ∷ []));
           text_is = text_is;
+          lines_is = lines_is;
         }
           where
             own : id_in line ≡ at.last + 1
@@ -447,6 +467,20 @@ module _ {m : ℕ} {asked : ℕ → Bool} {all left : List LratStep} {next : ℕ
                 ∙ subst (λ (l : List LratStep). proof.text.items ++ text_from proof.last (map (renamed name) (with_deletions asked at.done l)) ≡ text_from m (trimmed m asked all))
                 ahead at.text_is)
 
+            lines_is : counted (proof'.lines + length (with_deletions asked (at.done ++ line ∷ []) (reached asked left))) ≡ counted (length (trimmed m asked all))
+            lines_is =
+                let more : proof.lines + 1 + length (deletion gone) + length (with_deletions asked (at.done ++ line ∷ []) (reached asked left))
+                ≡ proof.lines + length (with_deletions asked at.done (line ∷ reached asked left)) =
+                omega (
+                  arith,
+                  ap (λ (l : List ℕ). length (deletion l)) gone-is,
+                  length-append (deletion (last_cited asked at.done line (reached asked left))) (with_deletions asked (at.done ++ line ∷ []) (reached asked left)),
+                ) in
+                let before : counted (proof.lines + length (with_deletions asked at.done (line ∷ reached asked left))) ≡ counted (length (trimmed m asked all)) =
+                subst (λ (l : List LratStep). counted (proof.lines + length (with_deletions asked at.done l)) ≡ counted (length (trimmed m asked all)))
+                ahead at.lines_is in
+                counted-more proof'.lines (proof.lines + 1 + length (deletion gone)) (length (with_deletions asked (at.done ++ line ∷ []) (reached asked left))) lines ∙ ap counted more ∙ before
+
 -- what the mark of the next line says
 module _ {m : ℕ} {asked : ℕ → Bool} {all left : List LratStep} {next : ℕ} {names : ByStep} {proof : ProofText} (line : LratStep)
     (at : IsAtLine m asked all (line ∷ left) next names proof) (marks : ByStep) (has : HasMarks asked (reached asked all) marks)
@@ -508,7 +542,7 @@ pub write-line : {m : ℕ} {asked : ℕ → Bool} {all left : List LratStep} {na
 write-line {m} {asked} {all} {left} {names} {proof} net shown marks first id step names' proof' at clauses has is alike small some shape put written =
     at-write line at (wanted-line line at marks has is some) names' shape (alike.clauses ∙ clauses) within put marks has alike small
     written.gone written.rises written.members proof' (map (numbered net) step.clause) (map (id_of net shown first) step.hints) refl
-    written.last written.text
+    written.last written.text written.lines
   where
     line : LratStep
     line = addition net shown first id step

@@ -1,9 +1,9 @@
 -- What is written of a proof derives, has ids without gaps, and can be written.
-use Rattle.std.proofs.Common.{◌≡◌, ℕ, suc, ◌+◌, ◌<◌, ◌≤◌, ◌^◌, Bool, true, false, not, ◌&&◌, ◌||◌, List, [], ◌∷◌, ◌++◌, length, map, if◌then◌else◌, refl, sym, ap, ◌∙◌, subst, arith, add-zero, length-append, append_assoc, inl}
+use Rattle.std.proofs.Common.{◌≡◌, ℕ, suc, ◌+◌, ◌*◌, ◌<◌, ◌≤◌, ◌^◌, Bool, true, false, not, ◌&&◌, ◌||◌, List, [], ◌∷◌, ◌++◌, length, map, if◌then◌else◌, refl, sym, ap, ◌∙◌, subst, arith, add-zero, length-append, append_assoc, inl}
 use Rattle.std.specs.Prelude.{filter}
 use Rattle.std.specs.List.{list_any, AllByRecursion}
 use Rattle.std.proofs.lemmas.Bool.{le-leb, or_right}
-use Rattle.std.proofs.lemmas.List.{map-append}
+use Rattle.std.proofs.lemmas.List.{map-append, length-map}
 use Rattle.lits.proofs.Facts.{all-append, all-filter}
 use Rattle.lrat_text.specs.declared.step.LratStep.{LratStep}
 use Rattle.lrat_text.specs.declared.step.LratStep.TheVariants.{Add, Del}
@@ -43,6 +43,34 @@ trimmed-derives formula asked lines g =
 
     above : AllByRecursion (λ l. length formula < id_in l) kept
     above = reached-all (λ l. length formula < id_in l) asked lines (all-above (length formula) lines (grows-row formula lines g))
+
+-- ---- how many
+
+-- one deletion at most
+deletion-short : (ids : List ℕ) → length (deletion ids) ≤ 1
+deletion-short [] = omega arith
+deletion-short (n ∷ ns) = omega arith
+
+-- each line has one at most
+with_deletions-short : (asked : ℕ → Bool) (before lines : List LratStep) → length (with_deletions asked before lines) ≤ 2 * length lines
+with_deletions-short asked before [] = omega arith
+with_deletions-short asked before (line ∷ lines) =
+    omega (
+      arith,
+      length-append (deletion (last_cited asked before line lines)) (with_deletions asked (before ++ line ∷ []) lines),
+      deletion-short (last_cited asked before line lines),
+      with_deletions-short asked (before ++ line ∷ []) lines,
+    )
+
+-- what is written is at most twice as long
+pub trimmed-short : (m : ℕ) (asked : ℕ → Bool) (lines : List LratStep) → length (trimmed m asked lines) ≤ 2 * length lines
+trimmed-short m asked lines =
+    omega (
+      arith,
+      length-map (with_deletions asked [] (reached asked lines)) (renamed (new_id m (reached asked lines))),
+      with_deletions-short asked [] (reached asked lines),
+      reached-few asked lines,
+    )
 
 -- ---- ids
 

@@ -10,7 +10,7 @@ use Rattle.lemma_book.specs.Entry.{has_out}
 use Rattle.lrat_text.specs.declared.step.LratStep.{LratStep}
 use Rattle.lrat_text.specs.declared.step.LratStep.TheVariants.{Add}
 use Rattle.lrat_text.specs.Writing.{line_text}
-use Rattle.proof_stitch.specs.Progress.{InRow, IsAtLine}
+use Rattle.proof_stitch.specs.Progress.{InRow, IsAtLine, counted}
 use Rattle.proof_stitch.specs.Stitch.{unit_ids, empty_addition, empty_line, is_for_empty, refutation_of}
 use Rattle.proof_stitch.specs.Table.{AreMarked, HasMarks, KeepsShape, always, named_in}
 use Rattle.proof_stitch.specs.Text.{proof_text}
@@ -19,11 +19,11 @@ use Rattle.proof_stitch.specs.Written.{book_additions}
 use Rattle.proof_stitch.specs.declared.by_step.ByStep.{ByStep}
 use Rattle.proof_stitch.specs.declared.proof_text.ProofText.{ProofText}
 use Rattle.proof_stitch.proofs.BookLemmas.{IsSoundBook}
-use Rattle.proof_stitch.proofs.ProgressLemmas.{at-start, at-end, end-count}
+use Rattle.proof_stitch.proofs.ProgressLemmas.{at-start, at-end, end-count, end-lines}
 use Rattle.proof_stitch.proofs.ReachLemmas.{asked-marks, number-zero}
-use Rattle.proof_stitch.proofs.RefutationLemmas.{all-grow, empty-asked}
+use Rattle.proof_stitch.proofs.RefutationLemmas.{all-few, all-grow, empty-asked, total-few}
 use Rattle.proof_stitch.proofs.RowLemmas.{grows-row}
-use Rattle.proof_stitch.proofs.TrimmedLemmas.{trimmed-additions}
+use Rattle.proof_stitch.proofs.TrimmedLemmas.{trimmed-additions, trimmed-short}
 
 module _ (net : AigPair) (out : ℕ) (entries : List Entry) (book : IsSoundBook net out entries)
     (outs : (j : ℕ) → j < length net.a.outputs → has_out entries j ≡ true) where
@@ -47,9 +47,9 @@ module _ (net : AigPair) (out : ℕ) (entries : List Entry) (book : IsSoundBook 
       asked-marks net entries t zero hints is (number-zero zero (length (book_additions net entries)) zeros) shape clauses
       (ap length zeros ∙ length-replicate {A = ℕ} (length (book_additions net entries)) 0) marks
 
-  pub refutation-start : (names : ByStep) (proof : ProofText) → proof.text.items ≡ [] → proof.last ≡ m
+  pub refutation-start : (names : ByStep) (proof : ProofText) → proof.text.items ≡ [] → proof.last ≡ m → proof.lines ≡ 0
       → IsAtLine m asked all all (m + 1) names proof
-  refutation-start names proof text last = at-start m asked all names proof row text last
+  refutation-start names proof text last lines = at-start m asked all names proof row text last lines
 
   -- the empty clause behind all
   module _ (names : ByStep) (proof : ProofText) (clauses : names.clauses ≡ m)
@@ -71,6 +71,18 @@ module _ (net : AigPair) (out : ℕ) (entries : List Entry) (book : IsSoundBook 
         → proof'.text.items ≡ proof_text net (refutation_of net entries)
     unfolding refutation_of
     refutation-text proof' text = text ∙ sym (at-end line at wanted clauses hints refl refl asks)
+
+    pub refutation-lines : (lines : ℕ) → counted lines ≡ counted (proof.lines + 1) → lines ≡ length (refutation_of net entries)
+    unfolding refutation_of
+    refutation-lines lines is =
+        omega (
+          arith,
+          is,
+          end-lines line at wanted clauses hints refl refl asks,
+          trimmed-short m asked all,
+          all-few net out entries book outs,
+          total-few net out entries book,
+        )
 
     pub refutation-count : (last : ℕ) → last ≡ proof.last + 1 → last ≡ m + length (filter is_addition (refutation_of net entries))
     unfolding refutation_of

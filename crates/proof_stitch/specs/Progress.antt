@@ -1,5 +1,5 @@
 -- Where the writer of a proof stands while it goes through the lines.
-use Rattle.std.specs.Prelude.{◌≡◌, ℕ, ◌+◌, ◌<◌, ◌≤◌, Bool, true, false, ◌||◌, ◌&&◌, ◌==◌, ◌⊎◌, List, [], ◌∷◌, ◌++◌, length, map}
+use Rattle.std.specs.Prelude.{◌≡◌, ℕ, ◌+◌, ◌<◌, ◌≤◌, Bool, true, false, ◌||◌, ◌&&◌, ◌==◌, ◌⊎◌, List, [], ◌∷◌, ◌++◌, length, map, min}
 use Rattle.std.specs.List.{AllByRecursion}
 use Rattle.std.specs.List.Sorted.{IsStrictlyIncreasing}
 use Rattle.lits.specs.declared.step.Step.{Step}
@@ -30,8 +30,12 @@ abbrev pub Rises : List ℕ → Type 0
 Rises [] = Unit {0}
 Rises (n ∷ ns) = AllByRecursion (λ k. n < k) ns × Rises ns
 
+-- what a count in a machine word of 64 bits tells, which stands still at the greatest one
+abbrev pub counted : ℕ → ℕ
+counted n = min n 18446744073709551615
+
 -- Of all lines, some are left, from the id `next` on. Those of the others that are reached are written and have their new
--- ids, and the text of what is left behind theirs is the whole text.
+-- ids, and the text of what is left behind theirs is the whole text; so it is with how many lines these are.
 pub record IsAtLine (m : ℕ) (asked : ℕ → Bool) (all left : List LratStep) (next : ℕ) (names : ByStep) (proof : ProofText) : Type 0 where
   pub last : ℕ
   pub next_is : next ≡ last + 1
@@ -50,6 +54,9 @@ pub record IsAtLine (m : ℕ) (asked : ℕ → Bool) (all left : List LratStep) 
       proof.text.items
       ++ text_from proof.last (map (renamed (new_id m (reached asked all))) (with_deletions asked done (reached asked left)))
       ≡ text_from m (trimmed m asked all)
+  pub lines_is :
+      counted (proof.lines + length (with_deletions asked done (reached asked left)))
+      ≡ counted (length (trimmed m asked all))
 
 -- A step is written under the next id, with the deletion of the steps that it cites and that bear its mark.
 pub record WritesStep (net : AigPair) (shown : List ℕ) (marks : ByStep) (first id : ℕ) (step : Step) (names : ByStep) (old new : ProofText) : Type 0 where
@@ -63,3 +70,4 @@ pub record WritesStep (net : AigPair) (shown : List ℕ) (marks : ByStep) (first
       ++ text_from old.last
       (Add (old.last + 1) (map (numbered net) step.clause) (map (named_in names) (map (id_of net shown first) step.hints))
       ∷ deletion (map (named_in names) gone))
+  pub lines : counted new.lines ≡ counted (old.lines + 1 + length (deletion gone))

@@ -6,9 +6,9 @@
 //! from the outputs' units, and before it what it rests on of the steps of the Merge and Out entries, in the
 //! order of the book, each deleted once nothing behind rests on it; `derivation` writes the logs of the outputs'
 //! queries that spent their budgets, and before them likewise what they rest on. The crate promises which lines the text
-//! spells, and that they refute the miter, or derive from it. It goes over the steps of the book twice, from the back
-//! and then forward; no clause speaks of time, nor of the number of lines that `refutation_counted` and
-//! `derivation_counted` tell besides.
+//! spells, that they refute the miter, or derive from it, and how many they are, which `refutation_counted` and
+//! `derivation_counted` tell besides. It goes over the steps of the book twice, from the back and then forward; no
+//! clause speaks of time.
 //!
 //! Definitions: `specs/Steps.antt` (the additions that lists of steps make), `specs/Written.antt` (the steps
 //! of a book in order, and the ids of the clauses that entries show), `specs/Trimmed.antt` (which lines of a

@@ -1,6 +1,7 @@
-ghost use Rattle.std.specs.Prelude.{◌≡◌, [], ◌++◌, IsSome, OnOk};
+ghost use Rattle.std.specs.Prelude.{◌≡◌, ◌+◌, [], ◌++◌, IsSome, OnOk};
 ghost use Rattle.lrat_text.specs.Steps.{id_after};
 ghost use Rattle.lrat_text.specs.Writing.{line_text};
+ghost use Rattle.proof_stitch.specs.Progress.{counted};
 ghost use Rattle.proof_stitch.specs.Text.{Stitches};
 
 use crate::stitch_err::StitchErr;
@@ -8,8 +9,7 @@ use desk_port::{Desk, PutErr, put_in_pieces};
 use lrat_text::{LratStep, push_line};
 use std::alloc::{AllocError, Global};
 
-/// The text of a proof that grows at its end, the id of its last addition, and how many lines it has. Nothing is
-/// claimed of the lines: they are a count for the reader.
+/// The text of a proof that grows at its end, the id of its last addition, and how many lines it has.
 #[derive(Drop)]
 pub struct ProofText {
     pub text: Vec<u8>,
@@ -22,6 +22,7 @@ impl ProofText {
     pub fn new(alloc: Global, last: u64) -> ProofText
         ensures text { result.text.items ≡ [] }
         ensures last { result.last ≡ last }
+        ensures lines { result.lines ≡ 0 }
     {
         ProofText {
             text: Vec::new(alloc),
@@ -35,6 +36,7 @@ impl ProofText {
         ensures text { OnOk result
             (self.new.text.items ≡ self.old.text.items ++ line_text self.old.last line.now) }
         ensures last { OnOk result (self.new.last ≡ id_after self.old.last line.now) }
+        ensures lines { OnOk result (counted self.new.lines ≡ counted (self.old.lines + 1)) }
     {
         push_line(&mut self.text, self.last, line)?;
         self.lines = self.lines.saturating_add(1);

@@ -1,4 +1,4 @@
-ghost use Rattle.std.specs.Prelude.{◌≡◌, ◌+◌, IfOk, IsSome, length};
+ghost use Rattle.std.specs.Prelude.{◌≡◌, ◌+◌, IfOk, IsSome, OnOk, length};
 ghost use Rattle.netlist.specs.Miter.{miter_of};
 ghost use Rattle.lemma_book.specs.Book.{IsLegal};
 ghost use Rattle.proof_stitch.specs.Text.{proof_text, Stitches};
@@ -44,8 +44,7 @@ pub fn derivation<D: Desk>(
     derivation_counted(alloc, net, book, desk, &mut lines)
 }
 
-/// The same, which besides tells how many lines it wrote. Nothing is claimed of that number: it is a count for the
-/// reader.
+/// The same, which besides tells how many lines it wrote, additions and deletions.
 pub fn derivation_counted<D: Desk>(
     alloc: Global,
     net: &Net,
@@ -61,6 +60,7 @@ pub fn derivation_counted<D: Desk>(
     ensures spans { IfOk result (λ spans. AreSpans net.now book.now.entries spans.items) }
     ensures numbers { IfOk result (λ spans. spans.items ≡ spans_of net.now book.now.entries) }
     ensures whole { IfOk result (λ spans. AreWhole book.now.out_budget spans.items) }
+    ensures lines { OnOk result (lines.new ≡ length (derivation_of net.now book.now.entries)) }
 {
     laws::derives(net, book);
     let (proof, spans) = whole_derivation(alloc, net, book)?;
@@ -80,6 +80,7 @@ fn whole_derivation(
         (λ p. p.0.text.items ≡ proof_text net.now (derivation_of net.now book.now.entries)) }
     ensures spans { IfOk result (λ p. p.1.items ≡ spans_of net.now book.now.entries) }
     ensures whole { IfOk result (λ p. AreWhole book.now.out_budget p.1.items) }
+    ensures lines { IfOk result (λ p. p.0.lines ≡ length (derivation_of net.now book.now.entries)) }
 {
     net.clauses();
     book.sweep_budget();

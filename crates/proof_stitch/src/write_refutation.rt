@@ -1,4 +1,4 @@
-ghost use Rattle.std.specs.Prelude.{◌≡◌, ◌+◌, ◌<◌, ℕ, IfOk, IsSome, filter, length, true};
+ghost use Rattle.std.specs.Prelude.{◌≡◌, ◌+◌, ◌<◌, ℕ, IfOk, IsSome, OnOk, filter, length, true};
 ghost use Rattle.netlist.specs.Miter.{miter_of};
 ghost use Rattle.lemma_book.specs.Book.{IsLegal};
 ghost use Rattle.proof_stitch.specs.Text.{proof_text, Stitches};
@@ -43,8 +43,7 @@ pub fn refutation<D: Desk>(
     refutation_counted(alloc, net, book, desk, &mut lines)
 }
 
-/// The same, which besides tells how many lines it wrote. Nothing is claimed of that number: it is a count for the
-/// reader.
+/// The same, which besides tells how many lines it wrote, additions and deletions.
 pub fn refutation_counted<D: Desk>(
     alloc: Global,
     net: &Net,
@@ -60,6 +59,7 @@ pub fn refutation_counted<D: Desk>(
     ensures refutes { IsRefutation net.now (refutation_of net.now book.now.entries) }
     ensures count { IfOk result (λ n. n
         ≡ length (filter is_addition (refutation_of net.now book.now.entries))) }
+    ensures lines { OnOk result (lines.new ≡ length (refutation_of net.now book.now.entries)) }
 {
     laws::refutes(net, book);
     let clauses = u64::from(net.clauses());
@@ -77,6 +77,7 @@ fn whole_proof(alloc: Global, net: &Net, book: &Book) -> Result<ProofText, Alloc
         (λ p. p.text.items ≡ proof_text net.now (refutation_of net.now book.now.entries)) }
     ensures last { IfOk result (λ p. p.last
         ≡ length (miter_of net.now) + length (filter is_addition (refutation_of net.now book.now.entries))) }
+    ensures lines { IfOk result (λ p. p.lines ≡ length (refutation_of net.now book.now.entries)) }
 {
     book.sweep_budget();
     book.out_budget();

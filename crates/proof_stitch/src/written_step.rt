@@ -1,8 +1,8 @@
 //! A step that is reached, as it is written: its line, by new ids, and the deletion of what it is the last to cite.
-ghost use Rattle.std.specs.Prelude.{◌≡◌, ℕ, ◌+◌, ◌<◌, ◌^◌, ◌++◌, ◌==◌, ◌&&◌, IfOk, OnOk, filter, map};
+ghost use Rattle.std.specs.Prelude.{◌≡◌, ℕ, ◌+◌, ◌<◌, ◌^◌, ◌++◌, ◌==◌, ◌&&◌, IfOk, OnOk, filter, length, map};
 ghost use Rattle.std.specs.List.Sorted.{IsStrictlyIncreasing};
 ghost use Rattle.proof_stitch.specs.Ids.{HasIds};
-ghost use Rattle.proof_stitch.specs.Progress.{WritesStep};
+ghost use Rattle.proof_stitch.specs.Progress.{WritesStep, counted};
 ghost use Rattle.proof_stitch.specs.Table.{KeepsShape, IsPut, named_in, number_at};
 ghost use Rattle.lrat_text.specs.Writing.{text_from};
 ghost use Rattle.proof_stitch.specs.Trimmed.{deletion, has_id};
@@ -61,6 +61,8 @@ fn delete(
     ensures text { OnOk result (proof.new.text.items ≡ proof.old.text.items
         ++ text_from proof.old.last (deletion (map (named_in names.now) gone.now))) }
     ensures last { OnOk result (proof.new.last ≡ proof.old.last) }
+    ensures lines { OnOk result (counted proof.new.lines
+        ≡ counted (proof.old.lines + length (deletion gone.now))) }
 {
     if gone.is_empty() {
         return Ok(());

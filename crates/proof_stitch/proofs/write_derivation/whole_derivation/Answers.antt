@@ -8,7 +8,7 @@ use Rattle.proof_stitch.specs.Progress.{IsAtLine}
 use Rattle.proof_stitch.specs.Written.{book_additions}
 use Rattle.proof_stitch.proofs.BookLemmas.{legal-book}
 use Rattle.proof_stitch.proofs.DerivationLemmas.{spans-whole}
-use Rattle.proof_stitch.proofs.LogLemmas.{derivation-start, derivation-last, derivation-text}
+use Rattle.proof_stitch.proofs.LogLemmas.{derivation-start, derivation-last, derivation-lines, derivation-text}
 use Rattle.proof_stitch.proofs.ReachLemmas.{shape-trans}
 use Rattle.proof_stitch.proofs.write_derivation.whole_derivation.Goals as goal
 
@@ -63,7 +63,7 @@ push_logs-requires-clause-at c =
     subst (λ (n : ℕ). IsAtLine m (is_for_logs net entries) (all_lines net entries) (log_lines net entries) n c.push_entries.new.names c.push_entries.new.proof) first
     (c.in_ok-push_entries.ensures.text (is_for_logs net entries) (all_lines net entries) (log_lines net entries) c.in_ok-marks.ensures.marks
     (derivation-start net out entries book c.in_ok-names.names c.new-proof.result c.new-proof.ensures.text
-    (c.new-proof.ensures.last ∙ c.in_ok-marks.ensures.clauses)))
+    (c.new-proof.ensures.last ∙ c.in_ok-marks.ensures.clauses) c.new-proof.ensures.lines))
 
 pub push_logs-requires-clause-behind : goal.push_logs-requires-clause-behind
 push_logs-requires-clause-behind c =
@@ -85,10 +85,21 @@ returns-clause-spans c =
     (omega (arith, c.out_budget.ensures.budget, c.out_budget.ensures.range)) entries c.requires in
     let at = c.in_ok-push_entries.ensures.text (is_for_logs net entries) (all_lines net entries) (log_lines net entries) c.in_ok-marks.ensures.marks
     (derivation-start net out entries book c.in_ok-names.names c.new-proof.result c.new-proof.ensures.text
-    (c.new-proof.ensures.last ∙ c.in_ok-marks.ensures.clauses)) in
+    (c.new-proof.ensures.last ∙ c.in_ok-marks.ensures.clauses) c.new-proof.ensures.lines) in
     c.in_ok-spans.ensures.spans
     ∙ ap (λ (n : ℕ). spans_from entries (n + 1) (outputs_of net))
     (derivation-last net entries (length (miter_of net) + length (book_additions net entries) + 1) c.push_entries.new.names c.push_entries.new.proof at)
+
+pub returns-clause-lines : goal.returns-clause-lines
+returns-clause-lines c =
+    let net = c.args.net.now in
+    let entries = c.args.book.now.entries in
+    let out = c.args.book.now.out_budget in
+    let book = legal-book net c.clauses.ensures.net c.args.book.now.sweep_budget out
+    (omega (arith, c.sweep_budget.ensures.budget, c.sweep_budget.ensures.range))
+    (omega (arith, c.out_budget.ensures.budget, c.out_budget.ensures.range)) entries c.requires in
+    derivation-lines net out entries book (c.in_ok-marks.marks.clauses + c.written_count.result + 1 + length (log_lines net entries))
+    c.push_logs.new.names c.push_logs.new.proof (omega (arith, c.clauses.ensures.count)) c.in_ok-spans.ensures.text
 
 pub returns-clause-whole : goal.returns-clause-whole
 returns-clause-whole c =

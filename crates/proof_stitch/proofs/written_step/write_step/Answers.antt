@@ -1,10 +1,10 @@
-use Rattle.std.proofs.Common.{◌≡◌, List, ℕ, ◌∙◌, ap, map}
+use Rattle.std.proofs.Common.{◌≡◌, List, ℕ, ◌∙◌, ap, length, map}
 use Rattle.std.specs.Prelude.{◌==◌, ◌&&◌}
 use Rattle.netlist.specs.Miter.{numbered}
 use Rattle.proof_stitch.specs.Steps.{id_of}
 use Rattle.proof_stitch.specs.Table.{named_in, number_at}
-use Rattle.proof_stitch.specs.Trimmed.{has_id}
-use Rattle.proof_stitch.proofs.ProgressLemmas.{step-text}
+use Rattle.proof_stitch.specs.Trimmed.{deletion, has_id}
+use Rattle.proof_stitch.proofs.ProgressLemmas.{step-lines, step-text}
 use Rattle.proof_stitch.proofs.written_step.write_step.Goals as goal
 
 pub returns-clause-text : goal.returns-clause-text
@@ -25,4 +25,7 @@ returns-clause-text c =
           step-text c.args.proof.now.text.items c.push.new.self.text.items c.delete.new.proof.text.items c.args.proof.now.last c.push.new.self.last
           _ _ _ _ _ _ c.in_ok-push.ensures.text c.in_ok-push.ensures.last c.in_ok-delete.ensures.text clause hints
           (ap (map name) c.as_slice-4.ensures.value);
+      lines =
+          step-lines c.args.proof.now.lines c.push.new.self.lines c.delete.new.proof.lines _ _ c.in_ok-push.ensures.lines c.in_ok-delete.ensures.lines
+          (ap (λ (l : List ℕ). length (deletion l)) c.as_slice-4.ensures.value);
     }
