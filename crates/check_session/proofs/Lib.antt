@@ -11,4 +11,5 @@ mod WithinLemmas
 mod FilesLemmas
 mod MiterTextLemmas
 mod SessionLemmas
+mod CountLemmas
 mod ReductionLemmas

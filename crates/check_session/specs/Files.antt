@@ -48,6 +48,11 @@ AreSpansIn net entries Equivalent spans = spans ≡ []
 AreSpansIn net entries (Different j input) spans = spans ≡ []
 AreSpansIn net entries Undecided spans = spans ≡ spans_of net entries
 
+-- What is told of a proof: the spans of its logs, and how many lines it has.
+pub record AreToldOf (net : AigPair) (entries : List Entry) (finding : Finding) (spans : List Span) (lines : ℕ) : Type 0 where
+  pub spans_are : AreSpansIn net entries finding spans
+  pub lines_are : lines ≡ length (proof_lines net entries finding)
+
 -- the files of the check with this number, in the order in which they are written
 abbrev pub files_of : List ℕ → ℕ → AigPair → List Entry → Finding → List Output
 files_of prefix number net entries finding =
@@ -83,3 +88,7 @@ HasSizes s prefix number old new =
 -- and these are the spans of its logs
 abbrev pub TellsSpans : State → List Span → Type 0
 TellsSpans s spans = IfSome s.found (λ finding. AreSpansIn s.net s.book.entries finding spans)
+
+-- and so many lines its proof has
+abbrev pub TellsLines : State → ℕ → Type 0
+TellsLines s n = IfSome s.found (λ finding. n ≡ length (proof_lines s.net s.book.entries finding))

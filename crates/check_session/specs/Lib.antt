@@ -4,6 +4,7 @@ pub mod Pool
 pub mod Blocks
 pub mod Begun
 pub mod Check
+pub mod Counts
 pub mod Sweep
 pub mod Files
 pub mod MiterText

@@ -1,9 +1,12 @@
+ghost use Rattle.check_session.specs.Counts.{AreCountsUpTo, CountsEntry};
+
 use lemma_book::{Book, Entry};
 use sweep_workers::Worker;
 use unit_prop::Refuter;
 
-/// What the last check of a session did, in numbers, for whoever wants to know where its time went. Nothing is
-/// claimed of them.
+/// What the last check of a session did, in numbers, for whoever wants to know where its time went. The patterns,
+/// the pairs and outputs that were told apart or left open and the steps are those of the session; of the others
+/// nothing is claimed.
 #[derive(Clone, Copy)]
 pub struct Counts {
     /// The patterns that it leaves.
@@ -75,7 +78,9 @@ impl Work {
 }
 
 /// The numbers of a check that did this work and left so many patterns and this book.
-pub(crate) fn counts_of(work: Work, patterns: u64, book: &Book) -> Counts {
+pub(crate) fn counts_of(work: Work, patterns: u64, book: &Book) -> Counts
+    ensures { AreCountsUpTo patterns book.now.entries result }
+{
     let mut counts = Counts {
         patterns,
         rounds: work.rounds,
@@ -90,15 +95,16 @@ pub(crate) fn counts_of(work: Work, patterns: u64, book: &Book) -> Counts {
         steps: 0,
     };
     for place in 0..book.len() {
-        if let Some(entry) = book.entry(place) {
-            counts = with_entry(counts, entry);
-        }
+        let entry = book.entry(place).unwrap();
+        counts = with_entry(counts, entry);
     }
     counts
 }
 
 /// The numbers with one more entry.
-fn with_entry(counts: Counts, entry: &Entry) -> Counts {
+fn with_entry(counts: Counts, entry: &Entry) -> Counts
+    ensures { CountsEntry entry.now counts result }
+{
     let mut counts = counts;
     match entry {
         Entry::Merge { steps, .. } | Entry::Out { steps, .. } => {

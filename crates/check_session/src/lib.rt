@@ -16,14 +16,15 @@
 //! apart and the book is reduced, and so swept. `write` then leaves the check's two files: the CNF of the
 //! circuits' miter, and its proof.
 //!
-//! `Session::counts` tells what the last check did, in numbers of which nothing is claimed (`counts`).
+//! `Session::counts` tells what the last check did, in numbers (`counts`): of those that stand in its book and its
+//! patterns what they count, of the others nothing is claimed.
 //!
 //! `reduce` takes one circuit, which it sweeps by itself, and gives the circuit that is left where each literal
 //! gives way to its root, with a session that shows the two equal (`reduction`).
 //!
 //! Definitions: `specs/Finding.antt` (what a book's entries show, and what that means), `specs/Pool.antt`
 //! (the patterns of a check), `specs/Begun.antt` (what a check begins with), `specs/Check.antt` (a session,
-//! its edits, and a check that has its verdict), `specs/Reduction.antt` (a reduced circuit and its session),
+//! its edits, and a check that has its verdict), `specs/Counts.antt` (its numbers), `specs/Reduction.antt` (a reduced circuit and its session),
 //! `specs/Files.antt` (its files) and `specs/MiterText.antt` (the lines of the CNF, node by node);
 //! `specs/Sweep.antt`, `Outputs.antt` and `Blocks.antt` say what parts of a check do. Begin to read at
 //! `session.rt`, then `begin.rt`, `sweep.rt`, `patterns.rt`, `write.rt`, `miter_text.rt` and `reduction.rt`.

@@ -6,7 +6,8 @@ ghost use Rattle.netlist_edits.specs.Fault.{fault_of};
 ghost use Rattle.check_session.specs.Begun.{GoesOn, IsPastOf, begun_after};
 ghost use Rattle.check_session.specs.Check.{AreInRange, BeginsWith, IsFound, IsSettled, Loads, begun_by, opened, with_edit, without_book};
 ghost use Rattle.check_session.specs.Finding.{Equivalent};
-ghost use Rattle.check_session.specs.Files.{HasSizes, TellsSpans, WritesFiles};
+ghost use Rattle.check_session.specs.Counts.{AreCounts};
+ghost use Rattle.check_session.specs.Files.{HasSizes, TellsLines, TellsSpans, WritesFiles};
 ghost use Rattle.check_session.specs.Outputs.{finding_of};
 
 use crate::begin::{Past, begin};
@@ -326,8 +327,7 @@ impl Session {
         self.write_counted(alloc, desk, prefix, check, &mut lines)
     }
 
-    /// The same, which besides tells how many lines the proof has. Nothing is claimed of that number: it is a count
-    /// for the reader.
+    /// The same, which besides tells how many lines the proof has: none where its file is empty.
     pub fn write_counted<D: Desk>(
         &self,
         alloc: Global,
@@ -342,6 +342,7 @@ impl Session {
         ensures sizes { OnOk result
             (HasSizes self.now prefix.now check (D.sizes desk.old) (D.sizes desk.new)) }
         ensures spans { IfOk result (λ spans. TellsSpans self.now spans.items) }
+        ensures lines { OnOk result (TellsLines self.now lines.new) }
     {
         let Some(verdict) = &self.found else {
             unreachable!()
@@ -373,8 +374,10 @@ impl Session {
         &self.book
     }
 
-    /// What the last check did, in numbers.
-    pub fn counts(&self) -> Counts {
+    /// What the last check did, in numbers: of those that the patterns and the book have, what they are.
+    pub fn counts(&self) -> Counts
+        ensures { AreCounts self.now result }
+    {
         let patterns = match &self.pool {
             Some(pool) => pool.patterns(),
             None => 0,

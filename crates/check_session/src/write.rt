@@ -51,7 +51,7 @@ pub(crate) struct Proof<'a> {
 }
 
 impl Content for Proof<'_> {
-    ghost use Rattle.check_session.specs.Files.{AreSpansIn, HasProof, proof_bytes};
+    ghost use Rattle.check_session.specs.Files.{AreToldOf, HasProof, proof_bytes};
     ghost use Rattle.check_session.specs.Outputs.{finding_of};
 
     type Told = ProofTold;
@@ -60,8 +60,8 @@ impl Content for Proof<'_> {
 
     ghost bytes = { λ p. proof_bytes p.net.now p.book.now.entries (finding_of p.verdict.now) };
 
-    ghost tells = { λ p told.
-        AreSpansIn p.net.now p.book.now.entries (finding_of p.verdict.now) told.spans.items };
+    ghost tells = { λ p told. AreToldOf p.net.now p.book.now.entries (finding_of p.verdict.now)
+        told.spans.items told.lines };
 
     fn put<D: Desk>(&self, alloc: Global, desk: &mut D) -> Result<ProofTold, PutErr> {
         let Proof { net, book, verdict } = *self;
@@ -88,7 +88,8 @@ impl Content for Proof<'_> {
 
 /// What is told of a proof of so many lines that has no logs.
 fn told_without_logs(alloc: Global, lines: u64) -> ProofTold
-    ensures { result.spans.items ≡ [] }
+    ensures spans { result.spans.items ≡ [] }
+    ensures lines { result.lines ≡ lines }
 {
     ProofTold {
         spans: Vec::new(alloc),
