@@ -2,6 +2,7 @@ use crate::caps::Caps;
 use crate::clauses::Clauses;
 use crate::equalities::Equalities;
 use crate::lessons::Lessons;
+use crate::luck::Luck;
 use crate::merges::Merges;
 use crate::reason::Reason;
 use crate::trail::Trail;
@@ -31,6 +32,10 @@ pub(crate) struct Engine {
     pub(crate) left: Caps,
     /// Whether equalities were searched for.
     pub(crate) is_equated: bool,
+    /// When an output is searched at length.
+    pub(crate) luck: Luck,
+    /// Whether the output that was asked for last wasn't searched at length.
+    pub(crate) is_owed: bool,
     /// How many clauses were learned since the engine was made.
     pub(crate) learned: u64,
 }
@@ -54,6 +59,8 @@ impl Engine {
                 decisions: 0,
             },
             is_equated: false,
+            luck: Luck::new(),
+            is_owed: false,
             learned: 0,
         })
     }
@@ -64,6 +71,7 @@ impl Engine {
         if is_other {
             self.equalities.forget();
             self.is_equated = false;
+            self.luck = Luck::new();
         }
         is_other
     }

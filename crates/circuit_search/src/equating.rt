@@ -21,7 +21,7 @@ const CONFLICTS: u64 = 1000;
 const DECISIONS: u64 = 20000;
 
 /// How many more searches for one equality may fail than succeed.
-const MISSES: u32 = 8;
+const MISSES: u32 = 2;
 
 impl Engine {
     /// The entry that a search proposes for an output: a short search first, and where that gives up a search
@@ -39,6 +39,7 @@ impl Engine {
             conflicts: caps.conflicts.min(FEW),
             decisions: caps.decisions.min(CHOICES),
         };
+        self.is_owed = false;
         if let Some(entry) = self.output_shortly(alloc, net, output, few)? {
             return Ok(Some(entry));
         }
@@ -46,11 +47,49 @@ impl Engine {
             self.is_equated = true;
             self.equate(alloc, net, caps.conflicts)?;
         }
+        self.is_owed = !self.luck.is_due();
+        if self.is_owed {
+            return Ok(None);
+        }
+        self.output_at_length(alloc, net, output, caps)
+    }
+
+    /// The entry that a search proposes for an output that may use equalities of pairs that the book leaves
+    /// open.
+    fn output_at_length(
+        &mut self,
+        alloc: Global,
+        net: &Net,
+        output: u32,
+        caps: Caps,
+    ) -> Result<Option<Entry>, AllocError>
+        ensures { IfOk result (λ o. IfSome o (SettlesOutput output)) }
+    {
         let more = Caps {
             conflicts: caps.conflicts.min(CONFLICTS),
             decisions: caps.decisions.min(DECISIONS),
         };
-        self.output(alloc, net, output, more, Domain::Admitted)
+        let entry = self.output(alloc, net, output, more, Domain::Admitted)?;
+        self.luck.note(entry.is_some());
+        Ok(entry)
+    }
+
+    /// The entry that a search at length proposes for an output that wasn't searched so before, where nothing
+    /// else has settled it.
+    pub(crate) fn output_owed(
+        &mut self,
+        alloc: Global,
+        net: &Net,
+        output: u32,
+        caps: Caps,
+    ) -> Result<Option<Entry>, AllocError>
+        ensures { IfOk result (λ o. IfSome o (SettlesOutput output)) }
+    {
+        if !self.is_owed {
+            return Ok(None);
+        }
+        self.is_owed = false;
+        self.output_at_length(alloc, net, output, caps)
     }
 
     /// The entry that a short search proposes for an output.

@@ -39,6 +39,7 @@ mod justify;
 mod lessons;
 mod loading;
 mod log;
+mod luck;
 mod merges;
 mod propagation;
 mod proposal;

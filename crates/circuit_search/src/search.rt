@@ -116,8 +116,11 @@ impl Search {
         if let Some(entry) = self.engine.output_by_equalities(alloc, net, output, caps)? {
             return Ok(Some(entry));
         }
-        self.whole
-            .output(alloc, net, &self.engine.merges, output, caps)
+        let merges = &self.engine.merges;
+        if let Some(entry) = self.whole.output(alloc, net, merges, output, caps)? {
+            return Ok(Some(entry));
+        }
+        self.engine.output_owed(alloc, net, output, caps)
     }
 
     /// Reads what is new in the book.
