@@ -159,6 +159,16 @@ impl Merges {
         Some(known.spent - 1)
     }
 
+    /// Whether the node at a position is a gate with a fanin whose own pair is open.
+    pub(crate) fn is_above_open(&self, net: &Net, position: u32) -> bool {
+        match self.source(net, position) {
+            Source::Gate(left, right) => {
+                self.open(left / 2).is_some() || self.open(right / 2).is_some()
+            }
+            _ => false,
+        }
+    }
+
     /// What defines the node at a position.
     pub(crate) fn source(&self, net: &Net, position: u32) -> Source {
         let known = self.known(position);

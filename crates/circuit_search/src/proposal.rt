@@ -12,6 +12,9 @@ use lits::{Listed, Lit, Literal, Node, Ref, Side, Step};
 use netlist::Net;
 use std::alloc::{AllocError, Global};
 
+/// How many clauses the search for a pair may learn above a fanin whose own pair is open.
+const ABOVE_OPEN: u64 = 25;
+
 /// On which inputs a search looks.
 #[derive(Clone, Copy)]
 pub(crate) enum Domain {
@@ -57,6 +60,19 @@ impl Engine {
                 Ok(Some(Entry::Apart { node, lit, input }))
             }
             Found::Open => Ok(None),
+        }
+    }
+
+    /// How far the search for a pair goes. Above a fanin whose own pair is open most pairs stay open too, so
+    /// there it goes less far: on 12 decimal digits in two styles, where 296 pairs are open, these searches
+    /// took a sixth of a check.
+    pub(crate) fn caps_for(&self, net: &Net, task: &Task, caps: Caps) -> Caps {
+        match net.position(task.node) {
+            Some(position) if self.merges.is_above_open(net, position) => Caps {
+                conflicts: caps.conflicts.min(ABOVE_OPEN),
+                ..caps
+            },
+            _ => caps,
         }
     }
 

@@ -74,6 +74,7 @@ impl Search {
         ensures err { OnErr result (self.new.dropped ≡ self.old.dropped) }
     {
         self.catch_up(net, book);
+        let caps = self.engine.caps_for(net, task, caps);
         match self.engine.pair(alloc, net, task, caps)? {
             Some(entry) => self.judged(alloc, net, book, entry),
             None => Ok(None),
