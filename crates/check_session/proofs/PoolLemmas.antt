@@ -1,17 +1,17 @@
 -- Patterns that join a pool, and what they tell of outputs.
-use Rattle.std.proofs.Common.{◌≡◌, ◌⊎◌, ℕ, ◌*◌, Bool, true, false, List, [], ◌∷◌, ◌++◌, append_assoc, length, map, Option, Some, None, inl, inr, refl, sym, ap, ◌∙◌, subst, Result, Ok, Err, IfOk, OnOk}
+use Rattle.std.proofs.Common.{◌≡◌, ℕ, ◌+◌, ◌*◌, ◌/◌, ◌<◌, Bool, true, false, List, [], ◌∷◌, ◌++◌, append_assoc, length, map, take, drop, Option, Some, None, inl, inr, refl, sym, ap, ◌∙◌, subst, arith}
 use Rattle.std.specs.List.{AllByRecursion, find, range_with_len}
-use Rattle.std.proofs.lemmas.List.{append-nil}
+use Rattle.std.proofs.lemmas.List.{append-nil, take-append-drop}
 use Rattle.std.proofs.lemmas.List.Folds.{find-append}
 use Rattle.std.proofs.lemmas.List.FromFn.{length-map-range_with_len}
-use Rattle.std.specs.declared.alloc.AllocError.{AllocError}
-use Rattle.std.specs.Prelude.{IfSome, MatchOption, unwrap_or}
+use Rattle.std.specs.Option.{option_or}
+use Rattle.std.specs.Prelude.{IfSome, unwrap_or}
 use Rattle.netlist.specs.Net.{AigPair}
-use Rattle.word_sim.specs.Patterns.{Patterns, seeded, seeded_pattern}
+use Rattle.word_sim.specs.Patterns.{Patterns, part_from, seeded, seeded_pattern}
 use Rattle.sweep_workers.specs.Swept.{IsPoolFor}
 use Rattle.check_session.specs.declared.options.Options.{Options}
 use Rattle.check_session.specs.declared.patterns.Difference.{Difference}
-use Rattle.check_session.specs.Pool.{Extends, IsAmongOrJoins, IsFirstApart, IsPoolOf, MayJoin, NoneApart, first_pool, tells_apart}
+use Rattle.check_session.specs.Pool.{Extends, IsFirstApart, IsPoolOf, MayJoin, NoneApart, first_pool, tells_apart}
 
 -- ---- pools that are longer
 
@@ -60,11 +60,27 @@ find-front test (x ∷ xs) ys none = go (test x) refl none (find-front test xs y
     go true is n rest = let t : Some x ≡ None = rw is at n in cc
     go false is n rest = rw is (rest (rw is at n))
 
--- where no pattern of a longer pool tells an output apart, none of the first ones does
-pub none-first : (net : AigPair) (old new : Patterns) → Extends old new → NoneApart net new.patterns → NoneApart net old.patterns
-none-first net old new extends none j below =
-    find-front (tells_apart net j) old.patterns extends.added
-    (subst (λ (ps : List (List Bool)). find (tells_apart net j) ps ≡ None) extends.is (none j below))
+find-back : (test : List Bool → Bool) (xs ys : List (List Bool)) → find test (xs ++ ys) ≡ None → find test ys ≡ None
+find-back test xs ys none =
+    sym (find-append test xs ys ∙ ap (λ (o : Option (List Bool)). option_or o (find test ys)) (find-front test xs ys none)) ∙ none
+
+find-neither : (test : List Bool → Bool) (xs ys : List (List Bool)) → find test xs ≡ None → find test ys ≡ None → find test (xs ++ ys) ≡ None
+find-neither test xs ys first second =
+    find-append test xs ys ∙ ap (λ (o : Option (List Bool)). option_or o (find test ys)) first ∙ second
+
+find-halves : (test : List Bool → Bool) (n : ℕ) (xs : List (List Bool)) → find test xs ≡ None
+    → (find test (take n xs) ≡ None) × (find test (drop n xs) ≡ None)
+find-halves test n xs none =
+    let whole : find test (take n xs ++ drop n xs) ≡ None = ap (find test) (take-append-drop n xs) ∙ none in
+    (find-front test (take n xs) (drop n xs) whole, find-back test (take n xs) (drop n xs) whole)
+
+-- where no pattern tells an output apart, none of a part of them does
+pub none-part : (net : AigPair) (seen words : ℕ) (ps : List (List Bool)) → NoneApart net ps → NoneApart net (part_from seen words ps)
+none-part net seen words ps none j below =
+    let test = tells_apart net j in
+    let end = 64 * (seen / 64 + words) in
+    find-neither test (take 64 ps) (drop (64 * (seen / 64)) (take end ps)) (find-halves test 64 ps (none j below)).0
+    (find-halves test (64 * (seen / 64)) (take end ps) (find-halves test end ps (none j below)).0).1
 
 -- where none of the first patterns passes the test, the one that is found behind them is the last
 last-found : (test : List Bool → Bool) (xs : List (List Bool)) (y found : List Bool) → find test xs ≡ None
@@ -90,46 +106,58 @@ joined-fits net input old new (inr joins) fits =
       whole = whole-last (length net.a.inputs) old.patterns input fits.whole (joins.0 ∙ fits.inputs);
     })
 
-pub joined-extends : (input : List Bool) (old new : Patterns) → MayJoin input old new → Extends old new
-joined-extends input old new (inl same) = extends-same old new same
-joined-extends input old new (inr joins) = record { added = input ∷ []; is = ap (λ (p : Patterns). p.patterns) joins.1 }
-
-joined-patterns : (input : List Bool) (old new : Patterns) → MayJoin input old new
-    → (new.patterns ≡ old.patterns) ⊎ (new.patterns ≡ old.patterns ++ input ∷ [])
-joined-patterns input old new (inl same) = inl (ap (λ (p : Patterns). p.patterns) same)
-joined-patterns input old new (inr joins) = inr (ap (λ (p : Patterns). p.patterns) joins.1)
-
 -- the input that tells an output apart where none of the first patterns does is the one that joined
-joined-told : (net : AigPair) (j : ℕ) (before patterns : List (List Bool)) (joined input : List Bool) → NoneApart net before
-    → IsFirstApart net patterns j input → patterns ≡ before ++ joined ∷ [] → input ≡ joined
-joined-told net j before patterns joined input none first is =
-    last-found (tells_apart net j) before joined input (none j first.within)
-    (subst (λ (ps : List (List Bool)). find (tells_apart net j) ps ≡ Some input) is first.first)
+joined-told : (net : AigPair) (j : ℕ) (before : List (List Bool)) (joined input : List Bool) → NoneApart net before
+    → IsFirstApart net (before ++ joined ∷ []) j input → input ≡ joined
+joined-told net j before joined input none first = last-found (tells_apart net j) before joined input (none j first.within) first.first
 
--- so where it comes from
-among-found : (r : Result (Option Difference) AllocError) (net : AigPair) (before patterns : List (List Bool)) (joined : List Bool)
-    → NoneApart net before → (patterns ≡ before) ⊎ (patterns ≡ before ++ joined ∷ [])
-    → IfOk r (λ d. MatchOption d (NoneApart net patterns) (λ x. IsFirstApart net patterns x.output x.input))
-    → IfOk r (λ d. IfSome d (λ x. IsAmongOrJoins net before patterns x.input))
-among-found (Err e) net before patterns joined none joins first = tt
-among-found (Ok None) net before patterns joined none joins first = tt
-among-found (Ok (Some x)) net before patterns joined none joins first = elim joins [
-  | inl same ↦ inl same
-  | inr more ↦ inr (
-    none,
-    subst (λ (bits : List Bool). patterns ≡ before ++ bits ∷ [])
-        (sym (joined-told net x.output before patterns joined x.input none first more)) more,
-  )
-]
+-- ---- an input that is evaluated behind a part of the patterns, and joins if it tells an output apart
 
-pub joined-found : (r : Result (Option Difference) AllocError) (net : AigPair) (input : List Bool) (old new : Patterns) → NoneApart net old.patterns
-    → MayJoin input old new
-    → IfOk r (λ d. MatchOption d (NoneApart net new.patterns) (λ x. IsFirstApart net new.patterns x.output x.input))
-    → IfOk r (λ d. IfSome d (λ x. IsAmongOrJoins net old.patterns new.patterns x.input))
-joined-found r net input old new none joins first =
-    among-found r net old.patterns new.patterns input none (joined-patterns input old new joins) first
+-- behind patterns of which none passes the test one more is found as if it were alone
+find-last : (test : List Bool → Bool) (xs : List (List Bool)) (y : List Bool) → find test xs ≡ None → find test (xs ++ y ∷ []) ≡ find test (y ∷ [])
+find-last test xs y none =
+    find-append test xs (y ∷ []) ∙ ap (λ (o : Option (List Bool)). option_or o (find test (y ∷ []))) none
 
--- what is so wherever a call ends is so where it ends well
-pub on-ok-both : {T E : Type 0} (r : Result T E) (Q : Type 0) → Q → OnOk r Q
-on-ok-both (Ok x) Q q = q
-on-ok-both (Err e) Q q = tt
+-- so it tells the same output apart behind whatever patterns tell none
+first-behind : (net : AigPair) (few all : List (List Bool)) (joined : List Bool) (j : ℕ) (input : List Bool) → NoneApart net few
+    → NoneApart net all → IsFirstApart net (few ++ joined ∷ []) j input → IsFirstApart net (all ++ joined ∷ []) j input
+first-behind net few all joined j input none_few none_all first = record {
+  within = first.within;
+  first = sym (same j first.within) ∙ first.first;
+  least = λ k less. sym (same k (omega (arith, less, first.within))) ∙ first.least k less;
+}
+  where
+    same : (k : ℕ) → k < length net.a.outputs → find (tells_apart net k) (few ++ joined ∷ []) ≡ find (tells_apart net k) (all ++ joined ∷ [])
+    same k below =
+        find-last (tells_apart net k) few joined (none_few k below) ∙ sym (find-last (tells_apart net k) all joined (none_all k below))
+
+module _ (net : AigPair) (input : List Bool) (old part few new : Patterns) (whole : length input ≡ old.inputs)
+    (part_is : part ≡ record { inputs = old.inputs; patterns = part_from 0 1 old.patterns })
+    (few_is : few ≡ record { inputs = part.inputs; patterns = part.patterns ++ input ∷ [] }) where
+  few-are : few.patterns ≡ part_from 0 1 old.patterns ++ input ∷ []
+  few-are =
+      ap (λ (p : Patterns). p.patterns) few_is ∙ ap (λ (p : Patterns). p.patterns ++ input ∷ []) part_is
+
+  pub few-fit : IsPoolFor net part → IsPoolFor net few
+  few-fit fits = joined-fits net input part few (inr (whole ∙ sym (ap (λ (p : Patterns). p.inputs) part_is), few_is)) fits
+
+  module _ (none : NoneApart net old.patterns) (new_is : new ≡ record { inputs = old.inputs; patterns = old.patterns ++ input ∷ [] })
+      (d : Difference) (first : IsFirstApart net few.patterns d.output d.input) where
+    found-few : IsFirstApart net (part_from 0 1 old.patterns ++ input ∷ []) d.output d.input
+    found-few = subst (λ (ps : List (List Bool)). IsFirstApart net ps d.output d.input) few-are first
+
+    none-few : NoneApart net (part_from 0 1 old.patterns)
+    none-few = none-part net 0 1 old.patterns none
+
+    pub joins-first : IsFirstApart net new.patterns d.output d.input
+    joins-first =
+        subst (λ (p : Patterns). IsFirstApart net p.patterns d.output d.input) (sym new_is)
+        (first-behind net (part_from 0 1 old.patterns) old.patterns input d.output d.input none-few none found-few)
+
+    pub joins-telling : new.patterns ≡ old.patterns ++ d.input ∷ []
+    joins-telling =
+        ap (λ (p : Patterns). p.patterns) new_is
+        ∙ ap (λ (bits : List Bool). old.patterns ++ bits ∷ []) (sym (joined-told net d.output (part_from 0 1 old.patterns) input d.input none-few found-few))
+
+pub joined-extends : (old new : Patterns) (input : List Bool) → new.patterns ≡ old.patterns ++ input ∷ [] → Extends old new
+joined-extends old new input joins = record { added = input ∷ []; is = joins }

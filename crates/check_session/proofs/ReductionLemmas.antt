@@ -1,6 +1,6 @@
 -- The sweep of a circuit by itself, and the book that shows the circuit and its reduced one equal: it is settled, and swept as the
 -- sweep's is.
-use Rattle.std.proofs.Common.{◌≡◌, ℕ, zero, suc, ◌+◌, ◌<◌, ◌≤◌, Bool, true, false, Option, Some, None, List, [], ◌∷◌, ◌++◌, length, map, replicate, refl, sym, ap, ◌∙◌, subst, inl, inr, ◌⊎◌, append_assoc, arith}
+use Rattle.std.proofs.Common.{◌≡◌, ℕ, zero, suc, ◌+◌, ◌<◌, ◌≤◌, Bool, true, false, Option, Some, None, List, [], ◌∷◌, ◌++◌, length, replicate, refl, sym, ap, ◌∙◌, subst, inl, inr, ◌⊎◌, append_assoc, arith}
 use Rattle.std.specs.Prelude.{◌==◌, nat_le, slice_get}
 use Rattle.std.specs.Option.{is_some, option_and_then, option_map, IsSome}
 use Rattle.std.specs.List.{list_all, list_any, AllByRecursion}
@@ -34,7 +34,7 @@ use Rattle.lemma_book.specs.Book.{IsLegal}
 use Rattle.lemma_book.specs.Good.{NoNode, IsBefore, IsGood}
 use Rattle.lemma_book.proofs.Facts.{root-unsettled}
 use Rattle.unit_prop.specs.Log.{InTurn}
-use Rattle.sig_classes.specs.Leader.{HasSpent, IsLone, IsOpenGate, IsSwept}
+use Rattle.sig_classes.specs.Leader.{HasSpent, IsLone, IsOpenGate, IsReduced, IsSwept}
 use Rattle.strash_pass.specs.Strash.{AddsMerges, IsMerge}
 use Rattle.sweep_workers.specs.Swept.{is_of_pair, Sweeps}
 use Rattle.fraig_write.specs.Mirror.{is_of_a, AreOfA, IsMirror}
@@ -44,8 +44,11 @@ use Rattle.circuit_text.specs.BinaryText.{IsInSequence}
 use Rattle.fraig_write.specs.Reduced.{HasValuesOf, IsReducedCircuit}
 use Rattle.check_session.specs.declared.options.Options.{Options}
 use Rattle.check_session.specs.Finding.{Finding, Equivalent, Finds, Means}
+use Rattle.check_session.specs.Pool.{first_pool}
+use Rattle.check_session.specs.Sweep.{AddsStructure, IsSweptFrom}
 use Rattle.check_session.specs.Check.{IsSettled, State, empty_book, opened}
 use Rattle.check_session.specs.Reduction.{swept_pair, without_gates, IsReduction, IsSweptBook}
+use Rattle.check_session.proofs.SweptLemmas.{structure-merges}
 
 -- ---- the circuit without gates
 all-first : {X : Type 0} (p : X → Bool) (xs ys : List X) → list_all p (xs ++ ys) ≡ true → list_all p (xs ++ []) ≡ true
@@ -275,22 +278,35 @@ module _ (a b : Aig) where
 
 -- the book of a sweep of a circuit by itself
 pub swept-book : (net : AigPair) (o : Options) (empty merged swept : Entries) (pool patterns : Patterns) → net ≡ swept_pair net.a
-    → empty ≡ empty_book o → AddsMerges empty merged → Sweeps net merged swept pool patterns → IsSwept net swept.entries
-    → IsSweptBook net.a o swept
-swept-book net o empty merged swept pool patterns alone none adds s is = record {
+    → empty ≡ empty_book o → pool ≡ first_pool net o → AddsStructure net empty merged → Sweeps net merged swept pool patterns
+    → IsReduced net swept.entries patterns.patterns → IsSwept net swept.entries → IsSweptBook net.a o swept
+swept-book net o empty merged swept pool patterns alone none first structure s reduced is = record {
   book_of = record {
-    sweep_is = s.sweep_budget ∙ adds.sweep ∙ ap (λ (b : Entries). b.sweep_budget) none;
-    budget_is = s.out_budget ∙ adds.out ∙ ap (λ (b : Entries). b.out_budget) none;
+    sweep_is = s.sweep_budget ∙ structure.merges.sweep ∙ ap (λ (b : Entries). b.sweep_budget) none;
+    budget_is = s.out_budget ∙ structure.merges.out ∙ ap (λ (b : Entries). b.out_budget) none;
     legal = legal;
   };
   of_a =
       pairs-of_a net.a swept legal
-      (swept-pairs empty merged s.added swept.entries (ap (λ (b : Entries). b.entries) none) adds s.begins s.kinds);
+      (swept-pairs empty merged s.added swept.entries (ap (λ (b : Entries). b.entries) none) (structure-merges net empty merged structure)
+      s.begins s.kinds);
+  alone = record {
+    patterns = patterns;
+    sweep = subst (λ (n : AigPair). IsSweptFrom n (record { book = empty_book o; pool = first_pool n o }) swept patterns) alone sweep;
+    reduced = subst (λ (n : AigPair). IsReduced n swept.entries patterns.patterns) alone reduced;
+  };
   swept = subst (λ (n : AigPair). IsSwept n swept.entries) alone is;
 }
   where
     legal : IsLegal (swept_pair net.a) swept
     legal = subst (λ (n : AigPair). IsLegal n swept) alone s.legal
+
+    sweep : IsSweptFrom net (record { book = empty_book o; pool = first_pool net o }) swept patterns
+    sweep = record {
+      merged = merged;
+      structure = subst (λ (b : Entries). AddsStructure net b merged) none structure;
+      pairs = subst (λ (p : Patterns). Sweeps net merged swept p patterns) first s;
+    }
 
 -- it is legal beside another circuit
 pub legal-beside : (net : AigPair) (o : Options) (book : Entries) → IsSweptBook net.a o book → IsLegal net book
@@ -346,6 +362,7 @@ pub reduction : (a circuit : Aig) (o : Options) (alone net : AigPair) (book mirr
 reduction a circuit o alone net book mirrored s alone_is net_is swept reduced values sequence mirror settled s_is =
     subst (λ (t : State). IsReduction a o circuit book t) (sym s_is) (record {
       book_of = of.book_of;
+      alone = of.alone;
       swept = of.swept;
       reduced = subst (λ (x : Aig). IsReducedCircuit x book.entries circuit) same reduced;
       values = subst (λ (x : Aig). HasValuesOf x circuit) same values;

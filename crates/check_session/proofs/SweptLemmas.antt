@@ -10,7 +10,7 @@ use Rattle.std.specs.Prelude.{slice_get}
 use Rattle.lits.specs.declared.node.Node.{Node}
 use Rattle.lits.proofs.Facts.{all-append}
 use Rattle.netlist.specs.Place.{place_of}
-use Rattle.netlist.specs.Net.{AigPair, DiffersOn}
+use Rattle.netlist.specs.Net.{AigPair, DiffersOn, definitions}
 use Rattle.word_sim.specs.Patterns.{Patterns}
 use Rattle.lemma_book.specs.declared.entry.Entry.{Entry}
 use Rattle.lemma_book.specs.declared.entry.Entry.TheVariants.{Merge, Apart, Spent, Out, OutApart, OutSpent}
@@ -21,9 +21,9 @@ use Rattle.lemma_book.specs.Book.{IsLegal, StartsWith}
 use Rattle.lemma_book.specs.Agreement.{IsTrue}
 use Rattle.lemma_book.proofs.Facts.{root-unsettled}
 use Rattle.sig_classes.specs.Leader.{IsReduced, IsSwept}
-use Rattle.strash_pass.specs.Strash.{AddsMerges, IsMerge}
+use Rattle.strash_pass.specs.Strash.{AddsMerges, AreStructural, ArePlain, IsMerge}
 use Rattle.sweep_workers.specs.Answered.{sees_first}
-use Rattle.sweep_workers.specs.Swept.{IsPoolFor, apart_inputs, is_of_output, is_of_pair}
+use Rattle.sweep_workers.specs.Swept.{IsPoolFor, Sweeps, apart_inputs, is_of_output, is_of_pair}
 use Rattle.check_session.specs.declared.options.Options.{Options}
 use Rattle.check_session.specs.declared.sweep.Checked.{Checked}
 use Rattle.check_session.specs.declared.verdict.Verdict.{Verdict}
@@ -31,12 +31,38 @@ use Rattle.check_session.specs.declared.verdict.Verdict.TheVariants as verdict
 use Rattle.check_session.specs.Finding.{Finding, Equivalent, Different, Undecided, Finds, Means, SeesMerges}
 use Rattle.check_session.specs.Outputs.{SeeMerges, ListsOpen, finding_of}
 use Rattle.check_session.specs.Pool.{Extends, IsAmongOrJoins, IsFirstApart, IsPoolOf, NoneApart, first_pool}
-use Rattle.check_session.specs.Begun.{GoesOn, MayBegin, is_equal}
+use Rattle.check_session.specs.Begun.{Begun, GoesOn, MayBegin, is_equal}
 use Rattle.check_session.specs.Check.{IsSweptFor, IsWithinFor, IsFound}
-use Rattle.check_session.specs.Sweep.{IsSettledFrom}
+use Rattle.check_session.specs.Sweep.{AddsStructure, IsSettledFrom}
 use Rattle.check_session.proofs.OutputLemmas.{off-subject}
-use Rattle.check_session.proofs.PoolLemmas.{extends-twice, none-first}
+use Rattle.check_session.proofs.PoolLemmas.{extends-twice}
 use Rattle.check_session.proofs.BegunLemmas.{about-apart, differs-unsettled, lesser-apart, starts-twice}
+
+-- ---- merges that the structure shows
+
+structural-merges : (net : AigPair) (k n : ℕ) (es xs : List Entry) → AreStructural net k n es xs → AllByRecursion IsMerge xs
+structural-merges net k n es [] s = tt
+structural-merges net k n es (x ∷ xs) s =
+    (subst IsMerge (sym s.2.entry) tt, structural-merges net (s.0 + 1) n (es ++ x ∷ []) xs s.3)
+
+-- they are merges
+pub structure-merges : (net : AigPair) (old new : Entries) → AddsStructure net old new → AddsMerges old new
+structure-merges net old new adds = record {
+  added = adds.merges.added;
+  entries = adds.merges.entries;
+  merges = structural-merges net 0 (length (definitions net)) old.entries adds.merges.added adds.merges.structural;
+  sweep = adds.merges.sweep;
+  out = adds.merges.out;
+}
+
+-- where the structure shows no more, none is added
+pub adds-none : (net : AigPair) (book : Entries) → ArePlain net book.entries → AddsStructure net book book
+adds-none net book plain =
+    let from : 0 ≤ length (definitions net) = omega arith in
+    record {
+      merges = record { added = []; entries = sym (append-nil book.entries); structural = from; sweep = refl; out = refl };
+      plain = plain;
+    }
 
 -- ---- what open outputs saw
 
@@ -110,18 +136,20 @@ outputs-seen front outs (e ∷ es) none sees =
     (output-seen front outs e none parts.0, outputs-seen front outs es none parts.1)
 
 -- where a check began with entries that say that values are equal, each open output saw all merges
-pub settled-seen : (net : AigPair) (old : Entries) (pool : Patterns) (new : Entries) (patterns : Patterns) → list_all is_equal old.entries ≡ true
-    → IsSettledFrom net old pool new patterns → SeeMerges new.entries
-settled-seen net old pool new patterns equal s =
+pub settled-seen : (net : AigPair) (old : Begun) (new : Entries) (patterns : Patterns) → list_all is_equal old.book.entries ≡ true
+    → IsSettledFrom net old new patterns → SeeMerges new.entries
+settled-seen net old new patterns equal s =
+    let merges = structure-merges net old.book s.sweep.merged s.sweep.structure in
+    let pairs = s.sweep.pairs in
     let outs = s.outputs.added in
     let whole = s.swept.entries ++ outs in
-    let merged : AllByRecursion (SeesMerges whole) s.merged.entries =
-    subst (λ (es : List Entry). AllByRecursion (SeesMerges whole) es) (sym s.structure.entries)
-    (all-append (SeesMerges whole) old.entries s.structure.added (equals-seen whole old.entries equal)
-    (pairs-seen whole s.structure.added (merges-pairs s.structure.added s.structure.merges))) in
+    let merged : AllByRecursion (SeesMerges whole) s.sweep.merged.entries =
+    subst (λ (es : List Entry). AllByRecursion (SeesMerges whole) es) (sym merges.entries)
+    (all-append (SeesMerges whole) old.book.entries merges.added (equals-seen whole old.book.entries equal)
+    (pairs-seen whole merges.added (merges-pairs merges.added merges.merges))) in
     let swept : AllByRecursion (SeesMerges whole) s.swept.entries =
-    subst (λ (es : List Entry). AllByRecursion (SeesMerges whole) es) (sym s.pairs.begins)
-    (all-append (SeesMerges whole) s.merged.entries s.pairs.added merged (pairs-seen whole s.pairs.added s.pairs.kinds)) in
+    subst (λ (es : List Entry). AllByRecursion (SeesMerges whole) es) (sym pairs.begins)
+    (all-append (SeesMerges whole) s.sweep.merged.entries pairs.added merged (pairs-seen whole pairs.added pairs.kinds)) in
     subst (λ (es : List Entry). SeeMerges es) (sym s.outputs.begins)
     (all-append (SeesMerges whole) s.swept.entries outs swept
     (outputs-seen s.swept.entries outs outs (no-merges outs s.outputs.kinds) s.outputs.seen))
@@ -219,11 +247,7 @@ swept-for net es Undecided swept = swept
 
 -- ---- behind merges that the structure shows
 
--- no merge is added
-pub adds-none : (book : Entries) → AddsMerges book book
-adds-none book = record { added = []; entries = sym (append-nil book.entries); merges = tt; sweep = refl; out = refl }
-
-pub starts-merged : (old new : Entries) → AddsMerges old new → StartsWith new old
+starts-merged : (old new : Entries) → AddsMerges old new → StartsWith new old
 starts-merged old new adds = record { rest = adds.added; entries = adds.entries; sweep = adds.sweep; out = adds.out }
 
 merges-equal : (es fs : List Entry) → AllByRecursion IsMerge fs → list_all is_equal es ≡ true → list_all is_equal (es ++ fs) ≡ true
@@ -262,64 +286,62 @@ goes_on-merged (Ok c) old new before pool adds extends on = record {
 }
 goes_on-merged (Err e) old new before pool adds extends on = tt
 
--- what was found of whatever book and patterns came before was found of these
-pub found-merged : (r : Result Checked AllocError) (A : Entries → Type 0) (B : Entries → Patterns → Type 0) (D : Patterns → Type 0)
-    (F : Entries → Patterns → Checked → Type 0) (old : Entries) (before : Patterns) → A old → B old before → D before
-    → IfOk r (λ c. (book : Entries) (pool : Patterns) → A book → B book pool → D pool → F book pool c) → IfOk r (F old before)
-found-merged (Ok c) A B D F old before a b d found = found old before a b d
-found-merged (Err e) A B D F old before a b d found = tt
+-- what was found of whatever book stood before the merges was found of this one
+pub found-merged : (r : Result Checked AllocError) (net : AigPair) (o : Options) (old merged : Entries) (before pool : Patterns) → pool ≡ before
+    → AddsStructure net old merged → MayBegin net o (record { book = old; pool = before })
+    → IfOk r (λ c. (book : Entries) → AddsStructure net book merged → MayBegin net o (record { book = book; pool = pool })
+    → IsFound net o (record { book = book; pool = pool }) (Some c.pool) c.book c.verdict)
+    → IfOk r (λ c. IsFound net o (record { book = old; pool = before }) (Some c.pool) c.book c.verdict)
+found-merged (Ok c) net o old merged before pool same adds may found =
+    subst (λ (p : Patterns). IsFound net o (record { book = old; pool = p }) (Some c.pool) c.book c.verdict) same
+    (found old adds (subst (λ (p : Patterns). MayBegin net o (record { book = old; pool = p })) (sym same) may))
+found-merged (Err e) net o old merged before pool same adds may found = tt
 
--- what a sweep and the queries about the outputs find, where patterns may have joined before
-pub found-by_sweep : (net : AigPair) (o : Options) (begun pool seen : Patterns) (first last : Entries) (v : Verdict)
-    → IsPoolOf net o begun → Extends begun pool → MayBegin net o (record { book = first; pool = pool }) → NoneApart net pool.patterns
-    → IsSettledFrom net first pool last seen → Finds net last.entries (finding_of v) → ListsOpen net last.entries v
+-- what a sweep and the queries about the outputs find
+pub found-by_sweep : (net : AigPair) (o : Options) (begun : Begun) (last : Entries) (seen : Patterns) (v : Verdict)
+    → MayBegin net o begun → NoneApart net begun.pool.patterns → IsSettledFrom net begun last seen → IsPoolFor net seen
+    → IsReduced net last.entries seen.patterns → Finds net last.entries (finding_of v) → ListsOpen net last.entries v
     → ((f : Finding) → Finds net last.entries f → Means net last.entries f)
     → ((f : Finding) → Finds net last.entries f → IsWithinFor net last.out_budget f)
     → ((es : List Entry) (ps : List (List Bool)) → AllByRecursion (λ bits. length bits ≡ length net.a.inputs) ps
     → IsReduced net es ps → IsSwept net es)
-    → IsFound net o (record { book = first; pool = begun }) (Some seen) last v
-found-by_sweep net o begun pool seen first last v of before ready none s finds opens means within sweeps = record {
+    → IsFound net o begun (Some seen) last v
+found-by_sweep net o begun last seen v may none s fits reduced finds opens means within sweeps = record {
   settled = record {
-    sweep_is = s.outputs.sweep_budget ∙ s.pairs.sweep_budget ∙ s.structure.sweep ∙ ready.book.sweep_is;
-    budget_is = s.outputs.out_budget ∙ s.pairs.out_budget ∙ s.structure.out ∙ ready.book.budget_is;
+    sweep_is = s.outputs.sweep_budget ∙ pairs.sweep_budget ∙ s.sweep.structure.merges.sweep ∙ may.book.sweep_is;
+    budget_is = s.outputs.out_budget ∙ pairs.out_budget ∙ s.sweep.structure.merges.out ∙ may.book.budget_is;
     legal = s.outputs.legal;
     finds = finds;
     means = means (finding_of v) finds;
-    swept = swept-for net last.entries (finding_of v) (sweeps last.entries seen.patterns s.fits.whole reduced-last);
+    swept = swept-for net last.entries (finding_of v) (sweeps last.entries seen.patterns fits.whole reduced);
     within = within (finding_of v) finds;
   };
   open_are = opens;
   patterns = seen;
   pool_is = refl;
   pool_of = record {
-    fits = s.fits;
-    begins = extends-twice (first_pool net o) pool seen ready.pool.begins (record { added = apart_inputs s.pairs.added; is = s.pairs.patterns });
+    fits = fits;
+    begins = extends-twice (first_pool net o) begun.pool seen may.pool.begins (record { added = apart_inputs pairs.added; is = pairs.patterns });
   };
-  begun_of = of;
-  way = inr (record { none = none-first net begun pool before none; reduced = reduced-last; settled = s.outputs.settled });
+  begun_of = may.pool;
+  way = inr (record { none = none; settled = s; reduced = reduced });
 }
   where
-    reduced-last : IsReduced net last.entries seen.patterns
-    reduced-last =
-        subst (λ (es : List Entry). IsReduced net es seen.patterns) (sym s.outputs.begins)
-        (reduced-more net s.swept.entries s.outputs.added seen.patterns s.outputs.kinds s.reduced)
+    pairs : Sweeps net s.sweep.merged s.swept begun.pool seen
+    pairs = s.sweep.pairs
 
 -- and the book and the patterns go on
-pub goes_on-sweep : (net : AigPair) (pool seen : Patterns) (first last : Entries) → IsSettledFrom net first pool last seen
-    → GoesOn (record { book = first; pool = pool }) last seen
-goes_on-sweep net pool seen first last s = record {
+pub goes_on-sweep : (net : AigPair) (begun : Begun) (last : Entries) (seen : Patterns) → IsSettledFrom net begun last seen
+    → GoesOn begun last seen
+goes_on-sweep net begun last seen s = record {
   entries =
-      starts-twice first s.merged last (record {
-        rest = s.structure.added;
-        entries = s.structure.entries;
-        sweep = s.structure.sweep;
-        out = s.structure.out;
-      })
-      (starts-twice s.merged s.swept last (record {
-        rest = s.pairs.added;
-        entries = s.pairs.begins;
-        sweep = s.pairs.sweep_budget;
-        out = s.pairs.out_budget;
+      starts-twice begun.book s.sweep.merged last
+      (starts-merged begun.book s.sweep.merged (structure-merges net begun.book s.sweep.merged s.sweep.structure))
+      (starts-twice s.sweep.merged s.swept last (record {
+        rest = pairs.added;
+        entries = pairs.begins;
+        sweep = pairs.sweep_budget;
+        out = pairs.out_budget;
       })
       (record {
         rest = s.outputs.added;
@@ -327,8 +349,11 @@ goes_on-sweep net pool seen first last s = record {
         sweep = s.outputs.sweep_budget;
         out = s.outputs.out_budget;
       }));
-  patterns = record { added = apart_inputs s.pairs.added; is = s.pairs.patterns };
+  patterns = record { added = apart_inputs pairs.added; is = pairs.patterns };
 }
+  where
+    pairs : Sweeps net s.sweep.merged s.swept begun.pool seen
+    pairs = s.sweep.pairs
 
 -- ---- at once
 

@@ -16,10 +16,10 @@ use Rattle.sig_classes.specs.Leader.{IsReduced, IsSwept}
 use Rattle.check_session.specs.declared.options.Options.{Options}
 use Rattle.check_session.specs.declared.verdict.Verdict.{Verdict}
 use Rattle.check_session.specs.Finding.{Finding, Equivalent, Different, Undecided, Finds, Means}
-use Rattle.sweep_workers.specs.Swept.{AreSettled}
 use Rattle.check_session.specs.Outputs.{ListsOpen, finding_of}
 use Rattle.check_session.specs.Pool.{IsPoolOf, IsFirstApart, IsAmongOrJoins, NoneApart}
 use Rattle.check_session.specs.Begun.{Begun, GoesOn, IsBookOf, begun_from}
+use Rattle.check_session.specs.Sweep.{IsSettledFrom}
 
 -- the numbers are in their ranges
 pub record AreInRange (o : Options) : Type 0 where
@@ -142,12 +142,13 @@ pub record IsAtOnce (net : AigPair) (begun : Begun) (patterns : List (List Bool)
   pub from : IsAmongOrJoins net begun.pool.patterns patterns input
   pub entries_are : entries ≡ begun.book.entries ++ OutApart output input ∷ []
 
--- by the sweep: no pattern that the check began with tells an output apart, the book is reduced over all patterns, and each
--- output has an entry
-pub record IsBySweep (net : AigPair) (begun patterns : List (List Bool)) (entries : List Entry) : Type 0 where
-  pub none : NoneApart net begun
-  pub reduced : IsReduced net entries patterns
-  pub settled : AreSettled net entries
+-- by the sweep: no pattern that the check began with tells an output apart. Behind what the check began with the book has first the
+-- merges of the structure, then what was settled of pairs of nodes, then what was settled of outputs, each of which has its entry; the
+-- patterns that joined are the inputs on which such pairs differ. The book is reduced over all patterns.
+pub record IsBySweep (net : AigPair) (begun : Begun) (patterns : Patterns) (book : Entries) : Type 0 where
+  pub none : NoneApart net begun.pool.patterns
+  pub settled : IsSettledFrom net begun book patterns
+  pub reduced : IsReduced net book.entries patterns.patterns
 
 -- What a check found: its book shows the verdict, which names the outputs that it leaves open; over the patterns that the
 -- session keeps it was found at once or by the sweep. These patterns, and those that the check began with, begin with the
@@ -160,7 +161,7 @@ pub record IsFound (net : AigPair) (o : Options) (begun : Begun) (pool : Option 
   pub pool_of : IsPoolOf net o patterns
   pub begun_of : IsPoolOf net o begun.pool
   pub way : IsAtOnce net begun patterns.patterns book.entries (finding_of v)
-      ⊎ IsBySweep net begun.pool.patterns patterns.patterns book.entries
+      ⊎ IsBySweep net begun patterns book
 
 -- the numbers are in range; the pair is what the edits make of that of the last check, over which the book is legal under the
 -- budgets; the patterns are for the pair; and where something is found the book is that of a settled check

@@ -3,9 +3,9 @@ pub mod Outputs
 pub mod Pool
 pub mod Blocks
 pub mod Begun
+pub mod Sweep
 pub mod Check
 pub mod Counts
-pub mod Sweep
 pub mod Files
 pub mod MiterText
 pub mod Reduction

@@ -13,21 +13,25 @@
 //! `check` answers with a `Verdict`, and promises that the session's book is legal and shows it, and what it
 //! means for the circuits. The book and the patterns go on from what the check began with. Over the patterns
 //! either the least output that one tells apart is told at once, or none that the check began with tells one
-//! apart and the book is reduced, and so swept. `write` then leaves the check's two files: the CNF of the
-//! circuits' miter, and its proof.
+//! apart. Then behind what the check began with the book has the merges of the structure, what was settled of
+//! pairs of nodes, and what was settled of outputs; the patterns that joined are the inputs on which such pairs
+//! differ; and over all patterns the book is reduced, and so swept. `write` then leaves the check's two files:
+//! the CNF of the circuits' miter, and its proof.
 //!
 //! `Session::counts` tells what the last check did, in numbers (`counts`): of those that stand in its book and its
 //! patterns what they count, of the others nothing is claimed.
 //!
-//! `reduce` takes one circuit, which it sweeps by itself, and gives the circuit that is left where each literal
-//! gives way to its root, with a session that shows the two equal (`reduction`).
+//! `reduce` takes one circuit, which it sweeps by itself from the patterns that the seed draws, and gives the
+//! circuit that is left where each literal gives way to its root, with a session that shows the two equal
+//! (`reduction`).
 //!
 //! Definitions: `specs/Finding.antt` (what a book's entries show, and what that means), `specs/Pool.antt`
-//! (the patterns of a check), `specs/Begun.antt` (what a check begins with), `specs/Check.antt` (a session,
-//! its edits, and a check that has its verdict), `specs/Counts.antt` (its numbers), `specs/Reduction.antt` (a reduced circuit and its session),
+//! (the patterns of a check), `specs/Begun.antt` (what a check begins with), `specs/Sweep.antt` (what stands
+//! behind that after a sweep), `specs/Check.antt` (a session, its edits, and a check that has its verdict),
+//! `specs/Counts.antt` (its numbers), `specs/Reduction.antt` (a reduced circuit and its session),
 //! `specs/Files.antt` (its files) and `specs/MiterText.antt` (the lines of the CNF, node by node);
-//! `specs/Sweep.antt`, `Outputs.antt` and `Blocks.antt` say what parts of a check do. Begin to read at
-//! `session.rt`, then `begin.rt`, `sweep.rt`, `patterns.rt`, `write.rt`, `miter_text.rt` and `reduction.rt`.
+//! `specs/Outputs.antt` and `Blocks.antt` say what parts of a check do. Begin to read at `session.rt`, then
+//! `begin.rt`, `sweep.rt`, `patterns.rt`, `write.rt`, `miter_text.rt` and `reduction.rt`.
 #![tactic(auto)]
 
 pub use counts::Counts;

@@ -6,8 +6,8 @@ ghost use Rattle.netlist.specs.Net.{differs, nodes_of, output_of};
 ghost use Rattle.word_sim.specs.Patterns.{is_set, part_from, words_of};
 ghost use Rattle.word_sim.specs.Rows.{AreSignatures, IsRow, mask_of};
 ghost use Rattle.sweep_workers.specs.Swept.{IsPoolFor};
-ghost use Rattle.check_session.specs.Blocks.{IsFirstIn, lesser};
-ghost use Rattle.check_session.specs.Pool.{Extends, HasBitsFor, HasBitsOf, IsAmongOrJoins, IsFirstApart, IsFirstOf, MayJoin, NoneApart, admits, bit_of, tells_apart};
+ghost use Rattle.check_session.specs.Blocks.{IsFirstIn, JoinsTelling, lesser};
+ghost use Rattle.check_session.specs.Pool.{HasBitsFor, HasBitsOf, IsFirstApart, IsFirstOf, MayJoin, NoneApart, admits, bit_of, tells_apart};
 
 use crate::admitted::admitted_row;
 use crate::rare::rare_difference;
@@ -41,16 +41,44 @@ pub(crate) fn own_difference(
     requires fits { IsPoolFor net.now pool.old }
     requires none { NoneApart net.now pool.old.patterns }
     ensures fits { OnOk result (IsPoolFor net.now pool.new) }
-    ensures extends { OnOk result (Extends pool.old pool.new) }
+    ensures joins { IfOk result (JoinsTelling pool.old pool.new) }
     ensures first { IfOk result (IsFirstIn net.now pool.new.patterns) }
-    ensures from { IfOk result
-        (λ d. IfSome d (λ x. IsAmongOrJoins net.now pool.old.patterns pool.new.patterns x.input)) }
 {
-    let Some(input) = own_input(alloc, net, book, sieve, pool)? else {
-        return Ok(None);
-    };
-    join(pool, input.as_slice())?;
-    difference_in(alloc, net, pool)
+    match own_input(alloc, net, book, sieve, pool)? {
+        Some(input) if input.len() == pool.inputs() as usize => {
+            join_telling(alloc, net, pool, input.as_slice())
+        }
+        _ => Ok(None),
+    }
+}
+
+/// Lets an input join the pool if it tells an output apart, where no pattern of the pool does; and tells the least
+/// such output.
+///
+/// It is evaluated behind a first word of the pool's patterns, which a pool always has: so a pattern that seemed
+/// to tell an output apart, and doesn't, leaves no trace.
+fn join_telling(
+    alloc: Global,
+    net: &Net,
+    pool: &mut Pool,
+    input: &[bool],
+) -> Result<Option<Difference>, AllocError>
+    requires fits { IsPoolFor net.now pool.old }
+    requires none { NoneApart net.now pool.old.patterns }
+    requires whole { length input.now ≡ pool.old.inputs }
+    ensures fits { OnOk result (IsPoolFor net.now pool.new) }
+    ensures joins { IfOk result (JoinsTelling pool.old pool.new) }
+    ensures first { IfOk result (IsFirstIn net.now pool.new.patterns) }
+{
+    let mut few = pool.part(alloc, 0, 1)?;
+    few.add(input)?;
+    match difference_in(alloc, net, &few)? {
+        Some(difference) => {
+            pool.add(input)?;
+            Ok(Some(difference))
+        }
+        None => Ok(None),
+    }
 }
 
 /// An input that isn't in the pool and on which an output seems to differ.

@@ -3,12 +3,13 @@ ghost use Rattle.word_sim.specs.Patterns.{Patterns};
 ghost use Rattle.lemma_book.specs.Book.{IsLegal};
 ghost use Rattle.lemma_book.specs.Entry.{Entries, with_last};
 ghost use Rattle.lemma_book.specs.Good.{IsGood};
-ghost use Rattle.strash_pass.specs.Strash.{AddsMerges};
+ghost use Rattle.sig_classes.specs.Leader.{IsReduced};
+ghost use Rattle.strash_pass.specs.Strash.{ArePlain};
 ghost use Rattle.sweep_workers.specs.Swept.{IsPoolFor};
 ghost use Rattle.check_session.specs.Begun.{GoesOn, MayBegin};
 ghost use Rattle.check_session.specs.Check.{AreInRange, IsFound};
-ghost use Rattle.check_session.specs.Pool.{Extends, IsAmongOrJoins, IsFirstApart, IsPoolOf, NoneApart};
-ghost use Rattle.check_session.specs.Sweep.{IsSettledFrom};
+ghost use Rattle.check_session.specs.Pool.{IsAmongOrJoins, IsFirstApart, IsPoolOf, NoneApart};
+ghost use Rattle.check_session.specs.Sweep.{AddsStructure, IsSettledFrom};
 
 use crate::counts::Work;
 use crate::laws::{is_swept, is_within, means};
@@ -100,7 +101,7 @@ fn verdict_of_own<T: Threads + Wait + Sync, G: Watch + Sync>(
 ) -> Result<Checked, AllocError>
     requires range { AreInRange options }
     requires begun { MayBegin net.now options (record { book = begun; pool = pool }) }
-    requires structure { AddsMerges begun merged }
+    requires structure { AddsStructure net.now begun merged }
     requires legal { IsLegal net.now merged }
     requires none { NoneApart net.now pool.patterns }
     ensures goes_on { IfOk result (λ c. GoesOn (record { book = begun; pool = pool }) c.book c.pool) }
@@ -171,12 +172,13 @@ fn verdict_of_sweep<T: Threads + Wait + Sync, G: Watch + Sync>(
 ) -> Result<Checked, AllocError>
     requires range { AreInRange options }
     requires begun { MayBegin net.now options (record { book = begun.book; pool = begun.pool }) }
+    requires plain { ArePlain net.now begun.book.entries }
     requires none { NoneApart net.now begun.pool.patterns }
     ensures goes_on { IfOk result
         (λ c. GoesOn (record { book = begun.book; pool = begun.pool }) c.book c.pool) }
-    ensures found { IfOk result (λ c. (old : Entries) (first : Patterns) → AddsMerges old begun.book
-        → MayBegin net.now options (record { book = old; pool = first }) → Extends first begun.pool
-        → IsFound net.now options (record { book = old; pool = first }) (Some c.pool) c.book c.verdict) }
+    ensures found { IfOk result (λ c. (old : Entries) → AddsStructure net.now old begun.book
+        → MayBegin net.now options (record { book = old; pool = begun.pool })
+        → IsFound net.now options (record { book = old; pool = begun.pool }) (Some c.pool) c.book c.verdict) }
 {
     let behind_structure = begun.book.len();
     let mut workers = workers(alloc, options.workers)?;
@@ -218,8 +220,10 @@ fn settled<T: Threads + Wait + Sync, G: Watch + Sync>(
     requires legal { IsLegal net.now begun.book }
     requires pool { IsPoolFor net.now begun.pool }
     requires some { 1 ≤ length workers.old }
-    ensures { IfOk result (λ r. (old : Entries) → AddsMerges old begun.book
-        → IsSettledFrom net.now old begun.pool r.0 r.1) }
+    ensures from { IfOk result (λ r. (old : Entries) → AddsStructure net.now old begun.book
+        → IsSettledFrom net.now (record { book = old; pool = begun.pool }) r.0 r.1) }
+    ensures fits { IfOk result (λ r. IsPoolFor net.now r.1) }
+    ensures reduced { IfOk result (λ r. IsReduced net.now r.0.entries r.1.patterns) }
 {
     let Swept { book, pool, sieve } = sweep_by(rt, alloc, net, begun, gate, workers)?;
     let (book, _sieve) = outputs_by(rt, alloc, net, book, sieve, gate, workers)?;

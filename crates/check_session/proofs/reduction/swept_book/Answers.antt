@@ -13,6 +13,7 @@ sweep_by-requires-clause-pool g c κs lives =
 
 pub returns : goal.returns
 returns g c =
-    swept-book c.args.net.now c.args.options _ _ _ _ _ c.requires.alone c.new-book.ensures c.run.ensures.grows
-    c.in_ok-swept.ensures.sweeps
+    swept-book c.args.net.now c.args.options _ _ _ _ _ c.requires.alone c.new-book.ensures c.in_ok-pool.ensures
+    (record { merges = c.run.ensures.structural; plain = c.in_ok-run.ensures.plain }) c.in_ok-swept.ensures.sweeps
+    c.in_ok-swept.ensures.reduced
     (c.is_swept.ensures _ _ c.in_ok-swept.ensures.pool.whole c.in_ok-swept.ensures.reduced)
