@@ -1,5 +1,5 @@
 -- How one check answers, from what was found and told.
-use Rattle.std.proofs.Common.{◌≡◌, ℕ, List, [], ◌∷◌, ◌++◌, Bool, Option, Some, Ok, Err, refl, sym, ap, ap₂, ◌∙◌, subst}
+use Rattle.std.proofs.Common.{◌≡◌, ℕ, List, [], ◌∷◌, ◌++◌, length, Bool, Option, Some, Ok, Err, refl, sym, ap, ap₂, ◌∙◌, subst}
 use Rattle.std.specs.Prelude.{Result, IfSome}
 use Rattle.desk_port.specs.Desk.{DeskState}
 use Rattle.netlist.specs.Net.{AigPair}
@@ -16,10 +16,10 @@ use Rattle.check_session.specs.Outputs.{finding_of}
 use Rattle.check_session.specs.Begun.{Begun}
 use Rattle.check_session.specs.Check.{State, IsFound}
 use Rattle.netlist_edits.specs.declared.edit.Edit.{Edit}
-use Rattle.check_session.specs.Files.{files_of, LeavesAll, WritesFiles, TellsSpans, AreSpansIn}
+use Rattle.check_session.specs.Files.{files_of, LeavesAll, WritesFiles, TellsLines, TellsSpans, AreSpansIn, proof_lines}
 use Rattle.cec_top.specs.declared.kept.Kept.{Kept}
 use Rattle.cec_top.specs.Script.{Due, due_behind}
-use Rattle.cec_top.specs.Check.{Made, IsMade, IsProof, due_of, kept_of}
+use Rattle.cec_top.specs.Check.{Made, IsMade, IsProof, due_of, kept_of, lines_of}
 use Rattle.cec_top.specs.Progress.{WarnsProgress}
 use Rattle.cec_top.specs.Stats.{Reports}
 use Rattle.cec_top.proofs.WarnedLemmas.{progress-none}
@@ -64,7 +64,7 @@ module _ (s t : State) (wanted : Wanted) (number : ℕ) (v : Verdict) (settles :
     -- it is told whole, and its status is its own
     pub told-whole : (begun mid : DeskState) (status : Status) → after ≡ before → WarnsProgress wanted.progress old begun
         → SaysStatus wanted number check_made begun mid (Ok status)
-        → Reports wanted.stats mid new → ToldWhole (how_in s wanted) number s t old new before after status
+        → Reports wanted.stats check_made.net check_made.book.entries (lines_of wanted.out check_made) mid new → ToldWhole (how_in s wanted) number s t old new before after status
     told-whole begun mid status keeps warns p reports = record {
       made = check_made;
       due_is = due-is;
@@ -108,3 +108,8 @@ module _ (t : State) (v : Verdict) (found_is : t.found ≡ Some (finding_of v)) 
   pub logs-at : (spans : List Span) → TellsSpans t spans → AreSpansIn t.net t.book.entries (finding_of v) spans
   logs-at spans p =
       subst (λ (o : Option Finding). IfSome o (λ f. AreSpansIn t.net t.book.entries f spans)) found_is p
+
+  -- and how many lines the proof has
+  pub lines-are : (n : ℕ) → TellsLines t n → n ≡ length (proof_lines t.net t.book.entries (finding_of v))
+  lines-are n p =
+      subst (λ (o : Option Finding). IfSome o (λ f. n ≡ length (proof_lines t.net t.book.entries f))) found_is p

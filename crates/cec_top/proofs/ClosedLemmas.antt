@@ -20,7 +20,7 @@ use Rattle.command_line.specs.declared.reading.Refusal.{Refusal}
 use Rattle.command_line.specs.declared.reading.Refusal.TheVariants.{Help, Usage, NoMemory}
 use Rattle.cec_top.specs.declared.kept.Kept.{Kept}
 use Rattle.cec_top.specs.Script.{Plan, plan_of}
-use Rattle.cec_top.specs.Check.{How, Made, Opening, AreTold, StopsChecks, left_of, saved_of, text_of_check}
+use Rattle.cec_top.specs.Check.{How, Made, Opening, AreTold, StopsChecks, left_of, lines_of, saved_of, text_of_check}
 use Rattle.cec_top.specs.Answers.{AnswersCheck, OpensNot, Stops, StopsLater, SaysHelp, lemmas_of, pair_of, script_of, after_lemmas, after_pair, at_start, how_of}
 use Rattle.cec_top.specs.SelfCheck.{AnswersSelf, StopsSelf, after_workload, only, own_how, own_opening}
 use Rattle.cec_top.specs.Texts.{workload_text}
@@ -54,7 +54,7 @@ told-closed how number (m ∷ ms) old new told none =
     let os = left_of how.out how.witness number m in
     let text = text_of_check how.out m in
     told-closed how (number + 1) ms told.0 new told.3
-    ((reports-else how.stats told.2.1 told.0 told.2.4).started
+    ((reports-else how.stats m.net m.book.entries (lines_of how.out m) told.2.1 told.0 told.2.4).started
     ∙ ap (λ (s : DeskState). s.started) (left-whole os text told.2.0 told.2.1 told.2.3)
     ∙ after-files-closed os told.2.0 ((progress-else how.progress old told.2.0 told.2.2).started ∙ none))
 

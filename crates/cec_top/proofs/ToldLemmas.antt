@@ -11,7 +11,7 @@ use Rattle.cec_top.specs.Progress.{WarnsProgress}
 use Rattle.cec_top.specs.Stats.{Reports}
 use Rattle.cec_top.specs.Warned.{WarnsOnly}
 use Rattle.cec_top.specs.Headline.{Told, AreNumbered, HasFiles, LeavesUnder, due_of_told}
-use Rattle.cec_top.specs.Check.{How, Made, AreTold, due_of, left_of, outputs_of, text_of_check, witness_files, witness_in}
+use Rattle.cec_top.specs.Check.{How, Made, AreTold, due_of, left_of, lines_of, outputs_of, text_of_check, witness_files, witness_in}
 use Rattle.cec_top.specs.Witness.{witness_text}
 use Rattle.netlist.specs.Net.{AigPair}
 use Rattle.check_session.specs.Finding.{Finding, Equivalent, Different, Undecided}
@@ -261,14 +261,15 @@ one-left stats progress out witness number m old new e =
     }
 
 -- and then its statistics
-reported-left : (stats progress : Bool) (out witness : Option (List ℕ)) (ts : List Told) (old mid new : DeskState) → IsLeft stats progress out witness ts old mid
-    → Reports stats mid new → IsLeft stats progress out witness ts old new
-reported-left stats progress out witness ts old mid new left reports =
-    let k = reports-else stats mid new reports in
+reported-left : (stats progress : Bool) (out witness : Option (List ℕ)) (ts : List Told) (m : Made) (old mid new : DeskState)
+    → IsLeft stats progress out witness ts old mid → Reports stats m.net m.book.entries (lines_of out m) mid new
+    → IsLeft stats progress out witness ts old new
+reported-left stats progress out witness ts m old mid new left reports =
+    let k = reports-else stats m.net m.book.entries (lines_of out m) mid new reports in
     record {
       files = λ before told. k.files ∙ left.files before told;
       said = λ earlier heard. k.said ∙ left.said earlier heard;
-      quiet = warns-then stats progress old mid new left.quiet (reports-warn stats progress mid new reports);
+      quiet = warns-then stats progress old mid new left.quiet (reports-warn stats progress m.net m.book.entries (lines_of out m) mid new reports);
       closed = λ none. k.started ∙ left.closed none;
       reads = k.reads ∙ left.reads;
       writes = k.writes ∙ left.writes;
@@ -319,7 +320,7 @@ all-left how number (m ∷ ms) old new told =
     let t = told.2 in
     both-left how.stats how.progress how.out how.witness (told_of how.out number m) (tolds how.out (number + 1) ms) old told.0 new
     (begun-left how.stats how.progress how.out how.witness told_m old t.0 told.0 t.2
-    (reported-left how.stats how.progress how.out how.witness told_m t.0 t.1 told.0
+    (reported-left how.stats how.progress how.out how.witness told_m m t.0 t.1 told.0
     (one-left how.stats how.progress how.out how.witness number m t.0 t.1
     (left-whole (left_of how.out how.witness number m) (text_of_check how.out m) t.0 t.1 t.3)) t.4))
     (all-left how (number + 1) ms told.0 new told.3)

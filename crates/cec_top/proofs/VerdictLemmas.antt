@@ -31,7 +31,7 @@ use Rattle.cec_top.specs.Headline.{StillShown, LeavesBoth, Told, StillStand, OfF
 use Rattle.check_session.specs.Finding.{Finding, Equivalent, Different, Undecided, open_outputs}
 use Rattle.check_session.specs.Files.{proof_bytes}
 use Rattle.cec_top.specs.Script.{Due, Plan, asked_from, due_behind, plan_of}
-use Rattle.cec_top.specs.Check.{How, Made, Opening, IsMade, AreTold, Ends, GoesOn, due_of, is_undecided, status_of_finding, left_of, text_of_check, last_book, last_finding, kept_of, kept_from, saved_of}
+use Rattle.cec_top.specs.Check.{How, Made, Opening, IsMade, AreTold, Ends, GoesOn, due_of, is_undecided, status_of_finding, left_of, lines_of, text_of_check, last_book, last_finding, kept_of, kept_from, saved_of}
 use Rattle.cec_top.specs.Answers.{EndsCheck, AnswersCheck, how_of, at_start, opening_text}
 use Rattle.cec_top.specs.Progress.{WarnsProgress}
 use Rattle.cec_top.specs.Stats.{Reports}
@@ -367,7 +367,7 @@ module _ (how : How) (from : Opening) (net : AigPair) (old new : DeskState) (sta
     pub warns : WarnsProgress how.progress old begun
     pub mid : DeskState
     pub whole : mid ≡ after_say (after_files begun (left_of how.out how.witness 0 check)) (text_of_check how.out check)
-    pub reports : Reports how.stats mid new
+    pub reports : Reports how.stats check.net check.book.entries (lines_of how.out check) mid new
     pub status_is : status_of_finding check.finding ≡ status
     pub keeps : kept ≡ kept_of 0 check ∷ []
 
@@ -385,7 +385,7 @@ module _ (how : How) (from : Opening) (net : AigPair) (old new : DeskState) (sta
         warns = told.2.2;
         mid = told.2.1;
         whole = left-whole (left_of how.out how.witness 0 m) (text_of_check how.out m) told.2.0 told.2.1 told.2.3;
-        reports = subst (λ (s : DeskState). Reports how.stats told.2.1 s) (sym told.3) told.2.4;
+        reports = subst (λ (s : DeskState). Reports how.stats m.net m.book.entries (lines_of how.out m) told.2.1 s) (sym told.3) told.2.4;
         status_is = same_Some (status_of_finding m.finding) status status_is;
         keeps = keeps;
       }

@@ -5,10 +5,12 @@ use Rattle.std.specs.List.{AllByRecursion}
 use Rattle.std.proofs.lemmas.Bool.{cases_lt}
 use Rattle.desk_port.specs.Desk.{DeskState, Rose, after_warn, followed_by}
 use Rattle.endings.specs.Stops.{IsWarned}
+use Rattle.netlist.specs.Net.{AigPair}
+use Rattle.lemma_book.specs.declared.entry.Entry.{Entry}
 use Rattle.cec_top.specs.declared.stats.Numbers.{Numbers}
 use Rattle.cec_top.specs.declared.progress.Progress.{Progress}
 use Rattle.cec_top.specs.Progress.{AreWarned, WarnsProgress, progress_line}
-use Rattle.cec_top.specs.Stats.{Reports, stats_text}
+use Rattle.cec_top.specs.Stats.{AreNumbersOf, Reports, stats_text}
 use Rattle.cec_top.specs.Warned.{IsText, IsTextPart, WarnsOnly, WarnsTexts, joined}
 
 -- ---- told bytes
@@ -129,12 +131,13 @@ text-once stats progress old new text is (inr p) = record {
   counts = rose-above old.warn_faults new.warn_faults p.2.rose;
 }
 
-pub reports-warn : (stats progress : Bool) (old new : DeskState) → Reports stats old new → WarnsOnly stats progress old new
-reports-warn false progress old new p =
+pub reports-warn : (stats progress : Bool) (net : AigPair) (entries : List Entry) (lines : Option ℕ) (old new : DeskState)
+    → Reports stats net entries lines old new → WarnsOnly stats progress old new
+reports-warn false progress net entries lines old new p =
     warns-none false progress old new (ap (λ (s : DeskState). s.warned) p) (ap (λ (s : DeskState). s.warn_faults) p)
-reports-warn true progress old new (inl p) =
+reports-warn true progress net entries lines old new (inl p) =
     warns-none true progress old new (ap (λ (s : DeskState). s.warned) p) (ap (λ (s : DeskState). s.warn_faults) p)
-reports-warn true progress old new (inr p) = text-once true progress old new (stats_text p.0) (inl (refl, (p.0, refl))) p.1
+reports-warn true progress net entries lines old new (inr p) = text-once true progress old new (stats_text p.0) (inl (refl, (p.0, refl))) p.2
 
 -- a line of progress
 line-warns : (stats : Bool) (old new : DeskState) (p : Progress) → IsWarned old new (progress_line p) → WarnsOnly stats true old new
@@ -169,9 +172,14 @@ progress-more old mid new p first (inr w) = (first.0 ++ p ∷ [], lines-more fir
 
 -- by the text of some numbers
 pub reports-text : (old new : DeskState) (n : Numbers) (text : List ℕ) → text ≡ stats_text n → (new ≡ old) ⊎ IsWarned old new text
-    → Reports true old new
+    → (new ≡ old) ⊎ IsWarned old new (stats_text n)
 reports-text old new n text is (inl p) = inl p
-reports-text old new n text is (inr p) = inr (n, subst (λ (t : List ℕ). IsWarned old new t) is p)
+reports-text old new n text is (inr p) = inr (subst (λ (t : List ℕ). IsWarned old new t) is p)
+
+pub reports-numbers : (net : AigPair) (entries : List Entry) (lines : Option ℕ) (old new : DeskState) (n : Numbers)
+    → AreNumbersOf net entries lines n → (new ≡ old) ⊎ IsWarned old new (stats_text n) → Reports true net entries lines old new
+reports-numbers net entries lines old new n are (inl p) = inl p
+reports-numbers net entries lines old new n are (inr p) = inr (n, are, p)
 
 -- ---- what stays
 
@@ -194,11 +202,12 @@ else-as old new mid is files started said reads writes = record {
   writes = ap (λ (s : DeskState). s.write_faults) is ∙ writes;
 }
 
-pub reports-else : (stats : Bool) (old new : DeskState) → Reports stats old new → IsElse old new
-reports-else false old new p = else-as old new old p refl refl refl refl refl
-reports-else true old new (inl p) = else-as old new old p refl refl refl refl refl
-reports-else true old new (inr (n, inl p)) = else-as old new (after_warn old (stats_text n)) p refl refl refl refl refl
-reports-else true old new (inr (n, inr p)) = else-as old new _ p.2.stays refl refl refl refl refl
+pub reports-else : (stats : Bool) (net : AigPair) (entries : List Entry) (lines : Option ℕ) (old new : DeskState)
+    → Reports stats net entries lines old new → IsElse old new
+reports-else false net entries lines old new p = else-as old new old p refl refl refl refl refl
+reports-else true net entries lines old new (inl p) = else-as old new old p refl refl refl refl refl
+reports-else true net entries lines old new (inr (n, are, inl p)) = else-as old new (after_warn old (stats_text n)) p refl refl refl refl refl
+reports-else true net entries lines old new (inr (n, are, inr p)) = else-as old new _ p.2.stays refl refl refl refl refl
 
 else-then : (old mid new : DeskState) → IsElse old mid → IsElse mid new → IsElse old new
 else-then old mid new p q = record {

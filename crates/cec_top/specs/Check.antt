@@ -20,7 +20,7 @@ use Rattle.proof_stitch.specs.Derivation.{IsDerivation, AreSpans, derivation_of,
 use Rattle.check_session.specs.declared.options.Options.{Options}
 use Rattle.check_session.specs.Finding.{Finding, Equivalent, Different, Undecided, open_outputs}
 use Rattle.check_session.specs.Check.{IsSettled}
-use Rattle.check_session.specs.Files.{files_of}
+use Rattle.check_session.specs.Files.{files_of, proof_lines}
 use Rattle.cec_top.specs.declared.kept.Kept.{Kept}
 use Rattle.cec_top.specs.Script.{Due, Plan, Refused}
 use Rattle.cec_top.specs.Lines.{refused_text}
@@ -100,12 +100,18 @@ witness_in (Some name) net found = witness_files name net found
 abbrev pub left_of : Option (List ℕ) → Option (List ℕ) → ℕ → Made → List Output
 left_of out witness number m = outputs_of out number m ++ witness_in witness m.net m.finding
 
+-- how many lines its proof has, where it writes one
+abbrev pub lines_of : Option (List ℕ) → Made → Option ℕ
+lines_of None m = None
+lines_of (Some prefix) m = Some (length (proof_lines m.net m.book.entries m.finding))
+
 -- While it goes on its progress is warned, if that is asked for; then its files are left and closed, then its verdict is said, and
 -- then its statistics are warned, if they are asked for; or that stops before the verdict is said whole, as the result says.
 abbrev pub Tells : How → ℕ → Made → DeskState → DeskState → Result (Unit {0}) Stop → Type 0
 Tells how number m old new (Ok u) =
     (begun : DeskState) × (mid : DeskState) × WarnsProgress how.progress old begun
-    × Leaves (left_of how.out how.witness number m) (text_of_check how.out m) begun mid (Ok u) × Reports how.stats mid new
+    × Leaves (left_of how.out how.witness number m) (text_of_check how.out m) begun mid (Ok u)
+    × Reports how.stats m.net m.book.entries (lines_of how.out m) mid new
 Tells how number m old new (Err stop) =
     (begun : DeskState) × WarnsProgress how.progress old begun
     × Leaves (left_of how.out how.witness number m) (text_of_check how.out m) begun new (Err stop)

@@ -1,8 +1,12 @@
 -- What is warned of a check behind its verdict, where its statistics are asked for.
-use Rattle.std.specs.Prelude.{◌≡◌, ◌⊎◌, ℕ, ◌/◌, ◌%◌, Bool, true, false, List, [], ◌++◌, codes, decimal, Option, None, Some}
+use Rattle.std.specs.Prelude.{◌≡◌, ◌⊎◌, ℕ, ◌/◌, ◌%◌, Bool, true, false, List, [], ◌++◌, length, codes, decimal, Option, None, Some}
 use Rattle.desk_port.specs.Desk.{DeskState}
 use Rattle.endings.specs.Stops.{IsWarned}
+use Rattle.netlist.specs.Net.{AigPair}
+use Rattle.netlist.specs.Miter.{miter_of}
+use Rattle.lemma_book.specs.declared.entry.Entry.{Entry}
 use Rattle.check_session.specs.declared.counts.Counts.{Counts}
+use Rattle.check_session.specs.Counts.{AreCountsOf}
 use Rattle.cec_top.specs.declared.stats.Numbers.{Numbers}
 use Rattle.cec_top.specs.declared.stats.Sizes.{Sizes}
 use Rattle.cec_top.specs.declared.stats.Times.{Times}
@@ -61,14 +65,29 @@ times_text t =
     ++ time_line (codes "seconds_files") t.telling
 
 -- The lines of a check's statistics: these names in this order, each with its number, but for the lines of a proof that wasn't
--- written and times that aren't known. Nothing is claimed of the numbers: they are what the program counted.
+-- written and times that aren't known.
 abbrev pub stats_text : Numbers → List ℕ
 stats_text n =
     sizes_text n.sizes ++ merges_text n.counts ++ others_text n.counts ++ known_line (codes "proof_lines") n.proof_lines
     ++ times_text n.times
 
--- The statistics of a check are warned, if they are asked for; where the warning failed, a first part of them, and nothing where
--- memory ran out for them. Without being asked for, nothing is warned.
-abbrev pub Reports : Bool → DeskState → DeskState → Type 0
-Reports false old new = new ≡ old
-Reports true old new = (new ≡ old) ⊎ ((n : Numbers) × IsWarned old new (stats_text n))
+-- these are how many gates both circuits have, and how many clauses the CNF of their miter has. Of the levels nothing is claimed.
+pub record AreSizesOf (net : AigPair) (s : Sizes) : Type 0 where
+  pub gates_a : s.gates_a ≡ length net.a.gates
+  pub gates_b : s.gates_b ≡ length net.b.gates
+  pub clauses : s.clauses ≡ length (miter_of net)
+
+-- The numbers of a check of these circuits, whose book has these entries, and whose proof has so many lines, where one was
+-- written: they count what they are named for. Of the levels, of how the check went about it (patterns, rounds, kept entries, merges,
+-- conflicts) and of times nothing is claimed.
+pub record AreNumbersOf (net : AigPair) (entries : List Entry) (lines : Option ℕ) (n : Numbers) : Type 0 where
+  pub sizes_are : AreSizesOf net n.sizes
+  pub counts_are : AreCountsOf entries n.counts
+  pub lines_are : n.proof_lines ≡ lines
+
+-- The statistics of such a check are warned, if they are asked for; where the warning failed, a first part of them, and nothing
+-- where memory ran out for them. Without being asked for, nothing is warned.
+abbrev pub Reports : Bool → AigPair → List Entry → Option ℕ → DeskState → DeskState → Type 0
+Reports false net entries lines old new = new ≡ old
+Reports true net entries lines old new =
+    (new ≡ old) ⊎ ((n : Numbers) × AreNumbersOf net entries lines n × IsWarned old new (stats_text n))

@@ -1,7 +1,7 @@
-ghost use Rattle.std.specs.Prelude.{◌≡◌, None, Some, IfOk, option_map};
+ghost use Rattle.std.specs.Prelude.{◌≡◌, None, Some, IfOk, OnOk, option_map};
 ghost use Rattle.check_session.specs.Files.{stop_of_stitch};
 ghost use Rattle.check_session.specs.Outputs.{ListsOpen, finding_of};
-ghost use Rattle.cec_top.specs.Check.{status_of_finding};
+ghost use Rattle.cec_top.specs.Check.{lines_of, status_of_finding};
 ghost use Rattle.cec_top.specs.Script.{Due};
 ghost use Rattle.cec_top.specs.Steps.{Checks, LeavesTextOf, SaysStatus, how_in, made_in, wanted_in};
 
@@ -78,8 +78,8 @@ pub(crate) fn check<D: Desk, G: Gate + Sync>(
 }
 
 /// Leaves the files of the session's last check, which has this number, if there is a prefix for them, and its
-/// witness, if one is wanted, and says its verdict. What a verdict speaks of stands before it is said. The lines of
-/// the proof are noted for whoever asks for them; nothing is claimed of them.
+/// witness, if one is wanted, and says its verdict. What a verdict speaks of stands before it is said. How many lines
+/// the proof has is noted for whoever asks for it.
 fn tell<D: Desk>(
     alloc: Global,
     desk: &mut D,
@@ -92,8 +92,10 @@ fn tell<D: Desk>(
     requires started { (D.state desk.old).started ≡ None }
     requires found { session.now.found ≡ Some (finding_of verdict.now) }
     requires open { ListsOpen session.now.net session.now.book.entries verdict.now }
-    ensures { (due : Due) → SaysStatus (wanted_in wants.entry) number
+    ensures says { (due : Due) → SaysStatus (wanted_in wants.entry) number
         (made_in due session.now verdict.now) (D.state desk.old) (D.state desk.new) result }
+    ensures lines { OnOk result ((due : Due) → proof_lines.new
+        ≡ lines_of (wanted_in wants.entry).out (made_in due session.now verdict.now)) }
 {
     let text = leave_files(
         alloc,
@@ -126,9 +128,14 @@ fn leave_files<D: Desk>(
     ensures files { (due : Due) → LeavesTextOf (option_map (λ s. s.now) out.entry) number
         (made_in due session.now verdict.now) (D.state desk.old) (D.state desk.new) result }
     ensures started { IfOk result (λ _. (D.state desk.new).started ≡ None) }
+    ensures lines { OnOk result ((due : Due) → proof_lines.new
+        ≡ lines_of (option_map (λ s. s.now) out.entry) (made_in due session.now verdict.now)) }
 {
     match out {
-        None => Ok(plain_text(alloc, verdict)?),
+        None => {
+            *proof_lines = None;
+            Ok(plain_text(alloc, verdict)?)
+        }
         Some(prefix) => {
             let mut lines = 0;
             match session.write_counted(alloc, desk, prefix, number, &mut lines) {

@@ -1,7 +1,7 @@
 //! The statistics of a check, which are warned behind its verdict where they are asked for.
 ghost use Rattle.std.specs.Prelude.{◌≡◌, ◌⊎◌, ◌++◌, true, decimal, IfOk, OnOk};
 ghost use Rattle.endings.specs.Stops.{IsWarned};
-ghost use Rattle.cec_top.specs.Stats.{Reports, count_line, known_line, merges_text, others_text, parts_text, seconds_line, sizes_text, stats_text, time_line, times_text};
+ghost use Rattle.cec_top.specs.Stats.{AreSizesOf, Reports, count_line, known_line, merges_text, others_text, parts_text, seconds_line, sizes_text, stats_text, time_line, times_text};
 
 use crate::watched::Parts;
 use check_session::{Counts, Session};
@@ -88,7 +88,8 @@ pub(crate) fn report<D: Desk>(
     is_wanted: bool,
     marks: Marks,
 )
-    ensures { Reports is_wanted (D.state desk.old) (D.state desk.new) }
+    ensures { Reports is_wanted session.now.net session.now.book.entries marks.proof_lines
+        (D.state desk.old) (D.state desk.new) }
 {
     if is_wanted {
         report_numbers(alloc, desk, session, marks);
@@ -97,7 +98,8 @@ pub(crate) fn report<D: Desk>(
 
 /// Warns of them, where there is memory for the numbers.
 fn report_numbers<D: Desk>(alloc: Global, desk: &mut D, session: &Session, marks: Marks)
-    ensures { Reports true (D.state desk.old) (D.state desk.new) }
+    ensures { Reports true session.now.net session.now.book.entries marks.proof_lines
+        (D.state desk.old) (D.state desk.new) }
 {
     match sizes_of(alloc, session.net()) {
         Ok(sizes) => {
@@ -115,7 +117,8 @@ fn report_numbers<D: Desk>(alloc: Global, desk: &mut D, session: &Session, marks
 
 /// Warns of these numbers, where there is memory for their text.
 fn warn_numbers<D: Desk>(alloc: Global, desk: &mut D, numbers: Numbers)
-    ensures { Reports true (D.state desk.old) (D.state desk.new) }
+    ensures { (D.state desk.new ≡ D.state desk.old)
+        ⊎ IsWarned (D.state desk.old) (D.state desk.new) (stats_text numbers) }
 {
     match stats_text(alloc, numbers) {
         Ok(text) => warn_text(desk, text.as_slice()),
@@ -145,7 +148,9 @@ fn times_of(marks: Marks) -> Times {
     }
 }
 
-fn sizes_of(alloc: Global, net: &Net) -> Result<Sizes, AllocError> {
+fn sizes_of(alloc: Global, net: &Net) -> Result<Sizes, AllocError>
+    ensures { IfOk result (AreSizesOf net.now) }
+{
     let (a, b) = (net.circuit(Side::A), net.circuit(Side::B));
     Ok(Sizes {
         gates_a: a.gates().len() as u64,

@@ -1,7 +1,8 @@
-use Rattle.std.proofs.Common.{List, [], ◌∷◌, ◌++◌, inl, inr, ap₂, ◌∙◌}
+use Rattle.std.proofs.Common.{List, [], ◌∷◌, ◌++◌, ℕ, Option, inl, inr, ap₂, ◌∙◌, subst}
 use Rattle.std.proofs.lemmas.Result.{err_from_is_err_and}
 use Rattle.lemma_book.specs.Entry.{Entries}
 use Rattle.cec_top.specs.declared.kept.Kept.{Kept}
+use Rattle.cec_top.specs.Stats.{Reports}
 use Rattle.cec_top.specs.Steps.{due_in, wanted_in}
 use Rattle.cec_top.proofs.CheckLemmas.{not-begun, told-whole, told-in-part}
 use Rattle.cec_top.proofs.WarnedLemmas.{progress-else}
@@ -22,10 +23,13 @@ tell-requires-clause-started g c =
 pub returns-in-Ok : goal.returns-in-Ok
 returns-in-Ok g c =
     let s = c.args.session.now in
+    let t = c.settle.new.session in
     told-whole s c.settle.new.session (wanted_in c.args.wants) c.args.number c.in_ok-verdict.verdict c.in_ok-verdict.ensures.ok
     (g.D.Desk.state c.args.desk.now) (g.D.Desk.state c.report.new.desk) c.args.kept.now.items c.reserve.new.self.items
     (g.D.Desk.state c.settle.new.desk) (g.D.Desk.state c.tell.new.desk) c.in-Ok.status c.in_ok-reserve.ensures.items c.settle.ensures.warns
-    (c.in-Ok.ensures (due_in s)) c.report.ensures
+    (c.in-Ok.ensures.says (due_in s))
+    (subst (λ (n : Option ℕ). Reports c.args.wants.stats t.net t.book.entries n (g.D.Desk.state c.tell.new.desk) (g.D.Desk.state c.report.new.desk))
+    (c.in-Ok.ensures.lines (due_in s)) c.report.ensures)
 
 pub returns : goal.returns
 returns g c =
@@ -35,4 +39,4 @@ returns g c =
     (g.D.Desk.state c.settle.new.desk) c.in-Err.stop
     (c.push_reserved.ensures.items
     ∙ ap₂ (λ (ks : List Kept) (b : Entries). ks ++ record { check = c.args.number; book = b } ∷ []) c.in_ok-reserve.ensures.items
-    c.take_book.ensures.taken) c.settle.ensures.warns (c.in-Err.ensures (due_in s)))
+    c.take_book.ensures.taken) c.settle.ensures.warns (c.in-Err.ensures.says (due_in s)))

@@ -1,11 +1,11 @@
-use Rattle.std.proofs.Common.{◌≡◌, ◌∙◌, ℕ, List, Option, Ok, Err, Bor, inl, inr, option_map, refl, ap}
+use Rattle.std.proofs.Common.{◌≡◌, ◌∙◌, ℕ, List, Option, Some, Ok, Err, Bor, inl, inr, option_map, refl, ap}
 use Rattle.std.proofs.lemmas.Result.{err_from_is_err_and}
 use Rattle.desk_port.specs.Desk.{DeskState}
 use Rattle.check_session.specs.Outputs.{finding_of}
 use Rattle.proof_stitch.specs.declared.logs.Span.{Span}
 use Rattle.cec_top.specs.Check.{text_of}
 use Rattle.cec_top.specs.Texts.{open_text_with}
-use Rattle.cec_top.proofs.CheckLemmas.{leaves, logs-at}
+use Rattle.cec_top.proofs.CheckLemmas.{leaves, lines-are, logs-at}
 use Rattle.cec_top.proofs.TellLemmas.{lines-text, plain-text}
 use Rattle.cec_top.proofs.checking.leave_files.Goals as goal
 
@@ -64,3 +64,11 @@ returns-in-Err-clause-files g c = λ due.
     rw (c.stop_of.ensures, c.in-Some.is)
     (inl (leaves t v c.requires.found {A = Unit {0}} c.args.number c.in-Some.prefix.now (g.D.Desk.state c.args.desk.now)
     (g.D.Desk.state c.write_counted.new.desk) (Err c.in-Err.fault) c.in-Err.ensures.files))
+
+pub returns-in_ok-text_with_lines-in-Ok-clause-lines : goal.returns-in_ok-text_with_lines-in-Ok-clause-lines
+returns-in_ok-text_with_lines-in-Ok-clause-lines g c = λ due.
+    rw c.in-Some.is
+    (ap (λ (n : ℕ). Some n) (lines-are c.args.session.now c.args.verdict.now c.requires.found c.write_counted.new.lines c.in-Ok.ensures.lines))
+
+pub returns-in_ok-plain_text-in-None-clause-lines : goal.returns-in_ok-plain_text-in-None-clause-lines
+returns-in_ok-plain_text-in-None-clause-lines g c = λ due. rw c.in-None.is refl
