@@ -47,6 +47,7 @@ is-right how a circuit book s reduction net proves =
         sweep_budget = r.book_of.sweep_is;
         out_budget = r.book_of.budget_is;
         legal = r.book_of.legal;
+        alone = r.alone;
         swept = r.swept;
         reduced = r.reduced;
         values = r.values;

@@ -206,6 +206,7 @@ reduced-by c old before told r reads is_right written kept keeps = record {
   sweep_budget = is_right.sweep_budget;
   out_budget = is_right.out_budget;
   legal = is_right.legal;
+  alone = is_right.alone;
   swept = is_right.swept;
   reduced = is_right.reduced;
   values = is_right.values;

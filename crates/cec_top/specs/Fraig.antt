@@ -11,7 +11,7 @@ use Rattle.lemma_book.specs.Book.{IsLegal}
 use Rattle.sig_classes.specs.Leader.{IsSwept}
 use Rattle.fraig_write.specs.Reduced.{HasValuesOf, IsReducedCircuit}
 use Rattle.check_session.specs.Finding.{Equivalent}
-use Rattle.check_session.specs.Reduction.{swept_pair}
+use Rattle.check_session.specs.Reduction.{swept_pair, IsSweptAlone}
 use Rattle.command_line.specs.Words.{FraigCommand}
 use Rattle.endings.specs.Reading.{Input, AreRead, ReadsUpTo, after_reads}
 use Rattle.endings.specs.Writing.{Output, Leaves}
@@ -52,12 +52,13 @@ pub record Reduction : Type 0 where
 abbrev pub both : Reduction → Made
 both r = record { net = r.net; edits = []; book = r.proof; finding = Equivalent }
 
--- It is right under these numbers: the circuit was swept against one without gates, the reduced one is what that book leaves of it
--- and has its values, and both are equivalent.
+-- It is right under these numbers: the circuit was swept against one without gates, beginning with the patterns of the seed, the
+-- reduced one is what that book leaves of it and has its values, and both are equivalent.
 pub record IsRight (how : How) (r : Reduction) : Type 0 where
   pub sweep_budget : r.book.sweep_budget ≡ how.options.sweep_budget
   pub out_budget : r.book.out_budget ≡ how.options.out_budget
   pub legal : IsLegal (swept_pair r.net.a) r.book
+  pub alone : IsSweptAlone r.net.a how.options r.book
   pub swept : IsSwept (swept_pair r.net.a) r.book.entries
   pub reduced : IsReducedCircuit r.net.a r.book.entries r.net.b
   pub values : HasValuesOf r.net.a r.net.b

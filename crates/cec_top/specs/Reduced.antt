@@ -11,12 +11,12 @@ use Rattle.lemma_book.specs.Book.{IsLegal}
 use Rattle.sig_classes.specs.Leader.{IsSwept}
 use Rattle.fraig_write.specs.Reduced.{HasValuesOf, IsReducedCircuit}
 use Rattle.check_session.specs.Files.{cnf_name, proof_name, cnf_text_of}
-use Rattle.check_session.specs.Reduction.{swept_pair}
+use Rattle.check_session.specs.Reduction.{swept_pair, IsSweptAlone}
 use Rattle.command_line.specs.Words.{FraigCommand}
 use Rattle.endings.specs.Stops.{IsWarned, file_line}
 use Rattle.cec_top.specs.declared.kept.Kept.{Kept}
 use Rattle.cec_top.specs.Complete.{IsWithinLimit}
-use Rattle.cec_top.specs.Fraig.{reduced_text}
+use Rattle.cec_top.specs.Fraig.{fraig_how, reduced_text}
 use Rattle.cec_top.specs.Headline.{RefutesMiter}
 use Rattle.cec_top.specs.Refused.{HasFault}
 
@@ -36,8 +36,9 @@ pub record IsOther (c : FraigCommand) (q : List ℕ) : Type 0 where
   pub proof : IfSome c.out (λ prefix. q ≢ proof_name prefix 0)
 
 -- The named file spells circuit A of this net. The book that is handed back, as check 0, is of A against a circuit without gates: it
--- is legal, under the budgets that were asked for and are given, and swept. Circuit B is what the book leaves of A; it has A's value at
--- every output and every constraint on every input, and its text spells it.
+-- is legal, under the budgets that were asked for and are given, and swept. It was made by a sweep from the patterns that the seed and
+-- the words draw which were asked for: the merges of the structure, and then what was settled of pairs of nodes. Circuit B is what the
+-- book leaves of A; it has A's value at every output and every constraint on every input, and its text spells it.
 pub record IsReducedBy (c : FraigCommand) (kept : List Kept) (before : Files) (net : AigPair) : Type 0 where
   pub spells_a : IsSomeAnd (before c.a) (λ bytes. SpellsAiger bytes net.a)
   pub book : Entries
@@ -45,6 +46,7 @@ pub record IsReducedBy (c : FraigCommand) (kept : List Kept) (before : Files) (n
   pub sweep_budget : book.sweep_budget ≡ c.sweep_budget
   pub out_budget : book.out_budget ≡ 100000
   pub legal : IsLegal (swept_pair net.a) book
+  pub alone : IsSweptAlone net.a (fraig_how c).options book
   pub swept : IsSwept (swept_pair net.a) book.entries
   pub reduced : IsReducedCircuit net.a book.entries net.b
   pub values : HasValuesOf net.a net.b
