@@ -23,7 +23,7 @@ FORMATS = 'SpellsAiger'
 # The page of a reduced circuit, and what it says of the book by which the circuit is reduced.
 REDUCED_HOME = 'cec_top/specs/Reduced'
 REDUCED = 'IsReducedTo'
-BOOK = ('IsLegal', 'IsSwept', 'IsReducedCircuit')
+BOOK = ('IsLegal', 'IsSwept', 'IsSweptAlone', 'IsReducedCircuit')
 SAID = ('EQUIVALENT without the written files {}, of which {} are the two forms of AIGER, and with them {}; DIFFERENT {}; '
         'UNDECIDED {}; VERIFIED {}; EQUIVALENT of `fraig` {}, and without what it says of the book {}.')
 
