@@ -4,7 +4,7 @@ ghost use Rattle.lemma_book.specs.Book.{IsLegal};
 ghost use Rattle.lemma_book.specs.Good.{IsGood};
 
 use lemma_book::{Book, Entry, Judgement};
-use lits::{Clause, Listed, Lit, Node, Ref, Side, Step};
+use lits::{Clause, Hints, Listed, Lit, Node, Ref, Side, Step};
 use netlist::Net;
 use std::alloc::Global;
 
@@ -27,7 +27,7 @@ pub(crate) fn swapped_ands(alloc: Global) -> Option<Net> {
 
 fn step(alloc: Global, lits: &[Lit], hints: &[Ref]) -> Option<Step> {
     let clause = Clause::of(alloc, lits).ok()?;
-    let hints = Listed::of(Vec::from_slice(alloc, hints).ok()?);
+    let hints = Hints::of(Vec::from_slice(alloc, hints).ok()?);
     Some(Step { clause, hints })
 }
 
@@ -70,8 +70,21 @@ fn merge(alloc: Global) -> Option<Entry> {
     })
 }
 
+/// Whether the hints are these names, in order.
+fn are_names(hints: &Hints, names: &[Ref]) -> bool {
+    if hints.len() != names.len() {
+        return false;
+    }
+    for place in 0..hints.len() {
+        if hints.at(place) != names[place] {
+            return false;
+        }
+    }
+    true
+}
+
 fn is_step(step: &Step, (lits, hints): &([Lit; 2], [Ref; 3])) -> bool {
-    step.clause.lits() == lits.as_slice() && step.hints.as_slice() == hints.as_slice()
+    step.clause.lits() == lits.as_slice() && are_names(&step.hints, hints)
 }
 
 fn are_steps(steps: &[Step]) -> bool {

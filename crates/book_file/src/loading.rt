@@ -8,7 +8,7 @@ ghost use Rattle.book_file.specs.Loaded.{IsLoaded, cites_among, hint_among, is_t
 ghost use Rattle.book_file.specs.Loading.{TakesGood, PutsOrPasses, TakesOrPasses};
 
 use lemma_book::{Book, Entry, Judge, Judgement};
-use lits::{Listed, Ref, Step};
+use lits::{Hints, Listed, Ref, Step};
 use netlist::Net;
 use std::alloc::{AllocError, Global};
 use std::mem::replace;
@@ -79,7 +79,7 @@ fn is_put(
         return Ok(false);
     }
     let mut entry = entry;
-    renumber(alloc, numbers, &mut entry);
+    renumber(alloc, numbers, &mut entry)?;
     is_good_put(alloc, net, judge, book, entry)
 }
 
@@ -145,10 +145,12 @@ fn steps_cite_taken(numbers: &[Option<u64>], steps: &[Step]) -> bool
 fn step_cites_taken(numbers: &[Option<u64>], step: &Step) -> bool
     ensures { result ≡ list_all (hint_among (is_taken numbers.now)) step.now.hints }
 {
-    step.hints
-        .as_slice()
-        .iter()
-        .all(|hint| hint_is_taken(numbers, *hint))
+    for place in 0..step.hints.len() {
+        if !hint_is_taken(numbers, step.hints.at(place)) {
+            return false;
+        }
+    }
+    true
 }
 
 fn hint_is_taken(numbers: &[Option<u64>], hint: Ref) -> bool
@@ -170,37 +172,46 @@ fn is_taken(numbers: &[Option<u64>], place: u64) -> bool
 }
 
 /// Puts the numbers in the book of those that the entry cites into the entry.
-fn renumber(alloc: Global, numbers: &[Option<u64>], entry: &mut Entry)
-    ensures { entry.new ≡ renumbered (number_in numbers.now) entry.old }
+fn renumber(alloc: Global, numbers: &[Option<u64>], entry: &mut Entry) -> Result<(), AllocError>
+    ensures { OnOk result (entry.new ≡ renumbered (number_in numbers.now) entry.old) }
 {
     match entry {
         Entry::Merge { steps, .. } => renumber_steps(alloc, numbers, steps),
         Entry::Out { steps, .. } => renumber_steps(alloc, numbers, steps),
         Entry::Spent { log, .. } => renumber_steps(alloc, numbers, log),
         Entry::OutSpent { log, .. } => renumber_steps(alloc, numbers, log),
-        Entry::Apart { .. } => {}
-        Entry::OutApart { .. } => {}
+        Entry::Apart { .. } => Ok(()),
+        Entry::OutApart { .. } => Ok(()),
     }
 }
 
-fn renumber_steps(alloc: Global, numbers: &[Option<u64>], steps: &mut Listed<Step>)
-    ensures { steps.new ≡ map (renewed_step (number_in numbers.now)) steps.old }
+fn renumber_steps(
+    alloc: Global,
+    numbers: &[Option<u64>],
+    steps: &mut Listed<Step>,
+) -> Result<(), AllocError>
+    ensures { OnOk result (steps.new ≡ map (renewed_step (number_in numbers.now)) steps.old) }
 {
     let mut list = replace(steps, Listed::of(Vec::new(alloc))).into_vec();
     for step in list.iter_mut() {
-        renumber_hints(alloc, numbers, &mut step.hints);
+        step.hints = renumbered_hints(alloc, numbers, &step.hints)?;
     }
     *steps = Listed::of(list);
+    Ok(())
 }
 
-fn renumber_hints(alloc: Global, numbers: &[Option<u64>], hints: &mut Listed<Ref>)
-    ensures { hints.new ≡ map (renewed_hint (number_in numbers.now)) hints.old }
+fn renumbered_hints(
+    alloc: Global,
+    numbers: &[Option<u64>],
+    hints: &Hints,
+) -> Result<Hints, AllocError>
+    ensures { IfOk result (λ h. h ≡ map (renewed_hint (number_in numbers.now)) hints.now) }
 {
-    let mut list = replace(hints, Listed::of(Vec::new(alloc))).into_vec();
-    for hint in list.iter_mut() {
-        *hint = renumbered_hint(numbers, *hint);
+    let mut renumbered = Vec::with_capacity(alloc, hints.len())?;
+    for place in 0..hints.len() {
+        renumbered.push(renumbered_hint(numbers, hints.at(place)))?;
     }
-    *hints = Listed::of(list);
+    Ok(Hints::of(renumbered))
 }
 
 fn renumbered_hint(numbers: &[Option<u64>], hint: Ref) -> Ref

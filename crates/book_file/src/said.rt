@@ -6,7 +6,7 @@ ghost use Rattle.book_file.specs.Lines.{said_in, said_by, is_header, literals_in
 use crate::clause::clause_of;
 use crate::parts::Words;
 use crate::words::{index_in, literal_in, name_in, node_in};
-use lits::{Listed, Lit, Node, Ref, Step};
+use lits::{Hints, Lit, Node, Ref, Step};
 use std::alloc::{AllocError, Global};
 
 /// What a line of a lemma file says.
@@ -159,7 +159,7 @@ fn step_of(alloc: Global, lits: &[Lit], names: Vec<Ref>) -> Result<Option<Step>,
 {
     match clause_of(alloc, lits)? {
         Some(clause) => {
-            let hints = Listed::of(names);
+            let hints = Hints::of(names);
             Ok(Some(Step { clause, hints }))
         }
         None => Ok(None),

@@ -15,7 +15,7 @@ use crate::loading::number_in;
 use byte_scan::NUMBER_LIMIT;
 use desk_port::{Desk, PutErr, put_in_pieces};
 use lemma_book::{Book, Entry};
-use lits::{Lit, Node, Ref, Side, Step};
+use lits::{Hints, Lit, Node, Ref, Side, Step};
 use std::alloc::{AllocError, Global};
 use tokens::push_number;
 
@@ -187,7 +187,7 @@ fn push_step(text: &mut Vec<u8>, numbers: &[Option<u64>], step: &Step) -> Result
     text.extend_from_slice(b"s")?;
     push_literals(text, step.clause.lits())?;
     text.extend_from_slice(b" ;")?;
-    push_names(text, numbers, step.hints.as_slice())?;
+    push_names(text, numbers, &step.hints)?;
     text.extend_from_slice(b"\n")
 }
 
@@ -204,14 +204,14 @@ fn push_literals(text: &mut Vec<u8>, lits: &[Lit]) -> Result<(), AllocError>
 }
 
 /// Appends the names of clauses, each with a space in front, those of entries' clauses by these numbers.
-fn push_names(text: &mut Vec<u8>, numbers: &[Option<u64>], hints: &[Ref]) -> Result<(), AllocError>
+fn push_names(text: &mut Vec<u8>, numbers: &[Option<u64>], hints: &Hints) -> Result<(), AllocError>
     ensures text { OnOk result (text.new.items ≡ text.old.items
         ++ spaced (map name_text (map (renewed_hint (number_in numbers.now)) hints.now))) }
     ensures fit { OnOk result (AllByRecursion FitsName hints.now) }
 {
-    for hint in hints {
+    for place in 0..hints.len() {
         text.push(b' ')?;
-        push_name(text, numbers, *hint)?;
+        push_name(text, numbers, hints.at(place))?;
     }
     Ok(())
 }

@@ -6,7 +6,7 @@
 //! of A. Numbers have one digit.
 
 use lemma_book::Entry;
-use lits::{Clause, Listed, Lit, Node, Ref, Side, Step};
+use lits::{Clause, Hints, Listed, Lit, Node, Ref, Side, Step};
 use std::alloc::Global;
 use std::process::Abort;
 
@@ -103,13 +103,26 @@ fn step(rt: &impl Abort, alloc: Global, clause: &str, hints: &str) -> Step {
     }
 }
 
-/// Whether both steps add one clause by the same hints.
-fn is_same(step: &Step, other: &Step) -> bool {
-    step.clause.lits() == other.clause.lits() && step.hints.as_slice() == other.hints.as_slice()
+/// Whether the hints are the same names, each in the same order.
+fn are_same_names(hints: &Hints, others: &Hints) -> bool {
+    if hints.len() != others.len() {
+        return false;
+    }
+    for place in 0..hints.len() {
+        if hints.at(place) != others.at(place) {
+            return false;
+        }
+    }
+    true
 }
 
-/// Whether they are the same steps.
-fn are_same(steps: &[Step], others: &[Step]) -> bool {
+/// Whether both steps add one clause by the same hints.
+fn is_same(step: &Step, other: &Step) -> bool {
+    step.clause.lits() == other.clause.lits() && are_same_names(&step.hints, &other.hints)
+}
+
+/// Whether the steps have the same clauses by the same hints, each in the same order.
+pub(crate) fn are_same(steps: &[Step], others: &[Step]) -> bool {
     if steps.len() != others.len() {
         return false;
     }
@@ -148,12 +161,12 @@ fn of_clause(rt: &impl Abort, alloc: Global, text: &str) -> Clause<Lit> {
     Clause::of(alloc, lits.as_slice()).expect(rt, "memory")
 }
 
-fn of_hints(rt: &impl Abort, alloc: Global, text: &str) -> Listed<Ref> {
+fn of_hints(rt: &impl Abort, alloc: Global, text: &str) -> Hints {
     let mut names = Vec::new(alloc);
     for word in text.split_whitespace() {
         names.push(name(rt, word.as_bytes())).expect(rt, "memory");
     }
-    Listed::of(names)
+    Hints::of(names)
 }
 
 /// The literal of a word.

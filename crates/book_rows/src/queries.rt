@@ -5,12 +5,13 @@ ghost use Rattle.lemma_book.specs.Good.{IsEarlier};
 ghost use Rattle.cone_query.specs.Query.{IsGate};
 
 use crate::bounds::{and_that_is_asked, and_that_is_false, and_that_one_admits};
+use crate::entries::{are_same, steps};
 use crate::lemmas::{MERGED, book_of};
 use crate::pairs::{Case, check, expect, swapped_ands, two_xors};
 use cone_query::{output, pair};
 use equal_outputs::equal_output;
 use lemma_book::{Book, Entry, Task};
-use lits::{Lit, Node, Ref, Side, Step};
+use lits::{Lit, Node, Side, Step};
 use netlist::Net;
 use solver_plain::PlainSolver;
 use std::alloc::Global;
@@ -75,40 +76,9 @@ fn answer_of_merged(rt: &impl Abort, alloc: Global, net: &Net) -> Entry {
     entry.expect(rt, "equal roots")
 }
 
-fn is_step(step: &Step, lits: &[Lit], hints: &[Ref]) -> bool {
-    step.clause.lits() == lits && step.hints.as_slice() == hints
-}
-
-const FIRST_HINTS: [Ref; 2] = [Ref::Entry(0, 0), Ref::Axiom(Node::Xor(0), 0)];
-
-const SECOND_HINTS: [Ref; 3] = [Ref::Own(0), Ref::Entry(0, 1), Ref::Axiom(Node::Xor(0), 1)];
-
-const EQUAL: Lit = Lit {
-    node: Node::Xor(0),
-    neg: true,
-};
-
-const GATE: Lit = Lit {
-    node: Node::Gate(Side::A, 3),
-    neg: false,
-};
-
-const FIRST_CLAUSE: [Lit; 2] = [EQUAL, GATE];
-
-const SECOND_CLAUSE: [Lit; 1] = [EQUAL];
-
-/// Whether these are the two steps over the merge and the XOR: by the merge's first clause a false output
-/// of A makes that of B false, and by its second a true one makes it true, so where the XOR is true
-/// neither can be.
-fn are_steps(steps: &[Step]) -> bool {
-    match steps {
-        [first, second] => {
-            is_step(first, &FIRST_CLAUSE, &FIRST_HINTS)
-                && is_step(second, &SECOND_CLAUSE, &SECOND_HINTS)
-        }
-        _ => false,
-    }
-}
+/// The two steps over the merge and the XOR: by the merge's first clause a false output of A makes that of B
+/// false, and by its second a true one makes it true, so where the XOR is true neither can be.
+const TWO_STEPS: &str = "-d0 a3 by e0.0 d0.0; -d0 by s0 e0.1 d0.1";
 
 /// What is asked.
 enum Asked {
@@ -135,13 +105,13 @@ fn answer(rt: &impl Abort, alloc: Global, net: &Net, asked: &Asked) -> Entry {
 }
 
 /// The answer in words.
-fn words_of(entry: &Entry) -> &'static str {
+fn words_of(rt: &impl Abort, alloc: Global, entry: &Entry) -> &'static str {
     match entry {
         Entry::Merge { node, lit, .. } => words_of_merge(*node, *lit),
         Entry::Apart { node, lit, input } if matches!(input.as_slice(), [true, false]) => {
             words_of_apart(*node, *lit)
         }
-        Entry::Out { output: 0, steps } => words_of_steps(steps.as_slice()),
+        Entry::Out { output: 0, steps } => words_of_steps(rt, alloc, steps.as_slice()),
         Entry::OutApart { output: 0, input } if matches!(input.as_slice(), [false, true]) =>
             "differs on 01",
         Entry::OutSpent { seen: 0, log, .. } if log.len() == 1 => "a log of one clause",
@@ -165,8 +135,8 @@ fn words_of_apart(node: Node, lit: Lit) -> &'static str {
     }
 }
 
-fn words_of_steps(steps: &[Step]) -> &'static str {
-    if are_steps(steps) {
+fn words_of_steps(rt: &impl Abort, alloc: Global, found: &[Step]) -> &'static str {
+    if are_same(found, steps(rt, alloc, TWO_STEPS).as_slice()) {
         "equal by two steps"
     } else {
         "equal"
@@ -183,7 +153,7 @@ impl Case for Questions {
     fn check<A: Abort>(&self, rt: &A, alloc: Global, net: &Net) {
         for (asked, expected) in self.0 {
             let entry = answer(rt, alloc, net, asked);
-            expect(rt, expected, words_of(&entry) == *expected);
+            expect(rt, expected, words_of(rt, alloc, &entry) == *expected);
         }
     }
 }

@@ -1,7 +1,6 @@
-use crate::entries::{entry, lit};
+use crate::entries::{are_same, entry, lit};
 use crate::pairs::{Case, check, expect, net_of, swapped_ands, two_xors};
 use lemma_book::{Book, Entry};
-use lits::Step;
 use netlist::Net;
 use std::alloc::Global;
 use std::process::Abort;
@@ -18,15 +17,6 @@ fn passed(rt: &impl Abort, alloc: Global, net: &Net, merges: u64) -> Book {
     expect(rt, "the count", count == merges);
     expect(rt, "the merges", book.len() == merges);
     book
-}
-
-/// Whether the steps have the same clauses by the same hints, each in the same order.
-fn are_same(steps: &[Step], others: &[Step]) -> bool {
-    steps.len() == others.len()
-        && steps.iter().zip(others).all(|(step, other)| {
-            step.clause.lits() == other.clause.lits()
-                && step.hints.as_slice() == other.hints.as_slice()
-        })
 }
 
 /// Whether the book's entry at the place is this merge, step by step and hint by hint.

@@ -1,5 +1,5 @@
 use crate::table::{at, count, put};
-use lits::{Listed, Ref, Step};
+use lits::{Hints, Ref, Step};
 use std::alloc::{AllocError, Global};
 
 /// Equalities of nodes that the book doesn't have, with the steps that show them.
@@ -114,17 +114,17 @@ fn push_renamed(
     many: u32,
     proof: &mut Vec<Step>,
 ) -> Result<(), AllocError> {
-    let hints = Listed::of(names(alloc, step.hints.as_slice(), numbers, many)?);
+    let hints = Hints::of(names(alloc, &step.hints, numbers, many)?);
     let clause = step.clause.copy()?;
     proof.push(Step { clause, hints })?;
     Ok(())
 }
 
 /// What the hints are called in a proof.
-fn names(alloc: Global, hints: &[Ref], numbers: &[u32], many: u32) -> Result<Vec<Ref>, AllocError> {
+fn names(alloc: Global, hints: &Hints, numbers: &[u32], many: u32) -> Result<Vec<Ref>, AllocError> {
     let mut names = Vec::with_capacity(alloc, hints.len())?;
-    for hint in hints {
-        names.push(name(*hint, numbers, many))?;
+    for place in 0..hints.len() {
+        names.push(name(hints.at(place), numbers, many))?;
     }
     Ok(names)
 }
@@ -156,9 +156,9 @@ fn number_marked(marks: &mut [u32]) -> u32 {
 
 /// Marks the steps that the hints of a step name.
 fn mark_hints(marks: &mut [u32], step: &Step) {
-    for hint in step.hints.as_slice() {
-        if let Ref::Own(place) = hint {
-            if let Ok(place) = u32::try_from(*place) {
+    for hint in 0..step.hints.len() {
+        if let Ref::Own(place) = step.hints.at(hint) {
+            if let Ok(place) = u32::try_from(place) {
                 put(marks, place, 1);
             }
         }

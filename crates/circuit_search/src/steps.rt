@@ -3,7 +3,7 @@ use crate::engine::Engine;
 use crate::lessons::{Hints, Lesson};
 use crate::reason::Reason;
 use crate::variables::Kind;
-use lits::{Clause, ClauseErr, Listed, Lit, Node, Ref, Step};
+use lits::{Clause, ClauseErr, Hints, Lit, Node, Ref, Step};
 use netlist::Net;
 use std::alloc::{AllocError, Global};
 
@@ -53,7 +53,7 @@ impl Engine {
         hints: Hints,
         steps: &mut Vec<Step>,
     ) -> Result<(), AllocError> {
-        let hints = Listed::of(self.refs(alloc, net, names, hints)?);
+        let hints = Hints::of(self.refs(alloc, net, names, hints)?);
         match Clause::of(alloc, lits) {
             Ok(clause) => {
                 steps.push(Step { clause, hints })?;

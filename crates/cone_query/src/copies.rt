@@ -1,6 +1,6 @@
 ghost use Rattle.std.specs.Prelude.{◌≡◌, [], ◌∷◌, ◌++◌, IfOk};
 
-use lits::{Clause, Listed, Lit, Ref, Step};
+use lits::{Clause, Hints, Listed, Lit, Step};
 use std::alloc::{AllocError, Global};
 
 /// The clause of one literal.
@@ -26,7 +26,7 @@ pub(crate) fn one_more(
     alloc: Global,
     steps: &[Step],
     clause: Clause<Lit>,
-    hints: Listed<Ref>,
+    hints: Hints,
 ) -> Result<Listed<Step>, AllocError>
     ensures { IfOk result (λ l. l ≡ steps.now ++ record { clause = clause; hints = hints } ∷ []) }
 {
@@ -40,6 +40,6 @@ fn copy_of(alloc: Global, step: &Step) -> Result<Step, AllocError>
     ensures { IfOk result (λ s. s ≡ step.now) }
 {
     let clause = step.clause.copy()?;
-    let hints = Listed::of(Vec::from_slice(alloc, step.hints.as_slice())?);
+    let hints = Hints::of(step.hints.to_vec(alloc)?);
     Ok(Step { clause, hints })
 }

@@ -13,7 +13,7 @@ use crate::input::input_of;
 use crate::queries::Queries;
 use flat_cones::Cones;
 use lemma_book::{Book, Entry};
-use lits::{Clause, Listed, Lit, Literal, Node, Ref, Step};
+use lits::{Clause, Hints, Listed, Lit, Literal, Node, Step};
 use netlist::Net;
 use std::alloc::{AllocError, Global};
 use unit_prop::laws::budget;
@@ -96,7 +96,7 @@ fn shown(
     j: u32,
     log: &[Step],
     equal: Clause<Lit>,
-    hints: Listed<Ref>,
+    hints: Hints,
 ) -> Result<Entry, AllocError>
     ensures { IfOk result
         (λ e. e ≡ Entry.Out j (log.now ++ record { clause = equal; hints = hints } ∷ [])) }

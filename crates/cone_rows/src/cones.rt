@@ -6,7 +6,7 @@ ghost use Rattle.lemma_book.specs.Cone.{AreThere};
 
 use flat_cones::Cones;
 use lemma_book::{Book, Entry};
-use lits::{Clause, Listed, Lit, Named, Node, Ref, Side, Step};
+use lits::{Clause, Hints, Listed, Lit, Named, Node, Ref, Side, Step};
 use netlist::Net;
 use std::alloc::Global;
 use std::process::Abort;
@@ -41,7 +41,7 @@ fn swapped_ands(rt: &impl Abort, alloc: Global) -> Net {
 
 fn step(rt: &impl Abort, alloc: Global, lits: &[Lit], hints: &[Ref]) -> Step {
     let clause = Clause::of(alloc, lits).ok().expect(rt, "a clause");
-    let hints = Listed::of(Vec::from_slice(alloc, hints).expect(rt, "memory"));
+    let hints = Hints::of(Vec::from_slice(alloc, hints).expect(rt, "memory"));
     Step { clause, hints }
 }
 

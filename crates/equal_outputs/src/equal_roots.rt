@@ -5,7 +5,7 @@ ghost use Rattle.lemma_book.specs.Good.{IsGood};
 ghost use Rattle.equal_outputs.specs.EqualRoots.{AreShown, HasFewSteps, HaveOneRoot, HaveOtherRoots, IsOutOf, IsUnsettled, IsWayTo};
 
 use lemma_book::{Book, Entry};
-use lits::{Clause, Listed, Lit, Literal, Named, Node, Ref, Step};
+use lits::{Clause, Hints, Listed, Lit, Literal, Named, Node, Ref, Step};
 use netlist::{Net, laws};
 use std::alloc::{AllocError, Global};
 use unit_prop::{scan, scanned_step};
@@ -85,7 +85,7 @@ fn steps_to(
     let clause = Clause::from_slice(alloc, &[lit])?;
     match scan(alloc, base, &clause)? {
         Some(hints) => {
-            let hints = Listed::of(hints);
+            let hints = Hints::of(hints);
             with_last(Vec::new(alloc), Step { clause, hints })
         }
         None => two_steps_to(alloc, base, lit, half),

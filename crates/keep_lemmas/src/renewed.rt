@@ -4,7 +4,7 @@ ghost use Rattle.keep_lemmas.specs.Kept.{renewed_hint, renewed_step, renewed};
 ghost use Rattle.keep_lemmas.specs.Keeping.{number_in, is_current, is_current_step, is_current_hint};
 
 use lemma_book::Entry;
-use lits::{Listed, Ref, Step};
+use lits::{Hints, Listed, Ref, Step};
 use std::alloc::{AllocError, Global};
 
 /// Whether the entry's hints name entries by their new numbers as they are.
@@ -31,10 +31,12 @@ fn are_current(numbers: &[Option<u64>], steps: &[Step]) -> bool
 fn is_current_step(numbers: &[Option<u64>], step: &Step) -> bool
     ensures { result ≡ is_current_step numbers.now step.now }
 {
-    step.hints
-        .as_slice()
-        .iter()
-        .all(|hint| is_current_hint(numbers, *hint))
+    for place in 0..step.hints.len() {
+        if !is_current_hint(numbers, step.hints.at(place)) {
+            return false;
+        }
+    }
+    true
 }
 
 fn is_current_hint(numbers: &[Option<u64>], hint: Ref) -> bool
@@ -91,23 +93,23 @@ fn renewed_step(alloc: Global, numbers: &[Option<u64>], step: &Step) -> Result<S
     ensures { IfOk result (λ s. s ≡ renewed_step (number_in numbers.now) step.now) }
 {
     let clause = step.clause.copy()?;
-    let hints = renewed_hints(alloc, numbers, step.hints.as_slice())?;
+    let hints = renewed_hints(alloc, numbers, &step.hints)?;
     Ok(Step {
         clause,
-        hints: Listed::of(hints),
+        hints: Hints::of(hints),
     })
 }
 
 fn renewed_hints(
     alloc: Global,
     numbers: &[Option<u64>],
-    hints: &[Ref],
+    hints: &Hints,
 ) -> Result<Vec<Ref>, AllocError>
     ensures { IfOk result (λ v. v.items ≡ map (renewed_hint (number_in numbers.now)) hints.now) }
 {
     let mut renewed = Vec::with_capacity(alloc, hints.len())?;
-    for hint in hints {
-        renewed.push(renewed_hint(numbers, *hint))?;
+    for place in 0..hints.len() {
+        renewed.push(renewed_hint(numbers, hints.at(place)))?;
     }
     Ok(renewed)
 }

@@ -6,7 +6,7 @@ ghost use Rattle.keep_lemmas.specs.Keeping.{is_numbered};
 
 use crate::touched::Touched;
 use lemma_book::Entry;
-use lits::{Lit, Ref, Step};
+use lits::{Hints, Lit, Ref, Step};
 use netlist::Net;
 
 /// Whether the entry stays: it says that values are equal, and its steps stay.
@@ -45,16 +45,19 @@ fn step_stays(net: &Net, touched: &Touched, numbers: &[Option<u64>], step: &Step
     ensures { result ≡ step_stays net.now (touched_by touched.now) (is_numbered numbers.now) step.now }
 {
     is_clear(touched, step.clause.lits())
-        && hints_stay(net, touched, numbers, step.hints.as_slice())
+        && hints_stay(net, touched, numbers, &step.hints)
 }
 
-fn hints_stay(net: &Net, touched: &Touched, numbers: &[Option<u64>], hints: &[Ref]) -> bool
+fn hints_stay(net: &Net, touched: &Touched, numbers: &[Option<u64>], hints: &Hints) -> bool
     ensures { result
         ≡ list_all (hint_stays net.now (touched_by touched.now) (is_numbered numbers.now)) hints.now }
 {
-    hints
-        .iter()
-        .all(|hint| hint_stays(net, touched, numbers, *hint))
+    for place in 0..hints.len() {
+        if !hint_stays(net, touched, numbers, hints.at(place)) {
+            return false;
+        }
+    }
+    true
 }
 
 /// Whether what the hint names stays: an axiom or a constraint's unit as the old net has it, an entry by its

@@ -113,8 +113,7 @@ impl Book {
 
     /// Whether the node is merged.
     ///
-    /// It looks at no entry: where most gates are merged, the miss at each entry was a tenth of a check (a random
-    /// circuit of 1,000,000 gates against itself).
+    /// It looks at no entry, which would be a miss of the cache for each gate where most gates are merged.
     pub fn is_merged(&self, node: Node) -> bool
         ensures { result ≡ is_some (merge_of self.now.entries node) }
     {

@@ -39,6 +39,7 @@ mod newness;
 mod node_hasher;
 mod offer;
 mod output_cone;
+mod packing;
 mod presence;
 mod refused;
 mod shape;

@@ -7,6 +7,7 @@ ghost use Rattle.lemma_book.specs.Index.{IsIndex, FindsSame, HasRoom, TakesRoom}
 use crate::entry::Entry;
 use crate::index::{Index, Key};
 use crate::merge_table::MOST;
+use crate::packing::pack;
 use std::alloc::{AllocError, Global};
 use std::collections::VecDeque;
 use std::marker::Model;
@@ -69,6 +70,8 @@ impl Shelf {
         if make_room(&mut self.entries, &mut self.index, entry.key()).is_err() {
             return Err((entry, AllocError));
         }
+        let mut entry = entry;
+        pack(alloc, &mut entry);
         match Arc::new(alloc, entry) {
             Ok(shared) => {
                 put(&mut self.entries, &mut self.index, shared);

@@ -52,8 +52,8 @@ fn fault_of<S: Sources>(
     if let Err(error) = check.begin(step.clause.lits()) {
         return told(0, error);
     }
-    for (i, name) in step.hints.as_slice().iter().enumerate() {
-        if let Err(error) = take_hint(check, sources, before, *name) {
+    for i in 0..step.hints.len() {
+        if let Err(error) = take_hint(check, sources, before, step.hints.at(i)) {
             return told(i as u64 + 1, error);
         }
     }

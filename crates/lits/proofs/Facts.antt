@@ -16,8 +16,10 @@ pub use Rattle.lits.proofs.ListLemmas.{all-slice_get}
 pub use Rattle.lits.proofs.ListLemmas.{all-append, all-parts, all-filter, all-map}
 -- a test of some element of a mapped list, and a weaker test
 pub use Rattle.lits.proofs.ListLemmas.{list_any-map, list_any-more}
--- one element more of the front of a list
-pub use Rattle.lits.proofs.ListLemmas.{take_one, take_next}
+-- one element more of the front of a list, and of a mapped one
+pub use Rattle.lits.proofs.ListLemmas.{take_one, take_next, map_next}
+-- a test that the next element passes after those so far, and one that an element doesn't pass
+pub use Rattle.lits.proofs.ListLemmas.{list_all-next, list_all-fails}
 -- ---- equal nodes and literals
 
 -- those that are found equal are one

@@ -1,9 +1,10 @@
 -- Counts and ranges, lists whose elements all have a property, and tests that some element passes.
-use Rattle.std.proofs.Common.{◌≡◌, ℕ, zero, suc, ◌+◌, ◌-◌, ◌<◌, ◌≤◌, arith, Bool, true, false, ◌||◌, inl, inr, Some, List, [], ◌∷◌, ◌++◌, length, take, map, get_or, refl, sym, ap, ◌∙◌, subst}
+use Rattle.std.proofs.Common.{◌≡◌, ℕ, zero, suc, ◌+◌, ◌-◌, ◌<◌, ◌≤◌, arith, Bool, true, false, ◌||◌, ◌&&◌, inl, inr, Some, List, [], ◌∷◌, ◌++◌, length, take, map, get_or, refl, sym, ap, ◌∙◌, subst}
 use Rattle.std.specs.Prelude.{filter, slice_get, nat_lt, ◌==◌}
-use Rattle.std.specs.List.{list_any, range_with_len, AllByRecursion}
+use Rattle.std.specs.List.{list_all, list_any, range_with_len, AllByRecursion}
 use Rattle.std.proofs.lemmas.Bool.{or_cases, or_left, or_right}
-use Rattle.std.proofs.lemmas.List.{take_more}
+use Rattle.std.proofs.lemmas.List.{map_more, take_more}
+use Rattle.std.proofs.lemmas.List.Folds.{list_all_at, list_all_more}
 use Rattle.std.proofs.lemmas.Option.{none-some, same_Some, slice_get_within, get_or_from_slice_get}
 use Rattle.std.proofs.lemmas.Bool.Decides.{nat_tests}
 use Rattle.lits.specs.Clause.{has, no_repeat}
@@ -94,3 +95,23 @@ take_one xs i x below at = take_more xs i x below ∙ ap (λ y. take i xs ++ y �
 pub take_next : {X : Type 0} (xs : List X) (i : ℕ) (x : X) → slice_get xs i ≡ Some x
     → take (i + 1) xs ≡ take i xs ++ x ∷ []
 take_next xs i x e = take_one xs i x (slice_get_within xs i x e) (sym (get_or_from_slice_get xs i x x e))
+
+-- and of a mapped list
+pub map_next : {X Y : Type 0} (f : X → Y) (xs : List X) (i : ℕ) (x : X) → slice_get xs i ≡ Some x
+    → map f (take (i + 1) xs) ≡ map f (take i xs) ++ f x ∷ []
+map_next f xs i x e =
+    map_more f xs i x (slice_get_within xs i x e)
+    ∙ ap (λ y. map f (take i xs) ++ f y ∷ []) (get_or_from_slice_get xs i x x e)
+
+-- a test that the elements so far pass and the next one does, and one that an element doesn't pass
+pub list_all-next : {X : Type 0} (test : X → Bool) (xs : List X) (i : ℕ) (x : X) → slice_get xs i ≡ Some x
+    → list_all test (take i xs) ≡ true → test x ≡ true → list_all test (take (i + 1) xs) ≡ true
+list_all-next test xs i x e all one =
+    list_all_more test xs i x (slice_get_within xs i x e)
+    ∙ ap (λ y. list_all test (take i xs) && test y) (get_or_from_slice_get xs i x x e)
+    ∙ rw (all, one) refl
+
+pub list_all-fails : {X : Type 0} (test : X → Bool) (xs : List X) (i : ℕ) (x : X) → slice_get xs i ≡ Some x
+    → test x ≡ false → list_all test xs ≡ false
+list_all-fails test xs i x e fails =
+    list_all_at test xs i x (slice_get_within xs i x e) (ap test (get_or_from_slice_get xs i x x e) ∙ fails)

@@ -5,3 +5,4 @@ pub mod Chains
 pub mod Code
 pub mod Finder
 pub mod Same
+pub mod Hints

@@ -8,12 +8,14 @@
 //! Definitions: `specs/Clause.antt` (what a clause is), `specs/Assignment.antt` (assignments, what a clause
 //! asks of one, satisfiable), `specs/Dimacs.antt` (literals of DIMACS files), `specs/Same.antt` (equal,
 //! negated), `specs/Code.antt` (numbers of literals), `specs/Chains.antt` and `specs/Finder.antt` (how a set
-//! finds its literals). Begin to read at `node.rt`, then `literal.rt`, `dimacs.rt`, `chains.rt`, `marks.rt`,
-//! `literal_set.rt`, `clause.rt`, `step.rt`, `listed.rt`.
+//! finds its literals), `specs/Hints.antt` (how a step's hints are kept). Begin to read at `node.rt`, then
+//! `literal.rt`, `dimacs.rt`, `chains.rt`, `marks.rt`, `literal_set.rt`, `clause.rt`, `step.rt`, `hints.rt`,
+//! `listed.rt`.
 #![tactic(auto)]
 
 pub use clause::{Clause, ClauseErr};
 pub use dimacs::Dim;
+pub use hints::Hints;
 pub use listed::Listed;
 pub use literal::{Lit, Literal};
 pub use literal_set::LiteralSet;
@@ -24,6 +26,7 @@ mod chains;
 mod clause;
 mod dimacs;
 mod finder;
+mod hints;
 mod listed;
 mod literal;
 mod literal_set;

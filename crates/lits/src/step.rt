@@ -1,5 +1,5 @@
 use crate::clause::Clause;
-use crate::listed::Listed;
+use crate::hints::Hints;
 use crate::literal::Lit;
 use crate::node::{Node, Side};
 
@@ -19,7 +19,7 @@ pub enum Ref {
 /// A step of a proof: a clause, and the clauses that show it by unit propagation, in order.
 pub struct Step {
     pub clause: Clause<Lit>,
-    pub hints: Listed<Ref>,
+    pub hints: Hints,
 }
 
 // Written out, so that a drop is one call and not one for each field at each exit of a function.

@@ -4,7 +4,7 @@ ghost use Rattle.std.specs.Prelude.{◌≡◌, true, OnSome};
 use crate::bases::{is_base, is_over};
 use crate::clauses::{check, expect};
 use crate::flat_bases::flat_of;
-use lits::{Clause, Lit, Literal, Named, Ref, Step};
+use lits::{Clause, Hints, Lit, Literal, Named, Ref, Step};
 use std::alloc::Global;
 use std::process::Abort;
 use unit_prop::{Closure, Refuted, Refuter, StepCheck, close_under};
@@ -33,19 +33,32 @@ fn is_hint(check: &mut StepCheck<Lit>, base: &[Named], log: &[Step], name: Ref) 
     }
 }
 
+/// Whether the hints are these names, in order.
+pub(crate) fn are_names(hints: &Hints, names: &[Ref]) -> bool {
+    if hints.len() != names.len() {
+        return false;
+    }
+    for place in 0..hints.len() {
+        if hints.at(place) != names[place] {
+            return false;
+        }
+    }
+    true
+}
+
 /// Whether the hints make the clause a step over base and log.
 fn is_step(
     check: &mut StepCheck<Lit>,
     base: &[Named],
     log: &[Step],
     clause: &Clause<Lit>,
-    hints: &[Ref],
+    hints: &Hints,
 ) -> bool {
     if check.begin(clause.lits()).is_err() {
         return false;
     }
-    for name in hints {
-        if !is_hint(check, base, log, *name) {
+    for place in 0..hints.len() {
+        if !is_hint(check, base, log, hints.at(place)) {
             return false;
         }
     }
@@ -110,8 +123,7 @@ fn check_new(rt: &impl Abort, alloc: Global, base: &[Named], log: &[Step]) -> Op
 /// Checks that each step of the log follows by its hints from the base and the steps before it.
 fn check_steps(rt: &impl Abort, check: &mut StepCheck<Lit>, base: &[Named], log: &[Step]) {
     for (place, step) in log.iter().enumerate() {
-        let hints = step.hints.as_slice();
-        let is_step = is_step(check, base, &log[..place], &step.clause, hints);
+        let is_step = is_step(check, base, &log[..place], &step.clause, &step.hints);
         expect(rt, "a step", is_step);
     }
 }
@@ -135,7 +147,7 @@ fn is_right(
     answer: &Refuted,
 ) -> bool {
     match answer {
-        Refuted::Yes(hints) => is_step(check, base, log, target, hints.as_slice()),
+        Refuted::Yes(hints) => is_step(check, base, log, target, hints),
         Refuted::No(model) => is_model(base, target, model.as_slice()),
         Refuted::Spent => true,
     }

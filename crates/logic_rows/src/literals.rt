@@ -1,6 +1,6 @@
 use crate::clauses::{are, check, clause, expect, literals};
 use lits::{
-    Clause, ClauseErr, Dim, Listed, Lit, Literal, LiteralSet, Named, Node, Ref, Side, Step,
+    Clause, ClauseErr, Dim, Hints, Listed, Lit, Literal, LiteralSet, Named, Node, Ref, Side, Step,
 };
 use std::alloc::Global;
 use std::process::Abort;
@@ -114,13 +114,13 @@ fn step_of(alloc: Global, named: Named) -> Option<Step> {
     let hints = Vec::from_slice(alloc, &[named.by, Ref::Own(0)]).ok()?;
     Some(Step {
         clause: named.clause,
-        hints: Listed::of(hints),
+        hints: Hints::of(hints),
     })
 }
 
 /// Whether the hints are these two.
-fn are_both(hints: &Listed<Ref>) -> bool {
-    hints.as_slice() == HINTS.as_slice() && hints.len() == 2 && !hints.is_empty()
+fn are_both(hints: &Hints) -> bool {
+    hints.len() == 2 && hints.at(0) == HINTS[0] && hints.at(1) == HINTS[1]
 }
 
 fn has_hints(alloc: Global) -> Option<bool> {
@@ -129,10 +129,20 @@ fn has_hints(alloc: Global) -> Option<bool> {
     Some(are_both(&step.hints))
 }
 
+/// Whether hints stay what they are when they are packed, those that fit in few bytes and those that don't.
+fn are_packed(alloc: Global) -> Option<bool> {
+    let mut small = Hints::of(Vec::from_slice(alloc, &HINTS).ok()?);
+    small.pack(alloc);
+    let mut large = Hints::of(Vec::from_slice(alloc, &[Ref::Entry(1 << 40, 3), HINTS[0]]).ok()?);
+    large.pack(alloc);
+    let names = small.to_vec(alloc).ok()?;
+    Some(are_both(&small) && names.len() == 2 && large.at(0) == Ref::Entry(1 << 40, 3))
+}
+
 /// Whether they are as many as a vector.
 fn is_vector(alloc: Global) -> Option<bool> {
     let hints = Listed::of(Vec::from_slice(alloc, &HINTS).ok()?);
-    Some(hints.into_vec().len() == 2)
+    Some(!hints.is_empty() && hints.into_vec().len() == 2)
 }
 
 #[test]
@@ -142,6 +152,7 @@ fn clause_of_nodes(rt: HostRuntime) {
     check(&rt, "a unit", is_unit(alloc));
     check(&rt, "what it has", has_read(alloc));
     check(&rt, "hints", has_hints(alloc));
+    check(&rt, "packed hints", are_packed(alloc));
     check(&rt, "as a vector", is_vector(alloc));
 }
 

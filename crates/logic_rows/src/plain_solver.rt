@@ -1,5 +1,6 @@
 //! What the cases make of `PlainSolver`. Each stands for any solver and takes its own, as in
 //! `learning_solver`.
+use crate::checks::are_names;
 use crate::clauses::{are, check, finish};
 use crate::formulas::{CHAINS, SMALL};
 use crate::queries::{
@@ -24,7 +25,7 @@ const FIRST_HINTS: [Ref; 6] = [
 /// then the first clauses that do something.
 fn has_first_step_alone(alloc: Global, log: &[Step]) -> Option<bool> {
     match log {
-        [step] if step.hints.as_slice() == FIRST_HINTS.as_slice() => {
+        [step] if are_names(&step.hints, &FIRST_HINTS) => {
             are(alloc, step.clause.lits(), "-d0 a3 0 1")
         }
         _ => Some(false),

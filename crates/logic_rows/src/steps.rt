@@ -1,6 +1,7 @@
 ghost use Rattle.unit_prop.specs.HintScan.{IsNamed};
 
 use crate::bases::{axioms, base_of, is_base};
+use crate::checks::are_names;
 use crate::clauses::{Word, are, check, clause, clauses, expect, finish, literals};
 use crate::formulas::TWIN_GATES;
 use lits::{Clause, Dim, Lit, Named, Ref, Step};
@@ -189,7 +190,7 @@ fn step_check(rt: HostRuntime) {
 
 /// Whether the step adds the literals' clause by these hints.
 fn has_hints(step: &Step, lits: &[Lit], hints: &[Ref]) -> bool {
-    step.hints.as_slice() == hints && step.clause.lits() == lits
+    are_names(&step.hints, hints) && step.clause.lits() == lits
 }
 
 /// Whether the scan of the base finds these hints for the clause, and the step that it shows has them; or it

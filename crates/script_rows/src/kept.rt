@@ -6,7 +6,7 @@ use crate::edits::net_of;
 use crate::told::expect;
 use keep_lemmas::keep;
 use lemma_book::{Book, Entry, Offered};
-use lits::{Clause, Listed, Lit, Node, Ref, Side, Step};
+use lits::{Clause, Hints, Listed, Lit, Node, Ref, Side, Step};
 use netlist::{Circuit, Names, Net};
 use netlist_edits::{Command, Edit, apply, read_line};
 use std::alloc::Global;
@@ -33,7 +33,7 @@ fn step(rt: &impl Abort, alloc: Global, lits: &[Lit], hints: &[Ref]) -> Step {
     let hints = Vec::from_slice(alloc, hints).expect(rt, "memory");
     Step {
         clause,
-        hints: Listed::of(hints),
+        hints: Hints::of(hints),
     }
 }
 
@@ -257,8 +257,8 @@ fn push_steps(rt: &impl Abort, alloc: Global, words: &mut String, steps: &[Step]
             push_lit(rt, alloc, words, *lit);
         }
         push(rt, words, "by ");
-        for hint in step.hints.as_slice() {
-            push_hint(rt, alloc, words, *hint);
+        for place in 0..step.hints.len() {
+            push_hint(rt, alloc, words, step.hints.at(place));
         }
     }
 }

@@ -3,7 +3,7 @@ ghost use Rattle.solver_plain.specs.Scan.{IsSound, IsScan};
 
 use crate::effect::Effect;
 use crate::formula::Formula;
-use lits::{Listed, Lit, LiteralSet, Ref};
+use lits::{Hints, Lit, LiteralSet};
 use std::alloc::{AllocError, Global};
 
 /// Lets the clauses add to the set of true literals what they force, each time by the first that
@@ -12,7 +12,7 @@ pub(crate) fn scan(
     alloc: Global,
     formula: &Formula,
     set: &mut LiteralSet<Lit>,
-) -> Result<Option<Listed<Ref>>, AllocError>
+) -> Result<Option<Hints>, AllocError>
     requires { IsSound formula.now set.old }
     ensures { IfOk result (IsScan formula.now set.old set.new) }
 {
@@ -20,7 +20,7 @@ pub(crate) fn scan(
     while let Some(hint) = formula.next_hint(set) {
         hints.push(hint.by)?;
         match hint.effect {
-            Effect::Clashes => return Ok(Some(Listed::of(hints))),
+            Effect::Clashes => return Ok(Some(Hints::of(hints))),
             Effect::Forces(lit) => set.push(lit)?,
         }
     }

@@ -11,14 +11,14 @@ ghost use Rattle.solver_plain.specs.Search.{IsFound};
 use crate::formula::Formula;
 use crate::literals::negations;
 use crate::scan::scan;
-use lits::{Clause, Listed, Lit, Literal, LiteralSet, Ref, Step};
+use lits::{Clause, Hints, Listed, Lit, Literal, LiteralSet, Step};
 use std::alloc::{AllocError, Global};
 
 /// What a search ends with.
 #[derive(Drop)]
 pub(crate) enum Found {
     /// The hints that make the target a step.
-    Yes(Listed<Ref>),
+    Yes(Hints),
     /// A model of the base in which the target is false.
     No(Listed<Lit>),
     /// A clause that is new over the formula.

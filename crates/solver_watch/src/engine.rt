@@ -22,7 +22,7 @@ use crate::learn::{analyse, hand_back};
 use crate::order::Order;
 use crate::restarts::Restarts;
 use flat_base::FlatBase;
-use lits::{Clause, Listed, Lit, Named, Ref};
+use lits::{Clause, Hints, Listed, Lit, Named, Ref};
 use std::alloc::{AllocError, Global};
 use unit_prop::Refuted;
 use watch_lists::{Put, Trail};
@@ -31,7 +31,7 @@ use watch_lists::{Put, Trail};
 #[derive(Drop)]
 pub(crate) enum Found {
     /// The hints that make the target a step.
-    Yes(Listed<Ref>),
+    Yes(Hints),
     /// A model of the base in which the target is false.
     No(Listed<Lit>),
     /// A step, which is the last one of the log now.
@@ -238,7 +238,7 @@ impl Engine {
         alloc: Global,
         target: &Clause<Lit>,
         conflict: u64,
-    ) -> Result<Listed<Ref>, AllocError>
+    ) -> Result<Hints, AllocError>
         requires known { IsKnown self.old.formula }
         requires refuted { IsRefuted self.old.formula.trail target.now conflict }
         ensures step { IfOk result

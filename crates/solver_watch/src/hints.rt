@@ -10,7 +10,7 @@ ghost use Rattle.solver_watch.specs.Marked.{is_marked, IsResolved, IsSupported, 
 use crate::cut::Cut;
 use crate::formula::Formula;
 use crate::marks::Marks;
-use lits::{Listed, Lit, Literal, Ref};
+use lits::{Hints, Lit, Literal, Ref};
 use std::alloc::{AllocError, Global};
 
 /// The hints by which a goal is a step: the reasons of the marked places, in the order in which they
@@ -27,7 +27,7 @@ pub(crate) fn hints(
     shown: &[Lit],
     goal: &[Lit],
     conflict: u64,
-) -> Result<Listed<Ref>, AllocError>
+) -> Result<Hints, AllocError>
     requires known { IsKnown formula.now }
     requires apart { has_pair same_lit opposite goal.now ≡ false }
     requires supported { IsSupported formula.now.trail cut.now.marks from shown.now goal.now conflict }
@@ -42,13 +42,13 @@ pub(crate) fn hints(
             Some(by) => {
                 hints.push(formula.name(by))?;
                 if contains(shown, puts[place].lit) {
-                    return Ok(Listed::of(hints));
+                    return Ok(Hints::of(hints));
                 }
             }
         }
     }
     hints.push(formula.name(conflict))?;
-    Ok(Listed::of(hints))
+    Ok(Hints::of(hints))
 }
 
 /// The clause by which the literal at a place is shown, if it is marked and `shown` doesn't negate it.

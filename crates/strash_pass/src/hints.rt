@@ -7,7 +7,7 @@ ghost use Rattle.strash_pass.specs.Shapes.{name_at, AreStraight};
 
 use crate::coded::Coded;
 use crate::marks::Marks;
-use lits::{Clause, Listed, Lit, Ref, Step};
+use lits::{Clause, Hints, Lit, Ref, Step};
 use std::alloc::{AllocError, Global};
 
 /// The step of two literals, with the names of the clauses at these places as hints.
@@ -24,7 +24,7 @@ pub fn step_at(
         × (s.hints ≡ map (name_at coded.now) places.now)) }
 {
     let clause = Clause::from_slice(alloc, &[one, other])?;
-    let hints = Listed::of(names_at(alloc, coded, places)?);
+    let hints = Hints::of(names_at(alloc, coded, places)?);
     Ok(Step { clause, hints })
 }
 

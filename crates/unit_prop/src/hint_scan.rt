@@ -9,7 +9,7 @@ ghost use Rattle.unit_prop.specs.Log.{base_clause, base_clauses};
 ghost use Rattle.unit_prop.specs.Step.{IsStep, open_in};
 
 use crate::step_check::{OpenPart, open_part};
-use lits::{Clause, Listed, Lit, Literal, LiteralSet, Named, Ref, Step};
+use lits::{Clause, Hints, Lit, Literal, LiteralSet, Named, Ref, Step};
 use std::alloc::{AllocError, Global};
 
 /// The hints of a step that adds the clause over the base, or none exactly where unit propagation from the
@@ -65,7 +65,7 @@ pub fn scanned_step(alloc: Global, base: &[Named], lits: &[Lit]) -> Result<Step,
         Some(mut hints) => {
             // A book keeps the hints of each merge, so the room that they don't need is given back.
             hints.shrink_to_fit();
-            let hints = Listed::of(hints);
+            let hints = Hints::of(hints);
             Ok(Step { clause, hints })
         }
         None => unreachable!(),

@@ -6,14 +6,14 @@ ghost use Rattle.unit_prop.specs.Log.{IsBase};
 ghost use Rattle.unit_prop.specs.Refuter.{IsOver, Answers};
 
 use flat_base::FlatBase;
-use lits::{Clause, Listed, Lit, Named, Ref, Step};
+use lits::{Clause, Hints, Listed, Lit, Named, Step};
 use std::alloc::{AllocError, Global};
 
 /// What a query says of its target.
 #[derive(Drop)]
 pub enum Refuted {
     /// The base implies the target: these hints make it a step over base and log.
-    Yes(Listed<Ref>),
+    Yes(Hints),
     /// The base doesn't imply it: an assignment that meets the base and makes the target false.
     No(Listed<Lit>),
     /// Each unit of the budget was spent for a learned clause.

@@ -6,7 +6,7 @@ use crate::table::{at, count};
 use crate::whole::Whole;
 use crate::whole::store::Name;
 use lemma_book::Entry;
-use lits::{Clause, ClauseErr, Listed, Lit, Node, Ref, Side, Step};
+use lits::{Clause, ClauseErr, Hints, Listed, Lit, Node, Ref, Side, Step};
 use netlist::Net;
 use std::alloc::{AllocError, Global};
 
@@ -145,7 +145,7 @@ fn add_step(
 ) -> Result<(), AllocError> {
     match Clause::of(alloc, lits) {
         Ok(clause) => {
-            let hints = Listed::of(Vec::from_slice(alloc, hints)?);
+            let hints = Hints::of(Vec::from_slice(alloc, hints)?);
             steps.push(Step { clause, hints })?;
             Ok(())
         }

@@ -7,8 +7,8 @@ use Rattle.book_file.specs.Loaded.{number_in}
 use Rattle.book_file.specs.Writing.{name_text, FitsName}
 use Rattle.book_file.proofs.writing.push_names.Given as goal
 
-abbrev pub invariant-loop-hint : goal.invariant-loop-hint
-invariant-loop-hint l = record {
-  written : l.text.items ≡ l.fn.text.items ++ spaced (map name_text (map (renewed_hint (number_in l.numbers)) (take l.hint-index l.hints)));
-  fit : AllByRecursion FitsName (take l.hint-index l.hints);
+abbrev pub invariant-loop-place : goal.invariant-loop-place
+invariant-loop-place l = record {
+  written : l.text.items ≡ l.fn.text.items ++ spaced (map name_text (map (renewed_hint (number_in l.numbers)) (take l.place l.hints)));
+  fit : AllByRecursion FitsName (take l.place l.hints);
 }

@@ -4,5 +4,5 @@ use Rattle.keep_lemmas.specs.Kept.{renewed_hint}
 use Rattle.keep_lemmas.specs.Keeping.{number_in}
 use Rattle.keep_lemmas.proofs.renewed.renewed_hints.Given as goal
 
-abbrev pub invariant-loop-hint : goal.invariant-loop-hint
-invariant-loop-hint l = l.renewed.items ≡ map (renewed_hint (number_in l.numbers)) (take l.hint-index l.hints)
+abbrev pub invariant-loop-place : goal.invariant-loop-place
+invariant-loop-place l = l.renewed.items ≡ map (renewed_hint (number_in l.numbers)) (take l.place l.hints)

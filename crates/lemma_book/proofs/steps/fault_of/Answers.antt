@@ -1,7 +1,9 @@
 -- An error tells the step's first fault, and after each hint the hints that are left tell it.
-use Rattle.std.proofs.Common.{◌≡◌, ◌∙◌, ℕ, ◌+◌, ◌<◌, suc, List, ◌∷◌, length, get_or, drop, ap, subst, sym, refl, true, false, Option, Some, Result, Ok, Err, IfOk, arith}
+use Rattle.std.proofs.Common.{◌≡◌, ◌∙◌, ℕ, ◌+◌, suc, List, ◌∷◌, drop, ap, sym, refl, true, false, Option, Some, Result, Ok, Err, IfOk, arith}
 use Rattle.std.specs.declared.alloc.AllocError.{AllocError}
+use Rattle.std.specs.Prelude.{slice_get}
 use Rattle.std.proofs.Math.Seq.{drop-cons}
+use Rattle.std.proofs.lemmas.Option.{get_or_from_slice_get, slice_get_within}
 use Rattle.lits.specs.Clause.{has_pair}
 use Rattle.lits.specs.Same.{same_lit, opposite}
 use Rattle.lits.specs.declared.literal.Lit.{Lit}
@@ -35,18 +37,20 @@ module _ (find : Ref → Option (List Lit)) where
   starts clause hints s apart is = rw (apart, is) refl
 
   module _ (first : Option BadStep) (s : State Lit) (hints : List Ref) (i : ℕ) (so_far : first ≡ fault_from same_lit opposite find (i + 1) s (drop i hints))
-      (items : List Ref) (d : Ref) (same : items ≡ hints) (below : i < length items) where
-    here : first ≡ fault_from same_lit opposite find (i + 1) s (get_or items i d ∷ drop (suc i) hints)
+      (name : Ref) (at : slice_get hints i ≡ Some name) where
+    here : first ≡ fault_from same_lit opposite find (i + 1) s (name ∷ drop (suc i) hints)
     here =
-        so_far ∙ ap (fault_from same_lit opposite find (i + 1) s)
-        (subst (λ (l : List Ref). drop i l ≡ get_or items i d ∷ drop (suc i) l) same (drop-cons items i d below))
+        so_far
+        ∙ ap (fault_from same_lit opposite find (i + 1) s)
+        (drop-cons hints i name (slice_get_within hints i name at)
+        ∙ ap (λ (n : Ref). n ∷ drop (suc i) hints) (get_or_from_slice_get hints i name name at))
 
-    hint-bad : (error : StepErr) → IfBad error (λ w. after_found same_lit opposite s (find (get_or items i d)) ≡ Err w)
+    hint-bad : (error : StepErr) → IfBad error (λ w. after_found same_lit opposite s (find name) ≡ Err w)
         → IfBad error (λ w. first ≡ Some (record { hint = i + 1; why = w }))
     hint-bad (Bad w) is = here ∙ rw is refl
     hint-bad NoMemory is = tt
 
-    hint-next : (t : State Lit) → after_found same_lit opposite s (find (get_or items i d)) ≡ Ok t
+    hint-next : (t : State Lit) → after_found same_lit opposite s (find name) ≡ Ok t
         → first ≡ fault_from same_lit opposite find (i + 1 + 1) t (drop (i + 1) hints)
     hint-next t is = here ∙ rw is (ap (λ (n : ℕ). fault_from same_lit opposite find (i + 1 + 1) t (drop n hints)) (let e : suc i ≡ i + 1 = omega arith in e))
 
@@ -64,10 +68,10 @@ loop-i-init g c =
 pub loop-i-preserved : goal.loop-i-preserved
 loop-i-preserved g c =
     hint-next (with_own (g.S.Sources.find c.args.sources.now) c.args.before.now) _ c.loop-i.check c.args.step.now.hints c.loop-i.i c.loop-i.invariant
-    c.as_slice-name-items.result.now _ c.as_slice-name-items.ensures c.loop-i-test.true c.take_hint.new.check c.in_default-take_hint.ensures.ok
+    c.at.result c.at.ensures c.take_hint.new.check c.in_default-take_hint.ensures.ok
 
 pub returns-in-Err-take_hint : goal.returns-in-Err-take_hint
 returns-in-Err-take_hint g c =
     told-is c.told-in-Err-take_hint.result (c.loop-i.i + 1) c.in-Err-take_hint.error _ c.told-in-Err-take_hint.ensures
     (hint-bad (with_own (g.S.Sources.find c.args.sources.now) c.args.before.now) _ c.loop-i.check c.args.step.now.hints c.loop-i.i c.loop-i.invariant
-    c.as_slice-name-items.result.now _ c.as_slice-name-items.ensures c.loop-i-test.true c.in-Err-take_hint.error c.in-Err-take_hint.ensures.bad)
+    c.at.result c.at.ensures c.in-Err-take_hint.error c.in-Err-take_hint.ensures.bad)

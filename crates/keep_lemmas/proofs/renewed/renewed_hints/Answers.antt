@@ -1,0 +1,10 @@
+use Rattle.std.proofs.Common.{sym}
+use Rattle.lits.proofs.Facts.{map_next}
+use Rattle.keep_lemmas.specs.Kept.{renewed_hint}
+use Rattle.keep_lemmas.specs.Keeping.{number_in}
+use Rattle.keep_lemmas.proofs.renewed.renewed_hints.Goals as goal
+
+pub loop-place-preserved : goal.loop-place-preserved
+loop-place-preserved c =
+    rw (c.in_ok-push.ensures.items, c.loop-place.invariant, c.renewed_hint.ensures)
+    (sym (map_next (renewed_hint (number_in c.args.numbers.now)) c.args.hints.now c.loop-place.place _ c.at.ensures))
