@@ -1,7 +1,7 @@
 //! Real files, standard output and standard error.
-ghost use Rattle.std.specs.Prelude.{◌≡◌, ◌≤◌, IfErr, IfOk, IfSome, IsSome, None, OnOk, length};
+ghost use Rattle.std.specs.Prelude.{◌≡◌, ◌≤◌, IfErr, IfOk, IfSome, IsSome, None, OnErr, OnOk, length};
 ghost use Rattle.std.specs.Io.KnownBytes.{Appends};
-ghost use Rattle.desk_port.specs.Desk.{Closes, NoCountFalls, Reads, Rose, Says, SizesAfterWrite, Starts, Warns, Writes};
+ghost use Rattle.desk_port.specs.Desk.{Closes, NoCountFalls, OfSomePrefix, Reads, Rose, Says, SizesAfterWrite, Starts, Warns, Writes};
 ghost use Rattle.desk_port.specs.MemDesk.{next_count};
 
 use crate::streams::{put_all, read_within};
@@ -21,7 +21,8 @@ struct Started<F> {
 /// A desk over the files of a runtime and two writers, which are standard output and standard error
 /// where `main` makes it. The writers keep no buffer.
 ///
-/// Each error of std is counted as a fault of the call that met it, and ends that call.
+/// Each error of std is counted as a fault of the call that met it, and ends that call. A call puts its bytes,
+/// or a first part of them where it fails, into its own file or stream, and nothing into another.
 #[derive(Drop)]
 pub struct OsDesk<R: Files, O, E> {
     alloc: Global,
@@ -35,11 +36,13 @@ pub struct OsDesk<R: Files, O, E> {
 }
 
 impl<R: Files, O: Write, E: Write> OsDesk<R, O, E> {
-    ghost use Rattle.os_desk.specs.OsDesk.{state_of, untouched};
+    ghost use Rattle.os_desk.specs.OsDesk.{err_of, out_of, state_of, untouched};
 
     /// A desk with nothing started and no fault.
     pub fn new(alloc: Global, files: R, out: O, err: E) -> OsDesk<R, O, E>
-        ensures { state_of result ≡ untouched }
+        ensures state { state_of result ≡ untouched }
+        ensures out { out_of result ≡ out }
+        ensures err { err_of result ≡ err }
     {
         OsDesk {
             alloc,
@@ -70,6 +73,9 @@ impl<R: Files, O: Write, E: Write> Desk for OsDesk<R, O, E> {
         ensures sizes { sizes_of self.new ≡ sizes_of self.old }
         ensures one { IfErr result (λ e. e ≡ ReadErr.Failed → (state_of self.new).read_faults
             ≡ next_count (state_of self.old).read_faults) }
+        ensures file { file_of self.new ≡ file_of self.old }
+        ensures out { out_of self.new ≡ out_of self.old }
+        ensures err { err_of self.new ≡ err_of self.old }
     {
         let answer = read_file(&self.files, alloc, name, limit);
         if let Err(ReadErr::Failed) = answer {
@@ -86,6 +92,8 @@ impl<R: Files, O: Write, E: Write> Desk for OsDesk<R, O, E> {
         ensures sizes { sizes_of self.new ≡ sizes_of self.old }
         ensures one { IfErr result (λ e. e ≡ PutErr.Failed → (state_of self.new).write_faults
             ≡ next_count (state_of self.old).write_faults) }
+        ensures out { out_of self.new ≡ out_of self.old }
+        ensures err { err_of self.new ≡ err_of self.old }
     {
         let name = String::from_str(self.alloc, name)?;
         match fs::create(&self.files, name.as_str()) {
@@ -110,6 +118,11 @@ impl<R: Files, O: Write, E: Write> Desk for OsDesk<R, O, E> {
         ensures put { OnOk result
             (IfSome (file_of self.old) (λ old. IfSome (file_of self.new) (λ new.
             Appends (R.File.contents old) (R.File.contents new) bytes.now))) }
+        ensures part { OnErr result (OfSomePrefix bytes.now (λ part.
+            IfSome (file_of self.old) (λ old. IfSome (file_of self.new) (λ new.
+            Appends (R.File.contents old) (R.File.contents new) part)))) }
+        ensures out { out_of self.new ≡ out_of self.old }
+        ensures err { err_of self.new ≡ err_of self.old }
     {
         let started = self.started.as_mut().unwrap();
         let answer = put_all(&mut started.file, bytes);
@@ -127,6 +140,8 @@ impl<R: Files, O: Write, E: Write> Desk for OsDesk<R, O, E> {
         ensures sizes { sizes_of self.new ≡ sizes_of self.old }
         ensures one { IfErr result (λ e. e ≡ PutErr.Failed → (state_of self.new).write_faults
             ≡ next_count (state_of self.old).write_faults) }
+        ensures out { out_of self.new ≡ out_of self.old }
+        ensures err { err_of self.new ≡ err_of self.old }
     {
         self.started = None;
         Ok(())
@@ -140,6 +155,10 @@ impl<R: Files, O: Write, E: Write> Desk for OsDesk<R, O, E> {
             ≡ next_count (state_of self.old).write_faults) }
         ensures put { OnOk result
             (Appends (O.contents (out_of self.old)) (O.contents (out_of self.new)) bytes.now) }
+        ensures part { OnErr result (OfSomePrefix bytes.now
+            (λ part. Appends (O.contents (out_of self.old)) (O.contents (out_of self.new)) part)) }
+        ensures file { file_of self.new ≡ file_of self.old }
+        ensures err { err_of self.new ≡ err_of self.old }
     {
         let answer = put_all(&mut self.out, bytes);
         if answer.is_err() {
@@ -156,6 +175,10 @@ impl<R: Files, O: Write, E: Write> Desk for OsDesk<R, O, E> {
             ≡ next_count (state_of self.old).warn_faults) }
         ensures put { OnOk result
             (Appends (E.contents (err_of self.old)) (E.contents (err_of self.new)) bytes.now) }
+        ensures part { OnErr result (OfSomePrefix bytes.now
+            (λ part. Appends (E.contents (err_of self.old)) (E.contents (err_of self.new)) part)) }
+        ensures file { file_of self.new ≡ file_of self.old }
+        ensures out { out_of self.new ≡ out_of self.old }
     {
         let answer = put_all(&mut self.err, bytes);
         if answer.is_err() {
