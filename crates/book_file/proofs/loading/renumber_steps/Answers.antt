@@ -14,5 +14,5 @@ pub loop-step-preserved : goal.loop-step-preserved
 loop-step-preserved c =
     let step = slice_index_or c.loop-step.step-items c.loop-step.step-index c.step-item.result in
     turned-more (renewed_step (number_in c.args.numbers.now)) c.deref_mut-step-items.result.now c.loop-step.step-items
-    c.loop-step.step-index c.step-item.result (with-hints step c.in_ok-renumbered_hints.renumbered_hints) (omega arith) c.loop-step.invariant
-    (ap (with-hints step) c.in_ok-renumbered_hints.ensures)
+    c.loop-step.step-index c.step-item.result (with-hints step c.in_ok-step.field-0) (omega arith) c.loop-step.invariant
+    (ap (with-hints step) c.in_ok-step.ensures)
