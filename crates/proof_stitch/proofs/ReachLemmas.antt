@@ -5,6 +5,8 @@ use Rattle.std.specs.List.{slice_index_or}
 use Rattle.std.proofs.lemmas.List.{get_or-replicate, get_or_past, length-replicate}
 use Rattle.std.proofs.lemmas.Bool.{ne_eqb, eq-eqb, eqb-true, cases_lt}
 use Rattle.std.proofs.Common.{inl, inr}
+use Rattle.std.proofs.lemmas.Option.{get_or_from_slice_get, slice_get_within}
+use Rattle.lits.specs.declared.step.Ref.{Ref}
 use Rattle.lits.specs.declared.step.Step.{Step}
 use Rattle.lits.proofs.Facts.{all-slice_get}
 use Rattle.netlist.specs.Net.{AigPair}
@@ -33,6 +35,11 @@ shape-refl t = record { clauses = refl; steps = refl }
 
 pub shape-trans : (a b c : ByStep) → KeepsShape a b → KeepsShape b c → KeepsShape a c
 shape-trans a b c p q = record { clauses = q.clauses ∙ p.clauses; steps = q.steps ∙ p.steps }
+
+-- what holds of each hint holds of the one at a place
+pub hint-has : (P : Ref → Type 0) (hints : List Ref) (i : ℕ) (hint : Ref) → slice_get hints i ≡ Some hint → All P hints → P hint
+hint-has P hints i hint at all =
+    subst P (get_or_from_slice_get hints i hint hint at) (all i hint (slice_get_within hints i hint at))
 
 -- two lots of marks, one after the other
 marked-twice : (mark by : ℕ) (p q : Bool) → 1 ≤ by → marked (marked mark p by) q by ≡ marked mark (p || q) by

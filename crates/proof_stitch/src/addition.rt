@@ -4,7 +4,7 @@ ghost use Rattle.netlist.specs.Miter.{numbered, cnf_number_of};
 ghost use Rattle.proof_stitch.specs.Steps.{id_of};
 ghost use Rattle.proof_stitch.specs.Ids.{AreNumbered, HasId};
 
-use lits::{Dim, Lit, Ref};
+use lits::{Dim, Hints, Lit, Ref};
 use netlist::Net;
 use std::alloc::{AllocError, Global};
 
@@ -34,14 +34,14 @@ pub fn ids(
     net: &Net,
     shown: &[u64],
     first: u64,
-    hints: &[Ref],
+    hints: &Hints,
 ) -> Result<Vec<u64>, AllocError>
     requires { All (HasId net.now shown.now first) hints.now }
     ensures { IfOk result (λ v. v.items ≡ map (id_of net.now shown.now first) hints.now) }
 {
     let mut ids = Vec::with_capacity(alloc, hints.len())?;
-    for hint in hints {
-        ids.push(id_of(net, shown, first, *hint))?;
+    for place in 0..hints.len() {
+        ids.push(id_of(net, shown, first, hints.at(place)))?;
     }
     Ok(ids)
 }

@@ -83,7 +83,7 @@ fn ask_steps(marks: &mut ByStep, net: &Net, shown: &[u64], first: u64, steps: &[
     let mut id = first;
     for step in steps {
         mark(marks, id, ALWAYS);
-        mark_hints(marks, net, shown, first, ALWAYS, step.hints.as_slice());
+        mark_hints(marks, net, shown, first, ALWAYS, &step.hints);
         id += 1;
     }
 }

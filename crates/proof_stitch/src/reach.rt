@@ -19,7 +19,7 @@ use crate::addition::id_of;
 use crate::by_step::ByStep;
 use crate::shown::written_steps;
 use lemma_book::Book;
-use lits::{Ref, Step};
+use lits::{Hints, Step};
 use netlist::Net;
 
 /// The mark of a step that isn't reached.
@@ -49,14 +49,14 @@ pub fn ask(marks: &mut ByStep, ids: &[u64])
 }
 
 /// Marks what some hints name. `first` is the id of the first step of their list.
-pub fn mark_hints(marks: &mut ByStep, net: &Net, shown: &[u64], first: u64, by: u64, hints: &[Ref])
+pub fn mark_hints(marks: &mut ByStep, net: &Net, shown: &[u64], first: u64, by: u64, hints: &Hints)
     requires ids { All (HasId net.now shown.now first) hints.now }
     requires some { 1 ≤ by }
     ensures shape { KeepsShape marks.old marks.new }
     ensures marked { AreMarked (map (id_of net.now shown.now first) hints.now) by marks.old marks.new }
 {
-    for hint in hints {
-        mark(marks, id_of(net, shown, first, *hint), by);
+    for place in 0..hints.len() {
+        mark(marks, id_of(net, shown, first, hints.at(place)), by);
     }
 }
 
@@ -101,7 +101,7 @@ fn reach_step(marks: &mut ByStep, net: &Net, shown: &[u64], first: u64, id: u64,
     if marks.get(id) == UNUSED {
         return;
     }
-    mark_hints(marks, net, shown, first, id, step.hints.as_slice());
+    mark_hints(marks, net, shown, first, id, &step.hints);
 }
 
 /// Goes over the steps of a book's Merge and Out entries, from the last to the first.

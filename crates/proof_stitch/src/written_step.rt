@@ -37,7 +37,7 @@ pub fn write_step(
 {
     let next = proof.last + 1;
     names.set(id, next);
-    let cited = ids(alloc, net, shown, first, step.hints.as_slice())?;
+    let cited = ids(alloc, net, shown, first, &step.hints)?;
     let clause = numbers(alloc, net, step.clause.lits())?;
     let hints = new_ids(alloc, names, cited.as_slice())?;
     let addition = LratStep::Add {

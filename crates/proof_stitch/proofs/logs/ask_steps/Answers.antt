@@ -1,5 +1,4 @@
 use Rattle.std.proofs.Common.{◌≡◌, ◌+◌, ◌∷◌, ◌++◌, [], ℕ, List, drop, length, map, ap, arith, add-zero, subst, sym, ◌∙◌}
-use Rattle.lits.specs.declared.step.Ref.{Ref}
 use Rattle.lits.specs.declared.step.Step.{Step}
 use Rattle.lrat_text.specs.declared.step.LratStep.{LratStep}
 use Rattle.proof_stitch.specs.Ids.{HasIds}
@@ -20,7 +19,7 @@ mark_hints-requires-clause-ids c =
     let ids : HasIds c.args.net.now c.args.shown.now c.args.first c.step-item.result =
     subst (λ (s : Step). HasIds c.args.net.now c.args.shown.now c.args.first s) (sym c.step-item.is)
     (c.requires.ids c.loop-step.step-index c.step-item.result c.loop-step-test.true) in
-    rw c.as_slice.ensures ids.hints
+    ids.hints
 
 pub loop-step-preserved : goal.loop-step-preserved
 loop-step-preserved c =
@@ -28,9 +27,6 @@ loop-step-preserved c =
     let id : c.loop-step.id ≡ c.args.first + i = c.loop-step.invariant.id_is in
     let named = map (id_of c.args.net.now c.args.shown.now c.args.first) c.step-item.result.hints in
     let behind = additions_from c.args.net.now c.args.shown.now c.args.first (c.args.first + (i + 1)) (drop (i + 1) c.args.steps.now) in
-    let hints : AreMarked named always c.mark.new.marks c.mark_hints.new.marks =
-    subst (λ (l : List Ref). AreMarked (map (id_of c.args.net.now c.args.shown.now c.args.first) l) always c.mark.new.marks c.mark_hints.new.marks)
-    c.as_slice.ensures c.mark_hints.ensures.marked in
     record {
       id_is = omega (arith, id);
       shape =
@@ -43,7 +39,7 @@ loop-step-preserved c =
           (subst (λ (n : ℕ). AreMarked (n ∷ (named ++ named_ids behind)) always c.loop-step.marks t) id
           (marks-next c.loop-step.marks c.mark.new.marks t (c.loop-step.id ∷ []) (named ++ named_ids behind) always (omega arith)
           c.mark.ensures.shape c.mark.ensures.marked
-          (marks-next c.mark.new.marks c.mark_hints.new.marks t named (named_ids behind) always (omega arith) c.mark_hints.ensures.shape hints rest))));
+          (marks-next c.mark.new.marks c.mark_hints.new.marks t named (named_ids behind) always (omega arith) c.mark_hints.ensures.shape c.mark_hints.ensures.marked rest))));
     }
 
 pub returns-clause-marked : goal.returns-clause-marked
