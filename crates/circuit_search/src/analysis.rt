@@ -1,5 +1,5 @@
 use crate::clauses::{Clauses, Name};
-use crate::lessons::{Hints, Lessons};
+use crate::lessons::{HintSpan, Lessons};
 use crate::reason::Reason;
 use crate::table::{at, count, put};
 use crate::trail::{FALSE, Trail};
@@ -38,7 +38,7 @@ impl Lessons {
         clauses: &Clauses,
         trail: &Trail,
         conflict: Reason,
-    ) -> Result<Hints, AllocError> {
+    ) -> Result<HintSpan, AllocError> {
         self.restart(variables.len())?;
         self.lits.push(0)?;
         self.follow(variables, clauses, trail, conflict, trail.level())?;
@@ -101,7 +101,7 @@ impl Lessons {
         trail: &Trail,
         assumed: (u32, u32),
         conflict: Reason,
-    ) -> Result<Hints, AllocError> {
+    ) -> Result<HintSpan, AllocError> {
         self.restart(variables.len())?;
         self.follow(variables, clauses, trail, conflict, 1)?;
         for place in (0..trail.log.len()).rev() {

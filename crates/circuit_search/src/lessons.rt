@@ -5,7 +5,7 @@ use std::alloc::{AllocError, Global};
 
 /// Where hints stand.
 #[derive(Clone, Copy)]
-pub(crate) struct Hints {
+pub(crate) struct HintSpan {
     pub(crate) start: u32,
     pub(crate) len: u32,
 }
@@ -15,7 +15,7 @@ pub(crate) struct Hints {
 pub(crate) struct Lesson {
     /// The clause's number.
     pub(crate) clause: u32,
-    pub(crate) hints: Hints,
+    pub(crate) hints: HintSpan,
     /// The lesson's number among those that the entry needs, and 1; 0 where it doesn't need it.
     pub(crate) order: u32,
 }
@@ -84,17 +84,17 @@ impl Lessons {
     }
 
     /// Keeps the trace as hints.
-    pub(crate) fn keep_trace(&mut self) -> Result<Hints, AllocError> {
+    pub(crate) fn keep_trace(&mut self) -> Result<HintSpan, AllocError> {
         let start = count(self.hints.len());
         let len = count(self.trace.len());
         for reason in self.trace.iter().rev() {
             self.hints.push(*reason)?;
         }
-        Ok(Hints { start, len })
+        Ok(HintSpan { start, len })
     }
 
     /// Notes a lesson.
-    pub(crate) fn push(&mut self, clause: u32, hints: Hints) -> Result<(), AllocError> {
+    pub(crate) fn push(&mut self, clause: u32, hints: HintSpan) -> Result<(), AllocError> {
         self.lessons.push(Lesson {
             clause,
             hints,
@@ -114,7 +114,7 @@ impl Lessons {
             Some(lesson) => *lesson,
             None => Lesson {
                 clause: 0,
-                hints: Hints { start: 0, len: 0 },
+                hints: HintSpan { start: 0, len: 0 },
                 order: 0,
             },
         }
@@ -130,7 +130,7 @@ impl Lessons {
 
     /// Numbers the lessons that two lists of hints lead to, in order. The others are left out: a merge may
     /// have so many steps and no more. A query has one entry, so this is done once in it.
-    pub(crate) fn reach(&mut self, clauses: &Clauses, first: Hints, second: Hints) {
+    pub(crate) fn reach(&mut self, clauses: &Clauses, first: HintSpan, second: HintSpan) {
         self.reach_from(clauses, first);
         self.reach_from(clauses, second);
         for number in (0..self.len()).rev() {
@@ -143,7 +143,7 @@ impl Lessons {
     }
 
     /// Marks the lessons among the hints.
-    fn reach_from(&mut self, clauses: &Clauses, hints: Hints) {
+    fn reach_from(&mut self, clauses: &Clauses, hints: HintSpan) {
         for place in hints.start..hints.start.saturating_add(hints.len) {
             if let Some(number) = clauses.lesson(self.hint(place)) {
                 self.need(number as usize);

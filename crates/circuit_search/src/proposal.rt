@@ -3,7 +3,7 @@ ghost use Rattle.circuit_search.specs.Answer.{SettlesOutput, SettlesPair};
 
 use crate::caps::Caps;
 use crate::engine::Engine;
-use crate::lessons::Hints;
+use crate::lessons::HintSpan;
 use crate::merges::lit_code;
 use crate::round::Outcome;
 use crate::table::{count, mark};
@@ -29,7 +29,7 @@ pub(crate) enum Domain {
 pub(crate) enum Found {
     /// They have one value: the first clauses refute that only the first code is true, the other ones that
     /// only the second.
-    Equal(Hints, Hints),
+    Equal(HintSpan, HintSpan),
     /// They differ on the inputs that the trail has.
     Apart,
     Open,
@@ -150,8 +150,8 @@ impl Engine {
         net: &Net,
         first: Lit,
         second: Lit,
-        there: Hints,
-        back: Hints,
+        there: HintSpan,
+        back: HintSpan,
     ) -> Result<Vec<Step>, AllocError> {
         let mut steps = self.steps(alloc, net, there, back)?;
         self.add_step(alloc, net, &[first.not(), second], &[], there, &mut steps)?;
@@ -167,8 +167,8 @@ impl Engine {
         net: &Net,
         output: u32,
         first: Lit,
-        there: Hints,
-        back: Hints,
+        there: HintSpan,
+        back: HintSpan,
     ) -> Result<Option<Entry>, AllocError>
         ensures { IfOk result (λ o. IfSome o (SettlesOutput output)) }
     {
@@ -186,7 +186,7 @@ impl Engine {
         net: &Net,
         xor: Node,
         first: Lit,
-        cases: (Hints, Hints),
+        cases: (HintSpan, HintSpan),
         steps: &mut Vec<Step>,
     ) -> Result<(), AllocError> {
         let equal = Lit {
@@ -211,7 +211,7 @@ impl Engine {
         };
         let mut steps = Vec::new(alloc);
         let names = [Ref::Axiom(xor, 0), Ref::Axiom(xor, 1)];
-        let none = Hints { start: 0, len: 0 };
+        let none = HintSpan { start: 0, len: 0 };
         self.add_step(alloc, net, &[equal], &names, none, &mut steps)?;
         let steps = Listed::of(steps);
         Ok(Some(Entry::Out { output, steps }))

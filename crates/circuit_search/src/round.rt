@@ -1,5 +1,5 @@
 use crate::engine::Engine;
-use crate::lessons::Hints;
+use crate::lessons::HintSpan;
 use crate::reason::Reason;
 use crate::trail::Levels;
 use netlist::Net;
@@ -9,7 +9,7 @@ use std::alloc::AllocError;
 #[derive(Clone, Copy)]
 pub(crate) enum Outcome {
     /// They aren't both true, by these clauses.
-    Refuted(Hints),
+    Refuted(HintSpan),
     /// They are both true on the inputs that the trail has, where all others are false.
     Possible,
     /// A cap was reached.
@@ -125,7 +125,7 @@ impl Engine {
     }
 
     /// The clauses by which a false clause refutes what is assumed.
-    fn refutation(&mut self, conflict: Reason) -> Result<Hints, AllocError> {
+    fn refutation(&mut self, conflict: Reason) -> Result<HintSpan, AllocError> {
         self.lessons.refutation(
             &self.variables,
             &self.clauses,

@@ -1,6 +1,6 @@
 use crate::clauses::Name;
 use crate::engine::Engine;
-use crate::lessons::{Hints, Lesson};
+use crate::lessons::{HintSpan, Lesson};
 use crate::reason::Reason;
 use crate::variables::Kind;
 use lits::{Clause, ClauseErr, Hints, Lit, Node, Ref, Step};
@@ -16,8 +16,8 @@ impl Engine {
         &mut self,
         alloc: Global,
         net: &Net,
-        first: Hints,
-        second: Hints,
+        first: HintSpan,
+        second: HintSpan,
     ) -> Result<Vec<Step>, AllocError> {
         self.lessons.reach(&self.clauses, first, second);
         let mut steps = Vec::new(alloc);
@@ -50,7 +50,7 @@ impl Engine {
         net: &Net,
         lits: &[Lit],
         names: &[Ref],
-        hints: Hints,
+        hints: HintSpan,
         steps: &mut Vec<Step>,
     ) -> Result<(), AllocError> {
         let hints = Hints::of(self.refs(alloc, net, names, hints)?);
@@ -70,7 +70,7 @@ impl Engine {
         alloc: Global,
         net: &Net,
         names: &[Ref],
-        hints: Hints,
+        hints: HintSpan,
     ) -> Result<Vec<Ref>, AllocError> {
         let mut refs = Vec::from_slice(alloc, names)?;
         for place in hints.start..hints.start.saturating_add(hints.len) {

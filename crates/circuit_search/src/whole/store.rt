@@ -1,4 +1,4 @@
-use crate::lessons::Hints;
+use crate::lessons::HintSpan;
 use crate::table::{at, count, part, put};
 use std::alloc::{AllocError, Global};
 
@@ -20,7 +20,7 @@ pub(crate) struct Record {
     pub(crate) start: u32,
     pub(crate) name: Name,
     /// The numbers of the clauses that show it.
-    pub(crate) hints: Hints,
+    pub(crate) hints: HintSpan,
     /// Whether it is watched.
     pub(crate) is_live: bool,
     /// The number of the proof that needed it last, and its own number among the steps of that.
@@ -31,7 +31,7 @@ pub(crate) struct Record {
 const NOWHERE: Record = Record {
     start: 0,
     name: Name::Lesson,
-    hints: Hints { start: 0, len: 0 },
+    hints: HintSpan { start: 0, len: 0 },
     is_live: false,
     wanted: 0,
     order: 0,
@@ -90,7 +90,7 @@ impl Store {
         let number = self.len();
         let start = count(self.words.len()).saturating_add(HEAD);
         let len = count(clause.len());
-        let shown = Hints {
+        let shown = HintSpan {
             start: count(self.hints.len()),
             len: count(hints.len()),
         };
@@ -133,7 +133,7 @@ impl Store {
     }
 
     /// The hints at these places.
-    pub(crate) fn hints(&self, hints: Hints) -> &[u32] {
+    pub(crate) fn hints(&self, hints: HintSpan) -> &[u32] {
         part(&self.hints, hints.start, hints.len)
     }
 
