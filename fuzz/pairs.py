@@ -3,13 +3,15 @@
 
 Usage: pairs.py [PROGRAM [CHECKER]] [--runs N] [--seed N]
 
-PROGRAM is the repository's own where it is left out. CHECKER (else tools/lrat_strict.py) is a strict LRAT checker that is called as `CHECKER [--steps] CNF PROOF` and prints VERIFIED for a refutation, and
-with --steps `STEPS COUNT` for lines that are all steps and add no empty clause. For each pair the circuits are evaluated
-on every input here, and what counts are the inputs on which each constraint of both is true, of which there may be none. EQUIVALENT must be
-true and its proof VERIFIED. DIFFERENT must name an output and such an input on which it differs, and with the whole budget the first
-output that differs. UNDECIDED may list only outputs whose logs stand at those lines of the file, as long as the budget, and each other
-output must be equal. Some pairs are matched by name: the second file then has its inputs and outputs in another order, and is judged
-by the first one's. The CNF must be the one that tools/miter.py makes of the two files. Status 1 where anything is wrong.
+PROGRAM is the repository's own where it is left out. CHECKER (else tools/lrat_strict.py) is a strict LRAT checker that is called as
+`CHECKER [--steps] CNF PROOF` and prints VERIFIED for a refutation, and with --steps `STEPS COUNT` for lines that are all steps and add no
+empty clause. For each pair the circuits are evaluated on every input here, and what counts are the inputs on which each constraint of both
+is true, of which there may be none. EQUIVALENT must be true and its proof VERIFIED. DIFFERENT must name an output and such an input on
+which it differs, and with the whole budget the first output that differs. UNDECIDED may list only outputs whose logs stand at those lines
+of the file, as long as the budget, and each other output must be equal. Some pairs are XORs by two shapes, and mostly a query of two nodes
+has a budget of one clause: without both no output is left open. Some pairs are matched by name: the second file then has its inputs and
+outputs in another order, and is judged by the first one's. The CNF must be the one that tools/miter.py makes of the two files. Status 1
+where anything is wrong.
 """
 import itertools
 import random
@@ -47,6 +49,35 @@ def rewritten(rng, circuit):
         gates = gates + [(lhs, outputs[place], rng.choice([1, outputs[place]]))]
         outputs = outputs[:place] + [lhs] + outputs[place + 1:]
     return inputs, outputs, gates
+
+
+def put_xor(rng, gates, next_literal, left, right):
+    """The literal of the XOR of two literals, by one of two shapes of three gates, which are put last."""
+    pairs = rng.choice([[(left, right ^ 1), (left ^ 1, right)], [(left, right), (left ^ 1, right ^ 1)]])
+    lhs = next_literal + 2 * len(gates)
+    gates += [(lhs, *pairs[0]), (lhs + 2, *pairs[1]), (lhs + 4, lhs + 1, lhs + 3)]
+    return lhs + 4 ^ (pairs[0] == (left, right ^ 1))
+
+
+def xor_circuit(rng, inputs, outputs):
+    """Each output is the XOR of all inputs, which are taken in an order and by shapes that are drawn."""
+    gates, ends = [], []
+    for _ in range(outputs):
+        order = rng.sample(range(2, 2 * inputs + 2, 2), inputs)
+        end = order[0]
+        for literal in order[1:]:
+            end = put_xor(rng, gates, 2 * inputs + 2, end, literal)
+        ends.append(end)
+    return [2 * (k + 1) for k in range(inputs)], ends, gates
+
+
+def drawn_pair(rng):
+    """Two circuits, mostly of one function. Those of XORs take clauses that are learned, so small budgets leave outputs open."""
+    if rng.random() < 0.3:
+        size = rng.randrange(2, 5), rng.randrange(1, 4)
+        return xor_circuit(rng, *size), rewritten(rng, xor_circuit(rng, *size))
+    a = random_circuit(rng, rng.randrange(0, 5), rng.randrange(0, 4), rng.randrange(0, 9))
+    return a, rewritten(rng, a) if rng.random() < 0.75 else random_circuit(rng, len(a[0]), len(a[1]), rng.randrange(0, 9))
 
 
 def literals_of(circuit):
@@ -202,8 +233,7 @@ def main():
     rng, tally, checker = random.Random(words.seed), Tally(words.seed), house.checker(words.checker)
     with tempfile.TemporaryDirectory() as folder:
         for _ in range(words.runs):
-            a = random_circuit(rng, rng.randrange(0, 5), rng.randrange(0, 4), rng.randrange(0, 9))
-            b = rewritten(rng, a) if rng.random() < 0.75 else random_circuit(rng, len(a[0]), len(a[1]), rng.randrange(0, 9))
+            a, b = drawn_pair(rng)
             bounds, by_name = drawn_constraints(rng, a, b), rng.random() < 0.3
             files = named_files(rng, a, b, bounds) if by_name else (text(a, bounds[0]), text(b, bounds[1]))
             Path(folder, "A").write_text(files[0])
@@ -211,6 +241,7 @@ def main():
             budget = rng.choice([None, None, 1, 2, 3])
             command = [words.program, "check", "A", "B", "--out", "p"] + (["--match", "names"] if by_name else [])
             command += [] if budget is None else ["--budget", str(budget)]
+            command += ["--sweep-budget", "1"] if rng.random() < 0.7 else []
             ran = subprocess.run(command, cwd=folder, capture_output=True, text=True)
             fault = judged(ran, a, b, bounds, folder, checker, budget)
             tally.add(ran.returncode, fault and f"{fault}: {ran!r}, on {files!r}")
