@@ -6,6 +6,7 @@ mod TrimLemmas
 mod TrimmedLemmas
 mod MarkLemmas
 mod RisingLemmas
+mod PassLemmas
 mod ProgressLemmas
 mod StepLemmas
 mod ShownLemmas

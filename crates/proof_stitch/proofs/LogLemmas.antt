@@ -1,9 +1,9 @@
 -- Logs: each of their lines is asked for, with what it cites, so it is written, and nothing that it cites is deleted.
 use Rattle.std.proofs.Common.{◌≡◌, ℕ, suc, ◌+◌, ◌-◌, ◌<◌, ◌≤◌, ◌^◌, Bool, true, false, ◌||◌, eqb, List, [], ◌∷◌, ◌++◌, length, map, if◌then◌else◌, refl, sym, ap, ◌∙◌, subst, arith, append_assoc, length-append}
-use Rattle.std.specs.Prelude.{All, filter, replicate}
+use Rattle.std.specs.Prelude.{All, Err, Ok, OnOk, Result, replicate}
 use Rattle.std.specs.List.{range_with_len, AllByRecursion}
 use Rattle.std.proofs.lemmas.Bool.{or_left, or_right, or_parts}
-use Rattle.std.proofs.lemmas.List.{append-nil, length-map}
+use Rattle.std.proofs.lemmas.List.{append-nil}
 use Rattle.lits.specs.declared.step.Step.{Step}
 use Rattle.lits.proofs.Facts.{all-append}
 use Rattle.netlist.specs.Net.{AigPair}
@@ -17,7 +17,9 @@ use Rattle.proof_stitch.specs.declared.logs.Span.{Span}
 use Rattle.proof_stitch.specs.declared.proof_text.ProofText.{ProofText}
 use Rattle.proof_stitch.specs.Derivation.{all_lines, derivation_of, is_for_logs, log_lines, shown_units, span_of, spans_from, spent_log, written_lines}
 use Rattle.proof_stitch.specs.Ids.{HasIds}
-use Rattle.proof_stitch.specs.Progress.{IsAtLine}
+use Rattle.desk_port.specs.Desk.{DeskState, Sizes}
+use Rattle.desk_port.specs.declared.errors.PutErr.{PutErr}
+use Rattle.proof_stitch.specs.Progress.{Goes, GoesOn, IsAtLine, text_left}
 use Rattle.proof_stitch.specs.Steps.{additions_from, additions}
 use Rattle.proof_stitch.specs.Table.{AreMarked, HasMarks, IsStepId, KeepsShape, always, last_use, marked, named_ids, number_at}
 use Rattle.proof_stitch.specs.Text.{proof_text}
@@ -27,9 +29,9 @@ use Rattle.proof_stitch.proofs.BookLemmas.{IsSoundBook, log-derived, total}
 use Rattle.proof_stitch.proofs.DerivationLemmas.{length-log_lines, lines-few, lines-row}
 use Rattle.proof_stitch.proofs.TrimmedLemmas.{trimmed-short}
 use Rattle.proof_stitch.proofs.MarkLemmas.{last_use-none, same-ids}
-use Rattle.proof_stitch.proofs.ProgressLemmas.{at-start}
+use Rattle.proof_stitch.proofs.ProgressLemmas.{at-start, text-start}
 use Rattle.proof_stitch.proofs.ReachLemmas.{marks-next, marks-nothing, number-zero}
-use Rattle.proof_stitch.proofs.RefutationLemmas.{length-additions, length-additions_from}
+use Rattle.proof_stitch.proofs.RefutationLemmas.{length-additions_from}
 use Rattle.proof_stitch.proofs.RowLemmas.{all-has_id, reached-all}
 use Rattle.proof_stitch.proofs.WriterLemmas.{ShownFit, shown-fit, derived-ids}
 
@@ -251,6 +253,28 @@ log-start net entries first names proof is at behind = record {
   behind = behind;
 }
 
+-- the lines of the logs that are left, and how the writer goes through those of the next output
+abbrev pub logs_left : AigPair → List Entry → ℕ → List ℕ → List LratStep
+logs_left net entries next left = additions net (shown_ids net entries) next (map (spent_log entries) left)
+
+module _ {A : Type 0} (net : AigPair) (entries : List Entry) (j : ℕ) (js : List ℕ) (clauses : ℕ) (shown : List ℕ) (steps : List Step)
+    (next : ℕ) (names names' : ByStep) (proof proof' : ProofText) (s0 s1 : DeskState) (z0 z1 : Sizes) (r : Result A PutErr) where
+  pub log-goes : clauses ≡ length (miter_of net) → shown ≡ shown_ids net entries → steps ≡ spent_log entries j
+      → ((left : List LratStep) → Goes clauses (is_for_logs net entries) (all_lines net entries) (additions_from net shown next next steps ++ left) left
+      next (next + length steps) names names' proof proof' s0 s1 z0 z1 r)
+      → Goes (length (miter_of net)) (is_for_logs net entries) (all_lines net entries) (logs_left net entries next (j ∷ js))
+      (logs_left net entries (next + length (spent_log entries j)) js) next (next + length (spent_log entries j)) names names' proof proof' s0 s1 z0 z1 r
+  log-goes same same_shown same_steps pushes =
+      let later = logs_left net entries (next + length (spent_log entries j)) js in
+      let asked = is_for_logs net entries in
+      let all = all_lines net entries in
+      subst (λ (k : ℕ). Goes k asked all (additions_from net (shown_ids net entries) next next (spent_log entries j) ++ later) later
+      next (next + length (spent_log entries j)) names names' proof proof' s0 s1 z0 z1 r) same
+      (subst (λ (l : List ℕ). Goes clauses asked all (additions_from net l next next (spent_log entries j) ++ later) later
+      next (next + length (spent_log entries j)) names names' proof proof' s0 s1 z0 z1 r) same_shown
+      (subst (λ (l : List Step). Goes clauses asked all (additions_from net shown next next l ++ later) later
+      next (next + length l) names names' proof proof' s0 s1 z0 z1 r) same_steps (pushes later)))
+
 -- the output that comes next
 pub log-range : {net : AigPair} {entries : List Entry} {first0 last0 : ℕ} {next : ℕ} {names : ByStep} {proof : ProofText} {spans : List Span}
     (j n : ℕ) → j < n → IsAtLog net entries first0 last0 (range_with_len j (n - j)) next names proof spans
@@ -277,27 +301,6 @@ module _ {net : AigPair} {entries : List Entry} {first0 last0 : ℕ} {j : ℕ} {
   pub log-within : first0 ≡ length (miter_of net) + length (book_additions net entries) + 1
       → next + length (spent_log entries j) ≤ length (miter_of net) + (length (book_additions net entries) + length (log_lines net entries)) + 1
   log-within is = omega (arith, at.next_is, is, length-log_lines net entries)
-
-  -- where it stands behind them
-  pub log-after : (clauses : ℕ) (shown : List ℕ) (steps : List Step) (names' : ByStep) (proof' : ProofText) → clauses ≡ length (miter_of net)
-      → shown ≡ shown_ids net entries → steps ≡ spent_log entries j
-      → ((left : List LratStep) → IsAtLine clauses (is_for_logs net entries) (all_lines net entries)
-      (additions_from net shown next next steps ++ left) next names proof
-      → IsAtLine clauses (is_for_logs net entries) (all_lines net entries) left (next + length steps) names' proof')
-      → IsAtLine (length (miter_of net)) (is_for_logs net entries) (all_lines net entries)
-      (additions net (shown_ids net entries) (next + length (spent_log entries j)) (map (spent_log entries) js))
-      (next + length (spent_log entries j)) names' proof'
-  log-after clauses shown steps names' proof' same same_shown same_steps pushes =
-      let later = additions net (shown_ids net entries) (next + length (spent_log entries j)) (map (spent_log entries) js) in
-      let asked = is_for_logs net entries in
-      let all = all_lines net entries in
-      subst (λ (n : ℕ). IsAtLine (length (miter_of net)) asked all later (next + n) names' proof') (ap length same_steps)
-      (subst (λ (k : ℕ). IsAtLine k asked all later (next + length steps) names' proof') same
-      (pushes later
-      (subst (λ (k : ℕ). IsAtLine k asked all (additions_from net shown next next steps ++ later) next names proof) (sym same)
-      (subst (λ (l : List ℕ). IsAtLine (length (miter_of net)) asked all (additions_from net l next next steps ++ later) next names proof) (sym same_shown)
-      (subst (λ (l : List Step). IsAtLine (length (miter_of net)) asked all (additions_from net (shown_ids net entries) next next l ++ later) next names proof)
-      (sym same_steps) at.at)))))
 
   module _ {names' : ByStep} {proof' : ProofText} (after : IsAtLine (length (miter_of net)) (is_for_logs net entries) (all_lines net entries)
       (additions net (shown_ids net entries) (next + length (spent_log entries j)) (map (spent_log entries) js))
@@ -338,6 +341,23 @@ pub log-done : {net : AigPair} {entries : List Entry} {first0 last0 : ℕ} {next
 log-done {net} {entries} {first0} {last0} {next} {names} {proof} {spans} j n past found =
     let none : n - j ≡ 0 = omega arith in
     subst (λ (k : ℕ). IsAtLog net entries first0 last0 (range_with_len j k) next names proof spans) none found
+
+-- the lines of the logs from that output on
+pub logs-range : (net : AigPair) (entries : List Entry) (next : ℕ) {first : ℕ} {names names' : ByStep} {proof proof' : ProofText} {s0 s1 : DeskState} {z0 z1 : Sizes}
+    (j n : ℕ) → j < n
+    → GoesOn (length (miter_of net)) (is_for_logs net entries) (all_lines net entries) (log_lines net entries)
+    (logs_left net entries next (range_with_len j (n - j))) first next names names' proof proof' s0 s1 z0 z1
+    → GoesOn (length (miter_of net)) (is_for_logs net entries) (all_lines net entries) (log_lines net entries)
+    (logs_left net entries next (j ∷ range_with_len (j + 1) (n - (j + 1)))) first next names names' proof proof' s0 s1 z0 z1
+logs-range net entries next {first} {names} {names'} {proof} {proof'} {s0} {s1} {z0} {z1} j n lt p =
+    let count : n - j ≡ suc (n - (j + 1)) = omega arith in
+    subst (λ (k : ℕ). GoesOn (length (miter_of net)) (is_for_logs net entries) (all_lines net entries) (log_lines net entries)
+    (logs_left net entries next (range_with_len j k)) first next names names' proof proof' s0 s1 z0 z1) count p
+
+pub logs-none : (net : AigPair) (entries : List Entry) (next j n : ℕ) → n ≤ j → logs_left net entries next (range_with_len j (n - j)) ≡ []
+logs-none net entries next j n past =
+    let none : n - j ≡ 0 = omega arith in
+    ap (λ (k : ℕ). logs_left net entries next (range_with_len j k)) none
 
 -- ---- counting, and asking
 
@@ -397,10 +417,16 @@ asks-none net entries old now j n next past rest =
 
 -- before the first line
 pub derivation-start : (net : AigPair) (out : ℕ) (entries : List Entry) → IsSoundBook net out entries → (names : ByStep) (proof : ProofText)
-    → proof.text.items ≡ [] → proof.last ≡ length (miter_of net) → proof.lines ≡ 0
+    → proof.last ≡ length (miter_of net) → proof.lines ≡ 0
     → IsAtLine (length (miter_of net)) (is_for_logs net entries) (all_lines net entries) (all_lines net entries) (length (miter_of net) + 1) names proof
-derivation-start net out entries book names proof text last lines =
-    at-start (length (miter_of net)) (is_for_logs net entries) (all_lines net entries) names proof (lines-row net out entries book) text last lines
+derivation-start net out entries book names proof last lines =
+    at-start (length (miter_of net)) (is_for_logs net entries) (all_lines net entries) names proof (lines-row net out entries book) last lines
+
+pub derivation-whole : (net : AigPair) (entries : List Entry)
+    → text_left (length (miter_of net)) (is_for_logs net entries) (all_lines net entries) (all_lines net entries)
+    ≡ proof_text net (derivation_of net entries)
+unfolding derivation_of
+derivation-whole net entries = text-start (length (miter_of net)) (is_for_logs net entries) (all_lines net entries)
 
 -- before the first log
 pub derivation-last : (net : AigPair) (entries : List Entry) (next : ℕ) (names : ByStep) (proof : ProofText)
@@ -416,21 +442,24 @@ derivation-last net entries next names proof at =
     )
 
 -- behind the last line
-pub derivation-text : (net : AigPair) (entries : List Entry) (next : ℕ) (names : ByStep) (proof : ProofText)
-    → IsAtLine (length (miter_of net)) (is_for_logs net entries) (all_lines net entries) [] next names proof
-    → proof.text.items ≡ proof_text net (derivation_of net entries)
-unfolding derivation_of
-derivation-text net entries next names proof at = sym (append-nil proof.text.items) ∙ at.text_is
-
-pub derivation-lines : (net : AigPair) (out : ℕ) (entries : List Entry) → IsSoundBook net out entries → (next : ℕ) (names : ByStep) (proof : ProofText)
+at-end-lines : (net : AigPair) (out : ℕ) (entries : List Entry) → IsSoundBook net out entries → (next : ℕ) (names : ByStep) (proof : ProofText)
     → length (miter_of net) < 2 ^ 32
     → IsAtLine (length (miter_of net)) (is_for_logs net entries) (all_lines net entries) [] next names proof
     → proof.lines ≡ length (derivation_of net entries)
 unfolding derivation_of
-derivation-lines net out entries book next names proof few at =
+at-end-lines net out entries book next names proof few at =
     omega (
       arith,
       at.lines_is,
       trimmed-short (length (miter_of net)) (is_for_logs net entries) (all_lines net entries),
       lines-few net out entries book few,
     )
+
+pub derivation-lines : {A : Type 0} (r : Result A PutErr) (net : AigPair) (out : ℕ) (entries : List Entry) → IsSoundBook net out entries
+    → (next next' : ℕ) (names names' : ByStep) (proof proof' : ProofText) (s0 s1 : DeskState) (z0 z1 : Sizes) → length (miter_of net) < 2 ^ 32
+    → IsAtLine (length (miter_of net)) (is_for_logs net entries) (all_lines net entries) (log_lines net entries) next names proof
+    → Goes (length (miter_of net)) (is_for_logs net entries) (all_lines net entries) (log_lines net entries) [] next next' names names' proof proof' s0 s1 z0 z1 r
+    → OnOk r (proof'.lines ≡ length (derivation_of net entries))
+derivation-lines (Ok a) net out entries book next next' names names' proof proof' s0 s1 z0 z1 few at goes =
+    at-end-lines net out entries book next' names' proof' few (goes.stands at)
+derivation-lines (Err e) net out entries book next next' names names' proof proof' s0 s1 z0 z1 few at goes = tt

@@ -1,8 +1,8 @@
 -- A writer that goes through lines, one by one.
-use Rattle.std.proofs.Common.{◌≡◌, ℕ, ◌+◌, ◌<◌, ◌≤◌, ◌^◌, Bool, true, false, not, ◌&&◌, ◌||◌, eqb, List, [], ◌∷◌, ◌++◌, length, map, if◌then◌else◌, refl, sym, ap, ap₂, ◌∙◌, subst, arith, append_assoc, length-append, ◌⊎◌, inl, inr}
-use Rattle.std.specs.Prelude.{filter}
+use Rattle.std.proofs.Common.{◌≡◌, ℕ, ◌+◌, ◌<◌, ◌≤◌, ◌^◌, Bool, true, false, not, ◌&&◌, ◌||◌, eqb, List, [], ◌∷◌, ◌++◌, length, map, if◌then◌else◌, refl, sym, ap, ap₂, ◌∙◌, subst, arith, append_assoc, length-append, take, ◌-◌, ◌⊎◌, inl, inr}
+use Rattle.std.specs.Prelude.{filter, OnOk, Result, Ok, Err}
+use Rattle.std.proofs.Math.Seq.{take-append_seam}
 use Rattle.std.specs.List.{AllByRecursion}
-use Rattle.std.specs.List.Sorted.{IsStrictlyIncreasing}
 use Rattle.std.proofs.lemmas.Bool.{eqb-true, eq-eqb, ne_eqb, le-leb, lt-leb, cases_eq, or_left, or_right}
 use Rattle.std.proofs.lemmas.List.{map-append, append-nil, length-map}
 use Rattle.std.proofs.lemmas.List.Folds.{list_any-append}
@@ -15,7 +15,10 @@ use Rattle.lits.specs.declared.step.Step.{Step}
 use Rattle.netlist.specs.Net.{AigPair}
 use Rattle.netlist.specs.Miter.{numbered}
 use Rattle.proof_stitch.specs.Steps.{addition, id_of}
-use Rattle.proof_stitch.specs.Progress.{InRow, IsAtLine, Rises, WritesStep, counted}
+use Rattle.desk_port.specs.Desk.{DeskState, Sizes}
+use Rattle.desk_port.specs.Pieces.{Takes}
+use Rattle.desk_port.specs.declared.errors.PutErr.{PutErr}
+use Rattle.proof_stitch.specs.Progress.{AreLastCited, Goes, GoesOn, InRow, IsAtLine, Rises, counted, done_before, step_lines, text_left}
 use Rattle.proof_stitch.specs.declared.by_step.ByStep.{ByStep}
 use Rattle.proof_stitch.specs.Table.{HasMarks, IsPut, IsStepId, KeepsShape, always, last_use, named_in, number_at}
 use Rattle.proof_stitch.specs.Trimmed.{id_in, has_id, cites, is_cited, reached, last_cited, deletion, with_deletions, new_id, renamed, trimmed}
@@ -23,7 +26,8 @@ use Rattle.proof_stitch.specs.declared.proof_text.ProofText.{ProofText}
 use Rattle.proof_stitch.proofs.MarkLemmas.{last_use-append, last_use-none, last_use-some, mark_of, mark-none, mark-some}
 use Rattle.proof_stitch.proofs.RowLemmas.{all-above, all-has_id, cites-below, follows-id, has_id-all, reached-all}
 use Rattle.proof_stitch.proofs.TrimmedLemmas.{new_id-low, new_id-next}
-use Rattle.proof_stitch.proofs.RisingLemmas.{has_id-filtered, same-members, rises-filter, rises-from, rises-push}
+use Rattle.proof_stitch.proofs.PassLemmas.{moves-none, moves-part, stops-part}
+use Rattle.proof_stitch.proofs.RisingLemmas.{has_id-filtered, rises-filter, rises-push}
 
 -- a test of joined lines
 cited-append : (xs ys : List LratStep) (n : ℕ) → is_cited (xs ++ ys) n ≡ (is_cited xs n || is_cited ys n)
@@ -68,19 +72,39 @@ pub step-lines : (lines lines' lines'' n k : ℕ) → counted lines' ≡ counted
     → counted lines'' ≡ counted (lines + 1 + k)
 step-lines lines lines' lines'' n k p q r = q ∙ counted-more lines' (lines + 1) n p ∙ ap (λ (j : ℕ). counted (lines + 1 + j)) r
 
--- the text of a step and its deletion
-pub step-text : (text text' text'' : List ℕ) (last last' : ℕ) (clause clause' : List DimacsLiteral) (hints hints' gone gone' : List ℕ)
-    → text' ≡ text ++ line_text last (Add (last + 1) clause hints) → last' ≡ last + 1 → text'' ≡ text' ++ text_from last' (deletion gone)
-    → clause ≡ clause' → hints ≡ hints' → gone ≡ gone'
-    → text'' ≡ text ++ text_from last (Add (last + 1) clause' hints' ∷ deletion gone')
-step-text text text' text'' last last' clause clause' hints hints' gone gone' p q r e f g =
-    r ∙ rw (p, q, e, f, g)
-    (append_assoc text (line_text last (Add (last + 1) clause' hints')) (text_from (last + 1) (deletion gone')))
+-- the text of what is left, by what is reached before it
+left-text : (m : ℕ) (asked : ℕ → Bool) (all left done : List LratStep) → reached asked all ≡ done ++ reached asked left
+    → text_left m asked all left
+    ≡ text_from (m + length done) (map (renamed (new_id m (reached asked all))) (with_deletions asked done (reached asked left)))
+left-text m asked all left done parts =
+    ap (λ (l : List LratStep). text_from (m + length l) (map (renamed (new_id m (reached asked all))) (with_deletions asked l (reached asked left)))) before
+  where
+    seam : length (done ++ reached asked left) - length (reached asked left) ≡ length done
+    seam = omega (arith, length-append done (reached asked left))
+
+    before : done_before asked all left ≡ done
+    before =
+        subst (λ (l : List LratStep). take (length l - length (reached asked left)) l ≡ done) (sym parts)
+        (ap (λ (n : ℕ). take n (done ++ reached asked left)) seam ∙ take-append_seam done (reached asked left))
+
+-- before the first line it is the whole text, and behind the last one there is none
+pub text-start : (m : ℕ) (asked : ℕ → Bool) (all : List LratStep) → text_left m asked all all ≡ text_from m (trimmed m asked all)
+text-start m asked all =
+    left-text m asked all all [] refl
+    ∙ ap (λ (n : ℕ). text_from n (trimmed m asked all)) none
+  where
+    none : m + 0 ≡ m
+    none = omega arith
+
+-- the text of a deletion
+pub deletion-text : (last : ℕ) (ids gone : List ℕ) → (length gone ≡ 0 → ⊥) → ids ≡ gone → line_text last (Del ids) ≡ text_from last (deletion gone)
+deletion-text last ids [] some is = absurd (some refl)
+deletion-text last ids (n ∷ ns) some is = ap (λ (l : List ℕ). line_text last (Del l)) is ∙ sym (append-nil (line_text last (Del (n ∷ ns))))
 
 -- before the first line
 pub at-start : (m : ℕ) (asked : ℕ → Bool) (all : List LratStep) (names : ByStep) (proof : ProofText) → InRow m all
-    → proof.text.items ≡ [] → proof.last ≡ m → proof.lines ≡ 0 → IsAtLine m asked all all (m + 1) names proof
-at-start m asked all names proof row text last lines = record {
+    → proof.last ≡ m → proof.lines ≡ 0 → IsAtLine m asked all all (m + 1) names proof
+at-start m asked all names proof row last lines = record {
   last = m;
   next_is = refl;
   row = row;
@@ -93,7 +117,6 @@ at-start m asked all names proof row text last lines = record {
   known = λ n w le. inl le;
   names_are = λ n h. cc;
   last_is = omega (arith, last);
-  text_is = rw (text, last) refl;
   lines_is = omega (arith, lines, length-map (with_deletions asked [] (reached asked all)) (renamed (new_id m (reached asked all))));
 }
 
@@ -122,10 +145,22 @@ module _ {m : ℕ} {asked : ℕ → Bool} {all left : List LratStep} {next : ℕ
       go [] a = tt
       go (l ∷ ls) a = ((a.0.0, omega (arith, a.0.1)), go ls a.1)
 
+  -- what is left, by the lines before the next one
+  left-here : text_left m asked all (line ∷ left)
+      ≡ text_from proof.last (map (renamed name) (with_deletions asked at.done (reached asked (line ∷ left))))
+  left-here =
+      left-text m asked all (line ∷ left) at.done at.parts
+      ∙ ap (λ (n : ℕ). text_from n (map (renamed name) (with_deletions asked at.done (reached asked (line ∷ left))))) (sym at.last_is)
+
   -- a line that isn't reached
   module _ (unwanted : is_wanted ≡ false) where
     behind : reached asked (line ∷ left) ≡ reached asked left
     behind = rw unwanted refl
+
+    pub skip-text : text_left m asked all (line ∷ left) ≡ text_left m asked all left
+    skip-text =
+        ap (λ (l : List LratStep). (let done = take (length kept - length l) kept in
+        text_from (m + length done) (map (renamed name) (with_deletions asked done l)))) behind
 
     pub at-skip : IsAtLine m asked all left (next + 1) names proof
     at-skip = record {
@@ -141,7 +176,6 @@ module _ {m : ℕ} {asked : ℕ → Bool} {all left : List LratStep} {next : ℕ
       known = λ n w le. known n w le (cases_eq n (id_in line));
       names_are = at.names_are;
       last_is = at.last_is;
-      text_is = subst (λ (l : List LratStep). proof.text.items ++ text_from proof.last (map (renamed name) (with_deletions asked at.done l)) ≡ text_from m (trimmed m asked all)) behind at.text_is;
       lines_is = subst (λ (l : List LratStep). counted (proof.lines + length (with_deletions asked at.done l)) ≡ counted (length (trimmed m asked all))) behind at.lines_is;
     }
       where
@@ -225,15 +259,13 @@ module _ {m : ℕ} {asked : ℕ → Bool} {all left : List LratStep} {next : ℕ
           filter-none [] = refl
           filter-none (i ∷ is) = rw (fails i) (filter-none is)
 
-      pub at-end : text_from m (trimmed m asked all)
-          ≡ proof.text.items ++ line_text proof.last (Add (proof.last + 1) [] (map (named_in names) hints))
-      at-end =
-          sym at.text_is
-          ∙ ap (λ (t : List ℕ). proof.text.items ++ t)
-          (ap (λ (l : List LratStep). text_from proof.last (map (renamed name) (with_deletions asked at.done l))) (ahead ∙ ap (λ (l : List LratStep). line ∷ l) none-behind)
+      pub end-text : text_left m asked all (line ∷ left) ≡ line_text proof.last (Add (proof.last + 1) [] (map (named_in names) hints))
+      end-text =
+          left-here
+          ∙ ap (λ (l : List LratStep). text_from proof.last (map (renamed name) (with_deletions asked at.done l))) (ahead ∙ ap (λ (l : List LratStep). line ∷ l) none-behind)
           ∙ ap (λ (l : List ℕ). text_from proof.last (renamed name line ∷ map (renamed name) (deletion l ++ []))) none-falls
           ∙ ap (λ (l : LratStep). text_from proof.last (l ∷ [])) same-line
-          ∙ append-nil (line_text proof.last (Add (proof.last + 1) [] (map (named_in names) hints))))
+          ∙ append-nil (line_text proof.last (Add (proof.last + 1) [] (map (named_in names) hints)))
         where
           same-line : renamed name line ≡ Add (proof.last + 1) [] (map (named_in names) hints)
           same-line =
@@ -290,9 +322,7 @@ module _ {m : ℕ} {asked : ℕ → Bool} {all left : List LratStep} {next : ℕ
             | inr done ↦ named-done n done
           ]
 
-      module _ (marks : ByStep) (has : HasMarks asked kept marks) (alike : KeepsShape marks names) (small : id_in line < 2 ^ 63)
-          (gone : List ℕ) (rises : IsStrictlyIncreasing gone)
-          (members : (n : ℕ) → has_id gone n ≡ (cites line n && eqb (number_at marks n) (id_in line))) where
+      module _ (marks : ByStep) (has : HasMarks asked kept marks) (alike : KeepsShape marks names) (small : id_in line < 2 ^ 63) where
         -- the line is the last to cite a step exactly where its mark says so
         last-mark : (n : ℕ) → cites line n ≡ true → m < n
             → eqb (number_at marks n) (id_in line) ≡ not (asked n || is_cited (reached asked left) n)
@@ -324,8 +354,15 @@ module _ {m : ℕ} {asked : ℕ → Bool} {all left : List LratStep} {next : ℕ
         abbrev falls : ℕ → Bool
         falls n = cites line n && not (asked n || is_cited (reached asked left) n)
 
-        same : (n : ℕ) → has_id gone n ≡ has_id (last_cited asked at.done line (reached asked left)) n
-        same n = members n ∙ go (cites line n) refl ∙ sym (has_id-filtered falls (map id_in at.done) n)
+        -- these it is the last to cite
+        abbrev pub fallen : List ℕ
+        fallen = last_cited asked at.done line (reached asked left)
+
+        pub fallen-rises : Rises fallen
+        fallen-rises = rises-filter falls (map id_in at.done) at.rises
+
+        pub fallen-members : (n : ℕ) → has_id fallen n ≡ (cites line n && eqb (number_at marks n) (id_in line))
+        fallen-members n = has_id-filtered falls (map id_in at.done) n ∙ sym (go (cites line n) refl)
           where
             none : (b : Bool) → (b && false) ≡ false
             none true = refl
@@ -351,20 +388,61 @@ module _ {m : ℕ} {asked : ℕ → Bool} {all left : List LratStep} {next : ℕ
                 done-not low false f = refl
                 done-not low true f = absurd (omega (arith, low, (done-ids n f).0))
 
-        gone-is : gone ≡ last_cited asked at.done line (reached asked left)
-        gone-is =
-            same-members gone (last_cited asked at.done line (reached asked left)) (rises-from gone rises)
-            (rises-filter falls (map id_in at.done) at.rises) same
-
         -- the line and its deletion
-        pub at-write : (proof' : ProofText) (clause : List DimacsLiteral) (hints : List ℕ) → line ≡ Add next clause hints
-            → proof'.last ≡ proof.last + 1
-            → proof'.text.items
-            ≡ proof.text.items
-            ++ text_from proof.last (Add (proof.last + 1) clause (map (named_in names') hints) ∷ deletion (map (named_in names') gone))
-            → counted proof'.lines ≡ counted (proof.lines + 1 + length (deletion gone))
+        pub write-text : (clause : List DimacsLiteral) (hints : List ℕ) → line ≡ Add next clause hints
+            → text_left m asked all (line ∷ left)
+            ≡ text_from proof.last (Add (proof.last + 1) clause (map (named_in names') hints) ∷ deletion (map (named_in names') fallen))
+            ++ text_left m asked all left
+        write-text clause hints is =
+            left-here
+            ∙ ap (λ (l : List LratStep). text_from proof.last (map (renamed name) (with_deletions asked at.done l))) ahead
+            ∙ ap (text_from proof.last) (sym lines-same)
+            ∙ text-behind proof.last (proof.last + 1) clause (map (named_in names') hints) (map (named_in names') fallen) here
+            ∙ ap (λ (t : List ℕ). text_from proof.last (Add (proof.last + 1) clause (map (named_in names') hints) ∷ deletion (map (named_in names') fallen)) ++ t)
+            (sym left-there)
+          where
+            here : List LratStep
+            here = map (renamed name) (with_deletions asked (at.done ++ line ∷ []) (reached asked left))
+
+            left-there : text_left m asked all left ≡ text_from (proof.last + 1) here
+            left-there =
+                left-text m asked all left (at.done ++ line ∷ []) (whole ∙ sym (append_assoc at.done (line ∷ []) (reached asked left)))
+                ∙ ap (λ (n : ℕ). text_from n here) (omega (arith, at.last_is, length-append at.done (line ∷ [])))
+
+            hints-same : map name hints ≡ map (named_in names') hints
+            hints-same =
+                map-same name (named_in names') hints
+                (all-has_id (λ k. name k ≡ named_in names' k) hints
+                (λ k h. sym (named-cited k (subst (λ (l : LratStep). cites l k ≡ true) (sym is) h))))
+
+            fallen-same : map name fallen ≡ map (named_in names') fallen
+            fallen-same =
+                map-same name (named_in names') fallen
+                (all-has_id (λ k. name k ≡ named_in names' k) fallen
+                (λ k h. sym (named-cited k (first k (eqb (number_at marks k) (id_in line)) (cites line k) refl (sym (fallen-members k) ∙ h)))))
+              where
+                first : (k : ℕ) (c b : Bool) → cites line k ≡ b → (b && c) ≡ true → cites line k ≡ true
+                first k c true e h = e
+                first k c false e h = cc
+
+            line-same : renamed name line ≡ Add (proof.last + 1) clause (map (named_in names') hints)
+            line-same =
+                let id : name next ≡ proof.last + 1 = ap name (sym line-id) ∙ next-name in
+                ap (renamed name) is
+                ∙ ap₂ (λ (i : ℕ) (hs : List ℕ). Add i clause hs) id hints-same
+
+            lines-same : Add (proof.last + 1) clause (map (named_in names') hints) ∷ (deletion (map (named_in names') fallen) ++ here)
+                ≡ map (renamed name) (with_deletions asked at.done (line ∷ reached asked left))
+            lines-same =
+                ap₂ (λ (l : LratStep) (ls : List LratStep). l ∷ ls) (sym line-same)
+                (ap (λ (l : List ℕ). deletion l ++ here) (sym fallen-same)
+                ∙ ap (λ (l : List LratStep). l ++ here) (sym (renamed-deletion name fallen))
+                ∙ sym (map-append (renamed name) (deletion fallen) (with_deletions asked (at.done ++ line ∷ []) (reached asked left))))
+
+        pub at-write : (proof' : ProofText) → proof'.last ≡ proof.last + 1
+            → counted proof'.lines ≡ counted (proof.lines + 1 + length (deletion fallen))
             → IsAtLine m asked all left (next + 1) names' proof'
-        at-write proof' clause hints is last text lines = record {
+        at-write proof' last lines = record {
           last = at.last + 1;
           next_is = omega (arith, at.next_is);
           row = at.row.1;
@@ -382,7 +460,6 @@ module _ {m : ℕ} {asked : ℕ → Bool} {all left : List LratStep} {next : ℕ
           known = λ n w le. known n w le (cases_eq n (id_in line));
           names_are = λ n h. names_are n (has_id (map id_in at.done) n) refl (sym (has_id-append at.done (line ∷ []) n) ∙ h);
           last_is = omega (arith, last, at.last_is, length-append at.done (line ∷ []));
-          text_is = text_is;
           lines_is = lines_is;
         }
           where
@@ -420,66 +497,18 @@ module _ {m : ℕ} {asked : ℕ → Bool} {all left : List LratStep} {next : ℕ
                 go true f = subst (λ (k : ℕ). named_in names' k ≡ name k) (eqb-true (id_in line) n f) named-own
                 go false f = let g : false ≡ true = rw (e, f) at h in cc
 
-            here : List LratStep
-            here = map (renamed name) (with_deletions asked (at.done ++ line ∷ []) (reached asked left))
-
-            hints-same : map name hints ≡ map (named_in names') hints
-            hints-same =
-                map-same name (named_in names') hints
-                (all-has_id (λ k. name k ≡ named_in names' k) hints
-                (λ k h. sym (named-cited k (subst (λ (l : LratStep). cites l k ≡ true) (sym is) h))))
-
-            gone-same : map name (last_cited asked at.done line (reached asked left)) ≡ map (named_in names') gone
-            gone-same =
-                ap (map name) (sym gone-is)
-                ∙ map-same name (named_in names') gone
-                (all-has_id (λ k. name k ≡ named_in names' k) gone
-                (λ k h. sym (named-cited k (first k (eqb (number_at marks k) (id_in line)) (cites line k) refl (sym (members k) ∙ h)))))
-              where
-                first : (k : ℕ) (c b : Bool) → cites line k ≡ b → (b && c) ≡ true → cites line k ≡ true
-                first k c true e h = e
-                first k c false e h = cc
-
-            line-same : renamed name line ≡ Add (proof.last + 1) clause (map (named_in names') hints)
-            line-same =
-                let id : name next ≡ proof.last + 1 = ap name (sym line-id) ∙ next-name in
-                ap (renamed name) is
-                ∙ ap₂ (λ (i : ℕ) (hs : List ℕ). Add i clause hs) id hints-same
-
-            lines-same : Add (proof.last + 1) clause (map (named_in names') hints) ∷ (deletion (map (named_in names') gone) ++ here)
-                ≡ map (renamed name) (with_deletions asked at.done (line ∷ reached asked left))
-            lines-same =
-                ap₂ (λ (l : LratStep) (ls : List LratStep). l ∷ ls) (sym line-same)
-                (ap (λ (l : List ℕ). deletion l ++ here) (sym gone-same)
-                ∙ ap (λ (l : List LratStep). l ++ here) (sym (renamed-deletion name (last_cited asked at.done line (reached asked left))))
-                ∙ sym (map-append (renamed name) (deletion (last_cited asked at.done line (reached asked left)))
-                (with_deletions asked (at.done ++ line ∷ []) (reached asked left))))
-
-            text_is : proof'.text.items ++ text_from proof'.last here ≡ text_from m (trimmed m asked all)
-            text_is =
-                rw (text, last)
-                (append_assoc proof.text.items
-                (text_from proof.last (Add (proof.last + 1) clause (map (named_in names') hints) ∷ deletion (map (named_in names') gone)))
-                (text_from (proof.last + 1) here)
-                ∙ ap (λ (t : List ℕ). proof.text.items ++ t)
-                (sym (text-behind proof.last (proof.last + 1) clause (map (named_in names') hints) (map (named_in names') gone) here)
-                ∙ ap (text_from proof.last) lines-same)
-                ∙ subst (λ (l : List LratStep). proof.text.items ++ text_from proof.last (map (renamed name) (with_deletions asked at.done l)) ≡ text_from m (trimmed m asked all))
-                ahead at.text_is)
-
             lines_is : counted (proof'.lines + length (with_deletions asked (at.done ++ line ∷ []) (reached asked left))) ≡ counted (length (trimmed m asked all))
             lines_is =
-                let more : proof.lines + 1 + length (deletion gone) + length (with_deletions asked (at.done ++ line ∷ []) (reached asked left))
+                let more : proof.lines + 1 + length (deletion fallen) + length (with_deletions asked (at.done ++ line ∷ []) (reached asked left))
                 ≡ proof.lines + length (with_deletions asked at.done (line ∷ reached asked left)) =
                 omega (
                   arith,
-                  ap (λ (l : List ℕ). length (deletion l)) gone-is,
-                  length-append (deletion (last_cited asked at.done line (reached asked left))) (with_deletions asked (at.done ++ line ∷ []) (reached asked left)),
+                  length-append (deletion fallen) (with_deletions asked (at.done ++ line ∷ []) (reached asked left)),
                 ) in
                 let before : counted (proof.lines + length (with_deletions asked at.done (line ∷ reached asked left))) ≡ counted (length (trimmed m asked all)) =
                 subst (λ (l : List LratStep). counted (proof.lines + length (with_deletions asked at.done l)) ≡ counted (length (trimmed m asked all)))
                 ahead at.lines_is in
-                counted-more proof'.lines (proof.lines + 1 + length (deletion gone)) (length (with_deletions asked (at.done ++ line ∷ []) (reached asked left))) lines ∙ ap counted more ∙ before
+                counted-more proof'.lines (proof.lines + 1 + length (deletion fallen)) (length (with_deletions asked (at.done ++ line ∷ []) (reached asked left))) lines ∙ ap counted more ∙ before
 
 -- what the mark of the next line says
 module _ {m : ℕ} {asked : ℕ → Bool} {all left : List LratStep} {next : ℕ} {names : ByStep} {proof : ProofText} (line : LratStep)
@@ -512,11 +541,11 @@ module _ {m : ℕ} {asked : ℕ → Bool} {all left : List LratStep} {next : ℕ
       rw (cited-behind (line ∷ reached asked left) ahead, own-uncited) e
 
   -- without one the line isn't reached
-  pub skip-line : number_at marks next ≡ 0 → IsAtLine m asked all left (next + 1) names proof
-  skip-line none = go (asked (id_in line) || is_cited (reached asked left) (id_in line)) refl
+  pub unwanted-line : number_at marks next ≡ 0 → (asked (id_in line) || is_cited (reached asked left) (id_in line)) ≡ false
+  unwanted-line none = go (asked (id_in line) || is_cited (reached asked left) (id_in line)) refl
     where
-      go : (b : Bool) → (asked (id_in line) || is_cited (reached asked left) (id_in line)) ≡ b → IsAtLine m asked all left (next + 1) names proof
-      go false e = at-skip line at e
+      go : (b : Bool) → (asked (id_in line) || is_cited (reached asked left) (id_in line)) ≡ b → b ≡ false
+      go false e = refl
       go true e =
           let some = mark-some asked (reached asked all) (id_in line) has.ids (test-is true e) in
           absurd (omega (arith, some, mark-is, none, ap (number_at marks) (line-id line at)))
@@ -531,21 +560,78 @@ module _ {m : ℕ} {asked : ℕ → Bool} {all left : List LratStep} {next : ℕ
           absurd (some (ap (number_at marks) (sym (line-id line at)) ∙ mark-is
           ∙ mark-none asked (reached asked all) (id_in line) (test-is false e)))
 
+-- a step that isn't written
+pub skip-goes : {m : ℕ} {asked : ℕ → Bool} {all left : List LratStep} {names : ByStep} {proof : ProofText} (line : LratStep) (marks : ByStep) (id : ℕ)
+    (s : DeskState) (z : Sizes) → HasMarks asked (reached asked all) marks → IsStepId marks id → number_at marks id ≡ 0
+    → GoesOn m asked all (line ∷ left) left id (id + 1) names names proof proof s s z z
+skip-goes {m} {asked} {all} {left} {names} {proof} line marks id s z has is none = record {
+  stands = λ at. at-skip line at (unwanted-line line at marks has is none);
+  moves = λ at. moves-none (proof.pieces ++ text_left m asked all (line ∷ left)) (proof.pieces ++ text_left m asked all left) s z
+      (ap (λ (t : List ℕ). proof.pieces ++ t) (skip-text line at (unwanted-line line at marks has is none)));
+}
+
 -- a step that is written
-pub write-line : {m : ℕ} {asked : ℕ → Bool} {all left : List LratStep} {names : ByStep} {proof : ProofText}
+module _ {m : ℕ} {asked : ℕ → Bool} {all left : List LratStep} {names : ByStep} {proof : ProofText}
     (net : AigPair) (shown : List ℕ) (marks : ByStep) (first id : ℕ) (step : Step) (names' : ByStep) (proof' : ProofText)
-    → IsAtLine m asked all (addition net shown first id step ∷ left) id names proof → marks.clauses ≡ m
+    (at : IsAtLine m asked all (addition net shown first id step ∷ left) id names proof) (clauses : marks.clauses ≡ m)
+    (has : HasMarks asked (reached asked all) marks) (is : IsStepId marks id) (alike : KeepsShape marks names) (small : id < 2 ^ 63)
+    (some : number_at marks id ≡ 0 → ⊥) (shape : KeepsShape names names') (put : IsPut id (proof.last + 1) names names') where
+  abbrev step-line : LratStep
+  step-line = addition net shown first id step
+
+  step-within : IsStepId names id
+  step-within = (omega (arith, is.0, alike.clauses), omega (arith, is.1, alike.clauses, alike.steps))
+
+  step-wanted : (asked id || is_cited (reached asked left) id) ≡ true
+  step-wanted = wanted-line step-line at marks has is some
+
+  abbrev step-fallen : List ℕ
+  step-fallen = last_cited asked at.done step-line (reached asked left)
+
+  step-gone : AreLastCited net shown marks first id step step-fallen
+  step-gone = record {
+    rises = fallen-rises step-line at step-wanted names' shape (alike.clauses ∙ clauses) step-within put marks has alike small;
+    members = fallen-members step-line at step-wanted names' shape (alike.clauses ∙ clauses) step-within put marks has alike small;
+  }
+
+  step-text : text_left m asked all (step-line ∷ left)
+      ≡ text_from proof.last (step_lines net shown first step names' proof.last step-fallen) ++ text_left m asked all left
+  step-text =
+      write-text step-line at step-wanted names' shape (alike.clauses ∙ clauses) step-within put marks has alike small
+      (map (numbered net) step.clause) (map (id_of net shown first) step.hints) refl
+
+  step-at : proof'.last ≡ proof.last + 1
+      → ((gone : List ℕ) → AreLastCited net shown marks first id step gone → counted proof'.lines ≡ counted (proof.lines + 1 + length (deletion gone)))
+      → IsAtLine m asked all left (id + 1) names' proof'
+  step-at last lines =
+      at-write step-line at step-wanted names' shape (alike.clauses ∙ clauses) step-within put marks has alike small
+      proof' last (lines step-fallen step-gone)
+
+-- with what it makes of the desk
+pub write-goes : {A : Type 0} (m : ℕ) (asked : ℕ → Bool) (all left : List LratStep) (names : ByStep) (proof : ProofText)
+    (net : AigPair) (shown : List ℕ) (marks : ByStep) (first id : ℕ) (step : Step) (names' : ByStep) (proof' : ProofText)
+    (s0 s1 : DeskState) (z0 z1 : Sizes) (r : Result A PutErr) → marks.clauses ≡ m
     → HasMarks asked (reached asked all) marks → IsStepId marks id → KeepsShape marks names → id < 2 ^ 63
     → (number_at marks id ≡ 0 → ⊥) → KeepsShape names names' → IsPut id (proof.last + 1) names names'
-    → WritesStep net shown marks first id step names' proof proof'
-    → IsAtLine m asked all left (id + 1) names' proof'
-write-line {m} {asked} {all} {left} {names} {proof} net shown marks first id step names' proof' at clauses has is alike small some shape put written =
-    at-write line at (wanted-line line at marks has is some) names' shape (alike.clauses ∙ clauses) within put marks has alike small
-    written.gone written.rises written.members proof' (map (numbered net) step.clause) (map (id_of net shown first) step.hints) refl
-    written.last written.text written.lines
-  where
-    line : LratStep
-    line = addition net shown first id step
-
-    within : IsStepId names id
-    within = (omega (arith, is.0, alike.clauses), omega (arith, is.1, alike.clauses, alike.steps))
+    → ((gone : List ℕ) → AreLastCited net shown marks first id step gone
+    → Takes (text_from proof.last (step_lines net shown first step names' proof.last gone)) proof.pieces proof'.pieces s0 s1 z0 z1 r)
+    → OnOk r (proof'.last ≡ proof.last + 1)
+    → OnOk r ((gone : List ℕ) → AreLastCited net shown marks first id step gone → counted proof'.lines ≡ counted (proof.lines + 1 + length (deletion gone)))
+    → Goes m asked all (addition net shown first id step ∷ left) left id (id + 1) names names' proof proof' s0 s1 z0 z1 r
+write-goes m asked all left names proof net shown marks first id step names' proof' s0 s1 z0 z1 (Ok a) clauses has is alike small some shape put takes last lines =
+    record {
+      stands = λ at. step-at net shown marks first id step names' proof' at clauses has is alike small some shape put last lines;
+      moves = λ at.
+          let gone = last_cited asked at.done (addition net shown first id step) (reached asked left) in
+          moves-part (text_from proof.last (step_lines net shown first step names' proof.last gone)) (text_left m asked all left)
+          (text_left m asked all (addition net shown first id step ∷ left)) proof.pieces proof'.pieces s0 s1 z0 z1
+          (step-text net shown marks first id step names' proof' at clauses has is alike small some shape put)
+          (takes gone (step-gone net shown marks first id step names' proof' at clauses has is alike small some shape put));
+    }
+write-goes m asked all left names proof net shown marks first id step names' proof' s0 s1 z0 z1 (Err e) clauses has is alike small some shape put takes last lines =
+    λ at.
+    let gone = last_cited asked at.done (addition net shown first id step) (reached asked left) in
+    stops-part (text_from proof.last (step_lines net shown first step names' proof.last gone)) (text_left m asked all left)
+    (text_left m asked all (addition net shown first id step ∷ left)) proof.pieces e s0 s1 z0 z1
+    (step-text net shown marks first id step names' proof' at clauses has is alike small some shape put)
+    (takes gone (step-gone net shown marks first id step names' proof' at clauses has is alike small some shape put))

@@ -1,5 +1,5 @@
 -- What is written at the end of a refutation.
-use Rattle.std.proofs.Common.{◌≡◌, ℕ, ◌+◌, ◌<◌, Bool, true, ◌||◌, [], ◌∷◌, ◌++◌, List, length, map, refl, sym, ap, ◌∙◌, arith}
+use Rattle.std.proofs.Common.{◌≡◌, ℕ, ◌+◌, ◌<◌, Bool, true, ◌||◌, [], ◌∷◌, ◌++◌, List, length, map, refl, ap, ◌∙◌, arith}
 use Rattle.std.specs.Prelude.{filter, replicate}
 use Rattle.std.proofs.lemmas.Bool.{or_left, or_right}
 use Rattle.std.proofs.lemmas.List.{length-replicate}
@@ -10,7 +10,7 @@ use Rattle.lemma_book.specs.Entry.{has_out}
 use Rattle.lrat_text.specs.declared.step.LratStep.{LratStep}
 use Rattle.lrat_text.specs.declared.step.LratStep.TheVariants.{Add}
 use Rattle.lrat_text.specs.Writing.{line_text}
-use Rattle.proof_stitch.specs.Progress.{InRow, IsAtLine, counted}
+use Rattle.proof_stitch.specs.Progress.{InRow, IsAtLine, counted, text_left}
 use Rattle.proof_stitch.specs.Stitch.{unit_ids, empty_addition, empty_line, is_for_empty, refutation_of}
 use Rattle.proof_stitch.specs.Table.{AreMarked, HasMarks, KeepsShape, always, named_in}
 use Rattle.proof_stitch.specs.Text.{proof_text}
@@ -19,7 +19,7 @@ use Rattle.proof_stitch.specs.Written.{book_additions}
 use Rattle.proof_stitch.specs.declared.by_step.ByStep.{ByStep}
 use Rattle.proof_stitch.specs.declared.proof_text.ProofText.{ProofText}
 use Rattle.proof_stitch.proofs.BookLemmas.{IsSoundBook}
-use Rattle.proof_stitch.proofs.ProgressLemmas.{at-start, at-end, end-count, end-lines}
+use Rattle.proof_stitch.proofs.ProgressLemmas.{at-start, end-count, end-lines, end-text, text-start}
 use Rattle.proof_stitch.proofs.ReachLemmas.{asked-marks, number-zero}
 use Rattle.proof_stitch.proofs.RefutationLemmas.{all-few, all-grow, empty-asked, total-few}
 use Rattle.proof_stitch.proofs.RowLemmas.{grows-row}
@@ -47,9 +47,9 @@ module _ (net : AigPair) (out : ℕ) (entries : List Entry) (book : IsSoundBook 
       asked-marks net entries t zero hints is (number-zero zero (length (book_additions net entries)) zeros) shape clauses
       (ap length zeros ∙ length-replicate {A = ℕ} (length (book_additions net entries)) 0) marks
 
-  pub refutation-start : (names : ByStep) (proof : ProofText) → proof.text.items ≡ [] → proof.last ≡ m → proof.lines ≡ 0
+  pub refutation-start : (names : ByStep) (proof : ProofText) → proof.last ≡ m → proof.lines ≡ 0
       → IsAtLine m asked all all (m + 1) names proof
-  refutation-start names proof text last lines = at-start m asked all names proof row text last lines
+  refutation-start names proof last lines = at-start m asked all names proof row last lines
 
   -- the empty clause behind all
   module _ (names : ByStep) (proof : ProofText) (clauses : names.clauses ≡ m)
@@ -66,11 +66,8 @@ module _ (net : AigPair) (out : ℕ) (entries : List Entry) (book : IsSoundBook 
     asks : (n : ℕ) → cites line n ≡ true → asked n ≡ true
     asks n h = or_right _ (is_cited (empty_line net entries) n) (or_left (cites line n) (is_cited [] n) h)
 
-    pub refutation-text : (proof' : ProofText)
-        → proof'.text.items ≡ proof.text.items ++ line_text proof.last (Add (proof.last + 1) [] (map (named_in names) hints))
-        → proof'.text.items ≡ proof_text net (refutation_of net entries)
-    unfolding refutation_of
-    refutation-text proof' text = text ∙ sym (at-end line at wanted clauses hints refl refl asks)
+    pub refutation-end : text_left m asked all (empty_line net entries) ≡ line_text proof.last (Add (proof.last + 1) [] (map (named_in names) hints))
+    refutation-end = end-text line at wanted clauses hints refl refl asks
 
     pub refutation-lines : (lines : ℕ) → counted lines ≡ counted (proof.lines + 1) → lines ≡ length (refutation_of net entries)
     unfolding refutation_of
@@ -94,3 +91,11 @@ module _ (net : AigPair) (out : ℕ) (entries : List Entry) (book : IsSoundBook 
           trimmed-additions m asked all row,
           end-count line at wanted clauses hints refl refl asks,
         )
+
+-- before the first line the whole proof is left
+pub refutation-whole : (net : AigPair) (entries : List Entry)
+    → text_left (length (miter_of net)) (is_for_empty net entries) (book_additions net entries ++ empty_line net entries)
+    (book_additions net entries ++ empty_line net entries)
+    ≡ proof_text net (refutation_of net entries)
+unfolding refutation_of
+refutation-whole net entries = text-start (length (miter_of net)) (is_for_empty net entries) (book_additions net entries ++ empty_line net entries)

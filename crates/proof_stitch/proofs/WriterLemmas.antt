@@ -1,5 +1,5 @@
 -- What a writer of a book's Merge and Out entries has written at each entry, and which ids it has noted.
-use Rattle.std.proofs.Common.{◌≡◌, ℕ, suc, ◌+◌, ◌-◌, ◌<◌, ◌≤◌, ◌^◌, drop, Option, Some, None, Bool, true, false, List, [], ◌∷◌, ◌++◌, length, map, if◌then◌else◌, refl, sym, ap, ap₂, ◌∙◌, subst, arith, add-zero, add-one, append_assoc, length-append, Bor}
+use Rattle.std.proofs.Common.{◌≡◌, ℕ, suc, ◌+◌, ◌-◌, ◌<◌, ◌≤◌, ◌^◌, drop, Option, Some, None, Bool, true, false, List, [], ◌∷◌, ◌++◌, length, map, if◌then◌else◌, refl, sym, ap, ap₂, ◌∙◌, subst, arith, add-one, append_assoc, length-append, Bor}
 use Rattle.std.specs.Prelude.{slice_get, IsSome, All, filter}
 use Rattle.std.specs.Option.{option_copied}
 use Rattle.std.specs.List.{range_with_len, slice_index_or, AllByRecursion}
@@ -18,9 +18,6 @@ use Rattle.netlist.specs.Miter.{bound_number_of, variable_of, cnf_number_of, mit
 use Rattle.unit_prop.specs.Log.{with_own, InTurn, IsStepAfter}
 use Rattle.lemma_book.specs.declared.entry.Entry.{Entry}
 use Rattle.lemma_book.specs.Good.{AreOver, merge_clause, out_clause}
-use Rattle.lrat_text.specs.declared.step.LratStep.{LratStep}
-use Rattle.lrat_text.specs.Writing.{line_text, text_from}
-use Rattle.proof_stitch.specs.Steps.{addition, additions_from, additions}
 use Rattle.proof_stitch.specs.Ids.{HasId, HasIds}
 use Rattle.proof_stitch.specs.Written.{written_steps, shown_clauses, shown_from, shown_ids}
 use Rattle.proof_stitch.proofs.AxiomLemmas.{axiom-numbered, unit-numbered}
@@ -28,7 +25,7 @@ use Rattle.proof_stitch.proofs.GrowLemmas.{IsFound, step-found, live-range}
 use Rattle.proof_stitch.proofs.StepLemmas.{clauses_in, IsDerived}
 use Rattle.proof_stitch.proofs.ShownLemmas.{IsShown, merges-live}
 use Rattle.proof_stitch.proofs.BookLemmas.{IsSoundBook, total}
-use Rattle.proof_stitch.proofs.RefutationLemmas.{length-additions_from, length-additions, length-clauses_in, total-few}
+use Rattle.proof_stitch.proofs.RefutationLemmas.{length-clauses_in, total-few}
 
 some_number : (net : AigPair) (l : Lit) → IsSome (variable_of net l.node) → IsSome (cnf_number_of net l)
 some_number net l some = go (variable_of net l.node) refl some

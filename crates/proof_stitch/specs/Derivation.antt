@@ -17,7 +17,7 @@ use Rattle.proof_stitch.specs.Steps.{additions}
 use Rattle.proof_stitch.specs.Stitch.{unit_id}
 use Rattle.proof_stitch.specs.Text.{proof_text}
 use Rattle.proof_stitch.specs.Trimmed.{id_in, is_asked, reached, trimmed, HaveNoGaps}
-use Rattle.proof_stitch.specs.Written.{written_steps, shown_ids, book_additions}
+use Rattle.proof_stitch.specs.Written.{shown_ids, book_additions}
 use Rattle.proof_stitch.specs.declared.logs.Span.{Span}
 
 -- the log of the output's query, if it spent its budget

@@ -1,10 +1,12 @@
 -- Where the writer of a proof stands while it goes through the lines.
-use Rattle.std.specs.Prelude.{◌≡◌, ℕ, ◌+◌, ◌<◌, ◌≤◌, Bool, true, false, ◌||◌, ◌&&◌, ◌==◌, ◌⊎◌, List, [], ◌∷◌, ◌++◌, length, map, min}
+use Rattle.std.specs.Prelude.{◌≡◌, ℕ, ◌+◌, ◌-◌, ◌<◌, ◌≤◌, Bool, true, false, ◌||◌, ◌&&◌, ◌==◌, ◌⊎◌, List, [], ◌∷◌, ◌++◌, length, map, min, take, Result, Ok, Err}
 use Rattle.std.specs.List.{AllByRecursion}
-use Rattle.std.specs.List.Sorted.{IsStrictlyIncreasing}
 use Rattle.lits.specs.declared.step.Step.{Step}
 use Rattle.netlist.specs.Net.{AigPair}
 use Rattle.netlist.specs.Miter.{numbered}
+use Rattle.desk_port.specs.Desk.{DeskState, Sizes}
+use Rattle.desk_port.specs.Pieces.{Moves, StopsInPieces}
+use Rattle.desk_port.specs.declared.errors.PutErr.{PutErr}
 use Rattle.lrat_text.specs.declared.step.LratStep.{LratStep}
 use Rattle.lrat_text.specs.declared.step.LratStep.TheVariants.{Add, Del}
 use Rattle.lrat_text.specs.Writing.{text_from, IsInRange}
@@ -35,7 +37,7 @@ abbrev pub counted : ℕ → ℕ
 counted n = min n 18446744073709551615
 
 -- Of all lines, some are left, from the id `next` on. Those of the others that are reached are written and have their new
--- ids, and the text of what is left behind theirs is the whole text; so it is with how many lines these are.
+-- ids, and with what is left they are as many lines as the whole.
 pub record IsAtLine (m : ℕ) (asked : ℕ → Bool) (all left : List LratStep) (next : ℕ) (names : ByStep) (proof : ProofText) : Type 0 where
   pub last : ℕ
   pub next_is : next ≡ last + 1
@@ -50,24 +52,51 @@ pub record IsAtLine (m : ℕ) (asked : ℕ → Bool) (all left : List LratStep) 
       → (n ≤ m) ⊎ (has_id (map id_in done) n ≡ true)
   pub names_are : (n : ℕ) → has_id (map id_in done) n ≡ true → named_in names n ≡ new_id m (reached asked all) n
   pub last_is : proof.last ≡ m + length done
-  pub text_is :
-      proof.text.items
-      ++ text_from proof.last (map (renamed (new_id m (reached asked all))) (with_deletions asked done (reached asked left)))
-      ≡ text_from m (trimmed m asked all)
   pub lines_is :
       counted (proof.lines + length (with_deletions asked done (reached asked left)))
       ≡ counted (length (trimmed m asked all))
 
--- A step is written under the next id, with the deletion of the steps that it cites and that bear its mark.
-pub record WritesStep (net : AigPair) (shown : List ℕ) (marks : ByStep) (first id : ℕ) (step : Step) (names : ByStep) (old new : ProofText) : Type 0 where
-  pub gone : List ℕ
-  pub rises : IsStrictlyIncreasing gone
+-- ---- a step that is written
+
+-- these are the steps that the step cites and that bear its mark
+pub record AreLastCited (net : AigPair) (shown : List ℕ) (marks : ByStep) (first id : ℕ) (step : Step) (gone : List ℕ) : Type 0 where
+  pub rises : Rises gone
   pub members : (n : ℕ) → has_id gone n ≡ (has_id (map (id_of net shown first) step.hints) n && (number_at marks n == id))
-  pub last : new.last ≡ old.last + 1
-  pub text :
-      new.text.items
-      ≡ old.text.items
-      ++ text_from old.last
-      (Add (old.last + 1) (map (numbered net) step.clause) (map (named_in names) (map (id_of net shown first) step.hints))
-      ∷ deletion (map (named_in names) gone))
-  pub lines : counted new.lines ≡ counted (old.lines + 1 + length (deletion gone))
+
+-- the step's line under the next id, and the deletion of these
+abbrev pub step_lines : AigPair → List ℕ → ℕ → Step → ByStep → ℕ → List ℕ → List LratStep
+step_lines net shown first step names last gone =
+    Add (last + 1) (map (numbered net) step.clause) (map (named_in names) (map (id_of net shown first) step.hints))
+    ∷ deletion (map (named_in names) gone)
+
+-- ---- the text that goes out
+
+-- what is reached of the lines before those that are left
+abbrev pub done_before : (ℕ → Bool) → List LratStep → List LratStep → List LratStep
+done_before asked all left = take (length (reached asked all) - length (reached asked left)) (reached asked all)
+
+-- the text of what is left
+abbrev pub text_left : ℕ → (ℕ → Bool) → List LratStep → List LratStep → List ℕ
+text_left m asked all left =
+    text_from (m + length (done_before asked all left))
+    (map (renamed (new_id m (reached asked all))) (with_deletions asked (done_before asked all left) (reached asked left)))
+
+-- the bytes that aren't in the file yet: what the writer holds, and the text of what is left
+abbrev pub unsent : ℕ → (ℕ → Bool) → List LratStep → List LratStep → ProofText → List ℕ
+unsent m asked all left proof = proof.pieces ++ text_left m asked all left
+
+-- From where the writer stands it went on to there, and of the bytes that weren't in the file whole pieces went out.
+pub record GoesOn (m : ℕ) (asked : ℕ → Bool) (all lines left : List LratStep) (next next' : ℕ) (names names' : ByStep) (proof proof' : ProofText)
+    (old new : DeskState) (sizes told : Sizes) : Type 0 where
+  pub stands : IsAtLine m asked all lines next names proof → IsAtLine m asked all left next' names' proof'
+  pub moves :
+      IsAtLine m asked all lines next names proof
+      → Moves [] (unsent m asked all lines proof) (unsent m asked all left proof') old new sizes told
+
+-- It went on, or it stopped.
+abbrev pub Goes : {A : Type 0} → ℕ → (ℕ → Bool) → List LratStep → List LratStep → List LratStep → ℕ → ℕ → ByStep → ByStep → ProofText → ProofText
+    → DeskState → DeskState → Sizes → Sizes → Result A PutErr → Type 0
+Goes m asked all lines left next next' names names' proof proof' old new sizes told (Ok _) =
+    GoesOn m asked all lines left next next' names names' proof proof' old new sizes told
+Goes m asked all lines left next next' names names' proof proof' old new sizes told (Err error) =
+    IsAtLine m asked all lines next names proof → StopsInPieces (unsent m asked all lines proof) error old new sizes told

@@ -1,10 +1,10 @@
-ghost use Rattle.std.specs.Prelude.{◌≡◌, ◌+◌, ◌<◌, ◌^◌, [], ◌++◌, All, IfOk, OnOk, length};
+ghost use Rattle.std.specs.Prelude.{◌≡◌, ◌+◌, ◌<◌, ◌^◌, [], ◌++◌, All, IfOk, IsSome, OnOk, length};
 ghost use Rattle.netlist.specs.Miter.{miter_of};
 ghost use Rattle.lemma_book.specs.Book.{IsLegal};
 ghost use Rattle.lemma_book.specs.Entry.{outputs_of};
 ghost use Rattle.proof_stitch.specs.Derivation.{all_lines, is_for_logs, log_lines, span_of, spans_from, spent_log, written_lines};
 ghost use Rattle.proof_stitch.specs.Ids.{HasIds};
-ghost use Rattle.proof_stitch.specs.Progress.{IsAtLine};
+ghost use Rattle.proof_stitch.specs.Progress.{Goes, IsAtLine};
 ghost use Rattle.proof_stitch.specs.Steps.{additions_from};
 ghost use Rattle.proof_stitch.specs.Table.{AreMarked, HasMarks, KeepsShape, always, named_ids};
 ghost use Rattle.proof_stitch.specs.Written.{shown_ids, book_additions};
@@ -13,6 +13,7 @@ use crate::by_step::ByStep;
 use crate::entries::push_steps;
 use crate::proof_text::ProofText;
 use crate::reach::{ALWAYS, mark, mark_hints};
+use desk_port::{Desk, PutErr};
 use lemma_book::{Book, Entry};
 use lits::Step;
 use netlist::Net;
@@ -90,7 +91,7 @@ fn ask_steps(marks: &mut ByStep, net: &Net, shown: &[u64], first: u64, steps: &[
 
 /// Adds the logs of a book's OutSpent entries, in order of outputs, and gives their ids. `first` is the id of
 /// the first of their steps in the whole proof.
-pub fn push_logs(
+pub fn push_logs<D: Desk>(
     alloc: Global,
     net: &Net,
     book: &Book,
@@ -98,8 +99,10 @@ pub fn push_logs(
     marks: &ByStep,
     names: &mut ByStep,
     first: u64,
+    desk: &mut D,
     proof: &mut ProofText,
-) -> Result<Vec<Span>, AllocError>
+) -> Result<Vec<Span>, PutErr>
+    requires started { IsSome (D.state desk.old).started }
     requires legal { IsLegal net.now book.now }
     requires shown { shown.now ≡ shown_ids net.now book.now.entries }
     requires first { first
@@ -113,9 +116,11 @@ pub fn push_logs(
     requires at { IsAtLine (length (miter_of net.now)) (is_for_logs net.now book.now.entries)
         (all_lines net.now book.now.entries) (log_lines net.now book.now.entries) first names.old proof.old }
     requires behind { proof.old.last < first }
-    ensures text { OnOk result (IsAtLine (length (miter_of net.now))
-        (is_for_logs net.now book.now.entries) (all_lines net.now book.now.entries) []
-        (first + length (log_lines net.now book.now.entries)) names.new proof.new) }
+    ensures text { Goes (length (miter_of net.now)) (is_for_logs net.now book.now.entries)
+        (all_lines net.now book.now.entries) (log_lines net.now book.now.entries) [] first
+        (first + length (log_lines net.now book.now.entries)) names.old names.new proof.old proof.new
+        (D.state desk.old) (D.state desk.new) (D.sizes desk.old) (D.sizes desk.new) result }
+    ensures started { (D.state desk.new).started ≡ (D.state desk.old).started }
     ensures spans { IfOk result (λ spans. spans.items
         ≡ spans_from book.now.entries (proof.old.last + 1) (outputs_of net.now)) }
 {
@@ -127,7 +132,7 @@ pub fn push_logs(
     for output in 0..net.outputs() {
         let log = spent_log(book, output);
         let begin = proof.last + 1;
-        push_steps(alloc, net, shown, marks, names, next, log, proof)?;
+        push_steps(alloc, net, shown, marks, names, next, log, desk, proof)?;
         next += log.len() as u64;
         push_span(book, output, begin, proof.last, &mut spans)?;
     }

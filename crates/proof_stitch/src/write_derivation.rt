@@ -1,5 +1,6 @@
 ghost use Rattle.std.specs.Prelude.{◌≡◌, ◌+◌, IfOk, IsSome, OnOk, length};
 ghost use Rattle.netlist.specs.Miter.{miter_of};
+ghost use Rattle.desk_port.specs.Pieces.{Takes};
 ghost use Rattle.lemma_book.specs.Book.{IsLegal};
 ghost use Rattle.proof_stitch.specs.Text.{proof_text, Stitches};
 ghost use Rattle.proof_stitch.specs.Derivation.{AreSpans, AreWhole, IsDerivation, derivation_of, is_for_logs, log_lines, spans_of, written_lines};
@@ -14,7 +15,7 @@ use crate::proof_text::ProofText;
 use crate::reach::{ask, reach};
 use crate::shown::{shown_ids, written_count};
 use crate::stitch_err::StitchErr;
-use desk_port::Desk;
+use desk_port::{Desk, PutErr};
 use lemma_book::Book;
 use netlist::Net;
 use std::alloc::{AllocError, Global};
@@ -63,24 +64,31 @@ pub fn derivation_counted<D: Desk>(
     ensures lines { OnOk result (lines.new ≡ length (derivation_of net.now book.now.entries)) }
 {
     laws::derives(net, book);
-    let (proof, spans) = whole_derivation(alloc, net, book)?;
-    proof.write(alloc, desk)?;
+    let mut proof = ProofText::new(alloc, u64::from(net.clauses()))?;
+    let spans = push_derivation(alloc, net, book, desk, &mut proof)?;
     *lines = proof.lines;
+    proof.finish(desk)?;
     Ok(spans)
 }
 
-/// The text of the whole derivation, and the ids of the logs.
-fn whole_derivation(
+/// Puts the lines of the whole derivation, and gives the ids of the logs.
+fn push_derivation<D: Desk>(
     alloc: Global,
     net: &Net,
     book: &Book,
-) -> Result<(ProofText, Vec<Span>), AllocError>
-    requires { IsLegal net.now book.now }
-    ensures text { IfOk result
-        (λ p. p.0.text.items ≡ proof_text net.now (derivation_of net.now book.now.entries)) }
-    ensures spans { IfOk result (λ p. p.1.items ≡ spans_of net.now book.now.entries) }
-    ensures whole { IfOk result (λ p. AreWhole book.now.out_budget p.1.items) }
-    ensures lines { IfOk result (λ p. p.0.lines ≡ length (derivation_of net.now book.now.entries)) }
+    desk: &mut D,
+    proof: &mut ProofText,
+) -> Result<Vec<Span>, PutErr>
+    requires started { IsSome (D.state desk.old).started }
+    requires legal { IsLegal net.now book.now }
+    requires last { proof.old.last ≡ length (miter_of net.now) }
+    requires lines { proof.old.lines ≡ 0 }
+    ensures takes { Takes (proof_text net.now (derivation_of net.now book.now.entries)) proof.old.pieces
+        proof.new.pieces (D.state desk.old) (D.state desk.new) (D.sizes desk.old) (D.sizes desk.new) result }
+    ensures started { (D.state desk.new).started ≡ (D.state desk.old).started }
+    ensures spans { IfOk result (λ spans. spans.items ≡ spans_of net.now book.now.entries) }
+    ensures whole { IfOk result (λ spans. AreWhole book.now.out_budget spans.items) }
+    ensures lines { OnOk result (proof.new.lines ≡ length (derivation_of net.now book.now.entries)) }
 {
     net.clauses();
     book.sweep_budget();
@@ -88,7 +96,6 @@ fn whole_derivation(
     let shown = shown_ids(alloc, net, book)?;
     let marks = marks_of(alloc, net, book, shown.as_slice())?;
     let mut names = ByStep::new(alloc, marks.clauses, marks.numbers.len() as u64)?;
-    let mut proof = ProofText::new(alloc, marks.clauses);
     push_entries(
         alloc,
         net,
@@ -96,10 +103,11 @@ fn whole_derivation(
         shown.as_slice(),
         &marks,
         &mut names,
-        &mut proof,
+        desk,
+        proof,
     )?;
     let first = marks.clauses + written_count(net, book) + 1;
-    let spans = push_logs(
+    push_logs(
         alloc,
         net,
         book,
@@ -107,9 +115,9 @@ fn whole_derivation(
         &marks,
         &mut names,
         first,
-        &mut proof,
-    )?;
-    Ok((proof, spans))
+        desk,
+        proof,
+    )
 }
 
 /// The marks of all steps, those of the logs too.

@@ -1,5 +1,6 @@
 ghost use Rattle.std.specs.Prelude.{◌≡◌, ◌+◌, ◌<◌, ℕ, IfOk, IsSome, OnOk, filter, length, true};
 ghost use Rattle.netlist.specs.Miter.{miter_of};
+ghost use Rattle.desk_port.specs.Pieces.{Takes};
 ghost use Rattle.lemma_book.specs.Book.{IsLegal};
 ghost use Rattle.proof_stitch.specs.Text.{proof_text, Stitches};
 ghost use Rattle.lemma_book.specs.Entry.{has_out};
@@ -14,12 +15,12 @@ use crate::reach::{ask, reach};
 use crate::shown::{shown_ids, written_count};
 use crate::stitch_err::StitchErr;
 use crate::written_step::new_ids;
-use desk_port::Desk;
+use desk_port::{Desk, PutErr};
 use lemma_book::Book;
 use lits::Listed;
 use lrat_text::LratStep;
 use netlist::Net;
-use std::alloc::{AllocError, Global};
+use std::alloc::Global;
 
 /// Writes to the started file that the miter has no solution: the empty clause, shown by the outputs' units, and
 /// before it what it rests on of the steps of the book's Merge and Out entries, in order. A step is deleted
@@ -63,21 +64,33 @@ pub fn refutation_counted<D: Desk>(
 {
     laws::refutes(net, book);
     let clauses = u64::from(net.clauses());
-    let proof = whole_proof(alloc, net, book)?;
-    proof.write(alloc, desk)?;
+    let mut proof = ProofText::new(alloc, clauses)?;
+    push_refutation(alloc, net, book, desk, &mut proof)?;
     *lines = proof.lines;
-    Ok(proof.last - clauses)
+    let added = proof.last - clauses;
+    proof.finish(desk)?;
+    Ok(added)
 }
 
-/// The text of the whole proof.
-fn whole_proof(alloc: Global, net: &Net, book: &Book) -> Result<ProofText, AllocError>
+/// Puts the lines of the whole proof.
+fn push_refutation<D: Desk>(
+    alloc: Global,
+    net: &Net,
+    book: &Book,
+    desk: &mut D,
+    proof: &mut ProofText,
+) -> Result<(), PutErr>
+    requires started { IsSome (D.state desk.old).started }
     requires legal { IsLegal net.now book.now }
     requires outs { (j : ℕ) → j < length net.now.a.outputs → has_out book.now.entries j ≡ true }
-    ensures text { IfOk result
-        (λ p. p.text.items ≡ proof_text net.now (refutation_of net.now book.now.entries)) }
-    ensures last { IfOk result (λ p. p.last
+    requires last { proof.old.last ≡ length (miter_of net.now) }
+    requires lines { proof.old.lines ≡ 0 }
+    ensures takes { Takes (proof_text net.now (refutation_of net.now book.now.entries)) proof.old.pieces
+        proof.new.pieces (D.state desk.old) (D.state desk.new) (D.sizes desk.old) (D.sizes desk.new) result }
+    ensures started { (D.state desk.new).started ≡ (D.state desk.old).started }
+    ensures last { OnOk result (proof.new.last
         ≡ length (miter_of net.now) + length (filter is_addition (refutation_of net.now book.now.entries))) }
-    ensures lines { IfOk result (λ p. p.lines ≡ length (refutation_of net.now book.now.entries)) }
+    ensures lines { OnOk result (proof.new.lines ≡ length (refutation_of net.now book.now.entries)) }
 {
     book.sweep_budget();
     book.out_budget();
@@ -90,7 +103,6 @@ fn whole_proof(alloc: Global, net: &Net, book: &Book) -> Result<ProofText, Alloc
     ask(&mut marks, hints.as_slice());
     reach(&mut marks, net, book, shown.as_slice(), clauses + steps);
     let mut names = ByStep::new(alloc, clauses, steps)?;
-    let mut proof = ProofText::new(alloc, clauses);
     push_entries(
         alloc,
         net,
@@ -98,7 +110,8 @@ fn whole_proof(alloc: Global, net: &Net, book: &Book) -> Result<ProofText, Alloc
         shown.as_slice(),
         &marks,
         &mut names,
-        &mut proof,
+        desk,
+        proof,
     )?;
     let hints = new_ids(alloc, &names, hints.as_slice())?;
     let empty = LratStep::Add {
@@ -106,6 +119,5 @@ fn whole_proof(alloc: Global, net: &Net, book: &Book) -> Result<ProofText, Alloc
         clause: Listed::of(Vec::new(alloc)),
         hints: Listed::of(hints),
     };
-    proof.push(&empty)?;
-    Ok(proof)
+    proof.push(desk, &empty)
 }

@@ -1,4 +1,4 @@
-use Rattle.std.proofs.Common.{◌∙◌, map, sym, ap, subst, arith}
+use Rattle.std.proofs.Common.{◌∙◌, map, sym, ap, arith}
 use Rattle.std.proofs.lemmas.List.{take_all}
 use Rattle.lits.proofs.Facts.{map_next}
 use Rattle.proof_stitch.specs.Ids.{HasId}

@@ -1,36 +1,39 @@
-use Rattle.std.proofs.Common.{◌≡◌, ◌+◌, ◌<◌, ◌≤◌, ◌^◌, ◌++◌, ℕ, List, drop, length, map, arith, ap, sym, subst, All}
+use Rattle.std.proofs.Common.{◌≡◌, ◌+◌, ◌<◌, ◌≤◌, ◌^◌, ◌++◌, ℕ, List, drop, length, map, arith, ap, refl, sym, subst, ◌∙◌, All}
+use Rattle.std.proofs.lemmas.Result.{err_from_is_err_and}
 use Rattle.netlist.specs.Miter.{miter_of}
 use Rattle.lits.specs.declared.step.Step.{Step}
-use Rattle.lrat_text.specs.declared.step.LratStep.{LratStep}
 use Rattle.proof_stitch.specs.Ids.{HasIds}
-use Rattle.proof_stitch.specs.Progress.{IsAtLine}
-use Rattle.proof_stitch.specs.Steps.{additions, additions_from}
+use Rattle.proof_stitch.specs.Steps.{additions}
 use Rattle.proof_stitch.specs.Written.{written_steps, shown_ids, book_additions}
 use Rattle.proof_stitch.proofs.BookLemmas.{legal-book}
-use Rattle.proof_stitch.proofs.ReachLemmas.{entry-ids, lines-drop, lines-past, shape-refl, shape-trans, total-drop, total-past}
+use Rattle.proof_stitch.proofs.PassLemmas.{entries-ahead, goes-none, goes-stops, goes-then, same-goes, same-stops}
+use Rattle.proof_stitch.proofs.ReachLemmas.{entry-ids, lines-past, shape-refl, shape-trans, total-drop, total-past}
 use Rattle.proof_stitch.proofs.RefutationLemmas.{length-additions, total-few}
 use Rattle.proof_stitch.proofs.WriterLemmas.{entry-there, entry-at}
 use Rattle.proof_stitch.proofs.entries.push_entries.Goals as goal
 
 pub loop-place-init : goal.loop-place-init
-loop-place-init c = record {
+loop-place-init g c = record {
   first_is = omega (arith, c.requires.start);
   above = omega (arith, c.requires.start);
   shape = shape-refl c.args.names.now;
   behind = omega arith;
-  text = λ asked all left marks at.
-      subst (λ (n : _). IsAtLine (length (miter_of c.args.net.now)) asked all
-      (additions c.args.net.now c.args.shown.now n (map written_steps c.args.book.now.entries) ++ left) n c.args.names.now c.args.proof.now)
-      (ap (λ (n : _). n + 1) (sym c.requires.start)) at;
+  started = refl;
+  text = λ asked all left marks.
+      let m = length (miter_of c.args.net.now) in
+      let next : m + 1 ≡ c.args.proof.now.last + 1 = ap (λ (n : ℕ). n + 1) (sym c.requires.start) in
+      same-goes refl refl (ap (λ (n : ℕ). additions c.args.net.now c.args.shown.now n (map written_steps c.args.book.now.entries) ++ left) next) refl next
+      (goes-none m asked all (additions c.args.net.now c.args.shown.now (m + 1) (map written_steps c.args.book.now.entries) ++ left) (m + 1)
+      c.args.names.now c.args.proof.now (g.D.Desk.state c.args.desk.now) (g.D.Desk.sizes c.args.desk.now));
 }
 
 pub unwrap-entry-requires : goal.unwrap-entry-requires
-unwrap-entry-requires c =
+unwrap-entry-requires g c =
     entry-there c.entry.result c.args.book.now.entries c.loop-place.place c.entry.ensures
     (omega (arith, c.loop-place-test.true, c.len-place-end.ensures))
 
 pub push_steps-requires-clause-ids : goal.push_steps-requires-clause-ids
-push_steps-requires-clause-ids c =
+push_steps-requires-clause-ids g c =
     let book = legal-book c.args.net.now c.clauses.ensures.net c.args.book.now.sweep_budget c.args.book.now.out_budget
     (omega (arith, c.sweep_budget-first.ensures.budget, c.sweep_budget-first.ensures.range))
     (omega (arith, c.out_budget-first.ensures.budget, c.out_budget-first.ensures.range)) c.args.book.now.entries c.requires.legal in
@@ -49,10 +52,10 @@ push_steps-requires-clause-ids c =
     )))
 
 pub push_steps-requires-clause-above : goal.push_steps-requires-clause-above
-push_steps-requires-clause-above c = omega (arith, c.loop-place.invariant.above, c.requires.marks)
+push_steps-requires-clause-above g c = omega (arith, c.loop-place.invariant.above, c.requires.marks)
 
 pub push_steps-requires-clause-within : goal.push_steps-requires-clause-within
-push_steps-requires-clause-within c =
+push_steps-requires-clause-within g c =
     let at = entry-at c.entry.result c.unwrap-entry.result c.args.book.now.entries c.loop-place.place c.entry.ensures c.unwrap-entry.ensures in
     omega (
       arith,
@@ -66,10 +69,10 @@ push_steps-requires-clause-within c =
     )
 
 pub push_steps-requires-clause-alike : goal.push_steps-requires-clause-alike
-push_steps-requires-clause-alike c = shape-trans c.args.marks.now c.args.names.now c.loop-place.names c.requires.alike c.loop-place.invariant.shape
+push_steps-requires-clause-alike g c = shape-trans c.args.marks.now c.args.names.now c.loop-place.names c.requires.alike c.loop-place.invariant.shape
 
 pub push_steps-requires-clause-small : goal.push_steps-requires-clause-small
-push_steps-requires-clause-small c =
+push_steps-requires-clause-small g c =
     let book = legal-book c.args.net.now c.clauses.ensures.net c.args.book.now.sweep_budget c.args.book.now.out_budget
     (omega (arith, c.sweep_budget-first.ensures.budget, c.sweep_budget-first.ensures.range))
     (omega (arith, c.out_budget-first.ensures.budget, c.out_budget-first.ensures.range)) c.args.book.now.entries c.requires.legal in
@@ -85,7 +88,7 @@ push_steps-requires-clause-small c =
     )
 
 pub overflow_add-first-in-loop-place : goal.overflow_add-first-in-loop-place
-overflow_add-first-in-loop-place c =
+overflow_add-first-in-loop-place g c =
     let book = legal-book c.args.net.now c.clauses.ensures.net c.args.book.now.sweep_budget c.args.book.now.out_budget
     (omega (arith, c.sweep_budget-first.ensures.budget, c.sweep_budget-first.ensures.range))
     (omega (arith, c.out_budget-first.ensures.budget, c.out_budget-first.ensures.range)) c.args.book.now.entries c.requires.legal in
@@ -101,10 +104,8 @@ overflow_add-first-in-loop-place c =
     )
 
 pub loop-place-preserved : goal.loop-place-preserved
-loop-place-preserved c =
+loop-place-preserved g c =
     let at = entry-at c.entry.result c.unwrap-entry.result c.args.book.now.entries c.loop-place.place c.entry.ensures c.unwrap-entry.ensures in
-    let m = length (miter_of c.args.net.now) in
-    let steps : c.written_steps-steps.result.now ≡ written_steps c.unwrap-entry.result.now = c.written_steps-steps.ensures in
     let first = c.loop-place.first in
     record {
       first_is = omega (
@@ -116,23 +117,37 @@ loop-place-preserved c =
       above = omega (arith, c.loop-place.invariant.above);
       shape = shape-trans c.args.names.now c.loop-place.names c.push_steps.new.names c.loop-place.invariant.shape c.push_steps.ensures.shape;
       behind = c.in_ok-push_steps.ensures.behind;
-      text = λ asked all left marks at0.
-          let here = subst (λ (l : List LratStep). IsAtLine m asked all l first c.loop-place.names c.loop-place.proof)
-          (lines-drop c.args.net.now c.args.shown.now first c.args.book.now.entries c.loop-place.place c.unwrap-entry.result.now left at)
-          (c.loop-place.invariant.text asked all left marks at0) in
-          let behind = λ (n : ℕ). additions c.args.net.now c.args.shown.now n (map written_steps (drop (c.loop-place.place + 1) c.args.book.now.entries)) ++ left in
-          let last = first + length c.written_steps-steps.result.now in
-          subst (λ (k : ℕ). IsAtLine k asked all (behind last) last c.push_steps.new.names c.push_steps.new.proof) c.requires.marks
-          (c.in_ok-push_steps.ensures.text asked all (behind last) marks
-          (subst (λ (l : List Step). IsAtLine c.args.marks.now.clauses asked all
-          (additions_from c.args.net.now c.args.shown.now first first l ++ behind (first + length l)) first c.loop-place.names c.loop-place.proof) (sym steps)
-          (subst (λ (k : ℕ). IsAtLine k asked all
-          (additions_from c.args.net.now c.args.shown.now first first (written_steps c.unwrap-entry.result.now)
-          ++ behind (first + length (written_steps c.unwrap-entry.result.now))) first c.loop-place.names c.loop-place.proof) (sym c.requires.marks) here)));
+      started = c.push_steps.ensures.started ∙ c.loop-place.invariant.started;
+      text = λ asked all left marks.
+          goes-then (c.loop-place.invariant.text asked all left marks)
+          (same-goes c.requires.marks
+          (entries-ahead c.args.net.now c.args.shown.now first c.args.book.now.entries c.loop-place.place c.unwrap-entry.result.now
+          c.written_steps-steps.result.now left at c.written_steps-steps.ensures) refl refl refl
+          (c.in_ok-push_steps.ensures.text asked all
+          (additions c.args.net.now c.args.shown.now (first + length c.written_steps-steps.result.now) (map written_steps (drop (c.loop-place.place + 1) c.args.book.now.entries))
+          ++ left) marks));
     }
 
+pub returns-in_err-push_steps-clause-text : goal.returns-in_err-push_steps-clause-text
+returns-in_err-push_steps-clause-text g c =
+    let p = err_from_is_err_and c.from_residual.result c.from_residual.ensures.1 in
+    let at = entry-at c.entry.result c.unwrap-entry.result c.args.book.now.entries c.loop-place.place c.entry.ensures c.unwrap-entry.ensures in
+    let first = c.loop-place.first in
+    let m = length (miter_of c.args.net.now) in
+    rw (p.1, p.2)
+    (λ asked all left marks.
+    same-stops c.in_err-push_steps.field-0.0 refl
+    (ap (λ (l : List ℕ). additions c.args.net.now l (m + 1) (map written_steps c.args.book.now.entries) ++ left) c.requires.shown) refl
+    (goes-stops (c.loop-place.invariant.text asked all left marks) c.in_err-push_steps.field-0.0
+    (same-stops c.in_err-push_steps.field-0.0 c.requires.marks
+    (entries-ahead c.args.net.now c.args.shown.now first c.args.book.now.entries c.loop-place.place c.unwrap-entry.result.now
+    c.written_steps-steps.result.now left at c.written_steps-steps.ensures) refl
+    (c.in_err-push_steps.ensures.text asked all
+    (additions c.args.net.now c.args.shown.now (first + length c.written_steps-steps.result.now) (map written_steps (drop (c.loop-place.place + 1) c.args.book.now.entries))
+    ++ left) marks))))
+
 pub returns-clause-text : goal.returns-clause-text
-returns-clause-text c = λ asked all left marks at.
+returns-clause-text g c = λ asked all left marks.
     let m = length (miter_of c.args.net.now) in
     let past : length c.args.book.now.entries ≤ c.loop-place.place = omega (arith, c.loop-place-test.false, c.len-place-end.ensures) in
     let first : c.loop-place.first
@@ -143,15 +158,12 @@ returns-clause-text c = λ asked all left marks at.
       total-past c.args.book.now.entries c.loop-place.place past,
       length-additions c.args.net.now (shown_ids c.args.net.now c.args.book.now.entries) (m + 1) (map written_steps c.args.book.now.entries),
     ) in
-    subst (λ (n : ℕ). IsAtLine m asked all left n c.loop-place.names c.loop-place.proof) first
-    (subst (λ (l : List LratStep). IsAtLine m asked all l c.loop-place.first c.loop-place.names c.loop-place.proof)
-    (lines-past c.args.net.now c.args.shown.now c.loop-place.first c.args.book.now.entries c.loop-place.place left past)
-    (c.loop-place.invariant.text asked all left marks
-    (subst (λ (l : List ℕ). IsAtLine m asked all (additions c.args.net.now l (m + 1) (map written_steps c.args.book.now.entries) ++ left) (m + 1) c.args.names.now c.args.proof.now)
-    (sym c.requires.shown) at)))
+    same-goes refl (ap (λ (l : List ℕ). additions c.args.net.now l (m + 1) (map written_steps c.args.book.now.entries) ++ left) c.requires.shown)
+    (lines-past c.args.net.now c.args.shown.now c.loop-place.first c.args.book.now.entries c.loop-place.place left past) refl first
+    (c.loop-place.invariant.text asked all left marks)
 
 pub returns-clause-room : goal.returns-clause-room
-returns-clause-room c =
+returns-clause-room g c =
     let book = legal-book c.args.net.now c.clauses.ensures.net c.args.book.now.sweep_budget c.args.book.now.out_budget
     (omega (arith, c.sweep_budget-first.ensures.budget, c.sweep_budget-first.ensures.range))
     (omega (arith, c.out_budget-first.ensures.budget, c.out_budget-first.ensures.range)) c.args.book.now.entries c.requires.legal in
@@ -167,7 +179,7 @@ returns-clause-room c =
     )
 
 pub returns-clause-behind : goal.returns-clause-behind
-returns-clause-behind c =
+returns-clause-behind g c =
     let past : length c.args.book.now.entries ≤ c.loop-place.place = omega (arith, c.loop-place-test.false, c.len-place-end.ensures) in
     omega (
       arith,

@@ -2,11 +2,10 @@ use Rattle.std.proofs.Common.{◌≡◌, ◌+◌, ◌-◌, ◌<◌, ◌^◌, ℕ
 use Rattle.std.specs.List.{range_with_len}
 use Rattle.netlist.specs.Miter.{miter_of}
 use Rattle.lits.specs.declared.step.Step.{Step}
-use Rattle.proof_stitch.specs.Derivation.{log_lines, spent_log}
+use Rattle.proof_stitch.specs.Derivation.{spent_log}
 use Rattle.proof_stitch.specs.Ids.{HasIds}
 use Rattle.proof_stitch.specs.Steps.{additions_from}
 use Rattle.proof_stitch.specs.Table.{AreMarked, always, named_ids}
-use Rattle.proof_stitch.specs.Written.{book_additions, shown_ids}
 use Rattle.proof_stitch.proofs.BookLemmas.{legal-book, total}
 use Rattle.proof_stitch.proofs.LogLemmas.{asks-next, asks-none, logs-ids, logs-small, total-range}
 use Rattle.proof_stitch.proofs.ReachLemmas.{shape-refl, shape-trans}

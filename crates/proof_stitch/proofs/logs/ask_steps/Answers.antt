@@ -1,4 +1,4 @@
-use Rattle.std.proofs.Common.{◌≡◌, ◌+◌, ◌∷◌, ◌++◌, [], ℕ, List, drop, length, map, ap, arith, add-zero, subst, sym, ◌∙◌}
+use Rattle.std.proofs.Common.{◌≡◌, ◌+◌, ◌∷◌, ◌++◌, [], ℕ, List, drop, map, arith, add-zero, subst, sym}
 use Rattle.lits.specs.declared.step.Step.{Step}
 use Rattle.lrat_text.specs.declared.step.LratStep.{LratStep}
 use Rattle.proof_stitch.specs.Ids.{HasIds}

@@ -1,4 +1,4 @@
-use Rattle.std.proofs.Common.{◌≡◌, ◌+◌, ◌-◌, ℕ, length, map, ap, arith}
+use Rattle.std.proofs.Common.{◌≡◌, ◌-◌, ℕ, length, map, ap, arith}
 use Rattle.std.specs.List.{range_with_len}
 use Rattle.proof_stitch.specs.Derivation.{spent_log}
 use Rattle.proof_stitch.proofs.BookLemmas.{legal-book, total}

@@ -1,10 +1,7 @@
-use Rattle.std.proofs.Common.{◌≡◌, ◌+◌, ◌∙◌, List, ℕ, length, ap, arith, refl, subst, sym}
-use Rattle.std.specs.Prelude.{replicate}
+use Rattle.std.proofs.Common.{◌+◌, ◌∙◌, List, ℕ, length, ap, arith, subst}
 use Rattle.std.proofs.lemmas.List.{length-replicate}
-use Rattle.netlist.specs.Miter.{miter_of}
 use Rattle.proof_stitch.specs.Derivation.{is_for_logs, log_lines, shown_units}
 use Rattle.proof_stitch.specs.Table.{AreMarked, always}
-use Rattle.proof_stitch.specs.Written.{book_additions}
 use Rattle.proof_stitch.proofs.LogLemmas.{log-marks}
 use Rattle.proof_stitch.proofs.write_derivation.marks_of.Goals as goal
 
