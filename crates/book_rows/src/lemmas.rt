@@ -300,7 +300,9 @@ const OF_GATE: &str = "-b3 i1 by b3.0; -b3 i0 by b3.1; b3 -i1 -i0 by b3.2";
 
 /// Whether the clause of the name is that of the step, which has the name as its one hint.
 fn is_named(named: &Named, step: &Step) -> bool {
-    named.clause.lits() == step.clause.lits() && step.hints.len() == 1 && step.hints.at(0) == named.by
+    named.clause.lits() == step.clause.lits()
+        && step.hints.len() == 1
+        && step.hints.at(0) == named.by
 }
 
 /// Whether they are the clauses of the steps, in order.

@@ -44,8 +44,7 @@ fn steps_stay(net: &Net, touched: &Touched, numbers: &[Option<u64>], steps: &[St
 fn step_stays(net: &Net, touched: &Touched, numbers: &[Option<u64>], step: &Step) -> bool
     ensures { result ≡ step_stays net.now (touched_by touched.now) (is_numbered numbers.now) step.now }
 {
-    is_clear(touched, step.clause.lits())
-        && hints_stay(net, touched, numbers, &step.hints)
+    is_clear(touched, step.clause.lits()) && hints_stay(net, touched, numbers, &step.hints)
 }
 
 fn hints_stay(net: &Net, touched: &Touched, numbers: &[Option<u64>], hints: &Hints) -> bool
