@@ -32,7 +32,7 @@ EDITS = Path(__file__).resolve().parent / "wrong_search"
 LAZY = ("self.engine.output_by_equalities(alloc, net, output, caps)?", "None::<Entry>")
 BUDGET = ("sweep_budget: 1000", "sweep_budget: 1")
 AS_IT_IS = ("as it is", "whole as it is")
-USES = ["check_session", "desk_port", "aiger_file", "lemma_book"]
+USES = ["check_session", "desk_port", "aiger_file", "lemma_book", "lits"]
 
 
 def expanded(circuit):
