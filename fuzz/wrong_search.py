@@ -25,7 +25,7 @@ from pathlib import Path
 import runner
 from crates import replaced
 from house import TOP
-from pairs import evaluated, random_circuit, rewritten, text
+from pairs import evaluated, random_circuit, rewritten, text, xor_circuit
 from rounds import SEED
 
 EDITS = Path(__file__).resolve().parent / "wrong_search"
@@ -58,10 +58,15 @@ def expanded(circuit):
 
 
 def pairs(rng, runs):
-    """Random pairs of circuits, the second one rewritten or changed."""
-    for _ in range(runs):
-        a = random_circuit(rng, rng.randrange(2, 8), rng.randrange(1, 4), rng.randrange(4, 30))
-        yield a, expanded(rewritten(rng, a))
+    """Random pairs of circuits, the second one rewritten or changed. Every other one is of XORs in two orders, since the sweep settles
+    all of the small ones that are drawn gate by gate, and leaves no output to the search of whole cones."""
+    for place in range(runs):
+        if place % 2:
+            size = rng.randrange(4, 8), rng.randrange(1, 4)
+            yield xor_circuit(rng, *size), rewritten(rng, xor_circuit(rng, *size))
+        else:
+            a = random_circuit(rng, rng.randrange(2, 8), rng.randrange(1, 4), rng.randrange(4, 30))
+            yield a, expanded(rewritten(rng, a))
 
 
 def fault_in(answer, a, b):
