@@ -447,12 +447,12 @@ def within(rig, name, files, words, whole, megabytes):
 
 
 def with_stack(rig, name, files, words, kilobytes):
-    """A run with so large a stack for each thread. README asks for 128 KB: with less a run may be ended by a signal, and says nothing."""
+    """A run with so large a stack for each thread. README asks for 192 KB: with less a run may be ended by a signal, and says nothing."""
     with rig.folder(**files) as folder:
         before = files_in(folder)
         run = rig.ran(folder, words, {resource.RLIMIT_STACK: kilobytes << 10})
         ends = fault_of_end(run, 0, b"", b"EQUIVALENT\n")
-        if kilobytes < 128 and run.status == -signal.SIGSEGV:
+        if kilobytes < 192 and run.status == -signal.SIGSEGV:
             ends = "a verdict" if run.said else None
             print(f"{name} with stacks of {kilobytes} KB: ended by a signal")
         rig.judge(f"{name} with stacks of {kilobytes} KB", run, first(ends, fault_of_files(run, before)))
@@ -470,7 +470,7 @@ def memory(rig):
     whole = rig.whole_of(small["A"], small["B"])
     for megabytes in (20, 30, 40, 60, 80, 100, 150, 200):
         within(rig, "a hundred thousand gates", small, CHECK, whole, megabytes)
-    for kilobytes in (64, 128):
+    for kilobytes in (64, 128, 192):
         with_stack(rig, "a million gates", large, CHECK[:3], kilobytes)
 
 
@@ -601,7 +601,7 @@ def threads(rig):
         whole = expect(rig, "64 workers", folder, 0, said=b"EQUIVALENT\n", words=words)
     statuses = [within(rig, "64 workers", pair, words, whole, megabytes) for megabytes in (12, 15, 20, 40, 100, 200, 400, 1000)]
     print(f"64 workers in 12 to 1,000 MB: statuses {statuses}")
-    for kilobytes in (64, 128, 256):
+    for kilobytes in (64, 128, 192, 256):
         with_stack(rig, "64 workers", pair, words, kilobytes)
     how = as_nobody(rig, "threads without leave")
     for most in (1, 2, 3, 5, 20, 60) if how else ():
