@@ -9,10 +9,10 @@
 use cec_top::{Status, run};
 use desk_port::OpenGate;
 use os_desk::OsDesk;
-use std::env;
 use std::io::{self, ErrorKind};
 use std::process::ExitCode;
 use std::rt::Env;
+use std::{env, mem};
 
 /// The arguments, the program's name first.
 fn words(rt: &(impl Env + AllocGlobal)) -> io::Result<Vec<String>> {
@@ -31,6 +31,10 @@ fn main(rt: HostRuntime) -> ExitCode {
         Err(_) => Vec::new(rt.alloc()),
     };
     let mut desk = OsDesk::new(rt.alloc(), &rt, rt.stdout(), rt.stderr());
-    let (status, _kept) = run(&rt, rt.alloc(), words.as_slice(), &mut desk, &OpenGate);
+    let (status, kept) = run(&rt, rt.alloc(), words.as_slice(), &mut desk, &OpenGate);
+
+    // The process ends here, so the books aren't given back entry by entry: that took 6 % of the time of a hash
+    // against itself, and 11 % of that of a random circuit of a million gates.
+    mem::forget(kept);
     ExitCode::from(status.code())
 }
