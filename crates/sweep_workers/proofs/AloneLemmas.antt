@@ -20,8 +20,7 @@ use Rattle.sweep_workers.specs.declared.asked.Asked.TheVariants.{Pair, Output}
 use Rattle.sweep_workers.specs.Asked.{IsAskable, question_in, questions, subject_in}
 use Rattle.sweep_workers.specs.Answered.{AreAnswered, HasAnswer, IsAnswerTo, many, sees, sees_first}
 use Rattle.sweep_workers.proofs.WeightLemmas.{many-append}
-use Rattle.sweep_workers.proofs.OfferLemmas.{all-pass_append}
-use Rattle.sweep_workers.proofs.WorkLemmas.{sees-more}
+use Rattle.sweep_workers.proofs.WorkLemmas.{all-seen, sees-more}
 use Rattle.sweep_workers.proofs.ClosedLemmas.{own-answer, same-on}
 
 -- ---- a task that the book settles
@@ -93,20 +92,6 @@ answer-stays xs ys q has =
     there (x ∷ es) zero at = at
     there (x ∷ es) (suc k) at = there es k at
 
-sees-fewer : (m n : ℕ) (a : Answer) → m ≤ n → sees n a ≡ true → sees m a ≡ true
-sees-fewer m n (Equal steps) less all = refl
-sees-fewer m n (Differ input) less all = refl
-sees-fewer m n (Open seen log) less all = grind (arith, nat_tests)
-
-all-fewer : (m n : ℕ) (es : List Entry) → m ≤ n → list_all (sees_first n) es ≡ true → list_all (sees_first m) es ≡ true
-all-fewer m n [] less all = refl
-all-fewer m n (e ∷ es) less all = go (sees_first n e) refl all (all-fewer m n es less)
-  where
-    go : (b : Bool) → sees_first n e ≡ b → list_all (sees_first n) (e ∷ es) ≡ true
-        → (list_all (sees_first n) es ≡ true → list_all (sees_first m) es ≡ true) → list_all (sees_first m) (e ∷ es) ≡ true
-    go true is all rest = let here = sees-fewer m n (answer_of e) less is in let behind = rest (rw is at all) in rw (here, behind) refl
-    go false is all rest = let t : false ≡ true = rw is at all in cc
-
 pub answered-twice : (net : AigPair) (xs ys : List Question) (a b c : Entries) → AreAnswered net xs a b → AreAnswered net ys b c
     → AreAnswered net (xs ++ ys) a c
 answered-twice net xs ys a b c one two = record {
@@ -119,15 +104,9 @@ answered-twice net xs ys a b c one two = record {
   settled = all-append (HasAnswer c.entries) xs ys
       (all-weaker (HasAnswer b.entries) (HasAnswer c.entries)
       (λ q has. subst (λ (es : List Entry). HasAnswer es q) (sym two.begins) (answer-stays b.entries two.added q has)) xs one.settled) two.settled;
-  seen = all-pass_append (sees_first (length a.entries)) one.added two.added one.seen
-      (all-fewer (length a.entries) (length b.entries) two.added fewer two.seen);
+  seen = all-seen a b one.added two.added one.begins one.seen two.seen;
 }
   where
-    fewer : length a.entries ≤ length b.entries
-    fewer =
-        let l = ap (λ (es : List Entry). length es) one.begins in
-        omega (arith, l, length-append a.entries one.added)
-
     few : (test : Question → Bool) → many test (map question_of (one.added ++ two.added)) ≤ many test (xs ++ ys)
     few test =
         let parts = ap (many test) (map-append question_of one.added two.added) in

@@ -27,6 +27,7 @@ use Rattle.sweep_workers.specs.Answered.{AreAnswered, HasAnswer, many}
 use Rattle.sweep_workers.specs.Swept.{HasInputs, IsPoolFor, SettlesOutputs, Sweeps, SweepsRound, apart_inputs, input_of, is_of_output, is_of_pair}
 use Rattle.sweep_workers.proofs.OfferLemmas.{all-pass_append}
 use Rattle.sweep_workers.proofs.OnceLemmas.{each-among, once-append, once-round}
+use Rattle.sweep_workers.proofs.WorkLemmas.{all-seen}
 
 -- ---- kinds
 
@@ -266,6 +267,7 @@ sweeps-round net due tasks old new p q known are rising done count inputs patter
         let rest : drop known new.entries ≡ done.added =
         ap (λ (k : ℕ). drop k new.entries) count ∙ (ap (drop (length old.entries)) done.begins ∙ drop-front old.entries done.added) in
         patterns ∙ ap (λ (es : List Entry). p.patterns ++ apart_inputs es) rest;
+    seen = done.seen;
   };
   among = each-among (questions (map Pair due)) done.added few;
 }
@@ -285,6 +287,7 @@ sweeps-none net book pool legal = record {
   legal = legal;
   inputs = refl;
   patterns = sym (append-nil pool.patterns);
+  seen = refl;
 }
 
 pub sweeps-twice : (net : AigPair) (a b c : Entries) (p q r : Patterns) (one : Sweeps net a b p q) (two : Sweeps net b c q r)
@@ -302,6 +305,7 @@ sweeps-twice net a b c p q r one two apart = record {
       ∙ (ap (λ (ps : List (List Bool)). ps ++ apart_inputs two.added) one.patterns
       ∙ (append_assoc p.patterns (apart_inputs one.added) (apart_inputs two.added)
       ∙ ap (λ (ps : List (List Bool)). p.patterns ++ ps) (sym (inputs-append one.added two.added))));
+  seen = all-seen a b one.added two.added one.begins one.seen two.seen;
 }
 
 -- the patterns still fit

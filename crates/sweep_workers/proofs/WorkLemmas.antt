@@ -117,6 +117,31 @@ sees-more n book (Equal steps) some all = refl
 sees-more n book (Differ input) some all = refl
 sees-more n book (Open seen log) some all = grind (arith, nat_tests)
 
+sees-fewer : (m n : ℕ) (a : Answer) → m ≤ n → sees n a ≡ true → sees m a ≡ true
+sees-fewer m n (Equal steps) less all = refl
+sees-fewer m n (Differ input) less all = refl
+sees-fewer m n (Open seen log) less all = grind (arith, nat_tests)
+
+all-fewer : (m n : ℕ) (es : List Entry) → m ≤ n → list_all (sees_first n) es ≡ true → list_all (sees_first m) es ≡ true
+all-fewer m n [] less all = refl
+all-fewer m n (e ∷ es) less all = go (sees_first n e) refl all (all-fewer m n es less)
+  where
+    go : (b : Bool) → sees_first n e ≡ b → list_all (sees_first n) (e ∷ es) ≡ true
+        → (list_all (sees_first n) es ≡ true → list_all (sees_first m) es ≡ true) → list_all (sees_first m) (e ∷ es) ≡ true
+    go true is all rest = let here = sees-fewer m n (answer_of e) less is in let behind = rest (rw is at all) in rw (here, behind) refl
+    go false is all rest = let t : false ≡ true = rw is at all in cc
+
+-- entries behind a book that has grown saw the shorter one too
+pub all-seen : (old mid : Entries) (xs ys : List Entry) → mid.entries ≡ old.entries ++ xs → list_all (sees_first (length old.entries)) xs ≡ true
+    → list_all (sees_first (length mid.entries)) ys ≡ true → list_all (sees_first (length old.entries)) (xs ++ ys) ≡ true
+all-seen old mid xs ys grows first second =
+    all-pass_append (sees_first (length old.entries)) xs ys first (all-fewer (length old.entries) (length mid.entries) ys fewer second)
+  where
+    fewer : length old.entries ≤ length mid.entries
+    fewer =
+        let l = ap (λ (es : List Entry). length es) grows in
+        omega (arith, l, length-append old.entries xs)
+
 pub works-settled : (board : Post) (asked : List Question) (q : Question) (old mid new : Held) (e : Entry) (o : Offered) (n : ℕ)
     → Owes board asked q old → mid.table ≡ old.table → new.table ≡ mid.table → question_of e ≡ q → SeesAll old.known e
     → OfferedOne e old mid o → Refreshed board.root.net mid new n → Works board asked new

@@ -45,7 +45,8 @@ AskOnce [] = ⊤
 AskOnce (e ∷ es) = AllByRecursion (λ f. question_of f ≢ question_of e) es × AskOnce es
 
 -- The book is legal, has its budgets and begins as before; what was added is about pairs of nodes, of which none was settled
--- twice, and the inputs of the counterexamples stand behind the old patterns, in the same order.
+-- twice, the inputs of the counterexamples stand behind the old patterns, in the same order, and an added query that spent its
+-- budget saw at least the old book.
 pub record Sweeps (net : AigPair) (old_book new_book : Entries) (old_pool new_pool : Patterns) : Type 0 where
   pub sweep_budget : new_book.sweep_budget ≡ old_book.sweep_budget
   pub out_budget : new_book.out_budget ≡ old_book.out_budget
@@ -56,6 +57,7 @@ pub record Sweeps (net : AigPair) (old_book new_book : Entries) (old_pool new_po
   pub legal : IsLegal net new_book
   pub inputs : new_pool.inputs ≡ old_pool.inputs
   pub patterns : new_pool.patterns ≡ old_pool.patterns ++ apart_inputs added
+  pub seen : list_all (sees_first (length old_book.entries)) added ≡ true
 
 -- a round of a sweep: what was added is about pairs that were due
 pub record SweepsRound (net : AigPair) (due : List Task) (old_book new_book : Entries) (old_pool new_pool : Patterns) : Type 0 where

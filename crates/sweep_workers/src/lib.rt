@@ -9,7 +9,7 @@
 //! Whatever order they run in, the book is legal, begins as before, and has an entry for what was asked: of the
 //! tasks on a board each number was drawn once, and the entry that its worker offered is in the book, or one
 //! that settles it. After `sweep` the book is reduced over the patterns, to which the counterexamples'
-//! inputs were added; after `outputs` each output has an entry, and a query that spent its budget saw at
+//! inputs were added; after `outputs` each output has an entry. A query of either that spent its budget saw at
 //! least the book before.
 //!
 //! `sweep_by` and `outputs_by` are the same two calls for who keeps the workers in between. A `Watch` is told how far
