@@ -29,7 +29,9 @@ pub(crate) struct Clauses {
 
 impl Clauses {
     /// No clause.
-    pub(crate) fn new(alloc: Global) -> Clauses {
+    pub(crate) fn new(alloc: Global) -> Clauses
+        ensures { result.base ≡ record { nodes = []; clauses = [] } }
+    {
         Clauses {
             base: FlatBase::new(alloc),
             codes: Vec::new(alloc),

@@ -1,8 +1,8 @@
-ghost use Rattle.std.specs.Prelude.{◌≡◌, ◌<◌, ◌==◌, ℕ, true, None, List, length, map, OnOk};
+ghost use Rattle.std.specs.Prelude.{◌≡◌, ◌<◌, ◌==◌, [], ℕ, true, None, List, length, map, OnOk};
 ghost use Rattle.std.specs.List.{flat_map, list_any};
 ghost use Rattle.std.specs.Option.{IsSome};
 ghost use Rattle.lits.specs.declared.node.Node.{Node};
-ghost use Rattle.netlist.specs.Net.{IsNet};
+ghost use Rattle.netlist.specs.Net.{AigPair, IsNet};
 ghost use Rattle.netlist.specs.Miter.{variable_of};
 ghost use Rattle.flat_base.specs.Flat.{named_of};
 ghost use Rattle.lemma_book.specs.Book.{IsLegal};
@@ -38,7 +38,10 @@ impl Model for Cones {
 
 impl Cones {
     /// No cone yet.
-    pub fn new(alloc: Global) -> Cones {
+    pub fn new(alloc: Global) -> Cones
+        ensures base { result.base ≡ record { nodes = []; clauses = [] } }
+        ensures numbered { (net : AigPair) → IsNumbered net result.spots result.base }
+    {
         Cones {
             walk: Walk::new(alloc),
             clauses: Clauses::new(alloc),

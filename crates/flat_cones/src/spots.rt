@@ -37,7 +37,9 @@ impl Model for Spots {
 
 impl Spots {
     /// No variable is marked.
-    pub(crate) fn new(alloc: Global) -> Spots {
+    pub(crate) fn new(alloc: Global) -> Spots
+        ensures { (v : ℕ) → is_marked result v ≡ false }
+    {
         Spots {
             stamp: 1,
             spots: Vec::new(alloc),
