@@ -1,16 +1,15 @@
 -- What one worker makes of a book, task by task.
-use Rattle.std.proofs.Common.{◌≡◌, ℕ, zero, suc, ◌+◌, ◌<◌, ◌≤◌, Bool, true, false, cond, List, [], ◌∷◌, ◌++◌, length, map, take, drop, Option, None, Some, slice_get, inr, refl, sym, ap, ◌∙◌, subst, arith, append_assoc, length-append}
-use Rattle.std.specs.List.{list_all, AllByRecursion}
+use Rattle.std.proofs.Common.{◌≡◌, ℕ, zero, suc, ◌+◌, ◌<◌, ◌≤◌, Bool, cond, List, [], ◌∷◌, ◌++◌, length, map, take, drop, Option, None, Some, slice_get, inr, refl, sym, ap, ◌∙◌, subst, arith, append_assoc}
+use Rattle.std.specs.List.{AllByRecursion}
 use Rattle.std.specs.Option.{option_map_or}
 use Rattle.std.proofs.lemmas.Option.{none-some}
-use Rattle.std.proofs.lemmas.Bool.Decides.{nat_tests}
 use Rattle.std.proofs.lemmas.List.{append-nil, map-append, take_all, take-append-drop}
 use Rattle.lits.proofs.Facts.{all-append, all-parts}
 use Rattle.netlist.specs.Net.{AigPair}
 use Rattle.netlist.proofs.Facts.{all-weaker, at_place as at-found}
 use Rattle.lemma_book.specs.declared.entry.Entry.{Entry}
 use Rattle.lemma_book.specs.declared.entry.Subject.TheVariants.{Merged}
-use Rattle.lemma_book.specs.Entry.{Entries, Question, Answer, Equal, Differ, Open, answer_of, first_entries, is_on, place_on, question_of, subject_of, with_last}
+use Rattle.lemma_book.specs.Entry.{Entries, Question, answer_of, first_entries, is_on, place_on, question_of, subject_of, with_last}
 use Rattle.lemma_book.specs.Book.{IsLegal, book_after}
 use Rattle.lemma_book.specs.Good.{Already, IsGood}
 use Rattle.lemma_book.proofs.Facts.{legal-last}
@@ -18,7 +17,7 @@ use Rattle.cone_query.specs.Query.{SeesAll}
 use Rattle.sweep_workers.specs.declared.asked.Asked.{Asked}
 use Rattle.sweep_workers.specs.declared.asked.Asked.TheVariants.{Pair, Output}
 use Rattle.sweep_workers.specs.Asked.{IsAskable, question_in, questions, subject_in}
-use Rattle.sweep_workers.specs.Answered.{AreAnswered, HasAnswer, IsAnswerTo, many, sees, sees_first}
+use Rattle.sweep_workers.specs.Answered.{AreAnswered, HasAnswer, IsAnswerTo, many}
 use Rattle.sweep_workers.proofs.WeightLemmas.{many-append}
 use Rattle.sweep_workers.proofs.WorkLemmas.{all-seen, sees-more}
 use Rattle.sweep_workers.proofs.ClosedLemmas.{own-answer, same-on}
