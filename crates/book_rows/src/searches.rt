@@ -1,4 +1,4 @@
-ghost use Rattle.std.specs.Prelude.{[], ◌∷◌};
+ghost use Rattle.std.specs.Prelude.{[], ◌∷◌, ◌≤◌, ◌×◌};
 ghost use Rattle.netlist.specs.Circuit.{IsCircuit, plain};
 
 use crate::bounds::circuit;
@@ -10,6 +10,7 @@ use netlist::{And, Net};
 use std::alloc::Global;
 use std::process::Abort;
 use worked_circuits::{and, one_gate, two_input_circuit};
+use workload_gen::{Kind, make};
 
 /// Whether the inputs are equal, on both sides: in A neither is true without the other, in B it isn't so
 /// that one alone is true (gate 5 has one of them, and not both).
@@ -208,4 +209,50 @@ fn what_searches_find_where_no_input_is_admitted(rt: HostRuntime) {
         inputs_under(&rt, alloc, &gates, &[6, 3]),
         &AGREE,
     );
+}
+
+/// A chain and a tree of exclusive ORs of 16 inputs.
+fn parities(alloc: Global) -> Option<Net> {
+    let (a, b) = make(alloc, Kind::Parity, 16).ok()?;
+    let a = aiger_file::read(alloc, a.as_slice()).ok()?;
+    let b = aiger_file::read(alloc, b.as_slice()).ok()?;
+    Net::of(alloc, a, b).ok()
+}
+
+/// That the first output has one value in both circuits.
+fn outputs_pair(net: &Net) -> Option<Task> {
+    let a = net.output(Side::A, 0)?;
+    let b = net.output(Side::B, 0)?;
+    let lit = Lit {
+        node: a.node,
+        neg: a.neg != b.neg,
+    };
+    Some(Task { node: b.node, lit })
+}
+
+/// What a search that may make no choice and learn from no conflict finds of that over an empty book of this
+/// budget.
+fn found_of_parities(rt: &impl Abort, alloc: Global, net: &Net, budget: u64) -> &'static str
+    requires { (1 ≤ budget) × (budget ≤ 1000) }
+{
+    const NONE: Caps = Caps {
+        conflicts: 0,
+        decisions: 0,
+    };
+    let task = outputs_pair(net).expect(rt, "an output");
+    let mut search = Search::new(alloc, net).expect(rt, "memory");
+    let book = Book::new(alloc, budget, 10);
+    let found = search.pair(alloc, net, &book, &task, NONE);
+    words_of(&found.expect(rt, "memory"), search.dropped())
+}
+
+/// Sums are added up without a choice, as far as a merge may have so many steps.
+#[test]
+fn sums_of_inputs_are_merged(rt: HostRuntime) {
+    let alloc = rt.alloc();
+    let net = parities(alloc).expect(&rt, "a net");
+    let long = found_of_parities(&rt, alloc, &net, 1000);
+    expect(&rt, "a merge", long == "merge");
+    let short = found_of_parities(&rt, alloc, &net, 20);
+    expect(&rt, "no merge of 22 steps", short == "none");
 }

@@ -92,14 +92,14 @@ impl Lessons {
         Ok(())
     }
 
-    /// The clauses by which a false clause, whose codes stand on levels 0 and 1, refutes what is assumed of
-    /// two variables.
+    /// The clauses by which a false clause, whose codes stand on levels 0 and 1, refutes what is assumed of the
+    /// variables of some codes.
     pub(crate) fn refutation(
         &mut self,
         variables: &Variables,
         clauses: &Clauses,
         trail: &Trail,
-        assumed: (u32, u32),
+        assumed: &[u32],
         conflict: Reason,
     ) -> Result<HintSpan, AllocError> {
         self.restart(variables.len())?;
@@ -109,7 +109,7 @@ impl Lessons {
                 break;
             }
             let var = trail.log.lit(place) / 2;
-            if self.pass(trail, var) && var != assumed.0 && var != assumed.1 {
+            if self.pass(trail, var) && !has_variable(assumed, var) {
                 self.follow(variables, clauses, trail, trail.cause(var).reason, 1)?;
             }
         }
@@ -192,4 +192,14 @@ impl Lessons {
         }
         highest
     }
+}
+
+/// Whether a code of the list is of this variable.
+fn has_variable(codes: &[u32], var: u32) -> bool {
+    for code in codes {
+        if *code / 2 == var {
+            return true;
+        }
+    }
+    false
 }

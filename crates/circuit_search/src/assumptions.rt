@@ -25,7 +25,7 @@ impl Trail {
     }
 
     /// Makes a code true for no reason, if it is free.
-    fn choose(&mut self, code: u32) {
+    pub(crate) fn choose(&mut self, code: u32) {
         if self.value(code) == FREE {
             self.assign(code, Reason::Choice);
         }

@@ -5,6 +5,7 @@ use crate::lessons::Lessons;
 use crate::luck::Luck;
 use crate::merges::Merges;
 use crate::reason::Reason;
+use crate::sums::Sums;
 use crate::trail::Trail;
 use crate::variables::Variables;
 use crate::watches::Watches;
@@ -24,8 +25,11 @@ pub(crate) struct Engine {
     pub(crate) watches: Watches,
     pub(crate) trail: Trail,
     pub(crate) lessons: Lessons,
-    /// The variables that the query assumes a value of.
-    pub(crate) assumed: (u32, u32),
+    pub(crate) sums: Sums,
+    /// How many steps the entry may have.
+    pub(crate) most_steps: u64,
+    /// The codes that the query assumes.
+    pub(crate) assumed: [u32; 2],
     /// A clause that is false whatever is assumed; there is one only under constraints.
     pub(crate) denied: Option<Reason>,
     /// What is left of the caps.
@@ -52,7 +56,9 @@ impl Engine {
             watches: Watches::new(alloc),
             trail: Trail::new(alloc),
             lessons: Lessons::new(alloc),
-            assumed: (0, 0),
+            sums: Sums::new(alloc),
+            most_steps: 0,
+            assumed: [0, 0],
             denied: None,
             left: Caps {
                 conflicts: 0,

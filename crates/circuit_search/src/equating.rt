@@ -20,6 +20,9 @@ const CONFLICTS: u64 = 1000;
 
 const DECISIONS: u64 = 20000;
 
+/// How many steps it may take to add up the sums of an output before pairs in its cone are known to be equal.
+const STEPS: u64 = 1000;
+
 /// How many more searches for one equality may fail than succeed.
 const MISSES: u32 = 2;
 
@@ -40,11 +43,13 @@ impl Engine {
             decisions: caps.decisions.min(CHOICES),
         };
         self.is_owed = false;
+        self.most_steps = caps.conflicts.min(STEPS);
         if let Some(entry) = self.output_shortly(alloc, net, output, few)? {
             return Ok(Some(entry));
         }
         if !self.is_equated {
             self.is_equated = true;
+            self.equate_sums(alloc, net, caps.conflicts)?;
             self.equate(alloc, net, caps.conflicts)?;
         }
         self.is_owed = !self.luck.is_due();
@@ -69,6 +74,7 @@ impl Engine {
             conflicts: caps.conflicts.min(CONFLICTS),
             decisions: caps.decisions.min(DECISIONS),
         };
+        self.most_steps = caps.conflicts;
         let entry = self.output(alloc, net, output, more, Domain::Admitted)?;
         self.luck.note(entry.is_some());
         Ok(entry)
@@ -129,10 +135,11 @@ impl Engine {
         net: &Net,
         conflicts: u64,
     ) -> Result<(), AllocError> {
+        self.most_steps = 0;
         let mut left = conflicts;
         let mut misses: u32 = 0;
         for position in 0..net.positions() {
-            if let Some(target) = self.merges.open(position) {
+            if let Some(target) = self.unequated(position) {
                 if misses >= MISSES {
                     return Ok(());
                 }
@@ -147,6 +154,30 @@ impl Engine {
             }
         }
         Ok(())
+    }
+
+    /// Adds up the sums of the pairs whose queries spent their budgets, from the inputs up: what is shown of one
+    /// makes those above it short.
+    fn equate_sums(&mut self, alloc: Global, net: &Net, most: u64) -> Result<(), AllocError> {
+        let caps = Caps {
+            conflicts: 0,
+            decisions: 0,
+        };
+        self.most_steps = most;
+        for position in 0..net.positions() {
+            if let Some(target) = self.unequated(position) {
+                let _is_shown = self.equate_pair(alloc, net, position, target, caps)?;
+            }
+        }
+        Ok(())
+    }
+
+    /// The code that a node was last compared with, if that is left open and wasn't shown since.
+    fn unequated(&self, position: u32) -> Option<u32> {
+        match self.equalities.target(position) {
+            Some(_) => None,
+            None => self.merges.open(position),
+        }
     }
 
     /// Searches for why a node is equal to a code, and tells whether it found that.

@@ -14,8 +14,8 @@
 //! A `Sieve` is for rounds of pairs: patterns that may tell a pair apart before any search. It is parted from
 //! the search, so that many searches share one. Its inputs are evaluated too, by `apart`.
 //!
-//! Definitions: `specs/Answer.antt`. Begin to read at `search.rt`, then `round.rt`; `equalities.rt`
-//! has what only the proofs of outputs use, `sieve.rt` the patterns, over `cone.rt`, `roots.rt` and
+//! Definitions: `specs/Answer.antt`. Begin to read at `search.rt`, then `round.rt`; `sums.rt` has what is shown
+//! of exclusive ORs before a search, `equalities.rt` what only the proofs of outputs use, `sieve.rt` the patterns, over `cone.rt`, `roots.rt` and
 //! `inputs.rt`.
 #![tactic(auto)]
 
@@ -49,6 +49,7 @@ mod round;
 mod search;
 mod sieve;
 mod steps;
+mod sums;
 mod table;
 mod trail;
 mod variables;

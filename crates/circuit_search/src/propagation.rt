@@ -38,7 +38,7 @@ impl Engine {
 
     /// What defines a variable, which is loaded where it wasn't looked at yet.
     #[inline(always)]
-    fn known(&mut self, net: &Net, var: u32) -> Result<Variable, AllocError> {
+    pub(crate) fn known(&mut self, net: &Net, var: u32) -> Result<Variable, AllocError> {
         let known = self.variables.get(var);
         match known.kind {
             Kind::New => {

@@ -127,6 +127,10 @@ impl Engine {
         if let Domain::Admitted = domain {
             self.load_constraints(net)?;
         }
+        let is_known = self.add_up(net, first, second, self.most_steps)?;
+        if !is_known && caps.conflicts == 0 {
+            return Ok(Found::Open);
+        }
         self.ask_both(net, first, second)
     }
 

@@ -25,7 +25,7 @@ impl Engine {
         second: u32,
     ) -> Result<Outcome, AllocError> {
         self.trail.cut(0);
-        self.assumed = (first / 2, second / 2);
+        self.assumed = [first, second];
         for _ in 0..u64::MAX {
             if let Some(outcome) = self.round(net, first, second)? {
                 return Ok(outcome);
@@ -130,7 +130,7 @@ impl Engine {
             &self.variables,
             &self.clauses,
             &self.trail,
-            self.assumed,
+            &self.assumed,
             conflict,
         )
     }

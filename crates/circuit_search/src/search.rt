@@ -75,6 +75,7 @@ impl Search {
     {
         self.catch_up(net, book);
         let caps = self.engine.caps_for(net, task, caps);
+        self.engine.most_steps = book.sweep_budget().saturating_add(2);
         match self.engine.pair(alloc, net, task, caps)? {
             Some(entry) => self.judged(alloc, net, book, entry),
             None => Ok(None),
