@@ -1,4 +1,4 @@
-ghost use Rattle.std.specs.Prelude.{[], ◌∷◌, ◌≤◌, ◌×◌};
+ghost use Rattle.std.specs.Prelude.{[], ◌∷◌, ◌≤◌};
 ghost use Rattle.netlist.specs.Circuit.{IsCircuit, plain};
 
 use crate::bounds::circuit;

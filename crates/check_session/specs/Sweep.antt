@@ -13,9 +13,9 @@ pub record AddsStructure (net : AigPair) (old new : Entries) : Type 0 where
   pub merges : AddsStructural net 0 (length (definitions net)) old new
   pub plain : ArePlain net new.entries
 
--- Behind the old entries stand first the merges of the structure, and then what was settled of pairs of nodes, no pair twice, where each
--- query that spent its budget saw all that stands before. Behind the old patterns stand the inputs on which such pairs differ, in the order
--- of their entries, and no others.
+-- Behind the old entries stand first the merges of the structure, and then what was settled of pairs of nodes, no pair twice; a query about
+-- such a pair that spent its budget saw at least these merges and what stands before them. Behind the old patterns stand the inputs on which
+-- such pairs differ, in the order of their entries, and no others.
 pub record IsSweptFrom (net : AigPair) (old : Begun) (new : Entries) (patterns : Patterns) : Type 0 where
   pub merged : Entries
   pub structure : AddsStructure net old.book merged
