@@ -1,5 +1,6 @@
-ghost use Rattle.std.specs.Prelude.{[], ◌∷◌, ◌≤◌};
+ghost use Rattle.std.specs.Prelude.{[], ◌∷◌};
 ghost use Rattle.netlist.specs.Circuit.{IsCircuit, plain};
+ghost use Rattle.lemma_book.specs.Book.{IsLegal};
 
 use crate::bounds::circuit;
 use crate::pairs::{Case, check, expect, net_of};
@@ -230,19 +231,18 @@ fn outputs_pair(net: &Net) -> Option<Task> {
     Some(Task { node: b.node, lit })
 }
 
-/// What a search that may make no choice and learn from no conflict finds of that over an empty book of this
-/// budget.
-fn found_of_parities(rt: &impl Abort, alloc: Global, net: &Net, budget: u64) -> &'static str
-    requires { (1 ≤ budget) × (budget ≤ 1000) }
+const NONE: Caps = Caps {
+    conflicts: 0,
+    decisions: 0,
+};
+
+/// What a search that may make no choice and learn from no conflict finds of that over a book.
+fn found_of_parities(rt: &impl Abort, alloc: Global, net: &Net, book: &Book) -> &'static str
+    requires { IsLegal net.now book.now }
 {
-    const NONE: Caps = Caps {
-        conflicts: 0,
-        decisions: 0,
-    };
     let task = outputs_pair(net).expect(rt, "an output");
     let mut search = Search::new(alloc, net).expect(rt, "memory");
-    let book = Book::new(alloc, budget, 10);
-    let found = search.pair(alloc, net, &book, &task, NONE);
+    let found = search.pair(alloc, net, book, &task, NONE);
     words_of(&found.expect(rt, "memory"), search.dropped())
 }
 
@@ -251,8 +251,8 @@ fn found_of_parities(rt: &impl Abort, alloc: Global, net: &Net, budget: u64) -> 
 fn sums_of_inputs_are_merged(rt: HostRuntime) {
     let alloc = rt.alloc();
     let net = parities(alloc).expect(&rt, "a net");
-    let long = found_of_parities(&rt, alloc, &net, 1000);
+    let long = found_of_parities(&rt, alloc, &net, &Book::new(alloc, 1000, 10));
     expect(&rt, "a merge", long == "merge");
-    let short = found_of_parities(&rt, alloc, &net, 20);
+    let short = found_of_parities(&rt, alloc, &net, &Book::new(alloc, 20, 10));
     expect(&rt, "no merge of 22 steps", short == "none");
 }
