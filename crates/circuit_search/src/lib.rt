@@ -14,9 +14,9 @@
 //! A `Sieve` is for rounds of pairs: patterns that may tell a pair apart before any search. It is parted from
 //! the search, so that many searches share one. Its inputs are evaluated too, by `apart`.
 //!
-//! Definitions: `specs/Answer.antt`. Begin to read at `search.rt`, then `round.rt`; `sums.rt` has what is shown
-//! of exclusive ORs before a search, `equalities.rt` what only the proofs of outputs use, `sieve.rt` the patterns, over `cone.rt`, `roots.rt` and
-//! `inputs.rt`.
+//! Definitions: `specs/Answer.antt`. Begin to read at `search.rt`, then `round.rt`; `sums.rt` has what is
+//! shown of exclusive ORs before a search, `equalities.rt` what only the proofs of outputs use, `sieve.rt` the
+//! patterns, over `cone.rt`, `roots.rt` and `inputs.rt`.
 #![tactic(auto)]
 
 pub use caps::Caps;
