@@ -20,6 +20,7 @@ from pathlib import Path
 
 from rounds import Tally, house, words_of
 from scripts import VERDICT
+import workload
 
 LIBRARY = house.TOP / "tools" / "fail_alloc.c"
 SHORT = "cec: out of memory\n"
@@ -47,6 +48,9 @@ FILES = {
     "opened": "out a 0 10\nout b 0 11\ncheck\nout b 0 0\nout a 0 0\ncheck\n",
 }
 
+# A chain and a tree of exclusive ORs: their sums are added up in a merge, and with a small budget in the proof of the output.
+FILES["chain"], FILES["tree"] = (circuit.ascii() for circuit in workload.parity(7))
+
 COMMANDS = [
     "check and swapped --out p",
     "check xor other-xor --out p",
@@ -57,6 +61,8 @@ COMMANDS = [
     "check and wide",
     "check and cut",
     "check and nothing",
+    "check chain tree --out p",
+    "check chain tree --sweep-budget 1 --out p",
     "lrat cnf lrat",
     "lrat cnf bad-lrat",
     "lrat and lrat",
