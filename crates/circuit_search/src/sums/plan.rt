@@ -20,6 +20,14 @@ const TRIES: u64 = 8;
 
 const WORK: u64 = 1 << 17;
 
+/// After how many orders that take too many steps none is looked for any more.
+const FAILURES: u64 = 32;
+
+/// Orders of more steps than this are only looked for until there was none for so many gates: some seconds.
+const LONG: u64 = 1000;
+
+const VAIN: u64 = 1 << 16;
+
 /// With how many other sums that have a term in common a new one may be joined.
 const NEIGHBOURS: u32 = 3;
 
@@ -91,6 +99,8 @@ pub(crate) struct Plan {
     best: Vec<Move>,
     /// The terms of the parts of a sum that it hasn't itself.
     pub(crate) inner: Vec<u32>,
+    /// For how many gates long orders were looked for in vain.
+    vain: u64,
 }
 
 impl Plan {
@@ -109,6 +119,7 @@ impl Plan {
             moves: Vec::new(alloc),
             best: Vec::new(alloc),
             inner: Vec::new(alloc),
+            vain: 0,
         }
     }
 
@@ -146,10 +157,17 @@ impl Plan {
 
     /// Finds an order in which the gates are added up in at most so many steps. Whether there is one.
     pub(crate) fn make(&mut self, most: u64) -> Result<bool, AllocError> {
+        if most > LONG && self.vain > VAIN {
+            return Ok(false);
+        }
+        let gates = u64::from(self.gates);
         let mut generator = Lcg128Xsl64::seed_from_u64(1);
         let mut fewest = most.saturating_add(1);
         for number in 0..WORK {
-            if number >= TRIES && number.saturating_mul(u64::from(self.gates)) > worth(fewest) {
+            if number >= TRIES && number.saturating_mul(gates) > worth(fewest) {
+                break;
+            }
+            if number >= FAILURES && fewest > most {
                 break;
             }
             let found = self.attempt(&mut generator, number % 16, fewest)?;
@@ -160,6 +178,9 @@ impl Plan {
             }
         }
         self.restart();
+        if fewest > most && most > LONG {
+            self.vain = self.vain.saturating_add(gates);
+        }
         Ok(fewest <= most)
     }
 
