@@ -25,7 +25,7 @@ impl Engine {
         for _ in 0..u32::MAX {
             let known = self.known(net, root / 2)?;
             match known.kind {
-                Kind::Merged(_) | Kind::Shown(_) => root = known.first ^ (root & 1),
+                Kind::Merged(_) | Kind::Shown => root = known.first ^ (root & 1),
                 _ => break,
             }
         }

@@ -1,19 +1,13 @@
 use crate::sums::gates::Exclusive;
+use crate::sums::plan::joins::pair_of;
 use crate::table::{at, count, put};
 use rand_core::SeedableRng;
-use rand_core::utils::NextWord;
 use rand_pcg::Lcg128Xsl64;
 use std::alloc::{AllocError, Global};
 use std::collections::BinaryHeap;
 
-/// No sum may have more terms than this: each one more takes twice the clauses.
-const WIDEST: u32 = 12;
-
-/// A sum of more terms isn't said by clauses unless it has to be: a join with the next one mostly has fewer.
-const NARROW: u32 = 3;
-
-/// So many sums that aren't said stand on each other at most.
-const DEEPEST: u32 = 3;
+mod joins;
+mod saying;
 
 /// How many orders are tried at least, and how many gates are added up in them at most.
 const TRIES: u64 = 8;
@@ -27,9 +21,6 @@ const FAILURES: u64 = 32;
 const LONG: u64 = 1000;
 
 const VAIN: u64 = 1 << 16;
-
-/// With how many other sums that have a term in common a new one may be joined.
-const NEIGHBOURS: u32 = 3;
 
 /// Variables whose sum modulo 2 is known.
 #[derive(Clone, Copy)]
@@ -238,127 +229,6 @@ impl Plan {
         self.links.clear();
     }
 
-    /// Notes which variables a sum has, and with which others it may be joined.
-    fn link(
-        &mut self,
-        sum: u32,
-        generator: &mut Lcg128Xsl64,
-        noise: u64,
-    ) -> Result<(), AllocError> {
-        self.look_at(sum)?;
-        let Sum { start, len, .. } = self.sum(sum);
-        for place in start..start.saturating_add(len) {
-            let term = at(&self.terms, place);
-            let head = at(&self.heads, term);
-            self.offer_all(sum, head, generator, noise)?;
-            self.links.push((sum, head))?;
-            let link = count(self.links.len());
-            put(&mut self.heads, term, link);
-        }
-        Ok(())
-    }
-
-    /// Marks the terms of a sum, and no others.
-    fn look_at(&mut self, sum: u32) -> Result<(), AllocError> {
-        self.look = self.look.wrapping_add(1);
-        let Sum { start, len, .. } = self.sum(sum);
-        for place in start..start.saturating_add(len) {
-            let term = at(&self.terms, place);
-            let room = (term as usize).saturating_add(1);
-            if room > self.heads.len() {
-                self.heads.resize(room, 0)?;
-            }
-            if room > self.marks.len() {
-                self.marks.resize(room, 0)?;
-            }
-            put(&mut self.marks, term, self.look);
-        }
-        Ok(())
-    }
-
-    /// Notes that a sum may be joined with those of a chain.
-    fn offer_all(
-        &mut self,
-        sum: u32,
-        head: u32,
-        generator: &mut Lcg128Xsl64,
-        noise: u64,
-    ) -> Result<(), AllocError> {
-        let mut link = head;
-        let mut met: u32 = 0;
-        for _ in 0..u32::MAX {
-            let (other, next) = self.linked(link);
-            if link == 0 || met >= NEIGHBOURS {
-                break;
-            }
-            if self.sum(other).is_live && other != sum {
-                met = met.wrapping_add(1);
-                self.offer(other, sum, generator, noise)?;
-            }
-            link = next;
-        }
-        Ok(())
-    }
-
-    /// The sum of a link, and the next link.
-    fn linked(&self, link: u32) -> (u32, u32) {
-        match self.links.get(link.wrapping_sub(1) as usize) {
-            Some(linked) => *linked,
-            None => (0, 0),
-        }
-    }
-
-    /// Notes that a sum may be joined with the one whose terms are marked, unless they have too many terms then.
-    fn offer(
-        &mut self,
-        one: u32,
-        two: u32,
-        generator: &mut Lcg128Xsl64,
-        noise: u64,
-    ) -> Result<(), AllocError> {
-        let (first, second) = (self.width(one), self.width(two));
-        let both = self.marked(one).saturating_mul(2);
-        let width = first.saturating_add(second).saturating_sub(both);
-        if width > WIDEST {
-            return Ok(());
-        }
-        let joined = power(width);
-        let parts = power(first).saturating_add(power(second));
-        let drawn = generator.next_word() % 16;
-        let less = joined.saturating_mul(drawn).saturating_mul(noise) / 8;
-        let rank = joined
-            .saturating_mul(16)
-            .saturating_add(LEAST)
-            .saturating_sub(parts.saturating_mul(16))
-            .saturating_sub(less);
-        self.queue.push(key_of(rank, one, two))?;
-        Ok(())
-    }
-
-    /// How many terms of a sum are marked.
-    fn marked(&self, sum: u32) -> u32 {
-        let Sum { start, len, .. } = self.sum(sum);
-        let mut many: u32 = 0;
-        for place in start..start.saturating_add(len) {
-            if at(&self.marks, at(&self.terms, place)) == self.look {
-                many = many.saturating_add(1);
-            }
-        }
-        many
-    }
-
-    /// How many terms two sums have in common.
-    fn common(&self, one: u32, two: u32) -> u32 {
-        let Sum { start, len, .. } = self.sum(one);
-        let mut many: u32 = 0;
-        for place in start..start.saturating_add(len) {
-            if self.has(two, at(&self.terms, place)) {
-                many = many.saturating_add(1);
-            }
-        }
-        many
-    }
-
     /// Whether a sum has a term.
     fn has(&self, sum: u32, term: u32) -> bool {
         let Sum { start, len, .. } = self.sum(sum);
@@ -368,114 +238,6 @@ impl Plan {
             }
         }
         false
-    }
-
-    /// Has clauses say what a new sum needs: one of few terms is said itself, after its parts where that takes
-    /// fewer steps; else its parts are. How many steps these are.
-    fn settle(&mut self, sum: u32) -> Result<u64, AllocError> {
-        let Sum { one, two, len, .. } = self.sum(sum);
-        if len == 0 {
-            return Ok(0);
-        }
-        let parts = self
-            .cost_unsaid(one)?
-            .saturating_add(self.cost_unsaid(two)?);
-        if len <= NARROW {
-            let straight = self.cost(sum)?;
-            let both = self.common(one, two);
-            let behind = power(len.saturating_add(both).saturating_sub(2));
-            if straight <= parts.saturating_add(behind) {
-                self.say(sum)?;
-                return Ok(straight);
-            }
-            self.say_parts(one, two)?;
-            self.say(sum)?;
-            return Ok(parts.saturating_add(behind));
-        }
-        self.say_parts(one, two)?;
-        Ok(parts)
-    }
-
-    /// How many steps it takes to say a sum, unless it is said.
-    fn cost_unsaid(&mut self, sum: u32) -> Result<u64, AllocError> {
-        if self.sum(sum).is_said {
-            return Ok(0);
-        }
-        self.cost(sum)
-    }
-
-    /// How many steps it takes to say a sum over its parts: its clauses, each split by all of the terms that go
-    /// but those that the parts force.
-    fn cost(&mut self, sum: u32) -> Result<u64, AllocError> {
-        let parts = self.list_inner(sum)?;
-        let inner = count(self.inner.len())
-            .saturating_add(1)
-            .saturating_sub(parts);
-        let width = self.width(sum).saturating_sub(1);
-        Ok(power(width.saturating_add(inner).min(40)))
-    }
-
-    /// Has both of these said.
-    fn say_parts(&mut self, one: u32, two: u32) -> Result<(), AllocError> {
-        if !self.sum(one).is_said {
-            self.say(one)?;
-        }
-        if !self.sum(two).is_said {
-            self.say(two)?;
-        }
-        Ok(())
-    }
-
-    /// Has a sum said.
-    fn say(&mut self, sum: u32) -> Result<(), AllocError> {
-        self.moves.push(Move::Say(sum))?;
-        self.note_said(sum);
-        Ok(())
-    }
-
-    /// Notes that a sum is said.
-    pub(crate) fn note_said(&mut self, sum: u32) {
-        let sum = sum as usize;
-        if sum < self.sums.len() {
-            self.sums[sum].is_said = true;
-        }
-    }
-
-    /// Lists the terms of a sum's parts that it hasn't itself. How many parts these are.
-    pub(crate) fn list_inner(&mut self, sum: u32) -> Result<u32, AllocError> {
-        self.inner.clear();
-        let Sum { one, two, .. } = self.sum(sum);
-        let parts = self.list_part(sum, one)?;
-        Ok(parts.saturating_add(self.list_part(sum, two)?))
-    }
-
-    /// Lists those of a part, or of its own parts if it isn't said.
-    fn list_part(&mut self, sum: u32, part: u32) -> Result<u32, AllocError> {
-        let Sum {
-            one,
-            two,
-            is_said,
-            ..
-        } = self.sum(part);
-        if is_said {
-            self.list_terms(sum, part)?;
-            return Ok(1);
-        }
-        self.list_terms(sum, one)?;
-        self.list_terms(sum, two)?;
-        Ok(2)
-    }
-
-    /// Lists the terms of a part that a sum hasn't and that aren't listed.
-    fn list_terms(&mut self, sum: u32, part: u32) -> Result<(), AllocError> {
-        let Sum { start, len, .. } = self.sum(part);
-        for place in start..start.saturating_add(len) {
-            let term = at(&self.terms, place);
-            if !self.has(sum, term) && !self.inner.contains(&term) {
-                self.inner.push(term)?;
-            }
-        }
-        Ok(())
     }
 
     /// Puts the join of two sums last, of which they are parts now, and gives its number.
@@ -519,21 +281,6 @@ impl Plan {
             self.sums[sum].is_live = false;
             self.sums[sum].above = above;
         }
-    }
-
-    /// Whether what says a sum may still be needed: it is no part of one that is said.
-    pub(crate) fn is_needed(&self, sum: u32) -> bool {
-        let mut part = self.sum(sum);
-        for _ in 0..DEEPEST {
-            if part.is_live {
-                return true;
-            }
-            part = self.sum(part.above);
-            if part.is_said {
-                return false;
-            }
-        }
-        true
     }
 
     /// Whether a sum is the one that is asked for.
@@ -587,15 +334,6 @@ impl Plan {
     }
 }
 
-/// What is added to a join's rank, so that none is below 0.
-const LEAST: u64 = 1 << 18;
-
-/// What stands above two numbers of sums in a key.
-const ABOVE: u64 = 1 << 44;
-
-/// What stands above one.
-const BETWEEN: u64 = 1 << 22;
-
 /// How many gates may be added up for an order with fewer steps than this: a step costs some times as much, and
 /// long orders are those that noise makes shorter.
 fn worth(steps: u64) -> u64 {
@@ -607,22 +345,4 @@ fn worth(steps: u64) -> u64 {
 /// So many assignments have so many terms.
 fn power(terms: u32) -> u64 {
     1_u64.wrapping_shl(terms)
-}
-
-/// A key that is the greater the less a rank is.
-fn key_of(rank: u64, one: u32, two: u32) -> u64 {
-    let turned = (BETWEEN / 4)
-        .saturating_sub(1)
-        .saturating_sub(rank.min(BETWEEN / 4 - 1));
-    turned
-        .wrapping_mul(ABOVE)
-        .wrapping_add(u64::from(one).wrapping_mul(BETWEEN))
-        .wrapping_add(u64::from(two))
-}
-
-/// The two sums of a key.
-fn pair_of(key: u64) -> (u32, u32) {
-    let one = key / BETWEEN % BETWEEN;
-    let two = key % BETWEEN;
-    (one as u32, two as u32)
 }
