@@ -23,9 +23,9 @@ use lits::Listed;
 use netlist::Net;
 use solver_watch::WatchSolver;
 use std::alloc::{AllocError, Global};
-use std::sync::{Mutex, Wait};
+use std::sync::{Arc, Mutex, Wait};
 use std::thread::Threads;
-use sweep_workers::{Part, Swept, Watch, Worker, outputs_by, sweep_by};
+use sweep_workers::{Part, Swept, Watch, Worker, outputs_by, shared_memory, sweep_by};
 use word_sim::Pool;
 
 /// What a check found, the book that shows it, and the patterns that it leaves.
@@ -201,8 +201,10 @@ pub(crate) fn workers(alloc: Global, many: u32) -> Result<Vec<Worker<WatchSolver
     ensures { IfOk result (λ v. length v.items ≡ many) }
 {
     let mut workers = Vec::new(alloc);
+    let shared = shared_memory(alloc)?;
     for number in 0..many {
-        workers.push(Worker::new(alloc, number, WatchSolver::new(alloc)?))?;
+        let shared = Arc::try_clone(&shared)?;
+        workers.push(Worker::new(alloc, number, WatchSolver::new(alloc)?, shared))?;
     }
     Ok(workers)
 }

@@ -34,8 +34,6 @@ pub(crate) struct Engine {
     pub(crate) denied: Option<Reason>,
     /// What is left of the caps.
     pub(crate) left: Caps,
-    /// Whether equalities were searched for.
-    pub(crate) is_equated: bool,
     /// When an output is searched at length.
     pub(crate) luck: Luck,
     /// Whether the output that was asked for last wasn't searched at length.
@@ -49,7 +47,7 @@ impl Engine {
     pub(crate) fn of(alloc: Global, net: &Net) -> Result<Engine, AllocError> {
         Ok(Engine {
             merges: Merges::of(alloc, net)?,
-            equalities: Equalities::of(alloc, net.positions())?,
+            equalities: Equalities::new(alloc),
             shown: 0,
             variables: Variables::of(alloc, net.positions())?,
             clauses: Clauses::new(alloc),
@@ -64,7 +62,6 @@ impl Engine {
                 conflicts: 0,
                 decisions: 0,
             },
-            is_equated: false,
             luck: Luck::new(),
             is_owed: false,
             learned: 0,
@@ -76,7 +73,6 @@ impl Engine {
         let is_other = self.merges.catch_up(net, book);
         if is_other {
             self.equalities.forget();
-            self.is_equated = false;
             self.luck = Luck::new();
         }
         is_other

@@ -2,33 +2,84 @@ use crate::table::{at, count, put};
 use lits::{Hints, Ref, Step};
 use std::alloc::{AllocError, Global};
 
+mod exchange;
+
 /// Equalities of nodes that the book doesn't have, with the steps that show them.
 ///
 /// A merge may have no more steps than the budget of the sweep allows. A pair that takes more stays open, and
 /// with it most pairs above. The proof of an output may be much longer, so it may contain the steps of such
 /// equalities: they stand here once, and each proof takes those that it needs.
+///
+/// Each search has such lists of its own, and the searches of a check share one more: an exchange brings the
+/// lists of a search up to date with those, and its steps to other places where others came before them.
 #[derive(Drop)]
 pub(crate) struct Equalities {
-    /// For each position the place of the first of the two steps that say what its node is equal to, and the
-    /// code that it is.
-    targets: Vec<Option<(u32, u32)>>,
+    /// For each position what its node is equal to, by the lazy search and behind that by the search of whole cones.
+    targets: Vec<Option<Equality>>,
+    /// For each position with how many conflicts its node wasn't found to be equal.
+    tried: Vec<u32>,
     /// The steps. The hint `Own(k)` is step k of them.
     steps: Vec<Step>,
+    /// The places of the targets, and the positions of the nodes that weren't found to be equal, as they came.
+    found: Vec<u32>,
+    failed: Vec<u32>,
+    /// How much of these lists is shared.
+    shared: Extent,
+}
+
+/// How long the lists of equalities are.
+#[derive(Clone, Copy)]
+struct Extent {
+    steps: u32,
+    found: u32,
+    failed: u32,
+}
+
+const NOTHING: Extent = Extent {
+    steps: 0,
+    found: 0,
+    failed: 0,
+};
+
+/// What a node is equal to.
+#[derive(Clone, Copy)]
+pub(crate) struct Equality {
+    /// The code that it is.
+    pub(crate) target: u32,
+    /// The places of the steps that say so: that the target is true where the node is, and the node where it is.
+    pub(crate) there: u32,
+    pub(crate) back: u32,
+}
+
+/// Which search found an equality. Each uses its own alone: what the other one shows takes it more steps, and
+/// these stand in the proof of each output that rests on it.
+#[derive(Clone, Copy)]
+pub(crate) enum Finder {
+    Lazy,
+    Whole,
 }
 
 impl Equalities {
-    /// No equalities, of a net with so many positions.
-    pub(crate) fn of(alloc: Global, positions: u32) -> Result<Equalities, AllocError> {
-        Ok(Equalities {
-            targets: vec![in alloc; None; positions as usize]?,
+    /// No equalities, and no tables before the first of them.
+    pub(crate) fn new(alloc: Global) -> Equalities {
+        Equalities {
+            targets: Vec::new(alloc),
+            tried: Vec::new(alloc),
             steps: Vec::new(alloc),
-        })
+            found: Vec::new(alloc),
+            failed: Vec::new(alloc),
+            shared: NOTHING,
+        }
     }
 
     /// Forgets all.
     pub(crate) fn forget(&mut self) {
-        self.targets.fill(None);
+        self.targets.clear();
+        self.tried.clear();
         self.steps.clear();
+        self.found.clear();
+        self.failed.clear();
+        self.shared = NOTHING;
     }
 
     /// How many steps there are.
@@ -36,28 +87,64 @@ impl Equalities {
         count(self.steps.len())
     }
 
-    /// The place of the first of the two steps that say what a node is equal to, and the code that it is.
-    pub(crate) fn target(&self, position: u32) -> Option<(u32, u32)> {
-        match self.targets.get(position as usize) {
+    /// What a search found a node to be equal to.
+    pub(crate) fn target(&self, finder: Finder, position: u32) -> Option<Equality> {
+        self.target_at(place_of(finder, position))
+    }
+
+    /// The target at a place.
+    fn target_at(&self, place: u32) -> Option<Equality> {
+        match self.targets.get(place as usize) {
             Some(target) => *target,
             None => None,
         }
     }
 
-    /// Takes the steps of an equality, of which the last two say it.
+    /// With how many conflicts a node wasn't found to be equal.
+    pub(crate) fn tried(&self, position: u32) -> u32 {
+        at(&self.tried, position)
+    }
+
+    /// Notes that a node wasn't found to be equal with so many conflicts.
+    pub(crate) fn note_tried(&mut self, position: u32, conflicts: u32) -> Result<(), AllocError> {
+        let room = (position as usize).saturating_add(1);
+        if room > self.tried.len() {
+            self.tried.resize(room, 0)?;
+        }
+        put(&mut self.tried, position, conflicts);
+        self.failed.push(position)?;
+        Ok(())
+    }
+
+    /// Takes the steps of an equality.
     pub(crate) fn push(
         &mut self,
+        finder: Finder,
         position: u32,
-        target: u32,
+        equality: Equality,
         mut steps: Vec<Step>,
     ) -> Result<(), AllocError> {
         self.steps.append(&mut steps)?;
-        let first = self.len().saturating_sub(2);
-        let position = position as usize;
-        if position < self.targets.len() {
-            self.targets[position] = Some((first, target));
+        self.note(place_of(finder, position), equality)
+    }
+
+    /// Notes what a node is equal to, at a place of the targets.
+    fn note(&mut self, place: u32, equality: Equality) -> Result<(), AllocError> {
+        let room = (place as usize).saturating_add(1);
+        if room > self.targets.len() {
+            self.targets.resize(room, None)?;
         }
+        self.set_target(place, Some(equality));
+        self.found.push(place)?;
         Ok(())
+    }
+
+    /// Says what target stands at a place.
+    fn set_target(&mut self, place: u32, target: Option<Equality>) {
+        let place = place as usize;
+        if place < self.targets.len() {
+            self.targets[place] = target;
+        }
     }
 
     /// The steps of a proof, behind the steps of the equalities that they lead to.
@@ -65,6 +152,14 @@ impl Equalities {
         let mut numbers = vec![in alloc; 0; self.steps.len()]?;
         let many = number(&mut numbers, &self.steps, steps);
         numbered(alloc, &self.steps, steps, &numbers, many)
+    }
+}
+
+/// The place of the target that a search found for a position.
+fn place_of(finder: Finder, position: u32) -> u32 {
+    match finder {
+        Finder::Lazy => position.wrapping_mul(2),
+        Finder::Whole => position.wrapping_mul(2) | 1,
     }
 }
 

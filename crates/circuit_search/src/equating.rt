@@ -3,8 +3,10 @@ ghost use Rattle.circuit_search.specs.Answer.{SettlesOutput};
 
 use crate::caps::Caps;
 use crate::engine::Engine;
+use crate::equalities::{Equality, Finder};
 use crate::proposal::{Domain, Found};
 use crate::steps::lit_at;
+use crate::table::count;
 use lemma_book::Entry;
 use lits::Side;
 use netlist::Net;
@@ -27,8 +29,18 @@ const STEPS: u64 = 1000;
 const MISSES: u32 = 2;
 
 impl Engine {
-    /// The entry that a search proposes for an output: a short search first, and where that gives up a search
-    /// that may use equalities of pairs that the book leaves open.
+    /// Searches for why pairs are equal that the book leaves open.
+    pub(crate) fn equate_open(
+        &mut self,
+        alloc: Global,
+        net: &Net,
+        caps: Caps,
+    ) -> Result<(), AllocError> {
+        self.equate_sums(alloc, net, caps.conflicts)?;
+        self.equate(alloc, net, caps.conflicts)
+    }
+
+    /// The entry that a search proposes for an output that may use equalities of pairs that the book leaves open.
     pub(crate) fn output_by_equalities(
         &mut self,
         alloc: Global,
@@ -38,20 +50,6 @@ impl Engine {
     ) -> Result<Option<Entry>, AllocError>
         ensures { IfOk result (λ o. IfSome o (SettlesOutput output)) }
     {
-        let few = Caps {
-            conflicts: caps.conflicts.min(FEW),
-            decisions: caps.decisions.min(CHOICES),
-        };
-        self.is_owed = false;
-        self.most_steps = caps.conflicts.min(STEPS);
-        if let Some(entry) = self.output_shortly(alloc, net, output, few)? {
-            return Ok(Some(entry));
-        }
-        if !self.is_equated {
-            self.is_equated = true;
-            self.equate_sums(alloc, net, caps.conflicts)?;
-            self.equate(alloc, net, caps.conflicts)?;
-        }
         self.is_owed = !self.luck.is_due();
         if self.is_owed {
             return Ok(None);
@@ -102,7 +100,7 @@ impl Engine {
     ///
     /// Most outputs agree on all inputs, and to show that takes no constraint: only where that fails are the
     /// constraints loaded, of which there may be many.
-    fn output_shortly(
+    pub(crate) fn output_shortly(
         &mut self,
         alloc: Global,
         net: &Net,
@@ -111,13 +109,18 @@ impl Engine {
     ) -> Result<Option<Entry>, AllocError>
         ensures { IfOk result (λ o. IfSome o (SettlesOutput output)) }
     {
+        let few = Caps {
+            conflicts: caps.conflicts.min(FEW),
+            decisions: caps.decisions.min(CHOICES),
+        };
+        self.most_steps = caps.conflicts.min(STEPS);
         if has_constraints(net) {
-            let entry = self.output(alloc, net, output, caps, Domain::All)?;
+            let entry = self.output(alloc, net, output, few, Domain::All)?;
             if let Some(Entry::Out { .. }) = &entry {
                 return Ok(entry);
             }
         }
-        self.output(alloc, net, output, caps, Domain::Admitted)
+        self.output(alloc, net, output, few, Domain::Admitted)
     }
 
     /// Searches once more for why pairs are equal whose queries spent their budgets, from the inputs up.
@@ -174,7 +177,7 @@ impl Engine {
 
     /// The code that a node was last compared with, if that is left open and wasn't shown since.
     fn unequated(&self, position: u32) -> Option<u32> {
-        match self.equalities.target(position) {
+        match self.equalities.target(Finder::Lazy, position) {
             Some(_) => None,
             None => self.merges.open(position),
         }
@@ -194,7 +197,14 @@ impl Engine {
         self.shown = self.equalities.len();
         if let Found::Equal(there, back) = self.compare(net, node, lit, caps, Domain::All)? {
             let steps = self.merge_steps(alloc, net, node, lit, there, back)?;
-            self.equalities.push(position, target, steps)?;
+            let end = self.shown.saturating_add(count(steps.len()));
+            let equality = Equality {
+                target,
+                there: end.saturating_sub(2),
+                back: end.saturating_sub(1),
+            };
+            self.equalities
+                .push(Finder::Lazy, position, equality, steps)?;
             return Ok(true);
         }
         Ok(false)

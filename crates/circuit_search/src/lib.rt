@@ -11,6 +11,9 @@
 //! `Book::judge`, and it hands out an entry only where the book says that it is good; so its answers are
 //! those of the lemma book, whatever the search. An entry that the book refuses is dropped, and counted.
 //!
+//! Searches of one check share in `Shared` the equalities that only proofs of outputs use, so that no two of them
+//! search for one.
+//!
 //! A `Sieve` is for rounds of pairs: patterns that may tell a pair apart before any search. It is parted from
 //! the search, so that many searches share one. Its inputs are evaluated too, by `apart`.
 //!
@@ -22,6 +25,7 @@
 pub use caps::Caps;
 pub use judged::apart;
 pub use search::Search;
+pub use shared::Shared;
 pub use sieve::Sieve;
 
 mod analysis;
@@ -47,6 +51,7 @@ mod reason;
 mod roots;
 mod round;
 mod search;
+mod shared;
 mod sieve;
 mod steps;
 mod sums;

@@ -1,5 +1,6 @@
 use crate::clauses::Name;
 use crate::engine::Engine;
+use crate::equalities::{Equality, Finder};
 use crate::merges::{Source, lit_code};
 use crate::reason::Reason;
 use crate::table::count;
@@ -13,8 +14,8 @@ impl Engine {
     /// Loads what defines a variable: its merge, or else its gate.
     pub(crate) fn load(&mut self, net: &Net, var: u32) -> Result<(), AllocError> {
         let position = self.variables.position(var);
-        if let Some((first, target)) = self.shown_equal(position) {
-            return self.load_equal(var, Kind::Shown(first), target);
+        if let Some(equality) = self.shown_equal(position) {
+            return self.load_equal(var, Kind::Shown, equality.target);
         }
         match self.merges.source(net, position) {
             Source::Free => {
@@ -26,15 +27,14 @@ impl Engine {
         }
     }
 
-    /// The place of the first of the two steps, of those that the query may use, that say what a node is
-    /// equal to, and the code that it is.
-    fn shown_equal(&self, position: u32) -> Option<(u32, u32)> {
+    /// What a node is equal to by steps that the query may use.
+    fn shown_equal(&self, position: u32) -> Option<Equality> {
         if self.shown == 0 {
             return None;
         }
-        let (first, target) = self.equalities.target(position)?;
-        if first < self.shown {
-            Some((first, target))
+        let equality = self.equalities.target(Finder::Lazy, position)?;
+        if equality.back < self.shown {
+            Some(equality)
         } else {
             None
         }

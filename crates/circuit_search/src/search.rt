@@ -6,6 +6,7 @@ ghost use Rattle.circuit_search.specs.Answer.{CountsDropped, CountsRefused, Find
 use crate::caps::Caps;
 use crate::engine::Engine;
 use crate::judged::judged;
+use crate::shared::Shared;
 use crate::whole::Whole;
 use lemma_book::{Book, Entry, Judge, Task};
 use netlist::Net;
@@ -82,6 +83,48 @@ impl Search {
         }
     }
 
+    /// Searches for an entry about an output, as `output` does, but not for long.
+    pub fn output_shortly(
+        &mut self,
+        alloc: Global,
+        net: &Net,
+        book: &Book,
+        output: u32,
+        caps: Caps,
+    ) -> Result<Option<Entry>, AllocError>
+        requires legal { IsLegal net.now book.now }
+        ensures found { IfOk result (Finds (SettlesOutput output) net.now book.now) }
+        ensures counted { IfOk result (CountsDropped self.old.dropped self.new.dropped) }
+        ensures err { OnErr result (self.new.dropped ≡ self.old.dropped) }
+    {
+        self.catch_up(net, book);
+        match self.engine.output_shortly(alloc, net, output, caps)? {
+            Some(entry) => self.judged(alloc, net, book, entry),
+            None => Ok(None),
+        }
+    }
+
+    /// Hands out the equalities that were found since the exchange before, and takes in those that others found.
+    /// The first search that comes looks for equalities of the pairs that the book leaves open.
+    pub fn exchange(
+        &mut self,
+        alloc: Global,
+        net: &Net,
+        shared: &mut Shared,
+        caps: Caps,
+    ) -> Result<(), AllocError>
+        ensures { self.new.dropped ≡ self.old.dropped }
+    {
+        let all = &mut shared.equalities;
+        self.engine.equalities.exchange(alloc, all)?;
+        if shared.is_searched {
+            return Ok(());
+        }
+        shared.is_searched = true;
+        self.engine.equate_open(alloc, net, caps)?;
+        self.engine.equalities.exchange(alloc, all)
+    }
+
     /// Searches for an entry about an output: that both circuits give it one value, or an input on which they
     /// don't. None where it gives up.
     pub fn output(
@@ -119,7 +162,11 @@ impl Search {
             return Ok(Some(entry));
         }
         let merges = &self.engine.merges;
-        if let Some(entry) = self.whole.output(alloc, net, merges, output, caps)? {
+        let equalities = &mut self.engine.equalities;
+        if let Some(entry) = self
+            .whole
+            .output(alloc, net, merges, equalities, output, caps)?
+        {
             return Ok(Some(entry));
         }
         self.engine.output_owed(alloc, net, output, caps)

@@ -1,5 +1,6 @@
 use crate::clauses::Name;
 use crate::engine::Engine;
+use crate::equalities::Finder;
 use crate::lessons::{HintSpan, Lesson};
 use crate::reason::Reason;
 use crate::variables::Kind;
@@ -97,9 +98,18 @@ impl Engine {
         let node = node_at(net, variable.position);
         match variable.kind {
             Kind::Merged(entry) => Ref::Entry(u64::from(entry), k / 2),
-            Kind::Shown(step) => Ref::Own(u64::from(step).saturating_add(u64::from(k / 2))),
+            Kind::Shown => self.name_of_equality(variable.position, k / 2),
             Kind::Turned if k < 2 => Ref::Axiom(node, 1 - k),
             _ => Ref::Axiom(node, k),
+        }
+    }
+
+    /// What clause k is called of those that say what a node is equal to.
+    fn name_of_equality(&self, position: u32, k: u8) -> Ref {
+        match self.equalities.target(Finder::Lazy, position) {
+            Some(equality) if k == 0 => Ref::Own(u64::from(equality.there)),
+            Some(equality) => Ref::Own(u64::from(equality.back)),
+            None => NAMELESS,
         }
     }
 

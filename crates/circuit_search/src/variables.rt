@@ -15,8 +15,8 @@ pub(crate) enum Kind {
     Turned,
     /// The entry at this place: both fanins are the code that it is merged to.
     Merged(u32),
-    /// The two steps of the equalities from this place on: both fanins are the code that it is equal to.
-    Shown(u32),
+    /// Two steps of the equalities: both fanins are the code that it is equal to.
+    Shown,
 }
 
 /// A node that a query came to: 32 bytes, so that a line of the cache has two.

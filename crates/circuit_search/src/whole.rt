@@ -2,6 +2,7 @@ ghost use Rattle.std.specs.Prelude.{IfOk, IfSome};
 ghost use Rattle.circuit_search.specs.Answer.{SettlesOutput};
 
 use crate::caps::Caps;
+use crate::equalities::Equalities;
 use crate::equating::has_constraints;
 use crate::merges::{Merges, lit_code};
 use crate::table::{at, count, mark};
@@ -37,23 +38,25 @@ mod watches;
 const VAIN: u64 = 20000;
 
 /// How far the search for one equality goes, and then those for what is left.
-const PASSES: [u64; 2] = [1000, 10000];
+const PASSES: [u32; 2] = [1000, 10000];
 
 /// How many nodes of cones are visited in the time of a conflict.
 const VISITS: u64 = 1000;
 
-/// How many words clauses and hints take before all is forgotten.
-const KEPT: usize = 4_000_000;
-
 /// How many outputs may fail before the search isn't asked any more.
 const MISSES: u32 = 2;
 
-/// A search of whole cones that keeps what it learns from pair to pair and from output to output.
+/// A search of whole cones that keeps what it learns from pair to pair, and equalities from output to output.
 ///
 /// It is for outputs that the lazy search leaves. Pairs of the output's cone that the book leaves open are
 /// searched first, since what they show makes those above them easy; pairs that fail are asked again, with more
 /// conflicts. The solver drops and shortens what it learns, as good ones do: hints are kept all the while, in
 /// the order of the trail.
+///
+/// Of an output nothing stays for the next one but equalities of pairs, with what they rest on. A proof has the
+/// steps of all that it rests on, so what outputs share stands in the proof of each, is judged there and is
+/// written there. While clauses of few levels stayed, and those that say outputs equal, a sorter had five times
+/// the steps and took three times as long with one worker, a multiplier of 7 bits three times and one and a half.
 #[derive(Drop)]
 pub(crate) struct Whole {
     nodes: Nodes,
@@ -67,13 +70,17 @@ pub(crate) struct Whole {
     analysis: Analysis,
     /// The number of the query.
     query: u32,
+    /// How many steps of the equalities stand before the steps that are made.
+    shown: u32,
     /// The variables of its cone.
     cone: Vec<u32>,
     /// What is still to be visited.
     pending: Vec<u32>,
     /// A clause while it is added.
     added: Vec<u32>,
-    /// What pairs are searched, or which clauses a proof needs.
+    /// The positions of pairs that are searched.
+    open: Vec<u32>,
+    /// Which clauses a proof needs.
     listed: Vec<u32>,
     /// The clauses that may be dropped.
     keys: Vec<u64>,
@@ -109,9 +116,11 @@ impl Whole {
             restarts: Restarts::new(),
             analysis: Analysis::new(alloc),
             query: 0,
+            shown: 0,
             cone: Vec::new(alloc),
             pending: Vec::new(alloc),
             added: Vec::new(alloc),
+            open: Vec::new(alloc),
             listed: Vec::new(alloc),
             keys: Vec::new(alloc),
             explained: 0,
@@ -151,6 +160,7 @@ impl Whole {
         alloc: Global,
         net: &Net,
         merges: &Merges,
+        equalities: &mut Equalities,
         output: u32,
         caps: Caps,
     ) -> Result<Option<Entry>, AllocError>
@@ -163,8 +173,15 @@ impl Whole {
             return Ok(None);
         }
         self.prepare(net)?;
-        match self.settle(net, merges, codes, caps.conflicts.min(VAIN))? {
-            Found::Equal(there, back) => self.out(alloc, net, output, (there, back)),
+        match self.settle(
+            alloc,
+            net,
+            merges,
+            equalities,
+            codes,
+            caps.conflicts.min(VAIN),
+        )? {
+            Found::Equal(there, back) => self.out(alloc, net, equalities, output, (there, back)),
             Found::Apart => self.out_apart(alloc, net, merges, output),
             Found::Open => {
                 self.misses = self.misses.saturating_add(1);
@@ -173,32 +190,29 @@ impl Whole {
         }
     }
 
-    /// Makes the tables that aren't there yet, and forgets what has grown too large.
+    /// Makes the tables that aren't there yet, and forgets the output before but for its equalities.
     fn prepare(&mut self, net: &Net) -> Result<(), AllocError> {
         self.nodes.prepare(net.positions())?;
-        if self.store.size() > KEPT {
-            self.forget();
-        }
-        if self.variables == 0 {
-            let constant = self.code(0)?;
-            self.add_base(&[constant], Name::Axiom(0, 0))?;
-        }
-        self.begin_output()
+        self.forget();
+        let constant = self.code(0)?;
+        self.add_base(&[constant], Name::Axiom(0, 0))
     }
 
     /// Asks whether two codes have one value, after the pairs that are open in their cone: with few conflicts
     /// for each, and then again with more for those that are left.
     fn settle(
         &mut self,
+        alloc: Global,
         net: &Net,
         merges: &Merges,
+        equalities: &mut Equalities,
         codes: (u32, u32),
         conflicts: u64,
     ) -> Result<Found, AllocError> {
         let mut left = conflicts;
         for most in PASSES {
-            self.equate(net, merges, codes, most, &mut left)?;
-            let found = self.compare(net, merges, codes, most, &mut left)?;
+            self.equate(alloc, net, merges, equalities, codes, most, &mut left)?;
+            let found = self.compare(net, merges, equalities, codes, most, &mut left)?;
             match found {
                 Found::Open => {}
                 _ => return Ok(found),
@@ -214,18 +228,20 @@ impl Whole {
     /// so many conflicts.
     fn equate(
         &mut self,
+        alloc: Global,
         net: &Net,
         merges: &Merges,
+        equalities: &mut Equalities,
         codes: (u32, u32),
-        most: u64,
+        most: u32,
         left: &mut u64,
     ) -> Result<(), AllocError> {
-        self.enter(net, merges, codes)?;
-        self.list_open(merges, most)?;
-        for place in 0..count(self.listed.len()) {
-            let position = at(&self.listed, place);
+        self.enter(net, merges, equalities, codes)?;
+        self.list_open(merges, equalities, most)?;
+        for place in 0..count(self.open.len()) {
+            let position = at(&self.open, place);
             if let Some(target) = merges.open(position) {
-                self.equate_pair(net, merges, position, target, most, left)?;
+                self.equate_pair(alloc, net, merges, equalities, position, target, most, left)?;
             }
             if *left == 0 {
                 return Ok(());
@@ -235,39 +251,46 @@ impl Whole {
     }
 
     /// Lists the positions of the cone whose pairs are open, in order.
-    fn list_open(&mut self, merges: &Merges, most: u64) -> Result<(), AllocError> {
-        self.listed.clear();
+    fn list_open(
+        &mut self,
+        merges: &Merges,
+        equalities: &Equalities,
+        most: u32,
+    ) -> Result<(), AllocError> {
+        self.open.clear();
         for var in self.cone.as_slice() {
             let node = self.nodes.get(*var);
-            if node.equal == 0 && node.tried < most && merges.open(node.position).is_some() {
-                self.listed.push(node.position)?;
+            let is_tried = equalities.tried(node.position) >= most;
+            if node.equal == 0 && !is_tried && merges.open(node.position).is_some() {
+                self.open.push(node.position)?;
             }
         }
-        self.listed.as_mut_slice().sort_unstable();
+        self.open.as_mut_slice().sort_unstable();
         Ok(())
     }
 
     /// Searches for why a node is equal to a code.
     fn equate_pair(
         &mut self,
+        alloc: Global,
         net: &Net,
         merges: &Merges,
+        equalities: &mut Equalities,
         position: u32,
         target: u32,
-        most: u64,
+        most: u32,
         left: &mut u64,
     ) -> Result<(), AllocError> {
         let code = position.wrapping_mul(2);
-        let found = self.compare(net, merges, (code, target), most, left)?;
-        let var = self.code(code)? / 2;
-        let mut node = self.nodes.get(var);
-        match found {
-            Found::Equal(_, _) => node.equal = target.saturating_add(1),
-            Found::Apart => node.tried = u64::MAX,
-            Found::Open => node.tried = most,
+        match self.compare(net, merges, equalities, (code, target), most, left)? {
+            Found::Equal(there, back) => {
+                let var = self.code(code)? / 2;
+                self.note_equal(var, target);
+                self.keep_equal(alloc, net, equalities, position, target, (there, back))
+            }
+            Found::Apart => equalities.note_tried(position, u32::MAX),
+            Found::Open => equalities.note_tried(position, most),
         }
-        self.nodes.set(var, node);
-        Ok(())
     }
 
     /// Asks whether two codes of positions have one value, with so many conflicts of those that are left. What
@@ -276,13 +299,14 @@ impl Whole {
         &mut self,
         net: &Net,
         merges: &Merges,
+        equalities: &Equalities,
         codes: (u32, u32),
-        most: u64,
+        most: u32,
         left: &mut u64,
     ) -> Result<Found, AllocError> {
-        let granted = most.min(*left);
+        let granted = u64::from(most).min(*left);
         let mut few = granted;
-        self.enter(net, merges, codes)?;
+        self.enter(net, merges, equalities, codes)?;
         let found = self.compare_cone(codes, &mut few)?;
         let visits = u64::from(count(self.cone.len())) / VISITS;
         let spent = match found {

@@ -6,13 +6,13 @@ ghost use Rattle.sweep_workers.specs.Swept.{IsPoolFor, SettlesOutputs, Sweeps};
 use crate::open_outputs::outputs_by;
 use crate::rounds::{Swept, sweep_by};
 use crate::watch::Unwatched;
-use crate::worker::Worker;
+use crate::worker::{Worker, shared_memory};
 use circuit_search::Sieve;
 use desk_port::Gate;
 use lemma_book::Book;
 use netlist::Net;
 use std::alloc::{AllocError, Global};
-use std::sync::{Mutex, Wait};
+use std::sync::{Arc, Mutex, Wait};
 use std::thread::Threads;
 use unit_prop::Refuter;
 use word_sim::Pool;
@@ -94,9 +94,11 @@ fn workers_of<R: Refuter + Send>(
     ensures { IfOk result (λ v. length v.items ≡ length refuters.items) }
 {
     let mut workers = Vec::with_capacity(alloc, refuters.len())?;
+    let shared = shared_memory(alloc)?;
     let mut number = 0_u32;
     for refuter in refuters {
-        workers.push(Worker::new(alloc, number, refuter))?;
+        let shared = Arc::try_clone(&shared)?;
+        workers.push(Worker::new(alloc, number, refuter, shared))?;
         number = number.saturating_add(1);
     }
     Ok(workers)

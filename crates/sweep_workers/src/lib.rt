@@ -3,8 +3,8 @@
 //! `sweep` makes rounds: each asks for the pairs of nodes that no pattern tells apart, and its workers draw
 //! these pairs from a board, settle them and offer the entries. `outputs` does the same for the outputs that
 //! have no entry. Each worker is a thread with a pass of the board, a search and a solver of its own; all
-//! share the book, through the board, and one sieve. A worker settles over the book that it has seen, and
-//! looks at it again before its next task. Where little is asked, one worker does so alone, without a board.
+//! share the book, through the board, one sieve, and the equalities that only proofs of outputs use. A worker
+//! settles over the book that it has seen, and looks at it again before its next task. Where little is asked, one worker does so alone, without a board.
 //!
 //! Whatever order they run in, the book is legal, begins as before, and has an entry for what was asked: of the
 //! tasks on a board each number was drawn once, and the entry that its worker offered is in the book, or one
@@ -25,7 +25,7 @@ pub use calls::{outputs, sweep};
 pub use open_outputs::outputs_by;
 pub use rounds::{Swept, sweep_by};
 pub use watch::{Part, Unwatched, Watch};
-pub use worker::{Tally, Worker};
+pub use worker::{Tally, Worker, shared_memory};
 
 mod alone;
 mod asked;

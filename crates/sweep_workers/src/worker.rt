@@ -4,19 +4,19 @@ ghost use Rattle.lemma_book.specs.Entry.{about, place_on, question_of, subject_o
 ghost use Rattle.lemma_book.specs.Good.{IsEarlier, IsGood};
 ghost use Rattle.lemma_book.specs.Root.{IsRoot};
 ghost use Rattle.lemma_book.specs.declared.entry.Subject.TheVariants.{Output};
-ghost use Rattle.circuit_search.specs.Answer.{Finds, SettlesPair};
+ghost use Rattle.circuit_search.specs.Answer.{Finds, SettlesOutput, SettlesPair};
 ghost use Rattle.cone_query.specs.Query.{IsGate, SeesAll, task_of};
 ghost use Rattle.sweep_workers.specs.Asked.{IsAskable, question_in, subject_in};
 
 use crate::asked::Asked;
-use circuit_search::{Caps, Search, Sieve, apart};
+use circuit_search::{Caps, Search, Shared, Sieve, apart};
 use cone_query::Queries;
 use equal_outputs::equal_output;
 use lemma_book::{Book, Entry, Judge, Task};
 use lits::{Lit, Node, Step};
 use netlist::Net;
 use std::alloc::{AllocError, Global};
-use std::sync::{Mutex, Wait};
+use std::sync::{Arc, Mutex, Wait};
 use unit_prop::Refuter;
 
 /// What a worker counted. Nothing is claimed of the numbers.
@@ -34,6 +34,14 @@ pub struct Tally {
     pub conflicts: u64,
 }
 
+/// What the workers of a check share.
+pub fn shared_memory(alloc: Global) -> Result<Arc<Mutex<Shared>>, AllocError> {
+    match Arc::new(alloc, Mutex::new(Shared::new(alloc))) {
+        Ok(shared) => Ok(shared),
+        Err(_failed) => Err(AllocError),
+    }
+}
+
 /// One worker's memory, kept from round to round: its search, its solver and its cones for queries of whole
 /// cones, and the judge of what patterns tell apart.
 ///
@@ -45,6 +53,7 @@ pub struct Worker<R: Refuter> {
     judge: Judge,
     refuter: R,
     queries: Queries,
+    shared: Arc<Mutex<Shared>>,
     tally: Tally,
 }
 
@@ -57,20 +66,23 @@ impl<R: Refuter> Drop for Worker<R> {
             judge: _,
             refuter: _,
             queries: _,
+            shared: _,
             tally: _,
         } = self;
     }
 }
 
 impl<R: Refuter + Send> Worker<R> {
-    /// A worker on one net, with this number, by which gates know it, and this solver.
-    pub fn new(alloc: Global, number: u32, refuter: R) -> Worker<R> {
+    /// A worker on one net, with this number, by which gates know it, this solver, and what the workers of a
+    /// check share.
+    pub fn new(alloc: Global, number: u32, refuter: R, shared: Arc<Mutex<Shared>>) -> Worker<R> {
         Worker {
             number,
             search: None,
             judge: Judge::new(alloc),
             refuter,
             queries: Queries::new(alloc),
+            shared,
             tally: Tally {
                 rounds: 0,
                 by_search: 0,
@@ -89,6 +101,7 @@ impl<R: Refuter + Send> Worker<R> {
             judge: _,
             refuter,
             queries: _,
+            shared: _,
             tally: _,
         } = self;
         refuter
@@ -136,7 +149,7 @@ impl<R: Refuter + Send> Worker<R> {
     {
         match asked {
             Asked::Pair(task) => self.pair(rt, alloc, net, sieve, seen, &task),
-            Asked::Output(output) => self.output(alloc, net, seen, output),
+            Asked::Output(output) => self.output(rt, alloc, net, seen, output),
         }
     }
 
@@ -225,8 +238,9 @@ impl<R: Refuter + Send> Worker<R> {
 
     /// A good entry about an output that has none yet: what its equal roots show, else what the search finds,
     /// else what the query of the whole cone answers.
-    fn output(
+    fn output<T: Wait>(
         &mut self,
+        rt: &T,
         alloc: Global,
         net: &Net,
         seen: &Book,
@@ -242,9 +256,8 @@ impl<R: Refuter + Send> Worker<R> {
         if let Some(entry) = equal_output(alloc, net, seen, output)? {
             return Ok(entry);
         }
-        let caps = output_caps(seen.out_budget());
         let search = made(&mut self.search, alloc, net)?;
-        match search.output(alloc, net, seen, output, caps)? {
+        match searched(rt, alloc, net, &self.shared, seen, search, output)? {
             Some(entry) => Ok(entry),
             None => {
                 let entry = self
@@ -256,6 +269,29 @@ impl<R: Refuter + Send> Worker<R> {
             }
         }
     }
+}
+
+/// What the search finds of an output: shortly, or else with the equalities that the workers of the check found.
+fn searched<T: Wait>(
+    rt: &T,
+    alloc: Global,
+    net: &Net,
+    shared: &Mutex<Shared>,
+    seen: &Book,
+    search: &mut Search,
+    output: u32,
+) -> Result<Option<Entry>, AllocError>
+    requires legal { IsLegal net.now seen.now }
+    ensures { IfOk result (Finds (SettlesOutput output) net.now seen.now) }
+{
+    let caps = output_caps(seen.out_budget());
+    if let Some(entry) = search.output_shortly(alloc, net, seen, output, caps)? {
+        return Ok(Some(entry));
+    }
+    search.exchange(alloc, net, &mut shared.lock(rt), caps)?;
+    let found = search.output(alloc, net, seen, output, caps)?;
+    search.exchange(alloc, net, &mut shared.lock(rt), caps)?;
+    Ok(found)
 }
 
 /// Counts the entry, if it is a merge.

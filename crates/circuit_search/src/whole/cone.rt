@@ -1,3 +1,4 @@
+use crate::equalities::{Equalities, Equality, Finder};
 use crate::merges::{Merges, Source};
 use crate::table::{at, count, put};
 use crate::trail::{FALSE, FREE};
@@ -15,6 +16,7 @@ impl Whole {
         &mut self,
         net: &Net,
         merges: &Merges,
+        equalities: &Equalities,
         codes: (u32, u32),
     ) -> Result<(), AllocError> {
         self.back(0)?;
@@ -29,13 +31,19 @@ impl Whole {
             let Some(var) = self.pending.pop() else {
                 break;
             };
-            self.visit(net, merges, var)?;
+            self.visit(net, merges, equalities, var)?;
         }
         Ok(())
     }
 
     /// Takes a variable into the cone, unless it is there.
-    fn visit(&mut self, net: &Net, merges: &Merges, var: u32) -> Result<(), AllocError> {
+    fn visit(
+        &mut self,
+        net: &Net,
+        merges: &Merges,
+        equalities: &Equalities,
+        var: u32,
+    ) -> Result<(), AllocError> {
         let mut node = self.nodes.get(var);
         if node.query == self.query {
             return Ok(());
@@ -49,12 +57,32 @@ impl Whole {
             self.pending.push(target / 2)?;
             return Ok(());
         }
+        if let Some(equality) = equalities.target(Finder::Whole, node.position) {
+            return self.load_shown(var, equality);
+        }
         match merges.source(net, node.position) {
             Source::Free => self.note_loaded(var),
             Source::Merged(entry, target) => self.load_equal(var, entry, target)?,
             Source::Gate(left, right) => self.load_gate(var, left, right)?,
         }
         Ok(())
+    }
+
+    /// Visits what a node was found to be equal to, and loads that.
+    fn load_shown(&mut self, var: u32, equality: Equality) -> Result<(), AllocError> {
+        let target = self.code(equality.target)?;
+        self.pending.push(target / 2)?;
+        self.note_equal(var, equality.target);
+        let code = var.wrapping_mul(2);
+        self.add_base(&[code | 1, target], Name::Shown(equality.there))?;
+        self.add_base(&[code, target ^ 1], Name::Shown(equality.back))
+    }
+
+    /// Notes what code of a position a variable's node was found to be equal to.
+    pub(crate) fn note_equal(&mut self, var: u32, target: u32) {
+        let mut node = self.nodes.get(var);
+        node.equal = target.saturating_add(1);
+        self.nodes.set(var, node);
     }
 
     /// Notes that the clauses of a variable are loaded.

@@ -11,8 +11,6 @@ pub(crate) struct Node {
     pub(crate) is_loaded: bool,
     /// The code of the position, and 1, that it was found to be equal to; else 0.
     pub(crate) equal: u32,
-    /// How many conflicts the search for why it is equal to its target may not need, since that failed.
-    pub(crate) tried: u64,
 }
 
 const NOTHING: Node = Node {
@@ -20,7 +18,6 @@ const NOTHING: Node = Node {
     query: 0,
     is_loaded: false,
     equal: 0,
-    tried: 0,
 };
 
 /// The nodes that have a variable, numbered in the order in which cones came to them.

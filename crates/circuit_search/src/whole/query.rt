@@ -141,7 +141,7 @@ impl Whole {
         }
         self.explained = self.trail.len();
         if self.lessons >= ROOM {
-            self.reduce(true)?;
+            self.reduce()?;
         }
         Ok(())
     }
@@ -162,16 +162,15 @@ impl Whole {
         Ok(Some(Answer::Shown(number)))
     }
 
-    /// Drops clauses that were learned, all or half of those that span many levels and weren't met of late
-    /// (Audemard and Simon 2009).
-    fn reduce(&mut self, is_half: bool) -> Result<(), AllocError> {
+    /// Drops half of the clauses that were learned, span many levels and weren't met of late (Audemard and Simon
+    /// 2009).
+    fn reduce(&mut self) -> Result<(), AllocError> {
         self.keys.clear();
         for number in 0..self.store.len() {
             self.weigh(number)?;
         }
         self.keys.as_mut_slice().sort_unstable();
-        let many = self.keys.len();
-        let left = if is_half { many / 2 } else { 0 };
+        let left = self.keys.len() / 2;
         for (place, key) in self.keys.iter().enumerate() {
             if place >= left {
                 self.store.drop_clause(number_of(*key));
@@ -179,17 +178,6 @@ impl Whole {
         }
         self.lessons = 0;
         self.watch_anew()
-    }
-
-    /// Drops what was learned for the output before, but for equalities and what spans few levels. A proof has
-    /// the steps of all that it rests on, so what outputs share stands in the proof of each: with all of it a
-    /// multiplier of 7 bits took 162,000 steps, and most of its time went into judging and writing them.
-    pub(crate) fn begin_output(&mut self) -> Result<(), AllocError> {
-        if self.lessons < FEW {
-            return Ok(());
-        }
-        self.back(0)?;
-        self.reduce(false)
     }
 
     /// Lists a clause among those that may be dropped: by its levels, then by its age.
@@ -221,9 +209,6 @@ impl Whole {
 
 /// How many clauses are learned before some are dropped.
 const ROOM: u32 = 2000;
-
-/// With fewer of them nothing is dropped before an output.
-const FEW: u32 = 200;
 
 /// What stands above a clause's number in its key.
 const WORD: u64 = 1 << 32;

@@ -1,6 +1,7 @@
 ghost use Rattle.std.specs.Prelude.{IfOk, IfSome};
 ghost use Rattle.circuit_search.specs.Answer.{SettlesOutput};
 
+use crate::equalities::{Equalities, Equality, Finder};
 use crate::steps::{lit_at, node_at};
 use crate::table::{at, count};
 use crate::whole::Whole;
@@ -17,6 +18,7 @@ impl Whole {
         &mut self,
         alloc: Global,
         net: &Net,
+        equalities: &Equalities,
         output: u32,
         cases: (u32, u32),
     ) -> Result<Option<Entry>, AllocError>
@@ -25,6 +27,7 @@ impl Whole {
         let Some(first) = net.output(Side::A, output) else {
             return Ok(None);
         };
+        self.shown = equalities.len();
         let mut steps = self.steps(alloc, net, cases)?;
         let there = self.own(cases.0);
         let back = self.own(cases.1);
@@ -33,13 +36,41 @@ impl Whole {
             node: xor,
             neg: true,
         };
-        let before = Ref::Own(u64::from(count(steps.len())));
+        let before = self.own_step(count(steps.len()));
         let one = [Ref::Axiom(xor, 0), back];
         add_step(alloc, &[equal, first], &one, &mut steps)?;
         let two = [before, there, Ref::Axiom(xor, 1)];
         add_step(alloc, &[equal], &two, &mut steps)?;
-        let steps = Listed::of(steps);
+        let steps = Listed::of(equalities.proof(alloc, &steps)?);
         Ok(Some(Entry::Out { output, steps }))
+    }
+
+    /// Has the equalities take why a node is equal to a code, by these clauses. What they rest on is named as a
+    /// step of the equalities from now on, so that another equality has it but once.
+    pub(crate) fn keep_equal(
+        &mut self,
+        alloc: Global,
+        net: &Net,
+        equalities: &mut Equalities,
+        position: u32,
+        target: u32,
+        cases: (u32, u32),
+    ) -> Result<(), AllocError> {
+        self.shown = equalities.len();
+        let steps = self.steps(alloc, net, cases)?;
+        let equality = Equality {
+            target,
+            there: self.place(cases.0),
+            back: self.place(cases.1),
+        };
+        equalities.push(Finder::Whole, position, equality, steps)?;
+        for place in 0..count(self.listed.len()) {
+            let number = at(&self.listed, place);
+            let mut record = self.store.record(number);
+            record.name = Name::Shown(self.shown.saturating_add(place));
+            self.store.set_record(number, record);
+        }
+        Ok(())
     }
 
     /// The steps of the clauses that two of them lead to, in order.
@@ -126,13 +157,24 @@ impl Whole {
         match self.store.record(number).name {
             Name::Axiom(position, k) => Ref::Axiom(node_at(net, position), k),
             Name::Entry(place, k) => Ref::Entry(u64::from(place), k),
+            Name::Shown(step) => Ref::Own(u64::from(step)),
             Name::Lesson => self.own(number),
         }
     }
 
     /// What a clause that was learned is called there.
     fn own(&self, number: u32) -> Ref {
-        Ref::Own(u64::from(self.store.record(number).order))
+        Ref::Own(u64::from(self.place(number)))
+    }
+
+    /// What a step that is added is called, by its number: it stands behind those of the equalities.
+    fn own_step(&self, number: u32) -> Ref {
+        Ref::Own(u64::from(self.shown.saturating_add(number)))
+    }
+
+    /// The place of a clause that was learned, among the steps of the equalities and those behind them.
+    fn place(&self, number: u32) -> u32 {
+        self.shown.saturating_add(self.store.record(number).order)
     }
 }
 

@@ -9,6 +9,8 @@ pub(crate) enum Name {
     Axiom(u32, u8),
     /// Clause k of the merge at this place of the book.
     Entry(u32, u8),
+    /// This step of the equalities.
+    Shown(u32),
     /// A clause that was learned.
     Lesson,
 }
@@ -71,11 +73,6 @@ impl Store {
     /// How many clauses there are.
     pub(crate) fn len(&self) -> u32 {
         count(self.records.len())
-    }
-
-    /// How many words codes and hints take.
-    pub(crate) fn size(&self) -> usize {
-        self.words.len().saturating_add(self.hints.len())
     }
 
     /// Puts a clause last, shown by these hints, and gives its place. Its rank is the number of levels that it
