@@ -459,7 +459,7 @@ const A5: Node = Node::Gate(Side::A, 5);
 const B5: Node = Node::Gate(Side::B, 5);
 
 /// A pair of two XORs whose budget of one clause was spent.
-const SPENT: &str = "spent b5 -a5 0: -b5 -a5 i0 by b5.1 b4.2 a5.1 a4.2 => Ok(At(0))";
+pub(crate) const SPENT: &str = "spent b5 -a5 0: -b5 -a5 i0 by b5.1 b4.2 a5.1 a4.2 => Ok(At(0))";
 
 /// Whether the pair is known to be spent, and no other.
 fn has_spent(book: &Book) -> bool {

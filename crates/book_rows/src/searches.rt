@@ -3,8 +3,9 @@ ghost use Rattle.netlist.specs.Circuit.{IsCircuit, plain};
 ghost use Rattle.lemma_book.specs.Book.{IsLegal};
 
 use crate::bounds::circuit;
-use crate::pairs::{Case, check, expect, net_of};
-use circuit_search::{Caps, Search, Sieve};
+use crate::lemmas::{SPENT, book_of};
+use crate::pairs::{Case, check, expect, net_of, two_xors};
+use circuit_search::{Caps, Search, Shared, Sieve};
 use lemma_book::{Book, Entry, Task};
 use lits::{Lit, Node, Side};
 use netlist::{And, Net};
@@ -255,4 +256,48 @@ fn sums_of_inputs_are_merged(rt: HostRuntime) {
     expect(&rt, "a merge", long == "merge");
     let short = found_of_parities(&rt, alloc, &net, &Book::new(alloc, 20, 10));
     expect(&rt, "no merge of 22 steps", short == "none");
+}
+
+/// What a search finds of output 0 over a book, shortly or else behind an exchange, and whether it learned from
+/// conflicts.
+fn found_by_exchange(
+    rt: &impl Abort,
+    alloc: Global,
+    net: &Net,
+    book: &Book,
+    shared: &mut Shared,
+) -> (&'static str, bool)
+    requires { IsLegal net.now book.now }
+{
+    let mut search = Search::new(alloc, net).expect(rt, "memory");
+    let shortly = search
+        .output_shortly(alloc, net, book, 0, NONE)
+        .expect(rt, "memory");
+    expect(rt, "nothing shortly", shortly.is_none());
+    search
+        .exchange(alloc, net, shared, CAPS)
+        .expect(rt, "memory");
+    let found = search.output(alloc, net, book, 0, CAPS);
+    let words = words_of(&found.expect(rt, "memory"), search.dropped());
+    (words, search.conflicts() > 0)
+}
+
+/// Two gates are equal, and a query about them spent its budget: what one search learns of them the next one takes.
+struct SharedEquality;
+
+impl Case for SharedEquality {
+    fn check<A: Abort>(&self, rt: &A, alloc: Global, net: &Net) {
+        let book = book_of(rt, alloc, net, 100, SPENT);
+        let mut shared = Shared::new(alloc);
+        let first = found_by_exchange(rt, alloc, net, &book, &mut shared);
+        expect(rt, "the first search learns", first == ("out", true));
+        let second = found_by_exchange(rt, alloc, net, &book, &mut shared);
+        expect(rt, "the second one doesn't", second == ("out", false));
+    }
+}
+
+#[test]
+fn searches_share_equalities(rt: HostRuntime) {
+    let alloc = rt.alloc();
+    check(&rt, alloc, two_xors(&rt, alloc), &SharedEquality);
 }
