@@ -98,7 +98,7 @@ impl Search {{
 
 TIMED = """        let begun = now(rt);
         let search = made(&mut self.search, alloc, net)?;
-        let found = search.{call}?;
+        let found = {call}?;
         let searched = now(rt);
         let by_search = found.is_some();
         let entry = match found {
@@ -112,12 +112,12 @@ TIMED = """        let begun = now(rt);
 QUERY = """self
                     .queries
                     .{call}(alloc, net, seen, {asked}, &mut self.refuter)"""
-PAIR_CALL, PAIR_QUERY = "pair(alloc, net, seen, task, caps)", QUERY.format(call="pair", asked="task")
-OUTPUT_CALL, OUTPUT_QUERY = "output(alloc, net, seen, output, caps)", QUERY.format(call="output", asked="output")
+PAIR_CALL, PAIR_QUERY = "search.pair(alloc, net, seen, task, caps)", QUERY.format(call="pair", asked="task")
+OUTPUT_CALL, OUTPUT_QUERY = "searched(rt, alloc, net, &self.shared, seen, search, output)", QUERY.format(call="output", asked="output")
 
 # How a worker asks the search and then the whole cone, of a pair and of an output.
 PAIR = f"""        let search = made(&mut self.search, alloc, net)?;
-        match search.{PAIR_CALL}? {{
+        match {PAIR_CALL}? {{
             Some(entry) => {{
                 count_merge(&mut self.tally.by_search, &entry);
                 Ok(entry)
@@ -132,7 +132,7 @@ PAIR = f"""        let search = made(&mut self.search, alloc, net)?;
         }}
 """
 OUTPUT = f"""        let search = made(&mut self.search, alloc, net)?;
-        match search.{OUTPUT_CALL}? {{
+        match {OUTPUT_CALL}? {{
             Some(entry) => Ok(entry),
             None => {{
                 let entry = {OUTPUT_QUERY}?;
@@ -157,6 +157,8 @@ CHANGES = [
     (SEARCH, "        &mut self,\n        alloc: Global,\n", "        &mut self,\n        rt: &T,\n        alloc: Global,\n"),
     (SEARCH, "    pub fn pair(", "    pub fn pair<T: CpuClock>("),
     (SEARCH, "    pub fn output(", "    pub fn output<T: CpuClock>("),
+    (SEARCH, "    pub fn output_shortly(", "    pub fn output_shortly<T: CpuClock>("),
+    (SEARCH, "    pub fn exchange(", "    pub fn exchange<T: CpuClock>("),
     (SEARCH, "    fn judged(", "    fn judged<T: CpuClock>("),
     (SEARCH, "    fn proposed(", "    fn proposed<T: CpuClock>("),
     (SEARCH, "self.proposed(alloc", "self.proposed(rt, alloc"),
@@ -171,13 +173,14 @@ CHANGES = [
      "        self.judging += now(rt) - begun;\n"),
     (RARE, "search.pair(", "search.uncounted("),
     ("circuit_search/src/lib.rt", "pub use search::Search;", "pub use search::{Search, now};"),
-    (WORKER, "use circuit_search::{Caps, Search, Sieve, apart};", "use circuit_search::{Caps, Search, Sieve, apart, now};"),
+    (WORKER, "use circuit_search::{Caps, Search, Shared, Sieve, apart};", "use circuit_search::{Caps, Search, Shared, Sieve, apart, now};"),
+    (WORKER, "search.output_shortly(alloc", "search.output_shortly(rt, alloc"),
+    (WORKER, "search.output(alloc", "search.output(rt, alloc"),
+    (WORKER, "search.exchange(alloc", "search.exchange(rt, alloc"),
     (WORKER, PAIR, timed(PAIR_CALL, PAIR_QUERY)),
     (WORKER, OUTPUT, timed(OUTPUT_CALL, OUTPUT_QUERY)),
     (WORKER, "    fn found(\n        &mut self,\n", "    fn found<T: CpuClock>(\n        &mut self,\n        rt: &T,\n"),
-    (WORKER, "    fn output(\n        &mut self,\n", "    fn output<T: CpuClock>(\n        &mut self,\n        rt: &T,\n"),
     (WORKER, "self.found(alloc", "self.found(rt, alloc"),
-    (WORKER, "self.output(alloc", "self.output(rt, alloc"),
     (WORKER, "    search: Option<Search>,\n", "    pub search: Option<Search>,\n    pub rounds: u64,\n    pub sifted: u64,\n"),
     (WORKER, "            search: _,\n", "            search: _,\n            rounds: _,\n            sifted: _,\n"),
     (WORKER, "            search: None,\n", "            search: None,\n            rounds: 0,\n            sifted: 0,\n"),

@@ -6,7 +6,8 @@ Usage: wrong_search.py [--runs N] [--seed N] [--jobs N] [--edit NAME ..]
 For each file `wrong_search/NAME.edit` (its lines as in a must-fail edit) a program over a copy of the crates, in which `circuit_search`
 is changed so, checks the same random pairs, and so does one that isn't changed. Edits whose names begin with `whole` are of the search
 of whole cones: pairs of nodes have a budget of one clause there, and the lazy search is given no output, so that all that is left open
-comes to it. The pairs are evaluated on every input here:
+comes to it. Those whose names begin with `shared` are of the equalities that workers share: there two workers check each pair, so that
+which books come depends on the order of the threads. The pairs are evaluated on every input here:
 EQUIVALENT must be true, and DIFFERENT must name an output and an input on which it differs. A proposal that the lemma book refuses may
 cost a query of the whole cone, and may leave a pair undecided, but that is all. Nothing is proved here: the contract of
 `circuit_search`, that an entry is good, is what this shows at work. Each program is built by itself, --jobs at a time, which takes minutes;
@@ -29,9 +30,15 @@ from pairs import evaluated, random_circuit, rewritten, text, xor_circuit
 from rounds import SEED
 
 EDITS = Path(__file__).resolve().parent / "wrong_search"
-LAZY = ("self.engine.output_by_equalities(alloc, net, output, caps)?", "None::<Entry>")
+LAZY = [
+    ("self.engine.output_shortly(alloc, net, output, caps)?", "None::<Entry>"),
+    ("self.engine.output_by_equalities(alloc, net, output, caps)?", "None::<Entry>"),
+    ("self.engine.equate_open(alloc, net, caps)?;", ""),
+]
 BUDGET = ("sweep_budget: 1000", "sweep_budget: 1")
-AS_IT_IS = ("as it is", "whole as it is")
+WORKERS = ("workers: 1", "workers: 2")
+KINDS = ("whole", "shared")
+AS_IT_IS = ("as it is", "whole as it is", "shared as it is")
 USES = ["check_session", "desk_port", "aiger_file", "lemma_book", "lits"]
 
 
@@ -100,21 +107,21 @@ def changed(crates, name):
     replaced(crates / "circuit_search" / file, old, new)
 
 
-def is_whole(name):
-    """Whether an edit is of the search of whole cones."""
-    return name.startswith("whole")
+def kind(name):
+    """0 for an edit of the lazy search, 1 for one of the search of whole cones, 2 for one of what workers share."""
+    return next((number for number, word in enumerate(KINDS, 1) if name.startswith(word)), 0)
 
 
 def answers(name, lines):
     """What the program with this edit, or with none, says of the pairs."""
 
     def change(crates):
-        if is_whole(name):
-            replaced(crates / "circuit_search" / "src/search.rt", *LAZY)
+        for old, new in LAZY if kind(name) else []:
+            replaced(crates / "circuit_search" / "src/search.rt", old, new)
         if name not in AS_IT_IS:
             changed(crates, name)
 
-    return runner.answers("checks", USES, lines, change, [BUDGET] if is_whole(name) else []).splitlines()
+    return runner.answers("checks", USES, lines, change, [[], [BUDGET], [BUDGET, WORKERS]][kind(name)]).splitlines()
 
 
 def main():
@@ -131,7 +138,7 @@ def main():
         return 0
     made = list(pairs(random.Random(asked.seed), asked.runs))
     lines = ["\t".join(text(circuit).replace("\n", ";") for circuit in pair) for pair in made]
-    names = [*(AS_IT_IS[kind] for kind in sorted({is_whole(name) for name in asked.edit})), *asked.edit]
+    names = [*(AS_IT_IS[number] for number in sorted({kind(name) for name in asked.edit})), *asked.edit]
     with ThreadPoolExecutor(asked.jobs) as workers:
         said = dict(zip(names, workers.map(lambda name: answers(name, lines), names)))
     wrong = 0
@@ -139,7 +146,7 @@ def main():
         faults = [(fault_in(answer, *pair), line) for answer, pair, line in zip(said[name], made, lines)]
         faults = [(fault, line) for fault, line in faults if fault] + [("no answer", line) for line in lines[len(said[name]):]]
         found = dict(Counter(answer.split()[0] for answer in said[name] if answer))
-        others = sum(one != other for one, other in zip(said[name], said[AS_IT_IS[is_whole(name)]]))
+        others = sum(one != other for one, other in zip(said[name], said[AS_IT_IS[kind(name)]]))
         print(f"{name}: {found}, {others} other answers or books than as it is, {len(faults)} wrong")
         for fault, line in faults:
             print(f"  {fault}: {line}")
