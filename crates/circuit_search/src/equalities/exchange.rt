@@ -56,7 +56,8 @@ impl Equalities {
     /// Forgets what was found since the exchange before.
     fn take_back(&mut self) {
         for number in self.shared.found..count(self.found.len()) {
-            self.set_target(at(&self.found, number), None);
+            let place = at(&self.found, number);
+            self.set_target(place, None);
         }
         self.steps.truncate(self.shared.steps as usize);
         self.found.truncate(self.shared.found as usize);
