@@ -6,7 +6,8 @@ use std::alloc::Global;
 ///
 /// Each search has a copy, which `Search::exchange` brings up to date, so a search needs this no longer than that
 /// takes. When each searched for all of them, four workers had 2.4 times the conflicts of one on an adder of 256
-/// bits and 2.3 times on a Hamming decoder of 64 bits; now they have a fifth more, and a tenth.
+/// bits and 2.5 times on a Hamming decoder of 64 bits; now they have a fifth more, and a tenth. Nothing is claimed
+/// of what it holds: each proof that uses it is judged by the book.
 pub struct Shared {
     pub(crate) equalities: Equalities,
     /// Whether the pairs that the book leaves open were searched.

@@ -4,7 +4,8 @@
 //! these pairs from a board, settle them and offer the entries. `outputs` does the same for the outputs that
 //! have no entry. Each worker is a thread with a pass of the board, a search and a solver of its own; all
 //! share the book, through the board, one sieve, and the equalities that only proofs of outputs use. A worker
-//! settles over the book that it has seen, and looks at it again before its next task. Where little is asked, one worker does so alone, without a board.
+//! settles over the book that it has seen, and looks at it again before its next task. Where little is asked,
+//! one worker does so alone, without a board.
 //!
 //! Whatever order they run in, the book is legal, begins as before, and has an entry for what was asked: of the
 //! tasks on a board each number was drawn once, and the entry that its worker offered is in the book, or one

@@ -13,7 +13,7 @@ use circuit_search::{Caps, Search, Shared, Sieve, apart};
 use cone_query::Queries;
 use equal_outputs::equal_output;
 use lemma_book::{Book, Entry, Judge, Task};
-use lits::{Lit, Node, Step};
+use lits::{Lit, Node, Side, Step};
 use netlist::Net;
 use std::alloc::{AllocError, Global};
 use std::sync::{Arc, Mutex, Wait};
@@ -217,7 +217,7 @@ impl<R: Refuter + Send> Worker<R> {
         ensures good { IfOk result (λ e. IsGood net.now seen.now e) }
         ensures seen { IfOk result (SeesAll seen.now) }
     {
-        let caps = pair_caps(seen.sweep_budget());
+        let caps = pair_caps(net, seen.sweep_budget());
         let search = made(&mut self.search, alloc, net)?;
         match search.pair(alloc, net, seen, task, caps)? {
             Some(entry) => {
@@ -371,10 +371,14 @@ fn note<T: Wait>(rt: &T, sieve: &Mutex<Sieve>, entry: &Entry) -> Result<(), Allo
 
 /// How far the lazy search goes for a pair of this budget. More conflicts are left to the solver, and deep
 /// candidates that are false would take many thousand choices.
-fn pair_caps(budget: u64) -> Caps {
+///
+/// Each input may be a choice, without any conflict: on a comparator of 4,096 bits 2000 choices left most pairs to
+/// the solver, and the sweep took three times as long.
+fn pair_caps(net: &Net, budget: u64) -> Caps {
+    let inputs = net.circuit(Side::A).inputs().len() as u64;
     Caps {
         conflicts: budget.min(100),
-        decisions: 2000,
+        decisions: inputs.saturating_mul(2).max(2000),
     }
 }
 

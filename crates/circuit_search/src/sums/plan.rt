@@ -14,13 +14,11 @@ const TRIES: u64 = 8;
 
 const WORK: u64 = 1 << 17;
 
-/// After how many orders that take too many steps none is looked for any more.
-const FAILURES: u64 = 32;
-
-/// Orders of more steps than this are only looked for until there was none for so many gates: some seconds.
+/// Orders of more steps than this are only looked for until so many more gates were added up in vain than for orders
+/// that were found: some seconds.
 const LONG: u64 = 1000;
 
-const VAIN: u64 = 1 << 16;
+const VAIN: u64 = 1 << 21;
 
 /// Variables whose sum modulo 2 is known.
 #[derive(Clone, Copy)]
@@ -90,7 +88,7 @@ pub(crate) struct Plan {
     best: Vec<Move>,
     /// The terms of the parts of a sum that it hasn't itself.
     pub(crate) inner: Vec<u32>,
-    /// For how many gates long orders were looked for in vain.
+    /// How many more gates were added up in vain for long orders than for those that were found.
     vain: u64,
 }
 
@@ -154,13 +152,12 @@ impl Plan {
         let gates = u64::from(self.gates);
         let mut generator = Lcg128Xsl64::seed_from_u64(1);
         let mut fewest = most.saturating_add(1);
+        let mut work: u64 = 0;
         for number in 0..WORK {
-            if number >= TRIES && number.saturating_mul(gates) > worth(fewest) {
+            if number >= TRIES && work > worth(fewest) {
                 break;
             }
-            if number >= FAILURES && fewest > most {
-                break;
-            }
+            work = work.saturating_add(gates);
             let found = self.attempt(&mut generator, number % 16, fewest)?;
             if let Some(steps) = found {
                 fewest = steps;
@@ -169,8 +166,12 @@ impl Plan {
             }
         }
         self.restart();
-        if fewest > most && most > LONG {
-            self.vain = self.vain.saturating_add(gates);
+        if most > LONG {
+            self.vain = if fewest <= most {
+                self.vain.saturating_sub(work)
+            } else {
+                self.vain.saturating_add(work)
+            };
         }
         Ok(fewest <= most)
     }
