@@ -3,7 +3,8 @@
 
 Usage: large.py [--program PROGRAM] [--only PART ..] [--limit SECONDS] [--largest N] [--seed N] [--folder DIR]
 
-self:     a permutation of a hash (some 400,000 gates) and a random circuit of 1,000,000 gates, each against itself
+self:     the permutation of SHA-3 (some 400,000 gates) and a random circuit of 1,000,000 gates, each against itself
+rounds:   8 to 64 rounds of SHA-256's compression against themselves
 copies:   16 to 512 adders side by side, ripple carry beside carry select
 ands:     500 to 8,000 ANDs of 24 literals, chains beside trees: to simulation each is false, and a counterexample tells only few apart
 decoders: of 10 to 15 bits, each output a chain beside each a product of two halves
@@ -31,57 +32,9 @@ sys.path.insert(0, str(Path(__file__).resolve().parents[1] / "tools"))
 import house
 from aiger import binary, random_gates
 from made_datapaths import copies
+from made_hashes import compressed, permuted
 from run import measured
 from workload import Circuit, KINDS
-
-LANES = [(x, y) for y in range(5) for x in range(5)]
-ROUNDS = 24
-
-
-def offsets():
-    """By how much each lane of Keccak-f[1600] is rotated (FIPS 202, 3.2.2)."""
-    x, y, found = 1, 0, {(0, 0): 0}
-    for t in range(24):
-        found[x, y] = (t + 1) * (t + 2) // 2 % 64
-        x, y = y, (2 * x + 3 * y) % 5
-    return found
-
-
-def round_bits():
-    """For each round the bits of its constant that are set (FIPS 202, 3.2.5)."""
-    state, made = 1, []
-    for _ in range(ROUNDS):
-        bits = set()
-        for j in range(7):
-            if state & 1:
-                bits.add((1 << j) - 1)
-            state = (state << 1) ^ (0x171 if state & 0x80 else 0)
-        made.append(bits)
-    return made
-
-
-def keccak():
-    """Keccak-f[1600], a gate level circuit of its 24 rounds."""
-    c, turn = Circuit(1600), offsets()
-    lanes = {(x, y): [c.input(64 * (x + 5 * y) + z) for z in range(64)] for x, y in LANES}
-    word = lambda p, q: [c.differ(a, b) for a, b in zip(p, q)]
-    for bits in round_bits():
-        sums = []
-        for x in range(5):
-            total = lanes[x, 0]
-            for y in range(1, 5):
-                total = word(total, lanes[x, y])
-            sums.append(total)
-        mixes = [word(sums[x - 1], sums[(x + 1) % 5][-1:] + sums[(x + 1) % 5][:-1]) for x in range(5)]
-        lanes = {(x, y): word(lanes[x, y], mixes[x]) for x, y in LANES}
-        rotated = {(x, y): lanes[x, y][64 - turn[x, y]:] + lanes[x, y][:64 - turn[x, y]] for x, y in LANES}
-        moved = {(y, (2 * x + 3 * y) % 5): rotated[x, y] for x, y in LANES}
-        lanes = {(x, y): [c.differ(p, c.both(q ^ 1, r)) for p, q, r in zip(moved[x, y], moved[(x + 1) % 5, y], moved[(x + 2) % 5, y])]
-                 for x, y in LANES}
-        lanes[0, 0] = [bit ^ (z in bits) for z, bit in enumerate(lanes[0, 0])]
-    c.outputs += [bit for lane in LANES for bit in lanes[lane[0], lane[1]]]
-    return c
-
 
 def chained(c, literals):
     made = literals[0]
@@ -128,7 +81,8 @@ def random_circuit(rng, gates, ends=64):
 def parts(rng):
     """For each part (name, size, a call that makes the pair)."""
     twice = lambda made: (made, made)
-    yield "self", [("keccak", 400_000, lambda: twice(keccak())), ("random", 1_000_000, lambda: twice(random_circuit(rng, 1_000_000)))]
+    yield "self", [("keccak", 400_000, lambda: twice(permuted())), ("random", 1_000_000, lambda: twice(random_circuit(rng, 1_000_000)))]
+    yield "rounds", [("sha256", n, lambda n=n: twice(compressed(n))) for n in (8, 16, 32, 64)]
     yield "copies", [("copies", n, lambda n=n: copies(n)) for n in (16, 32, 64, 128, 256, 512)]
     yield "ands", [("ands", n, lambda n=n: wide(rng, n)) for n in (500, 1000, 2000, 4000, 8000)]
     yield "decoders", [("decoder", n, lambda n=n: decoder(n)) for n in range(10, 16)]
