@@ -372,8 +372,8 @@ fn note<T: Wait>(rt: &T, sieve: &Mutex<Sieve>, entry: &Entry) -> Result<(), Allo
 /// How far the lazy search goes for a pair of this budget. More conflicts are left to the solver, and deep
 /// candidates that are false would take many thousand choices.
 ///
-/// Each input may be a choice, without any conflict: on a comparator of 4,096 bits 2000 choices left most pairs to
-/// the solver, and the sweep took three times as long.
+/// Each input may be a choice, without any conflict: a comparator of 4,096 bits took 19 seconds with 2000 choices
+/// a pair for 6.3 with two an input.
 fn pair_caps(net: &Net, budget: u64) -> Caps {
     let inputs = net.circuit(Side::A).inputs().len() as u64;
     Caps {
