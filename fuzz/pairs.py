@@ -121,17 +121,17 @@ def named_files(rng, a, b, bounds):
     return text(a, bounds[0], pool), text((*turned, b[2]), bounds[1], names)
 
 
-def values_of(circuit, bits, literals):
-    """The truth values of literals."""
+def values_of(circuit, bits, literals, true=True):
+    """The truth values of literals. Where true is a number of ones in base 2, each digit is an input of its own."""
     inputs, _, gates = circuit
-    values = {0: False}
+    values = {0: true ^ true}
     values.update({literal // 2: bit for literal, bit in zip(inputs, bits)})
 
     def value(literal):
-        return values[literal // 2] ^ bool(literal % 2)
+        return values[literal // 2] ^ true if literal % 2 else values[literal // 2]
 
     for lhs, left, right in gates:
-        values[lhs // 2] = value(left) and value(right)
+        values[lhs // 2] = value(left) & value(right)
     return [value(literal) for literal in literals]
 
 

@@ -6,19 +6,19 @@ Usage: wrong_search.py [--runs N] [--seed N] [--jobs N] [--edit NAME ..]
 For each file `wrong_search/NAME.edit` (its lines as in a must-fail edit) a program over a copy of the crates, in which `circuit_search`
 is changed so, checks the same random pairs, and so does one that isn't changed. Edits whose names begin with `whole` are of the search
 of whole cones: pairs of nodes have a budget of one clause there, and the lazy search is given no output, so that all that is left open
-comes to it. Those whose names begin with `shared` are of the equalities that workers share: there two workers check each pair, so that
+comes to it. Those whose names begin with `short` are of its caps: outputs have a budget of 20 clauses besides, so that some stay undecided.
+Those whose names begin with `shared` are of the equalities that workers share: there two workers check each pair, so that
 which books come depends on the order of the threads. The pairs are evaluated on every input here:
 EQUIVALENT must be true, and DIFFERENT must name an output and an input on which it differs. A proposal that the lemma book refuses may
 cost a query of the whole cone, and may leave a pair undecided, but that is all. Nothing is proved here: the contract of
 `circuit_search`, that an entry is good, is what this shows at work. Each program is built by itself, --jobs at a time, which takes minutes;
-an edit whose old text doesn't stand once in its file is told before that. Prints a line for each program; status 1 where anything is wrong.
+an edit whose old text doesn't stand once in its file is told before that. Prints a line for each program; status 1 where anything is wrong,
+or where an edit changed no answer, no book and no count of conflicts, since it showed nothing then: with few runs that may be.
 """
 import argparse
-import itertools
 import random
 import shutil
 import sys
-import tempfile
 from collections import Counter
 from concurrent.futures import ThreadPoolExecutor
 from pathlib import Path
@@ -26,7 +26,7 @@ from pathlib import Path
 import runner
 from crates import replaced
 from house import TOP
-from pairs import evaluated, random_circuit, rewritten, text, xor_circuit
+from pairs import evaluated, random_circuit, rewritten, text, values_of, xor_circuit
 from rounds import SEED
 
 EDITS = Path(__file__).resolve().parent / "wrong_search"
@@ -36,9 +36,11 @@ LAZY = [
     ("self.engine.equate_open(alloc, net, caps)?;", ""),
 ]
 BUDGET = ("sweep_budget: 1000", "sweep_budget: 1")
+SHORT = ("out_budget: 100000", "out_budget: 20")
 WORKERS = ("workers: 1", "workers: 2")
-KINDS = ("whole", "shared")
-AS_IT_IS = ("as it is", "whole as it is", "shared as it is")
+# By the first word of an edit's name what the program says otherwise; other edits are of the lazy search.
+KINDS = {"whole": [BUDGET], "short": [BUDGET, SHORT], "shared": [BUDGET, WORKERS]}
+LAZY_KIND = ""
 USES = ["check_session", "desk_port", "aiger_file", "lemma_book", "lits"]
 
 
@@ -64,16 +66,42 @@ def expanded(circuit):
     return inputs, [at(literal) for literal in outputs], made
 
 
+def products(rng, inputs, terms):
+    """Each output is the AND of the literals of a term, in an order that is drawn."""
+    gates, ends = [], []
+    for term in terms:
+        end, *others = rng.sample(term, len(term))
+        for literal in others:
+            gates.append((2 * (inputs + len(gates) + 1), end, literal))
+            end = gates[-1][0]
+        ends.append(end)
+    return [2 * (k + 1) for k in range(inputs)], ends, gates
+
+
 def pairs(rng, runs):
-    """Random pairs of circuits, the second one rewritten or changed. Every other one is of XORs in two orders, since the sweep settles
-    all of the small ones that are drawn gate by gate, and leaves no output to the search of whole cones."""
+    """Random pairs of circuits, the second one rewritten or changed. A third is of XORs in two orders, since the sweep settles
+    all of the small ones that are drawn gate by gate, and leaves no output to the search of whole cones. A third is of ANDs of many
+    literals in two orders: patterns that are drawn don't tell these from the constant, so that counterexamples are searched for."""
     for place in range(runs):
-        if place % 2:
+        if place % 3 == 1:
             size = rng.randrange(4, 8), rng.randrange(1, 4)
             yield xor_circuit(rng, *size), rewritten(rng, xor_circuit(rng, *size))
+        elif place % 3 == 2:
+            inputs = rng.randrange(16, 21)
+            terms = [[2 * k + rng.choice([2, 3]) for k in range(inputs)] for _ in range(rng.randrange(1, 4))]
+            yield products(rng, inputs, terms), rewritten(rng, products(rng, inputs, terms))
         else:
             a = random_circuit(rng, rng.randrange(2, 8), rng.randrange(1, 4), rng.randrange(4, 30))
             yield a, expanded(rewritten(rng, a))
+
+
+def agree(a, b):
+    """Whether the circuits have the same outputs on every input: digit d of an input's number is its bit of the number d."""
+    columns, true = [], 1
+    for k in range(len(a[0])):
+        columns = [column | column << (1 << k) for column in columns] + [true << (1 << k)]
+        true |= true << (1 << k)
+    return values_of(a, columns, a[1], true) == values_of(b, columns, b[1], true)
 
 
 def fault_in(answer, a, b):
@@ -84,8 +112,7 @@ def fault_in(answer, a, b):
         j = int(rest[0])
         return None if evaluated(a, bits)[j] != evaluated(b, bits)[j] else "a wrong no"
     if word == "EQUIVALENT":
-        every = itertools.product([False, True], repeat=len(a[0]))
-        return "a wrong yes" if any(evaluated(a, bits) != evaluated(b, bits) for bits in every) else None
+        return None if agree(a, b) else "a wrong yes"
     return None if word == "UNDECIDED" else "no answer"
 
 
@@ -108,8 +135,13 @@ def changed(crates, name):
 
 
 def kind(name):
-    """0 for an edit of the lazy search, 1 for one of the search of whole cones, 2 for one of what workers share."""
-    return next((number for number, word in enumerate(KINDS, 1) if name.startswith(word)), 0)
+    """The first word of the name where that is a kind."""
+    return next((word for word in KINDS if name.startswith(word)), LAZY_KIND)
+
+
+def as_it_is(word):
+    """What the program of this kind without an edit is called."""
+    return f"{word} as it is".strip()
 
 
 def answers(name, lines):
@@ -118,15 +150,15 @@ def answers(name, lines):
     def change(crates):
         for old, new in LAZY if kind(name) else []:
             replaced(crates / "circuit_search" / "src/search.rt", old, new)
-        if name not in AS_IT_IS:
+        if name != as_it_is(kind(name)):
             changed(crates, name)
 
-    return runner.answers("checks", USES, lines, change, [[], [BUDGET], [BUDGET, WORKERS]][kind(name)]).splitlines()
+    return runner.answers("checks", USES, lines, change, KINDS.get(kind(name), [])).splitlines()
 
 
 def main():
     words = argparse.ArgumentParser(description=__doc__, formatter_class=argparse.RawDescriptionHelpFormatter)
-    words.add_argument("--runs", type=int, default=100)
+    words.add_argument("--runs", type=int, default=120)
     words.add_argument("--seed", type=int, default=SEED)
     words.add_argument("--jobs", type=int, default=2)
     words.add_argument("--edit", nargs="+", default=sorted(file.stem for file in EDITS.glob("*.edit")))
@@ -138,7 +170,7 @@ def main():
         return 0
     made = list(pairs(random.Random(asked.seed), asked.runs))
     lines = ["\t".join(text(circuit).replace("\n", ";") for circuit in pair) for pair in made]
-    names = [*(AS_IT_IS[number] for number in sorted({kind(name) for name in asked.edit})), *asked.edit]
+    names = [*sorted({as_it_is(kind(name)) for name in asked.edit}), *asked.edit]
     with ThreadPoolExecutor(asked.jobs) as workers:
         said = dict(zip(names, workers.map(lambda name: answers(name, lines), names)))
     wrong = 0
@@ -146,8 +178,10 @@ def main():
         faults = [(fault_in(answer, *pair), line) for answer, pair, line in zip(said[name], made, lines)]
         faults = [(fault, line) for fault, line in faults if fault] + [("no answer", line) for line in lines[len(said[name]):]]
         found = dict(Counter(answer.split()[0] for answer in said[name] if answer))
-        others = sum(one != other for one, other in zip(said[name], said[AS_IT_IS[kind(name)]]))
-        print(f"{name}: {found}, {others} other answers or books than as it is, {len(faults)} wrong")
+        others = sum(one != other for one, other in zip(said[name], said[as_it_is(kind(name))]))
+        if name in asked.edit and not others:
+            faults.append(("nothing was changed by it", name))
+        print(f"{name}: {found}, {others} other answers, books or counts than as it is, {len(faults)} wrong")
         for fault, line in faults:
             print(f"  {fault}: {line}")
         wrong += len(faults)
