@@ -9,11 +9,11 @@ empty clause. For each pair the circuits are evaluated on every input here, and 
 is true, of which there may be none. EQUIVALENT must be true and its proof VERIFIED. DIFFERENT must name an output and such an input on
 which it differs, and with the whole budget the first output that differs. UNDECIDED may list only outputs whose logs stand at those lines
 of the file, as long as the budget, and each other output must be equal. Some pairs are XORs by two shapes, and mostly a query of two nodes
-has a budget of one clause: without both no output is left open. Some pairs are matched by name: the second file then has its inputs and
+has a budget of one clause: without both no output is left open. Some pairs are ANDs of many literals: patterns that are drawn don't tell
+these from the constant, so that counterexamples are searched for. Some pairs are matched by name: the second file then has its inputs and
 outputs in another order, and is judged by the first one's. The CNF must be the one that tools/miter.py makes of the two files. Status 1
 where anything is wrong.
 """
-import itertools
 import random
 import re
 import subprocess
@@ -71,9 +71,31 @@ def xor_circuit(rng, inputs, outputs):
     return [2 * (k + 1) for k in range(inputs)], ends, gates
 
 
+def products(rng, inputs, terms):
+    """Each output is the AND of the literals of a term, in an order that is drawn."""
+    gates, ends = [], []
+    for term in terms:
+        end, *others = rng.sample(term, len(term))
+        for literal in others:
+            gates.append((2 * (inputs + len(gates) + 1), end, literal))
+            end = gates[-1][0]
+        ends.append(end)
+    return [2 * (k + 1) for k in range(inputs)], ends, gates
+
+
+def drawn_products(rng):
+    """Two circuits whose outputs are ANDs of a literal of each input, in two orders, the second one rewritten."""
+    inputs = rng.randrange(16, 21)
+    terms = [[2 * k + rng.choice([2, 3]) for k in range(inputs)] for _ in range(rng.randrange(1, 4))]
+    return products(rng, inputs, terms), rewritten(rng, products(rng, inputs, terms))
+
+
 def drawn_pair(rng):
     """Two circuits, mostly of one function. Those of XORs take clauses that are learned, so small budgets leave outputs open."""
-    if rng.random() < 0.3:
+    drawn = rng.random()
+    if drawn < 0.1:
+        return drawn_products(rng)
+    if drawn < 0.4:
         size = rng.randrange(2, 5), rng.randrange(1, 4)
         return xor_circuit(rng, *size), rewritten(rng, xor_circuit(rng, *size))
     a = random_circuit(rng, rng.randrange(0, 5), rng.randrange(0, 4), rng.randrange(0, 9))
@@ -114,7 +136,8 @@ def text(circuit, constraints=(), names=((), ())):
 
 def named_files(rng, a, b, bounds):
     """Both files with names, the second with its inputs and its outputs in an order of its own."""
-    pool = rng.sample(["x", "y", "z z", "sum[0]", "1", "-", "\u00e9", "c"], len(a[0])), rng.sample(["x", "o", "carry out", "q"], len(a[1]))
+    words = ["x", "y", "z z", "sum[0]", "1", "-", "\u00e9", "c", *(f"in[{k}]" for k in range(16))]
+    pool = rng.sample(words, len(a[0])), rng.sample(["x", "o", "carry out", "q"], len(a[1]))
     orders = [rng.sample(range(len(places)), len(places)) for places in b[:2]]
     turned = [[places[k] for k in order] for places, order in zip(b[:2], orders)]
     names = [[places[k] for k in order] for places, order in zip(pool, orders)]
@@ -146,12 +169,17 @@ def is_admitted(a, b, bounds, bits):
 
 
 def differing_outputs(a, b, bounds=((), ())):
-    """The outputs that differ on some admitted input."""
-    found = set()
-    for bits in itertools.product([False, True], repeat=len(a[0])):
-        if is_admitted(a, b, bounds, bits):
-            found |= {j for j, (x, y) in enumerate(zip(evaluated(a, bits), evaluated(b, bits))) if x != y}
-    return found
+    """The outputs that differ on some admitted input: digit d of an input's number is its bit of the number d."""
+    columns, true = [], 1
+    for k in range(len(a[0])):
+        columns = [column | column << (1 << k) for column in columns] + [true << (1 << k)]
+        true |= true << (1 << k)
+    admitted = true
+    for circuit, literals in zip((a, b), bounds):
+        for value in values_of(circuit, columns, literals, true):
+            admitted &= value
+    ends = zip(values_of(a, columns, a[1], true), values_of(b, columns, b[1], true))
+    return {j for j, (x, y) in enumerate(ends) if (x ^ y) & admitted}
 
 
 def checked(checker, folder, *options):

@@ -8,7 +8,8 @@ PROGRAM and CHECKER are as for `pairs.py`; without the second one tools/lrat_str
 runs those alone whose names have the word:
 
 small   N random pairs (400) as in `pairs.py`, constraints among them, and a quarter as many with random edit scripts as in `scripts.py`, judged by their values
-large   half as many pairs with gates enough that several workers have something to do, parities among them, and half with tight budgets
+large   half as many pairs with gates enough that several workers have something to do, parities and ANDs of many literals among them,
+        and half with tight budgets
 corpus  the pairs of FOLDER (as for `bench/sweep.py`), of the named classes, else a small corpus made here, each by 1, 2, 4 and 64
         workers, or by those of --workers alone. With --minutes they are drawn, one after another, until the time is up
 
@@ -28,7 +29,7 @@ from collections import Counter
 from concurrent.futures import ThreadPoolExecutor
 from pathlib import Path
 
-from pairs import drawn_constraints, judged, literals_of, random_circuit, rewritten, text
+from pairs import drawn_constraints, drawn_products, judged, literals_of, random_circuit, rewritten, text
 from rounds import SEED, Tally, house
 from scripts import drawn_pair, drawn_script, tried
 from wrong_search import expanded
@@ -118,6 +119,8 @@ def large(round_):
     for k in range(round_.words.runs // 2):
         if k % 3 == 0:
             a, b = parities(rng)
+        elif k % 6 == 1:
+            a, b = drawn_products(rng)
         else:
             a = random_circuit(rng, rng.randrange(3, 9), rng.randrange(1, 12), rng.randrange(20, 120))
             b = expanded(rewritten(rng, a))

@@ -26,7 +26,7 @@ from pathlib import Path
 import runner
 from crates import replaced
 from house import TOP
-from pairs import evaluated, random_circuit, rewritten, text, values_of, xor_circuit
+from pairs import differing_outputs, drawn_products, evaluated, random_circuit, rewritten, text, xor_circuit
 from rounds import SEED
 
 EDITS = Path(__file__).resolve().parent / "wrong_search"
@@ -66,42 +66,19 @@ def expanded(circuit):
     return inputs, [at(literal) for literal in outputs], made
 
 
-def products(rng, inputs, terms):
-    """Each output is the AND of the literals of a term, in an order that is drawn."""
-    gates, ends = [], []
-    for term in terms:
-        end, *others = rng.sample(term, len(term))
-        for literal in others:
-            gates.append((2 * (inputs + len(gates) + 1), end, literal))
-            end = gates[-1][0]
-        ends.append(end)
-    return [2 * (k + 1) for k in range(inputs)], ends, gates
-
-
 def pairs(rng, runs):
     """Random pairs of circuits, the second one rewritten or changed. A third is of XORs in two orders, since the sweep settles
     all of the small ones that are drawn gate by gate, and leaves no output to the search of whole cones. A third is of ANDs of many
-    literals in two orders: patterns that are drawn don't tell these from the constant, so that counterexamples are searched for."""
+    literals, whose counterexamples are searched for."""
     for place in range(runs):
         if place % 3 == 1:
             size = rng.randrange(4, 8), rng.randrange(1, 4)
             yield xor_circuit(rng, *size), rewritten(rng, xor_circuit(rng, *size))
         elif place % 3 == 2:
-            inputs = rng.randrange(16, 21)
-            terms = [[2 * k + rng.choice([2, 3]) for k in range(inputs)] for _ in range(rng.randrange(1, 4))]
-            yield products(rng, inputs, terms), rewritten(rng, products(rng, inputs, terms))
+            yield drawn_products(rng)
         else:
             a = random_circuit(rng, rng.randrange(2, 8), rng.randrange(1, 4), rng.randrange(4, 30))
             yield a, expanded(rewritten(rng, a))
-
-
-def agree(a, b):
-    """Whether the circuits have the same outputs on every input: digit d of an input's number is its bit of the number d."""
-    columns, true = [], 1
-    for k in range(len(a[0])):
-        columns = [column | column << (1 << k) for column in columns] + [true << (1 << k)]
-        true |= true << (1 << k)
-    return values_of(a, columns, a[1], true) == values_of(b, columns, b[1], true)
 
 
 def fault_in(answer, a, b):
@@ -112,7 +89,7 @@ def fault_in(answer, a, b):
         j = int(rest[0])
         return None if evaluated(a, bits)[j] != evaluated(b, bits)[j] else "a wrong no"
     if word == "EQUIVALENT":
-        return None if agree(a, b) else "a wrong yes"
+        return "a wrong yes" if differing_outputs(a, b) else None
     return None if word == "UNDECIDED" else "no answer"
 
 
