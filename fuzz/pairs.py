@@ -145,7 +145,7 @@ def named_files(rng, a, b, bounds):
 
 
 def values_of(circuit, bits, literals, true=True):
-    """The truth values of literals. Where true is a number of ones in base 2, each digit is an input of its own."""
+    """The truth values of literals. Many inputs at once are numbers in base 2, a digit for each of them: true has a one for each then."""
     inputs, _, gates = circuit
     values = {0: true ^ true}
     values.update({literal // 2: bit for literal, bit in zip(inputs, bits)})
@@ -169,7 +169,7 @@ def is_admitted(a, b, bounds, bits):
 
 
 def differing_outputs(a, b, bounds=((), ())):
-    """The outputs that differ on some admitted input: digit d of an input's number is its bit of the number d."""
+    """The outputs that differ on some admitted input. All inputs are evaluated at once: digit d is the case whose bits spell d."""
     columns, true = [], 1
     for k in range(len(a[0])):
         columns = [column | column << (1 << k) for column in columns] + [true << (1 << k)]

@@ -38,7 +38,7 @@ LAZY = [
 BUDGET = ("sweep_budget: 1000", "sweep_budget: 1")
 SHORT = ("out_budget: 100000", "out_budget: 20")
 WORKERS = ("workers: 1", "workers: 2")
-# By the first word of an edit's name what the program says otherwise; other edits are of the lazy search.
+# The first word of an edit's name says which texts of `runner/checks.txt` are replaced; other edits are of the lazy search, by that text.
 KINDS = {"whole": [BUDGET], "short": [BUDGET, SHORT], "shared": [BUDGET, WORKERS]}
 LAZY_KIND = ""
 USES = ["check_session", "desk_port", "aiger_file", "lemma_book", "lits"]
