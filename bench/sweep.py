@@ -4,7 +4,7 @@
 Usage: sweep.py [FOLDER | --made] [--program PROGRAM] [--options WORDS] [--classes tiny small medium] [--limit SECONDS] [--rounds N]
                 [--only REGEX] [--statistics]
 
-FOLDER is as for `solver.py`, with the binary files `NAME.a.aig` and `NAME.b.aig` too (`corpus/build.py` makes the one of README); with --made it is one with the ten pairs of
+FOLDER is as for `solver.py`, with the binary files `NAME.a.aig` and `NAME.b.aig` too (`corpus/build.py` makes the one of docs/MEASURED.md); with --made it is one with the ten pairs of
 `made_designs.py`, else without FOLDER one with those of `made_pairs.py`. Each pair is given to `PROGRAM check A B --out
 P` with the words of --options, to `berkeley-abc` (`&cec`), and the miter that the program wrote, else that of `tools/miter.py`, to
 `cadical`; a peer that isn't installed (Debian's packages `berkeley-abc` and `cadical`) is left out with one line. The checker of proofs in C judges each

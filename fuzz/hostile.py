@@ -447,7 +447,7 @@ def within(rig, name, files, words, whole, megabytes):
 
 
 def with_stack(rig, name, files, words, kilobytes):
-    """A run with so large a stack for each thread. README asks for 192 KB: with less a run may be ended by a signal, and says nothing."""
+    """A run with so large a stack for each thread. docs/REFERENCE.md asks for 192 KB: with less a run may be ended by a signal, and says nothing."""
     with rig.folder(**files) as folder:
         before = files_in(folder)
         run = rig.ran(folder, words, {resource.RLIMIT_STACK: kilobytes << 10})

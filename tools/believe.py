@@ -3,7 +3,7 @@
 
     tools/believe.py                     what MODEL.md says: each promise, EQUIVALENT without the written files, and that of `fraig`
     tools/believe.py --list IsEquivalent the definitions that it reaches, file by file (IsReducedTo: those of `fraig`)
-    tools/believe.py --check             fails where MODEL.md says other numbers
+    tools/believe.py --check             fails where MODEL.md has other numbers
 
 Counted are the definitions of this repository (crates/NAME/specs), each whole, and beside them the types of the code that they
 name (crates/NAME/src). Not counted: imports, comments, blank lines, and the words of the library and of `clap`.

@@ -1,10 +1,10 @@
 #!/usr/bin/env python3
-"""Runs the recipes of docs/USE.md and compares what they print with the page.
+"""Runs the recipes of docs/USE.md and compares what they print with the page, which has README.md's recipe too.
 
 Usage: recipes.py [PROGRAM]
 
 A block ```verilog NAME or ```make NAME is a file of that name, a block ```sh is run by bash in the folder of all of them, and the block
-```text behind it is what it prints. `cec` there is the program, and CEC_TOOLS this folder. `needs:` names the commands that a block wants;
+```text after it is what it prints. `cec` there is the program, and CEC_TOOLS this folder. `needs:` names the commands that a block wants;
 where one isn't installed it is left out with a line, and so is what stands on it. Status 1 where a block prints something else.
 """
 import argparse
@@ -44,6 +44,13 @@ def ran(text, folder, program):
     return done.stdout + done.stderr
 
 
+def not_here():
+    """The commands of README.md's recipe that no recipe of the page has."""
+    lines = [line.strip() for line in (house.TOP / "README.md").read_text().splitlines()]
+    run = "\n".join(text for kind, _, text in blocks() if kind == "sh").splitlines()
+    return [line for line in lines if line.startswith(("yosys ", "cec ")) and line not in run]
+
+
 def main():
     words = argparse.ArgumentParser(description=__doc__, formatter_class=argparse.RawDescriptionHelpFormatter)
     words.add_argument("program", nargs="?")
@@ -65,6 +72,9 @@ def main():
             if printed != (wanted if after == "text" else ""):
                 wrong += 1
                 print(f"WRONG: {text}prints\n{printed}in place of\n{wanted if after == 'text' else ''}")
+    for line in not_here():
+        wrong += 1
+        print(f"README.md has a recipe that docs/USE.md hasn't: {line}")
     print(f"{count} recipes, {left_out} left out, {wrong} wrong")
     return 1 if wrong else 0
 

@@ -1,5 +1,5 @@
 #!/usr/bin/env python3
-"""Builds the pairs that README measures, with Yosys and ABC (Debian's packages `yosys` and `berkeley-abc`).
+"""Builds the pairs that docs/MEASURED.md has, with Yosys and ABC (Debian's packages `yosys` and `berkeley-abc`).
 
 Usage: build.py FOLDER [--only REGEX] [--jobs N]
 
