@@ -5,7 +5,7 @@ Usage: examples.py [PROGRAM]
 
 A command is a line `    $ cec WORDS`; the lines below it, up to `    status N`, are what it prints on standard output and on
 standard error. PROGRAM is the repository's own where it is left out. Status 1 where anything differs. The gate runs the same
-commands (the program `cec_examples`), and what it compares with is asked to begin with what the page says.
+commands (the program `cec_examples`), and what it compares with is asked to be what the page says.
 
 A session of README.md, docs/REFERENCE.md or docs/FORMATS.md is lines `    $ ./cec WORDS`, each followed by what it prints, perhaps
 only the first lines of it before `    ...`. docs/FORMATS.md has a check in full: the files that it leaves are asked to stand there.
@@ -74,7 +74,7 @@ def main():
     folder, wrong, count = house.TOP / "examples", 0, 0
     page = list(examples((folder / "README.md").read_text()))
     told = "".join(f"$ cec {' '.join(w)}\n" + "".join(f"{l}\n" for l in ls) + f"status {s}\n" for w, ls, s in page)
-    if not (house.TOP / "crates" / "cec_examples" / "stdout").read_text().startswith(told):
+    if told != (house.TOP / "crates" / "cec_examples" / "stdout").read_text():
         wrong += 1
         print("crates/cec_examples/stdout isn't what the page says")
     with tempfile.TemporaryDirectory() as room:
