@@ -1,5 +1,5 @@
 //! Real files, standard output and standard error.
-ghost use Rattle.std.specs.Prelude.{◌≡◌, ◌≤◌, IfErr, IfOk, IfSome, IsSome, None, OnErr, OnOk, length};
+ghost use Rattle.std.specs.Prelude.{◌≡◌, ◌<◌, ◌≤◌, IfErr, IfOk, IfSome, IsSome, None, OnErr, OnOk, length};
 ghost use Rattle.std.specs.Io.KnownBytes.{Appends};
 ghost use Rattle.desk_port.specs.Desk.{Closes, NoCountFalls, OfSomePrefix, Reads, Rose, Says, SizesAfterWrite, Starts, Warns, Writes};
 ghost use Rattle.desk_port.specs.MemDesk.{next_count};
@@ -73,6 +73,8 @@ impl<R: Files, O: Write, E: Write> Desk for OsDesk<R, O, E> {
         ensures sizes { sizes_of self.new ≡ sizes_of self.old }
         ensures one { IfErr result (λ e. e ≡ ReadErr.Failed → (state_of self.new).read_faults
             ≡ next_count (state_of self.old).read_faults) }
+        ensures bytes { IfOk result (λ v. limit < u64.MAX →
+            (f : R.File) × IfSome (R.File.remaining f) (λ all. v.items ≡ all)) }
         ensures file { file_of self.new ≡ file_of self.old }
         ensures out { out_of self.new ≡ out_of self.old }
         ensures err { err_of self.new ≡ err_of self.old }
@@ -196,9 +198,11 @@ fn count_fault(count: &mut u64)
     *count = count.saturating_add(1);
 }
 
-// The bytes of the named file.
+// The bytes of the named file: all that the opened file holds.
 fn read_file<R: Files>(files: &R, alloc: Global, name: &str, limit: u64) -> Result<Vec<u8>, ReadErr>
-    ensures { IfOk result (λ v. length v.items ≤ limit) }
+    ensures limit { IfOk result (λ v. length v.items ≤ limit) }
+    ensures bytes { IfOk result (λ v. limit < u64.MAX →
+        (f : R.File) × IfSome (R.File.remaining f) (λ all. v.items ≡ all)) }
 {
     let Ok(mut file) = fs::open(files, name) else {
         return Err(ReadErr::Failed);

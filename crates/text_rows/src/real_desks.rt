@@ -6,7 +6,7 @@ ghost use Rattle.std.specs.Prelude.{◌≡◌, None, OnOk};
 use crate::checks::check;
 use desk_port::{Desk, PutErr, ReadErr};
 use os_desk::OsDesk;
-use std::alloc::Global;
+use std::alloc::{AllocError, Global};
 use std::io::{ErrorKind, Write};
 use std::process::Abort;
 use std::rt::Files;
@@ -73,6 +73,52 @@ fn real_files(rt: HostRuntime) {
     let is_put = check_files(&rt, rt.alloc(), &mut desk).is_ok();
     check(&rt, "put", is_put);
     let is_removed = fs::remove_file(&rt, "pieces.txt").is_ok();
+    check(&rt, "removed", is_removed);
+}
+
+/// How long each of two writes is: both together take three reads.
+const HALF: usize = 300_000;
+
+/// The bytes of one write. They begin again after 251 of them, which divides no piece of a read.
+fn half(alloc: Global) -> Result<Vec<u8>, AllocError> {
+    let mut bytes = Vec::new(alloc);
+    for i in 0..HALF {
+        bytes.push((i % 251) as u8)?;
+    }
+    Ok(bytes)
+}
+
+/// Writes these bytes twice into one file.
+fn put_twice<D: Desk>(desk: &mut D, half: &[u8]) -> Result<(), PutErr>
+    requires { (D.state desk.old).started ≡ None }
+{
+    desk.start("long.txt")?;
+    desk.write(half)?;
+    desk.write(half)?;
+    desk.close()
+}
+
+/// Whether the file holds these bytes twice, and nothing else.
+fn reads_twice<D: Desk>(alloc: Global, desk: &mut D, half: &[u8]) -> bool {
+    match desk.read(alloc, "long.txt", 1_000_000) {
+        Ok(bytes) => {
+            bytes.len() == 2 * HALF
+                && bytes.as_slice().starts_with(half)
+                && bytes.as_slice().ends_with(half)
+        }
+        Err(_) => false,
+    }
+}
+
+#[test]
+fn long_file(rt: HostRuntime) {
+    let mut desk = OsDesk::new(rt.alloc(), &rt, rt.stdout(), rt.stderr());
+    let half = half(rt.alloc()).expect(&rt, "memory");
+    let is_put = put_twice(&mut desk, half.as_slice()).is_ok();
+    check(&rt, "put", is_put);
+    let is_whole = reads_twice(rt.alloc(), &mut desk, half.as_slice());
+    check(&rt, "read back whole", is_whole);
+    let is_removed = fs::remove_file(&rt, "long.txt").is_ok();
     check(&rt, "removed", is_removed);
 }
 
