@@ -10,7 +10,7 @@ about what may be read and written; what can't be had here is told as left out.
 
 Each case has to end by itself, with a status of the program's and its one line; a verdict is said only with its files,
 and no file but the check's own is touched. A run that is ended from outside says no verdict without its files. Cases
-that took more than five times as long as others of their size are told as slow, and don't count as wrong. Prints the
+that took more than five times as long as others of their size (pairs of roots: twice) are told as slow, and don't count as wrong. Prints the
 counts; status 1 where anything is wrong.
 """
 import argparse
@@ -641,9 +641,9 @@ def load(rig):
         expect(rig, "counts of a CNF", folder, 4, line, words=["lrat", "A", "B"])
 
 
-def compared(rig, what, words, files):
-    """Runs on files that share slots and on others of their size, and tells where the first took more than five times
-    as long, in the processor's seconds. A file stands for both names, or two stand for one each."""
+def compared(rig, what, words, files, count, most=5):
+    """Runs on files that share slots and on others of their size, and tells where the first took more than `most` times
+    as long, in the processor's seconds. A file stands for both names, or two stand for one each; `count` parts are in each."""
     seconds = []
     for file in files:
         first, second = file if isinstance(file, tuple) else (file, file)
@@ -653,21 +653,24 @@ def compared(rig, what, words, files):
             seconds.append(processor_seconds() - start)
             ends = {0: None, 1: None, "hang": "it hangs"}
             rig.judge(what, run, ends.get(run.status, "no verdict"))
-    line = f"{what}: {seconds[0]:.2f} s, and {seconds[1]:.2f} s where they don't share slots"
+    each = [1e6 * taken / count for taken in seconds]
+    line = f"{what}: {seconds[0]:.2f} s, {each[0]:.1f} us each, and {seconds[1]:.2f} s, {each[1]:.1f} us, where they don't share slots"
     print(line, flush=True)
-    if seconds[0] > 5 * seconds[1]:
+    if seconds[0] > most * seconds[1]:
         rig.slow.append(line)
 
 
 def slots(rig):
-    """100,000 nodes, pairs of roots, signatures and literals that share slots of tables."""
-    count, check = 100_000, ["check", "A", "B"]
-    compared(rig, "pairs of roots", check, sharing.pairs_of_roots(rig.rng, count))
-    compared(rig, "merged nodes", check, sharing.merged_nodes(count))
-    compared(rig, "signatures", check + ["--words", "1"], sharing.signatures(rig.rng, count))
-    compared(rig, "literals of a clause", ["lrat", "A", "EMPTY"], sharing.literals(rig.rng, count))
-    compared(rig, "literals of a line", ["lrat", "A", "B"], sharing.proofs(rig.rng, count))
-    compared(rig, "literals of a lemma", ["check", "SMALL", "SMALL", "--load", "A"], sharing.lemmas(rig.rng, count))
+    """100,000 nodes, pairs of roots, signatures and literals that share slots of tables, and 1,000,000 gates with one fanin in common."""
+    count, many, check = 100_000, 1_000_000, ["check", "A", "B"]
+    compared(rig, "pairs of roots", check, sharing.pairs_of_roots(rig.rng, count), count, most=2)
+    compared(rig, "pairs of roots under another seed", check, sharing.roots_of_a_seed(rig.rng, count), count, most=2)
+    compared(rig, "gates with one fanin in common", check, sharing.one_fanin(rig.rng, many), many, most=2)
+    compared(rig, "merged nodes", check, sharing.merged_nodes(count), count)
+    compared(rig, "signatures", check + ["--words", "1"], sharing.signatures(rig.rng, count), count)
+    compared(rig, "literals of a clause", ["lrat", "A", "EMPTY"], sharing.literals(rig.rng, count), count)
+    compared(rig, "literals of a line", ["lrat", "A", "B"], sharing.proofs(rig.rng, count), count)
+    compared(rig, "literals of a lemma", ["check", "SMALL", "SMALL", "--load", "A"], sharing.lemmas(rig.rng, count), count)
 
 
 GROUPS = (names, devices, streams, inputs, options, signals, scripts, threads, together, memory, load, slots)

@@ -1,6 +1,7 @@
 """Circuits and a formula whose parts share slots of the program's tables, each beside one of as many others.
 
-The program's hashes have fixed seeds, so whoever makes a file can do this; how each goes is said where it is used.
+The program's hashes have fixed seeds, so whoever makes a file can do this; how each goes is said where it is used. That of pairs of
+roots alone has a seed that the circuits make, so there the parts share slots under the seed of another circuit.
 """
 import sys
 from pathlib import Path
@@ -13,6 +14,7 @@ from draws import draws
 GOLDEN = 0x9E37_79B9_7F4A_7C15
 WORD = 1 << 64
 SLOTS = 1 << 18
+MASK = WORD - 1
 
 
 def ands(inputs, pairs):
@@ -25,8 +27,8 @@ def ands(inputs, pairs):
 
 
 def pairs_of_roots(rng, count):
-    """(sharing, drawn): gates of the structural pass, which looks a pair of inputs up, k and the lower l, by the low bits
-    of 31^4 k + 31 l."""
+    """(sharing, drawn): gates of a pair of inputs each, k and the lower l, with the same low bits of 31^4 k + 31 l, by which the
+    structural pass once looked pairs up."""
     most, inverse = pow(31, 4, SLOTS), pow(31, -1, SLOTS)
     sharing = []
     for k in range(SLOTS):
@@ -35,6 +37,67 @@ def pairs_of_roots(rng, count):
             sharing.append((k, lower))
     drawn = [rng.sample(range(SLOTS), 2) for _ in sharing]
     return ands(SLOTS, sharing[:count]), ands(SLOTS, drawn[:count])
+
+
+def turned(word, by):
+    return (word << by | word >> 64 - by) & MASK
+
+
+def siphash(words):
+    """SipHash-1-3 of words of 64 bits, with the keys 0."""
+    def mixed_once(a, b, c, d):
+        a, c = a + b & MASK, c + d & MASK
+        b, d, a = turned(b, 13) ^ a, turned(d, 16) ^ c, turned(a, 32)
+        c, a = c + b & MASK, a + d & MASK
+        return a, turned(b, 17) ^ c, turned(c, 32), turned(d, 21) ^ a
+    a, b, c, d = 0x736F_6D65_7073_6575, 0x646F_7261_6E64_6F6D, 0x6C79_6765_6E65_7261, 0x7465_6462_7974_6573
+    for word in [*words, (8 * len(words) & 255) << 56]:
+        a, b, c, d = mixed_once(a, b, c, d ^ word)
+        a ^= word
+    c ^= 255
+    for _ in range(3):
+        a, b, c, d = mixed_once(a, b, c, d)
+    return a ^ b ^ c ^ d
+
+
+def folded(state, word, length):
+    """The state of std's `FoldHasher` after a word of so many bytes."""
+    product = (state ^ word) * (GOLDEN ^ 2 * length)
+    return product & MASK ^ product >> 64
+
+
+def start_of(pairs):
+    """Where the hash of a pair of roots begins in a check of this circuit of ANDs against itself: by the fanins of both sides."""
+    words = []
+    for pair in pairs:
+        left, right = sorted((2 * (k + 1) for k in pair), reverse=True)
+        words.append(turned(left, 32) ^ right)
+    return folded(0x243F_6A88_85A3_08D3, siphash(words * 2), 8)
+
+
+def roots_of_a_seed(rng, count):
+    """(sharing, drawn): gates of two inputs each, whose hashes lie in one of 32 parts of the table under the seed of the drawn circuit."""
+    inputs = 4096
+    drawn = [rng.sample(range(inputs), 2) for _ in range(count)]
+    start, groups = start_of(drawn), 1
+    while 9 * groups < 2 * count:
+        groups *= 2
+    sharing = []
+    for low in range(2, 2 * inputs, 2):
+        state = folded(start, low | low << 32, 4)
+        for high in range(low + 2, 2 * inputs + 2, 2):
+            made = folded(state, high | high << 32, 4)
+            if (made ^ made >> 32) % groups < groups // 32:
+                sharing.append((high // 2 - 1, low // 2 - 1))
+        if len(sharing) >= count:
+            return ands(inputs, sharing[:count]), ands(inputs, drawn)
+    raise SystemExit("too few pairs")
+
+
+def one_fanin(rng, count):
+    """(sharing, drawn): gates that have one fanin in common, and gates of two drawn inputs."""
+    sharing = [(k, 0) for k in range(1, count + 1)]
+    return ands(count + 1, sharing), ands(count + 1, [rng.sample(range(count + 1), 2) for _ in range(count)])
 
 
 def merged_nodes(count):

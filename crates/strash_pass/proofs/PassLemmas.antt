@@ -26,9 +26,8 @@ use Rattle.lemma_book.specs.Entry.{Entries, is_on, place_on}
 use Rattle.lemma_book.specs.Root.{MergeAt, merge_in, merge_of, root_of, IsRoot}
 use Rattle.lemma_book.specs.Book.{IsLegal}
 use Rattle.lemma_book.proofs.Facts.{root-kept, root-unsettled}
-use Rattle.strash_pass.specs.declared.twins.Noted.{Noted}
 use Rattle.strash_pass.specs.Codes.{code_of}
-use Rattle.strash_pass.specs.Twins.{HasCodes, HasNote, Table}
+use Rattle.strash_pass.specs.Twins.{HasCodes, HasNote, Noted, Table}
 use Rattle.strash_pass.specs.Strash.{folded, AreTwins, IsPlain, ArePlain, ArePlainBelow}
 use Rattle.strash_pass.specs.Pass.{gates_before, AreCodes, IsListed, IsSeen, IsPass, IsTwin, Merges}
 use Rattle.strash_pass.proofs.CodeLemmas.{code-one}
@@ -138,7 +137,7 @@ module _ (net : AigPair) (is : IsNet net) (book new : Entries) (legal : IsLegal 
 
   -- the gate merges now
   pub pass-merged : (t : Table) → IsPass net book.entries t n → IsPass net new.entries t (n + 1)
-  pass-merged t pass = record { plain = plain; heads = pass.heads; few = omega (arith, pass.few); sound = sound; whole = whole }
+  pass-merged t pass = record { plain = plain; sound = sound; whole = whole }
     where
       plain : ArePlainBelow net new.entries (n + 1)
       plain k c below here root =
@@ -201,11 +200,9 @@ flip-codes net note a b (inl c) = inr (c.1, c.0)
 flip-codes net note a b (inr c) = inl (c.1, c.0)
 
 -- no gates were visited
-pub pass-start : (net : AigPair) (es : List Entry) (heads : ℕ) → heads ≡ length (nodes_of net) → IsPass net es (record { heads = heads; notes = [] }) 0
-pass-start net es heads e = record {
+pub pass-start : (net : AigPair) (es : List Entry) → IsPass net es (record { notes = [] }) 0
+pass-start net es = record {
   plain = λ k d below. absurd (omega (arith, below));
-  heads = e;
-  few = omega arith;
   sound = λ i note at. absurd (none-some note at);
   whole = λ k c below. absurd (omega (arith, below));
 }
@@ -239,8 +236,6 @@ module _ (net : AigPair) (es : List Entry) (p : Table) (n : ℕ) (d : Definition
           | inl l ↦ pass.plain k c l here root
           | inr s ↦ absurd (merged (subst (λ (x : Definition). IsRoot es x.node) s.1 root))
         ];
-    heads = pass.heads;
-    few = omega (arith, pass.few);
     sound = λ i note e. seen-more note (pass.sound i note e);
     whole = λ k c below here root.
         elim (next k c below here) [
@@ -344,8 +339,8 @@ module _ (net : AigPair) (es : List Entry) (p : Table) (n : ℕ) (d : Definition
                 (subst (λ (r : Lit). AreCodes net old.note (root_of es d.left) r) (sym right) roots));
           })
 
-      pub pass-noted : IsPass net es (record { heads = p.heads; notes = p.notes ++ note ∷ [] }) (n + 1)
-      pass-noted = record { plain = plain; heads = pass.heads; few = omega (arith, pass.few, length-append p.notes (note ∷ [])); sound = sound; whole = whole }
+      pub pass-noted : IsPass net es (record { notes = p.notes ++ note ∷ [] }) (n + 1)
+      pass-noted = record { plain = plain; sound = sound; whole = whole }
         where
           plain : ArePlainBelow net es (n + 1)
           plain k c below here root_c =
@@ -369,7 +364,7 @@ module _ (net : AigPair) (es : List Entry) (p : Table) (n : ℕ) (d : Definition
                 (record { place = n; gate = d; below = omega arith; at = at; position = is_gate ∙ stands; unmerged = root; codes = here-codes })
           ]
 
-          more : (u v : Lit) → IsListed net p u v → IsListed net (record { heads = p.heads; notes = p.notes ++ note ∷ [] }) u v
+          more : (u v : Lit) → IsListed net p u v → IsListed net (record { notes = p.notes ++ note ∷ [] }) u v
           more u v old = record {
             place = old.place;
             note = old.note;
@@ -378,12 +373,12 @@ module _ (net : AigPair) (es : List Entry) (p : Table) (n : ℕ) (d : Definition
           }
 
           whole : (k : ℕ) (c : Definition) → k < n + 1 → slice_get (definitions net) k ≡ Some c → IsRoot es c.node
-              → IsListed net (record { heads = p.heads; notes = p.notes ++ note ∷ [] }) (root_of es c.left) (root_of es c.right)
+              → IsListed net (record { notes = p.notes ++ note ∷ [] }) (root_of es c.left) (root_of es c.right)
           whole k c below here root_c =
               elim (next k c below here) [
                 | inl l ↦ more (root_of es c.left) (root_of es c.right) (pass.whole k c l here root_c)
                 | inr s ↦
-                    subst (λ (x : Definition). IsListed net (record { heads = p.heads; notes = p.notes ++ note ∷ [] }) (root_of es x.left) (root_of es x.right)) (sym s.1)
+                    subst (λ (x : Definition). IsListed net (record { notes = p.notes ++ note ∷ [] }) (root_of es x.left) (root_of es x.right)) (sym s.1)
                     (record {
                       place = length p.notes + 0;
                       note = note;

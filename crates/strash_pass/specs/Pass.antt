@@ -22,9 +22,8 @@ use Rattle.lemma_book.specs.declared.entry.Entry.TheVariants.{Merge}
 use Rattle.lemma_book.specs.Entry.{Entries, with_last}
 use Rattle.lemma_book.specs.Root.{passed_by, root_of, IsRoot}
 use Rattle.lemma_book.specs.Cone.{Covers, clauses_on, nodes_in}
-use Rattle.strash_pass.specs.declared.twins.Noted.{Noted}
 use Rattle.strash_pass.specs.Codes.{code_of}
-use Rattle.strash_pass.specs.Twins.{Table}
+use Rattle.strash_pass.specs.Twins.{Noted, Table}
 use Rattle.strash_pass.specs.Strash.{ArePlainBelow, AreScanned, AreTwins}
 
 -- the note has the codes of two literals, in either order
@@ -53,8 +52,6 @@ pub record IsListed (net : AigPair) (table : Table) (a b : Lit) : Type 0 where
 -- the first n gates are plain, and the table has those of them that aren't merged by their roots
 pub record IsPass (net : AigPair) (entries : List Entry) (table : Table) (n : ℕ) : Type 0 where
   pub plain : ArePlainBelow net entries n
-  pub heads : table.heads ≡ length (nodes_of net)
-  pub few : length table.notes ≤ n
   pub sound : (i : ℕ) (note : Noted) → slice_get table.notes i ≡ Some note → IsSeen net entries n note
   pub whole : (k : ℕ) (c : Definition) → k < n → slice_get (definitions net) k ≡ Some c → IsRoot entries c.node
       → IsListed net table (root_of entries c.left) (root_of entries c.right)

@@ -16,8 +16,9 @@
 //! (what the pass keeps), `specs/Coded.antt` (clauses as words of bits, by which `hints.rt` scans them),
 //! `specs/Shapes.antt` (what scanning found, by which a later merge of the same words isn't scanned),
 //! `specs/Words.antt` (those of a few nodes, which `words.rt` makes), `specs/Codes.antt` and
-//! `specs/Twins.antt` (literals as numbers, and the table of gates by two of them), `specs/Merged.antt` (a
-//! book's merges by the positions of their nodes).
+//! `specs/Twins.antt` (literals as numbers, and the table of gates by two of them, which `twins.rt` keeps in
+//! an `IndexMap` with a hash of `circuit_seed.rt`), `specs/Merged.antt` (a book's merges by the positions of
+//! their nodes).
 //! Begin to read at `pass.rt`, then `visit.rt`.
 #![tactic(auto)]
 
@@ -25,6 +26,7 @@ pub use known_twin::merge_to_twin;
 pub use pass::run;
 pub use words::Words;
 
+mod circuit_seed;
 mod coded;
 mod codes;
 mod fold;

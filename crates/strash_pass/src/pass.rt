@@ -5,6 +5,7 @@ ghost use Rattle.strash_pass.specs.Merged.{AreMergesOf};
 ghost use Rattle.strash_pass.specs.Strash.{AddsFirstPart, AddsMerges, AddsStructural, ArePlain};
 ghost use Rattle.strash_pass.specs.Pass.{gates_before, IsPass};
 
+use crate::circuit_seed::CircuitSeed;
 use crate::merged::Merged;
 use crate::twins::Twins;
 use crate::visit::Pass;
@@ -33,7 +34,7 @@ pub fn run(alloc: Global, net: &Net, book: &mut Book) -> Result<u64, AllocError>
     laws::is_net(net);
     let before = book.len();
     let mut pass = Pass {
-        twins: Twins::new(alloc, net.positions() as usize)?,
+        twins: Twins::new(alloc, net.all_fanins().len(), CircuitSeed::of(net))?,
         merged: Merged::of(alloc, net, book)?,
         visited: 0,
         way: Vec::new(alloc),

@@ -23,7 +23,7 @@ returns-in_err-visit_both-clause-stopped c = stops-so _ _ _ _ c.from_residual-in
 pub visit_both-requires-clause-pass : goal.visit_both-requires-clause-pass
 visit_both-requires-clause-pass c =
     subst (λ (t : Table). IsPass c.args.net.now c.args.book.now.entries t 0) (sym c.in_ok-new.ensures)
-    (pass-start c.args.net.now c.args.book.now.entries _ c.positions.ensures)
+    (pass-start c.args.net.now c.args.book.now.entries)
 
 pub returns-in_err-of-clause-stopped : goal.returns-in_err-of-clause-stopped
 returns-in_err-of-clause-stopped c =

@@ -1,8 +1,15 @@
--- The order of the codes doesn't count.
-use Rattle.strash_pass.proofs.TwinTable.{turned-result}
+-- What the map has at the two codes, in order.
+use Rattle.strash_pass.proofs.TwinTable.{twin-result, ordered-result}
 use Rattle.strash_pass.proofs.twins.Twins.twin_or_note.Goals as goal
 
-pub returns-else-one-other-clause-noted : goal.returns-else-one-other-clause-noted
-returns-else-one-other-clause-noted c =
-    turned-result c.args.self.now c.find_or_note-else-one-other.new.self c.args.other c.args.one c.args.gate c.find_or_note-else-one-other.result
-    c.find_or_note-else-one-other.ensures.noted
+pub returns-clause-noted : goal.returns-clause-noted
+returns-clause-noted c =
+    let first = c.find_or_note.ensures in
+    twin-result c.self.inside.gates c.find_or_note.new.gates c.of.result c.args.gate c.args.self.now c.args.one c.args.other c.self.view_is c.self.invariant
+    c.of.ensures.ordered c.of.ensures.pair c.find_or_note.result first.first first.noted first.found
+
+pub invariant_of-self : goal.invariant_of-self
+invariant_of-self c =
+    let first = c.find_or_note.ensures in
+    ordered-result c.self.inside.gates c.find_or_note.new.gates c.of.result c.args.gate c.self.invariant
+    c.of.ensures.ordered c.find_or_note.result first.first first.noted first.found first.err

@@ -3,8 +3,8 @@ use Rattle.std.proofs.Common.{◌∙◌, ◌+◌, ◌<◌, ℕ, length, ap, sym,
 use Rattle.netlist.specs.Net.{nodes_of, node_at, defined_by}
 use Rattle.strash_pass.specs.Twins.{Table, IsTwinOrNoted}
 use Rattle.strash_pass.specs.Pass.{IsPass}
-use Rattle.strash_pass.proofs.CodeLemmas.{code-within, coded-at, position-small}
-use Rattle.strash_pass.proofs.PassLemmas.{few-gates, noted-defined, noted-some, noted-within, pass-noted}
+use Rattle.strash_pass.proofs.CodeLemmas.{coded-at, position-small}
+use Rattle.strash_pass.proofs.PassLemmas.{noted-defined, noted-some, noted-within, pass-noted}
 use Rattle.strash_pass.proofs.visit.Pass.twin.Goals as goal
 
 pub code_of-left-requires : goal.code_of-left-requires
@@ -14,18 +14,6 @@ code_of-left-requires c =
 pub code_of-right-requires : goal.code_of-right-requires
 code_of-right-requires c =
     omega (arith, position-small c.args.net.now c.requires.net c.args.roots.right.lit.node c.args.roots.right.at c.requires.right.at)
-
-pub twin_or_note-requires-clause-one : goal.twin_or_note-requires-clause-one
-twin_or_note-requires-clause-one c =
-    omega (arith, code-within c.args.net.now c.args.roots.left.lit c.code_of-left.result (coded-at c.args.net.now c.args.roots.left c.code_of-left.result c.requires.left.at c.code_of-left.ensures), c.requires.pass.heads)
-
-pub twin_or_note-requires-clause-other : goal.twin_or_note-requires-clause-other
-twin_or_note-requires-clause-other c =
-    omega (arith, code-within c.args.net.now c.args.roots.right.lit c.code_of-right.result (coded-at c.args.net.now c.args.roots.right c.code_of-right.result c.requires.right.at c.code_of-right.ensures), c.requires.pass.heads)
-
-pub twin_or_note-requires-clause-few : goal.twin_or_note-requires-clause-few
-twin_or_note-requires-clause-few c =
-    omega (arith, few-gates c.args.net.now c.requires.net c.args.self.now.visited c.args.gate c.requires.gate, c.requires.pass.few)
 
 pub node-requires : goal.node-requires
 node-requires c =
