@@ -26,13 +26,8 @@ LIMITS = {
 # Words that a plainer one replaces, and the one that replaces it.
 PLAINER = {r"\bbut for\b": "except", r"\b(?:is|are|was|were) warned\b": "is written to standard error", r"\bbehind\b": "after"}
 
-# How many of these words a page may have: places where the word is meant, as in a name.
-SPARED = {}
-
-# Sentences that are a formula or a list of the format's own words: how they begin.
-EXCEPTED = []
-
-LEFT_OUT = {"fuzz/wrong_search", "fuzz/wrong_bodies"}
+# Paragraphs and cells that are a formula: how they begin. None is so far.
+EXCEPTED = ()
 
 
 def pages():
@@ -105,14 +100,14 @@ def judged(page):
         for sentence in sentences(part):
             count = len(words(sentence))
             counts["words"] += count
-            if any(part.startswith(beginning) for beginning in EXCEPTED):
+            if part.startswith(EXCEPTED):
                 continue
             counts["sentence"] = max(counts["sentence"], count)
             if count > most_words:
                 above.append(f"{count} words: {sentence}")
     for word, better in PLAINER.items():
         many = sum(len(re.findall(word, plain(part), re.IGNORECASE)) for part, _ in parts(text))
-        if many > SPARED.get((page, word), 0):
+        if many:
             above.append(f"{many} times {word.replace(chr(92) + 'b', '')}: {better} is plainer")
     return counts, above
 
