@@ -1,5 +1,5 @@
 -- The code of a literal stands for it alone.
-use Rattle.std.proofs.Common.{◌≡◌, ℕ, ◌+◌, ◌*◌, ◌/◌, ◌<◌, ◌^◌, length, Bool, true, false, Option, Some, None, refl, sym, ap, ◌∙◌, arith, if◌then◌else◌}
+use Rattle.std.proofs.Common.{◌≡◌, ℕ, ◌+◌, ◌*◌, ◌<◌, ◌^◌, Bool, true, false, Option, Some, None, refl, sym, ap, ◌∙◌, arith, if◌then◌else◌}
 use Rattle.std.specs.Option.{option_map}
 use Rattle.std.proofs.lemmas.Option.{none-some, same_Some}
 use Rattle.lits.specs.declared.literal.Lit.{Lit}
@@ -60,22 +60,9 @@ code-one net l m c e f = go l.neg m.neg refl refl
         let two : c ≡ 2 * y.position + 1 = y.is ∙ ap (λ (b : Bool). 2 * y.position + (if b then 1 else 0)) q in
         absurd (omega (arith, one, two))
 
--- the position of a code is one of the net's
+-- the code of a literal by its position
 pub coded-at : (net : AigPair) (s : Spot) (c : ℕ) → position_of net s.lit.node ≡ Some s.at → c ≡ code_at s → code_of net s.lit ≡ Some c
 coded-at net s c at e = ap (option_map (λ p. 2 * p + (if s.lit.neg then 1 else 0))) at ∙ ap Some (sym e)
-
-pub code-within : (net : AigPair) (l : Lit) (c : ℕ) → code_of net l ≡ Some c → c / 2 < length (nodes_of net)
-code-within net l c e = go l.neg refl
-  where
-    x : HasCode net l c
-    x = has-code net l c e
-
-    below : x.position < length (nodes_of net)
-    below = (at-place (λ m. same_node m l.node) (nodes_of net) x.position x.at).3
-
-    go : (b : Bool) → l.neg ≡ b → c / 2 < length (nodes_of net)
-    go true p = let one : c ≡ 2 * x.position + 1 = x.is ∙ ap (λ (b : Bool). 2 * x.position + (if b then 1 else 0)) p in omega (arith, one, below)
-    go false p = let one : c ≡ 2 * x.position + 0 = x.is ∙ ap (λ (b : Bool). 2 * x.position + (if b then 1 else 0)) p in omega (arith, one, below)
 
 -- positions are small
 pub position-small : (net : AigPair) → IsNet net → (n : Node) (p : ℕ) → position_of net n ≡ Some p → p < 2 ^ 26

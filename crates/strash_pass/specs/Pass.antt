@@ -1,5 +1,5 @@
 -- What the pass keeps from gate to gate, and what it asks of a merge.
-use Rattle.std.specs.Prelude.{◌≡◌, ◌<◌, ◌≤◌, ◌+◌, ◌⊎◌, ℕ, Bool, true, false, List, [], ◌∷◌, map, length, slice_get, Some}
+use Rattle.std.specs.Prelude.{◌≡◌, ◌<◌, ◌+◌, ◌⊎◌, ℕ, Bool, true, false, List, [], ◌∷◌, map, length, slice_get, Some}
 use Rattle.std.specs.Option.{IsSome}
 use Rattle.std.specs.List.{AllByRecursion}
 use Rattle.lits.specs.declared.node.Node.TheVariants.{Xor}
@@ -12,7 +12,7 @@ use Rattle.lits.specs.declared.step.Step.{Step}
 use Rattle.lits.specs.Clause.{has}
 use Rattle.lits.specs.Same.{same_lit, same_node, opposite}
 use Rattle.netlist.specs.declared.gate.Definition.{Definition}
-use Rattle.netlist.specs.Net.{AigPair, definitions, nodes_of, position_of}
+use Rattle.netlist.specs.Net.{AigPair, definitions, position_of}
 use Rattle.netlist.specs.Miter.{positive, negative}
 use Rattle.unit_prop.specs.Closure.{IsOpen}
 use Rattle.unit_prop.specs.Log.{base_clause, base_clauses}

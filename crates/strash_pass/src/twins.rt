@@ -1,4 +1,4 @@
-ghost use Rattle.std.specs.Prelude.{◌≡◌, ◌≤◌, [], IfOk, IfNone, IfSome, OnErr};
+ghost use Rattle.std.specs.Prelude.{◌≡◌, ◌≤◌, [], Some, IfOk, IfNone, IfSome, OnErr};
 ghost use Rattle.indexmap.specs.IndexMap.{get, insert_entry};
 ghost use Rattle.strash_pass.specs.Twins.{IsPairOf, IsTwinOrNoted};
 
@@ -39,6 +39,8 @@ impl Roots {
 #[derive(Drop)]
 pub struct Twins {
     gates: IndexMap<Roots, u32, CircuitSeed>,
+    /// The place after that of the gate found last.
+    next: usize,
 }
 
 impl Model for Twins {
@@ -57,7 +59,7 @@ impl Twins {
         ensures { IfOk result (λ t. t ≡ record { notes = [] }) }
     {
         let gates = IndexMap::with_capacity_and_hasher(alloc, gates, seed)?;
-        Ok(Twins { gates })
+        Ok(Twins { gates, next: 0 })
     }
 
     /// The gate that was noted with these roots' codes, in either order; where there is none, this gate is
@@ -71,13 +73,18 @@ impl Twins {
         ensures noted { IfOk result (IsTwinOrNoted self.old one other gate self.new) }
         ensures err { OnErr result (self.new ≡ self.old) }
     {
-        find_or_note(&mut self.gates, Roots::of(one, other), gate)
+        find_or_note(&mut self.gates, &mut self.next, Roots::of(one, other), gate)
     }
 }
 
 /// The gate that the map has at these roots; where it has none, it gets this one.
+///
+/// In a copy of a circuit the gates have their twins one after another, in the order in which these were
+/// noted. So the place after the last one found is looked at first: each look-up by the hash fetches a line
+/// of memory from anywhere in the table.
 fn find_or_note(
     gates: &mut IndexMap<Roots, u32, CircuitSeed>,
+    next: &mut usize,
     roots: Roots,
     gate: u32,
 ) -> Result<Option<u32>, AllocError>
@@ -87,11 +94,28 @@ fn find_or_note(
     ensures found { IfOk result (λ r. IfSome r (λ g. gates.new.entries ≡ gates.old.entries)) }
     ensures err { OnErr result (gates.new.entries ≡ gates.old.entries) }
 {
+    if let Some(twin) = gate_at(gates, *next, roots) {
+        *next = next.saturating_add(1);
+        return Ok(Some(twin));
+    }
     match gates.entry(roots)? {
-        Entry::Occupied(entry) => Ok(Some(*entry.get())),
+        Entry::Occupied(entry) => {
+            *next = entry.index().saturating_add(1);
+            Ok(Some(*entry.get()))
+        }
         Entry::Vacant(entry) => {
             entry.insert(gate);
             Ok(None)
         }
+    }
+}
+
+/// The gate at a place of the map, where these are its roots.
+fn gate_at(gates: &IndexMap<Roots, u32, CircuitSeed>, place: usize, roots: Roots) -> Option<u32>
+    ensures { IfSome result (λ g. get ⟦<Roots as PartialEq>⟧.eq gates.now roots ≡ Some g) }
+{
+    match gates.get_index(place) {
+        Some((known, gate)) if *known == roots => Some(*gate),
+        _ => None,
     }
 }
