@@ -1,6 +1,7 @@
 """What `./cec` can't do at once: it proves the program (`./cec prove`), or makes it without its proof where none stands, and runs it.
 
-`./cec` alone calls this, with the word that it was called by, the line that it says of a program without its proof, and its own words.
+`./cec` calls this, with the word that it was called by, the line that it says of a program without its proof, and its own words;
+scripts call it with the word `--path`, and it prints the program's.
 """
 import os
 import sys
@@ -48,7 +49,7 @@ def ready(called, line):
     return UNPROVED.program
 
 
-def main(called, line, *words):
+def main(called, line="this program isn't proved yet: './cec prove' proves it", *words):
     caller.follow()
     try:
         if words == ("prove",):
@@ -57,7 +58,10 @@ def main(called, line, *words):
         program = ready(called, line)
     finally:
         caller.end_all()
-    caller.become(program, [program, *words])
+    if called == "--path":
+        print(program)
+    else:
+        caller.become(program, [program, *words])
 
 
 if __name__ == "__main__":
