@@ -74,7 +74,8 @@ def main():
     folder, wrong, count = house.TOP / "examples", 0, 0
     page = list(examples((folder / "README.md").read_text()))
     told = "".join(f"$ cec {' '.join(w)}\n" + "".join(f"{l}\n" for l in ls) + f"status {s}\n" for w, ls, s in page)
-    if told != (house.TOP / "crates" / "cec_examples" / "stdout").read_text():
+    # (behind them stands what `./cec` says of words that ask for help)
+    if not (house.TOP / "crates" / "cec_examples" / "stdout").read_text().startswith(told + "$ cec --version\n"):
         wrong += 1
         print("crates/cec_examples/stdout isn't what the page says")
     with tempfile.TemporaryDirectory() as room:

@@ -10,11 +10,11 @@ REFERENCE = TOP / "tools" / "lrat_strict.c"
 
 
 def program(given=None):
-    """The path of the program: the one that is given, else the repository's own, which `./cec` proves and builds."""
+    """The path of the program: the one that is given, else the one that `./cec` runs, which is made where none stands."""
     if given:
         return str(Path(given).resolve())
-    subprocess.run([str(TOP / "cec"), "--help"], stdout=subprocess.DEVNULL, check=True)
-    return str(TOP / "crates" / "cec" / "out" / "cec")
+    made = [sys.executable, "-B", str(TOP / "tools" / "wrapper.py"), "--path"]
+    return subprocess.run(made, stdout=subprocess.PIPE, text=True, check=True).stdout.strip()
 
 
 def compiled(folder, source=REFERENCE):

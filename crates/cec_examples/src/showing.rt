@@ -87,6 +87,19 @@ pub(crate) const EXAMPLES: [&[&str]; 20] = [
     &["check", "and.aag", "and_once.aig"],
 ];
 
+/// Words that ask for help or the version, or that lack a command. The script `cec` at the top prints what the file
+/// `stdout` has for these where no program is built.
+pub(crate) const HELP: [&[&str]; 8] = [
+    &["--version"],
+    &["--help"],
+    &["check", "--help"],
+    &["fraig", "--help"],
+    &["lrat", "--help"],
+    &["self", "--help"],
+    &[],
+    &["help"],
+];
+
 /// The arguments of an example, the program's name before them.
 fn words_of(alloc: Global, example: &[&str]) -> Result<Vec<String>, PutErr> {
     let mut words = Vec::new(alloc);
