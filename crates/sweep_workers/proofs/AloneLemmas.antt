@@ -1,5 +1,5 @@
 -- What one worker makes of a book, task by task.
-use Rattle.std.proofs.Common.{◌≡◌, ℕ, zero, suc, ◌+◌, ◌<◌, ◌≤◌, Bool, cond, List, [], ◌∷◌, ◌++◌, length, map, take, drop, Option, None, Some, slice_get, inr, refl, sym, ap, ◌∙◌, subst, arith, append_assoc}
+use Rattle.std.proofs.Common.{◌≡◌, ℕ, zero, suc, ◌≤◌, Bool, List, [], ◌∷◌, ◌++◌, length, map, take, drop, Option, Some, slice_get, inr, refl, sym, ap, ◌∙◌, subst, arith, append_assoc}
 use Rattle.std.specs.List.{AllByRecursion}
 use Rattle.std.specs.Option.{option_map_or}
 use Rattle.std.proofs.lemmas.Option.{none-some}
@@ -8,7 +8,6 @@ use Rattle.lits.proofs.Facts.{all-append, all-parts}
 use Rattle.netlist.specs.Net.{AigPair}
 use Rattle.netlist.proofs.Facts.{all-weaker, at_place as at-found}
 use Rattle.lemma_book.specs.declared.entry.Entry.{Entry}
-use Rattle.lemma_book.specs.declared.entry.Subject.TheVariants.{Merged}
 use Rattle.lemma_book.specs.Entry.{Entries, Question, answer_of, first_entries, is_on, place_on, question_of, subject_of, with_last}
 use Rattle.lemma_book.specs.Book.{IsLegal, book_after}
 use Rattle.lemma_book.specs.Good.{Already, IsGood}
@@ -17,10 +16,11 @@ use Rattle.cone_query.specs.Query.{SeesAll}
 use Rattle.sweep_workers.specs.declared.asked.Asked.{Asked}
 use Rattle.sweep_workers.specs.declared.asked.Asked.TheVariants.{Pair, Output}
 use Rattle.sweep_workers.specs.Asked.{IsAskable, question_in, questions, subject_in}
-use Rattle.sweep_workers.specs.Answered.{AreAnswered, HasAnswer, IsAnswerTo, many}
+use Rattle.sweep_workers.specs.Answered.{AreAnswered, HasAnswer, IsAnswerTo, OpensTwoRoots, many}
 use Rattle.sweep_workers.proofs.WeightLemmas.{many-append}
 use Rattle.sweep_workers.proofs.WorkLemmas.{all-seen, sees-more}
 use Rattle.sweep_workers.proofs.ClosedLemmas.{own-answer, same-on}
+use Rattle.sweep_workers.proofs.RootLemmas.{opens-before}
 
 -- ---- a task that the book settles
 
@@ -49,6 +49,7 @@ answered-known net book asked place legal at =
         tt,
       );
       seen = refl;
+      roots = tt;
     }
 
 -- ---- a task whose answer is put last
@@ -63,8 +64,8 @@ good-whole net book e good =
     (sym (take_all (length book.entries) book.entries (omega arith))) good
 
 pub answered-added : (net : AigPair) (book new : Entries) (q : Question) (e : Entry) → IsLegal net book → question_of e ≡ q
-    → IsGood net book e → SeesAll book e → new ≡ book_after book e → AreAnswered net (q ∷ []) book new
-answered-added net book new q e legal about good sees after =
+    → IsGood net book e → SeesAll book e → OpensTwoRoots net book.entries e → new ≡ book_after book e → AreAnswered net (q ∷ []) book new
+answered-added net book new q e legal about good sees two after =
     let last : new ≡ with_last book e = after ∙ ap (λ (o : Option ℕ). option_map_or (λ i. book) o (with_last book e)) (good Already) in
     subst (λ (b : Entries). AreAnswered net (q ∷ []) book b) (sym last) (record {
       sweep_budget = refl;
@@ -78,6 +79,7 @@ answered-added net book new q e legal about good sees after =
         tt,
       );
       seen = let s = sees-more (length book.entries) book (answer_of e) (omega arith) sees in rw s refl;
+      roots = (two, tt);
     })
 
 -- ---- tasks that are settled one after the other
@@ -104,6 +106,9 @@ answered-twice net xs ys a b c one two = record {
       (all-weaker (HasAnswer b.entries) (HasAnswer c.entries)
       (λ q has. subst (λ (es : List Entry). HasAnswer es q) (sym two.begins) (answer-stays b.entries two.added q has)) xs one.settled) two.settled;
   seen = all-seen a b one.added two.added one.begins one.seen two.seen;
+  roots = all-append (OpensTwoRoots net a.entries) one.added two.added one.roots
+      (all-weaker (OpensTwoRoots net b.entries) (OpensTwoRoots net a.entries)
+      (λ e open_two. opens-before net a.entries one.added b one.legal one.begins e open_two) two.added two.roots);
 }
   where
     few : (test : Question → Bool) → many test (map question_of (one.added ++ two.added)) ≤ many test (xs ++ ys)

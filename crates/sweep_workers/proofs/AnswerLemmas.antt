@@ -26,6 +26,7 @@ use Rattle.sweep_workers.specs.Asked.{IsAmong, IsAskable, open_tasks, question_i
 use Rattle.sweep_workers.specs.Answered.{AreAnswered, HasAnswer, many}
 use Rattle.sweep_workers.specs.Swept.{HasInputs, IsPoolFor, SettlesOutputs, Sweeps, SweepsRound, apart_inputs, input_of, is_of_output, is_of_pair}
 use Rattle.sweep_workers.proofs.OfferLemmas.{all-pass_append}
+use Rattle.sweep_workers.proofs.RootLemmas.{opens-after}
 use Rattle.sweep_workers.proofs.OnceLemmas.{each-among, once-append, once-round}
 use Rattle.sweep_workers.proofs.WorkLemmas.{all-seen}
 
@@ -97,21 +98,25 @@ among-all P q [] all among = absurd among
 among-all P q (x ∷ xs) all (inl is) = subst P is all.0
 among-all P q (x ∷ xs) all (inr rest) = among-all P q xs all.1 rest
 
-pub outputs-settled : (net : AigPair) (asked : List Question) (old new : Entries) → AreAnswered net asked old new
+pub outputs-settled : (net : AigPair) (asked : List Question) (old new : Entries) → IsLegal net old → AreAnswered net asked old new
     → list_all asks_output asked ≡ true
     → ((j : ℕ) → j < length net.a.outputs → about old.entries j ≡ None → IsAmong (OfOutput j) asked)
     → SettlesOutputs net old new
-outputs-settled net asked old new done kinds whole = record {
+outputs-settled net asked old new was_legal done kinds whole = record {
   sweep_budget = done.sweep_budget;
   out_budget = done.out_budget;
   added = done.added;
   begins = done.begins;
-  kinds = all-outputs done.added (let f = done.few asks_pair in let n = no-pairs asked kinds in omega arith);
+  kinds = added-kinds;
   legal = done.legal;
   settled = λ j below. go j below (about old.entries j) refl;
   seen = done.seen;
+  roots = opens-after net old.entries done.added new done.legal done.begins old refl was_legal added-kinds done.added done.roots;
 }
   where
+    added-kinds : list_all is_of_output done.added ≡ true
+    added-kinds = all-outputs done.added (let f = done.few asks_pair in let n = no-pairs asked kinds in omega arith)
+
     go : (j : ℕ) → j < length net.a.outputs → (o : Option Entry) → about old.entries j ≡ o → about new.entries j ≢ None
     go j below None is =
         let a = among-all (HasAnswer new.entries) (OfOutput j) asked done.settled (whole j below is) in
@@ -172,9 +177,9 @@ outputs-askable net entries tasks are =
     subst (λ (ts : List Asked). AllByRecursion (IsAskable net) ts) (sym are) (tasks-askable net entries (length net.a.outputs) (omega arith))
 
 pub settles-outputs : (net : AigPair) (old new : Entries) (tasks : List Asked) → tasks ≡ open_tasks old.entries (length net.a.outputs)
-    → AreAnswered net (questions tasks) old new → SettlesOutputs net old new
-settles-outputs net old new tasks are done =
-    outputs-settled net (questions tasks) old new done
+    → IsLegal net old → AreAnswered net (questions tasks) old new → SettlesOutputs net old new
+settles-outputs net old new tasks are legal done =
+    outputs-settled net (questions tasks) old new legal done
     (ap (λ (ts : List Asked). list_all asks_output (questions ts)) are ∙ tasks-kind old.entries (length net.a.outputs))
     (λ j below none. subst (λ (ts : List Asked). IsAmong (OfOutput j) (questions ts)) (sym are)
     (tasks-open old.entries (length net.a.outputs) j below none))

@@ -23,10 +23,11 @@ use Rattle.board_lock.specs.Totals.{times}
 use Rattle.board_lock.specs.Pass.{Held, Post}
 use Rattle.board_lock.specs.Closed.{IsClosed}
 use Rattle.sweep_workers.specs.Asked.{IsAmong}
-use Rattle.sweep_workers.specs.Answered.{AreAnswered, HasAnswer, IsAnswerTo, many, sees_first}
+use Rattle.sweep_workers.specs.Answered.{AreAnswered, HasAnswer, IsAnswerTo, OpensTwoRoots, many, sees_first}
 use Rattle.sweep_workers.specs.Working.{drawn_of, offers, with_offer, with_question, IsAtEnd, Works}
 use Rattle.sweep_workers.proofs.WeightLemmas.{weigh, many-weigh, none-passes, all-pass, once-weight, at_place, places-weight, drawn-below, below-drawn}
 use Rattle.sweep_workers.proofs.OfferLemmas.{drawn-weight}
+use Rattle.sweep_workers.proofs.RootLemmas.{opens_two, opens-test, test-opens}
 use Rattle.sweep_workers.proofs.TurnLemmas.{added-weight}
 
 -- ---- each number below was drawn
@@ -161,6 +162,13 @@ module _ (board : Post) (asked : List Question) (pass : Held) (book : Entries) (
       let m = most (λ e. cond (test e) 0 1) in
       all-pass test added (omega arith)
 
+  roots : AllByRecursion (OpensTwoRoots board.root.net board.root.opening.entries) added
+  roots =
+      let test = opens_two board.root.net board.root.opening.entries in
+      let none = none-passes test (offers pass.notes) (opens-test board.root.net board.root.opening.entries (offers pass.notes) works.roots) in
+      let m = most (λ e. cond (test e) 0 1) in
+      test-opens board.root.net board.root.opening.entries added (all-pass test added (omega arith))
+
   pub answered-closed : AreAnswered board.root.net asked board.root.opening book
   answered-closed = record {
     sweep_budget = closed.replays.begins.sweep;
@@ -171,6 +179,7 @@ module _ (board : Post) (asked : List Question) (pass : Held) (book : Entries) (
     few = few;
     settled = settled;
     seen = seen;
+    roots = roots;
   }
 
 -- where nothing is asked, the book answers it as it is
@@ -184,4 +193,5 @@ answered-none net asked book none legal = subst (λ (qs : List Question). AreAns
   few = λ test. omega arith;
   settled = tt;
   seen = refl;
+  roots = tt;
 })

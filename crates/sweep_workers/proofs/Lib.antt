@@ -1,5 +1,6 @@
 mod WeightLemmas
 mod OfferLemmas
+mod RootLemmas
 mod TurnLemmas
 mod WorkLemmas
 mod ClosedLemmas

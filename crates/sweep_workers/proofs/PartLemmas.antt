@@ -17,6 +17,11 @@ pub none-part : (ts : List Task) → IsPart [] ts
 none-part [] = refl
 none-part (t ∷ ts) = tt
 
+-- all are some of them
+pub part-all : (ts : List Task) → IsPart ts ts
+part-all [] = refl
+part-all (t ∷ ts) = inl (refl, part-all ts)
+
 part-skip : (xs ts : List Task) (t : Task) → IsPart xs ts → IsPart xs (ts ++ t ∷ [])
 part-skip [] ts t part = none-part (ts ++ t ∷ [])
 part-skip (x ∷ xs) [] t part = cc

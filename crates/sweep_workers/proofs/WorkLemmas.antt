@@ -7,6 +7,7 @@ use Rattle.std.proofs.lemmas.Option.{none-some, same_Some}
 use Rattle.std.proofs.lemmas.List.{append-nil, map-append}
 use Rattle.std.proofs.lemmas.Bool.Decides.{nat_tests}
 use Rattle.lits.specs.declared.node.Node.{Node}
+use Rattle.lits.proofs.Facts.{all-append}
 use Rattle.netlist.specs.Net.{AigPair}
 use Rattle.netlist.proofs.Facts.{find-place}
 use Rattle.lemma_book.specs.declared.entry.Entry.{Entry}
@@ -14,7 +15,7 @@ use Rattle.lemma_book.specs.declared.refused.Offered.{Offered}
 use Rattle.lemma_book.specs.declared.refused.Offered.TheVariants as offered
 use Rattle.lemma_book.specs.declared.entry.Subject.{Subject}
 use Rattle.lemma_book.specs.declared.entry.Subject.TheVariants.{Merged, Output}
-use Rattle.lemma_book.specs.Entry.{Entries, Question, Answer, Equal, Differ, Open, about, is_on, place_on, question_of, answer_of, settled_at, subject_of}
+use Rattle.lemma_book.specs.Entry.{Entries, Question, OfPair, OfOutput, Answer, Equal, Differ, Open, about, is_on, place_on, question_of, answer_of, settled_at, subject_of}
 use Rattle.lemma_book.specs.Root.{IsRoot, merge_in}
 use Rattle.lemma_book.specs.Book.{IsLegal, StartsWith}
 use Rattle.sweep_core.proofs.Facts.{starts-self}
@@ -26,9 +27,10 @@ use Rattle.board_lock.specs.Views.{longer}
 use Rattle.board_lock.specs.Pass.{Held, IsWholePass, Post, DrewOne, OfferedOne, Refreshed, SplitOff, joined, opened}
 use Rattle.sweep_workers.specs.declared.asked.Asked.{Asked}
 use Rattle.sweep_workers.specs.Asked.{IsAskable, question_in, questions}
-use Rattle.sweep_workers.specs.Answered.{sees, sees_first}
+use Rattle.sweep_workers.specs.Answered.{HasTwoRoots, OpensTwoRoots, sees, sees_first}
 use Rattle.sweep_workers.specs.Working.{drawn_of, offers, with_question, IsAtEnd, IsRound, Owes, Told, Works}
 use Rattle.sweep_workers.proofs.OfferLemmas.{offers-append, drawn-append, all-pass_append}
+use Rattle.sweep_workers.proofs.RootLemmas.{opens-sooner}
 
 times-append : (p : ℕ) (xs ys : List ℕ) → times p (xs ++ ys) ≡ times p xs + times p ys
 times-append p [] ys = omega arith
@@ -62,6 +64,7 @@ module _ (board : Post) (asked : List Question) (old new : Held) (works : Works 
         offered = ap (λ (h : Held). map question_of (offers h.notes) ++ q ∷ []) drew.new_is
             ∙ (ap (λ (qs : List Question). qs ++ q ∷ []) works.offered ∙ (sym draws ∙ sym (ap (λ (h : Held). drawn_of asked h.draws) drew.new_is)));
         seen = ap (λ (h : Held). list_all (sees_first (length board.root.opening.entries)) (offers h.notes)) drew.new_is ∙ works.seen;
+        roots = subst (λ (h : Held). AllByRecursion (OpensTwoRoots board.root.net board.root.opening.entries) (offers h.notes)) (sym drew.new_is) works.roots;
       }
     where
       go : (b : Bool) → nat_lt drew.number board.tasks ≡ b → Some n ≡ (if nat_lt drew.number board.tasks then Some drew.number else None) → drew.number ≡ n
@@ -82,6 +85,7 @@ module _ (board : Post) (asked : List Question) (old new : Held) (works : Works 
           offered = ap (λ (h : Held). map question_of (offers h.notes)) drew.new_is
               ∙ (works.offered ∙ (sym draws ∙ sym (ap (λ (h : Held). drawn_of asked h.draws) drew.new_is)));
           seen = ap (λ (h : Held). list_all (sees_first (length board.root.opening.entries)) (offers h.notes)) drew.new_is ∙ works.seen;
+          roots = subst (λ (h : Held). AllByRecursion (OpensTwoRoots board.root.net board.root.opening.entries) (offers h.notes)) (sym drew.new_is) works.roots;
         },
         record {
           number = drew.number;
@@ -144,8 +148,8 @@ all-seen old mid xs ys grows first second =
 
 pub works-settled : (board : Post) (asked : List Question) (q : Question) (old mid new : Held) (e : Entry) (o : Offered) (n : ℕ)
     → Owes board asked q old → mid.table ≡ old.table → new.table ≡ mid.table → question_of e ≡ q → SeesAll old.known e
-    → OfferedOne e old mid o → Refreshed board.root.net mid new n → Works board asked new
-works-settled board asked q old mid new e o n owes first second about sees offer look =
+    → OpensTwoRoots board.root.net old.known.entries e → OfferedOne e old mid o → Refreshed board.root.net mid new n → Works board asked new
+works-settled board asked q old mid new e o n owes first second about sees two offer look =
     let opening = board.root.opening in
     let note = note_of old.number (said_of e o) in
     let last = note_of mid.number (Known n) in
@@ -171,18 +175,23 @@ works-settled board asked q old mid new e o n owes first second about sees offer
       seen = ap (list_all (sees_first (length opening.entries))) offers_are
           ∙ all-pass_append (sees_first (length opening.entries)) (offers old.notes) (e ∷ []) owes.seen
           (let s = sees-more (length opening.entries) old.known (answer_of e) (starts-length old.known opening owes.begins) sees in rw s refl);
+      roots = subst (λ (es : List Entry). AllByRecursion (OpensTwoRoots board.root.net opening.entries) es) (sym offers_are)
+          (all-append (OpensTwoRoots board.root.net opening.entries) (offers old.notes) (e ∷ []) owes.roots
+          (opens-sooner board.root.net old.known opening e owes.legal owes.begins two, tt));
     }
 
 -- the same of what was told of a task
 pub works-told : (board : Post) (asked : List Question) (q : Question) (old mid new : Held) (n : ℕ) → Owes board asked q old → mid.table ≡ old.table
-    → new.table ≡ mid.table → Told q old mid → Refreshed board.root.net mid new n → Works board asked new
+    → new.table ≡ mid.table → Told board.root.net q old mid → Refreshed board.root.net mid new n → Works board asked new
 works-told board asked q old mid new n owes first second told look =
-    works-settled board asked q old mid new told.entry told.answer n owes first second told.about told.seen told.offered look
+    works-settled board asked q old mid new told.entry told.answer n owes first second told.about told.seen told.roots told.offered look
 
 -- ---- a task that a book settles, or doesn't
 
-pub told-of : (q : Question) (old new : Held) (e : Entry) (o : Offered) → question_of e ≡ q → SeesAll old.known e → OfferedOne e old new o → Told q old new
-told-of q old new e o about seen offered = record { entry = e; answer = o; about = about; seen = seen; offered = offered }
+pub told-of : (net : AigPair) (q : Question) (old new : Held) (e : Entry) (o : Offered) → question_of e ≡ q → SeesAll old.known e
+    → OpensTwoRoots net old.known.entries e → OfferedOne e old new o → Told net q old new
+told-of net q old new e o about seen two offered =
+    record { entry = e; answer = o; about = about; seen = seen; roots = two; offered = offered }
 
 pub claim-settled : (es : List Entry) (e : Entry) (s : Subject) (place : ℕ) → subject_of e ≡ Some s → Some place ≡ place_on es s
     → settled_at es e ≡ Some place
@@ -190,6 +199,13 @@ claim-settled es e s place on at = ap (λ (o : Option Subject). option_map_or (p
 
 pub claim-sees : (book : Entries) (e : Entry) → answer_of e ≡ Equal [] → SeesAll book e
 claim-sees book e equal = subst (SeesAllOf book) (sym equal) tt
+
+pub claim-opens : (net : AigPair) (es : List Entry) (e : Entry) → answer_of e ≡ Equal [] → OpensTwoRoots net es e
+claim-opens net es e equal = subst (λ (a : Answer). HasTwoRoots net es (question_of e) a) (sym equal) (go (question_of e))
+  where
+    go : (q : Question) → HasTwoRoots net es q (Equal [])
+    go (OfPair node lit) = tt
+    go (OfOutput j) = tt
 
 pub open-root : (es : List Entry) (n : Node) → place_on es (Merged n) ≡ None → IsRoot es n
 open-root es n none = ap (option_and_then (λ k. option_and_then (merge_in k) (slice_get es k))) none
@@ -201,17 +217,24 @@ open-about es j none = find-place (is_on (Output j)) es ∙ ap (option_and_then 
 
 pub works-opened : (board : Post) (asked : List Question) → IsLegal board.root.net board.root.opening → Works board asked (opened board)
 works-opened board asked legal =
-    record { own = refl; legal = legal; begins = starts-self board.root.opening; offered = refl; seen = refl }
+    record { own = refl; legal = legal; begins = starts-self board.root.opening; offered = refl; seen = refl; roots = tt }
 
 pub works-kept : (board : Post) (asked : List Question) (turns : ℕ) (old new other : Held) → Works board asked old
     → SplitOff turns old new other → Works board asked new
 works-kept board asked turns old new other works cut = subst (λ (h : Held). Works board asked h) (sym cut.new_is)
-    (record { own = works.own; legal = works.legal; begins = works.begins; offered = works.offered; seen = works.seen })
+    (record {
+      own = works.own;
+      legal = works.legal;
+      begins = works.begins;
+      offered = works.offered;
+      seen = works.seen;
+      roots = works.roots;
+    })
 
 pub works-cut : (board : Post) (asked : List Question) (turns : ℕ) (old new other : Held) → Works board asked old
     → SplitOff turns old new other → Works board asked other
 works-cut board asked turns old new other works cut = subst (λ (h : Held). Works board asked h) (sym cut.result_is)
-    (record { own = works.own; legal = works.legal; begins = works.begins; offered = refl; seen = refl })
+    (record { own = works.own; legal = works.legal; begins = works.begins; offered = refl; seen = refl; roots = tt })
 
 longer-has : (P : Entries → Type 0) (a b : Entries) → P a → P b → P (longer a b)
 longer-has P a b one other = go (nat_le (length a.entries) (length b.entries))
@@ -232,6 +255,8 @@ works-joined board asked a b new is one other = subst (λ (h : Held). Works boar
       ∙ (ap (λ (qs : List Question). drawn_of asked a.draws ++ qs) other.offered ∙ sym (drawn-append asked a.draws b.draws))));
   seen = ap (list_all (sees_first (length board.root.opening.entries))) (offers-append a.notes b.notes)
       ∙ all-pass_append (sees_first (length board.root.opening.entries)) (offers a.notes) (offers b.notes) one.seen other.seen;
+  roots = subst (λ (es : List Entry). AllByRecursion (OpensTwoRoots board.root.net board.root.opening.entries) es) (sym (offers-append a.notes b.notes))
+      (all-append (OpensTwoRoots board.root.net board.root.opening.entries) (offers a.notes) (offers b.notes) one.roots other.roots);
 })
 
 pub end-joined : (n : ℕ) (a b new : Held) → new ≡ joined a b → IsAtEnd n a → IsAtEnd n new

@@ -9,7 +9,7 @@ use Rattle.lemma_book.specs.Entry.{Entries, Question, OfPair, Answer, Differ, ab
 use Rattle.lemma_book.specs.Book.{IsLegal}
 use Rattle.sweep_workers.specs.declared.asked.Asked.TheVariants.{Pair}
 use Rattle.sweep_workers.specs.Asked.{IsAmong, questions}
-use Rattle.sweep_workers.specs.Answered.{sees_first}
+use Rattle.sweep_workers.specs.Answered.{OpensTwoRoots, sees_first}
 
 -- the entry is about two nodes; about an output
 abbrev pub is_of_pair : Entry → Bool
@@ -68,8 +68,8 @@ pub record SweepsRound (net : AigPair) (due : List Task) (old_book new_book : En
 abbrev pub AreSettled : AigPair → List Entry → Type 0
 AreSettled net entries = (j : ℕ) → j < length net.a.outputs → about entries j ≢ None
 
--- The book is legal, has its budgets and begins as before; what was added is about outputs, each of which has its entry,
--- and an added query that spent its budget saw at least the old book.
+-- The book is legal, has its budgets and begins as before; what was added is about outputs, each of which has its entry;
+-- an added query that spent its budget saw at least the old book, and its output has two roots over the book.
 pub record SettlesOutputs (net : AigPair) (old new : Entries) : Type 0 where
   pub sweep_budget : new.sweep_budget ≡ old.sweep_budget
   pub out_budget : new.out_budget ≡ old.out_budget
@@ -79,3 +79,4 @@ pub record SettlesOutputs (net : AigPair) (old new : Entries) : Type 0 where
   pub legal : IsLegal net new
   pub settled : AreSettled net new.entries
   pub seen : list_all (sees_first (length old.entries)) added ≡ true
+  pub roots : AllByRecursion (OpensTwoRoots net new.entries) added

@@ -14,7 +14,7 @@ use Rattle.board_lock.specs.Totals.{times}
 use Rattle.board_lock.specs.Pass.{Held, OfferedOne, Post, share_of}
 use Rattle.sweep_workers.specs.declared.asked.Asked.{Asked}
 use Rattle.sweep_workers.specs.Asked.{IsAskable}
-use Rattle.sweep_workers.specs.Answered.{sees_first}
+use Rattle.sweep_workers.specs.Answered.{OpensTwoRoots, sees_first}
 
 -- the question of a number, if there is one, and those behind it
 abbrev pub with_question : Option Question → List Question → List Question
@@ -44,13 +44,15 @@ pub record IsRound (net : AigPair) (board : Post) (tasks : List Asked) : Type 0 
   pub askable : AllByRecursion (IsAskable net) tasks
 
 -- The pass is of this board. It knows a legal book that begins with the opening one; it has offered an entry about each
--- question that it drew, in this order, and those that it took over so did too; and what spent a budget saw the opening book.
+-- question that it drew, in this order, and those that it took over so did too; what spent a budget saw the opening book, and
+-- an output's has two roots over that.
 pub record Works (board : Post) (asked : List Question) (h : Held) : Type 0 where
   pub own : h.table ≡ board.table
   pub legal : IsLegal board.root.net h.known
   pub begins : StartsWith h.known board.root.opening
   pub offered : map question_of (offers h.notes) ≡ drawn_of asked h.draws
   pub seen : list_all (sees_first (length board.root.opening.entries)) (offers h.notes) ≡ true
+  pub roots : AllByRecursion (OpensTwoRoots board.root.net board.root.opening.entries) (offers h.notes)
 
 -- a number was drawn behind all tasks
 pub record IsAtEnd (tasks : ℕ) (h : Held) : Type 0 where
@@ -71,11 +73,14 @@ pub record Owes (board : Post) (asked : List Question) (q : Question) (h : Held)
   pub begins : StartsWith h.known board.root.opening
   pub offered : map question_of (offers h.notes) ++ q ∷ [] ≡ drawn_of asked h.draws
   pub seen : list_all (sees_first (length board.root.opening.entries)) (offers h.notes) ≡ true
+  pub roots : AllByRecursion (OpensTwoRoots board.root.net board.root.opening.entries) (offers h.notes)
 
--- an entry about the question was offered, or told to be settled in what the pass knows; what spent a budget saw all of that
-pub record Told (q : Question) (old new : Held) : Type 0 where
+-- an entry about the question was offered, or told to be settled in what the pass knows; what spent a budget saw all of that, and
+-- an output's has two roots over it
+pub record Told (net : AigPair) (q : Question) (old new : Held) : Type 0 where
   pub entry : Entry
   pub answer : Offered
   pub about : question_of entry ≡ q
   pub seen : SeesAll old.known entry
+  pub roots : OpensTwoRoots net old.known.entries entry
   pub offered : OfferedOne entry old new answer

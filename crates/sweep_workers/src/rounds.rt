@@ -1,4 +1,4 @@
-ghost use Rattle.std.specs.Prelude.{◌≡◌, ◌⊎◌, ◌≤◌, [], ◌∷◌, ◌++◌, length, map, IfOk, OnOk};
+ghost use Rattle.std.specs.Prelude.{◌≡◌, ◌≢◌, ◌⊎◌, ◌≤◌, [], ◌∷◌, ◌++◌, length, map, IfOk, OnOk};
 ghost use Rattle.lemma_book.specs.Book.{IsLegal};
 ghost use Rattle.sig_classes.specs.Leader.{AreTasks, IsReduced};
 ghost use Rattle.sweep_workers.specs.Asked.{IsAskable, IsPart};
@@ -104,8 +104,21 @@ fn note_round<R: Refuter + Send>(workers: &mut [Worker<R>]) -> u64
     }
 }
 
-/// Those of the pairs that are marked, in order.
+/// Those of the pairs that are marked, in order, or all where none is: so a round makes progress, whatever marks
+/// them.
 fn chosen(alloc: Global, due: &[Task], is_due: &[bool]) -> Result<Vec<Task>, AllocError>
+    ensures part { IfOk result (λ v. IsPart v.items due.now) }
+    ensures some { IfOk result (λ v. due.now ≢ [] → v.items ≢ []) }
+{
+    let now = marked(alloc, due, is_due)?;
+    if now.is_empty() {
+        return Vec::from_slice(alloc, due);
+    }
+    Ok(now)
+}
+
+/// Those of the pairs that are marked, in order.
+fn marked(alloc: Global, due: &[Task], is_due: &[bool]) -> Result<Vec<Task>, AllocError>
     ensures { IfOk result (λ v. IsPart v.items due.now) }
 {
     let mut now = Vec::new(alloc);

@@ -122,7 +122,7 @@ fn tell<T: Wait, R: Refuter + Send>(
     requires own { pass.old.table ≡ round.now.board.table }
     requires legal { IsLegal net.now pass.old.known }
     requires left { 1 ≤ pass.old.left }
-    ensures told { OnOk result (Told (question_in asked) pass.old pass.new) }
+    ensures told { OnOk result (Told net.now (question_in asked) pass.old pass.new) }
     ensures spent { OnOk result (Spends pass.old pass.new) }
 {
     match pass.seen().place_on(subject_in(asked)) {

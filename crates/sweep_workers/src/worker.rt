@@ -6,6 +6,7 @@ ghost use Rattle.lemma_book.specs.Root.{IsRoot};
 ghost use Rattle.lemma_book.specs.declared.entry.Subject.TheVariants.{Output};
 ghost use Rattle.circuit_search.specs.Answer.{Finds, SettlesOutput, SettlesPair};
 ghost use Rattle.cone_query.specs.Query.{IsGate, SeesAll, task_of};
+ghost use Rattle.sweep_workers.specs.Answered.{OpensTwoRoots};
 ghost use Rattle.sweep_workers.specs.Asked.{IsAskable, question_in, subject_in};
 
 use crate::asked::Asked;
@@ -147,6 +148,7 @@ impl<R: Refuter + Send> Worker<R> {
         ensures about { IfOk result (λ e. question_of e ≡ question_in asked) }
         ensures good { IfOk result (λ e. IsGood net.now seen.now e) }
         ensures seen { IfOk result (SeesAll seen.now) }
+        ensures roots { IfOk result (OpensTwoRoots net.now seen.now.entries) }
     {
         match asked {
             Asked::Pair(task) => self.pair(rt, alloc, net, sieve, seen, &task),
@@ -238,7 +240,7 @@ impl<R: Refuter + Send> Worker<R> {
     }
 
     /// A good entry about an output that has none yet: what its equal roots show, else what the search finds,
-    /// else what the query of the whole cone answers.
+    /// else what the query of the whole cone answers. So none of equal roots is left open.
     fn output<T: Wait>(
         &mut self,
         rt: &T,
@@ -253,6 +255,7 @@ impl<R: Refuter + Send> Worker<R> {
         ensures about { IfOk result (λ e. subject_of e ≡ Some (Output output)) }
         ensures good { IfOk result (λ e. IsGood net.now seen.now e) }
         ensures seen { IfOk result (SeesAll seen.now) }
+        ensures roots { IfOk result (OpensTwoRoots net.now seen.now.entries) }
     {
         if let Some(entry) = equal_output(alloc, net, seen, output)? {
             return Ok(entry);

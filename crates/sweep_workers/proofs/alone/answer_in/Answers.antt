@@ -23,4 +23,5 @@ append-requires-clause-good g c =
 pub returns-in-Ok : goal.returns-in-Ok
 returns-in-Ok g c =
     answered-added c.args.net.now c.args.book.now c.append.new.self (question_in c.args.asked) c.in_ok-entry-in-None.entry c.requires.legal
-    c.in_ok-entry-in-None.ensures.about c.in_ok-entry-in-None.ensures.good c.in_ok-entry-in-None.ensures.seen c.in-Ok.ensures.after
+    c.in_ok-entry-in-None.ensures.about c.in_ok-entry-in-None.ensures.good c.in_ok-entry-in-None.ensures.seen c.in_ok-entry-in-None.ensures.roots
+    c.in-Ok.ensures.after

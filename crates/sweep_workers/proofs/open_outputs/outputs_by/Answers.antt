@@ -12,4 +12,4 @@ pub returns : goal.returns
 returns g c =
     if-ok c.round.result (λ r. AreAnswered c.args.net.now (questions c.in_ok-tasks.tasks.items) c.args.book r.0)
     (λ r. SettlesOutputs c.args.net.now c.args.book r.0) c.round.ensures
-    (λ r done. settles-outputs c.args.net.now c.args.book r.0 c.in_ok-tasks.tasks.items c.in_ok-tasks.ensures done)
+    (λ r done. settles-outputs c.args.net.now c.args.book r.0 c.in_ok-tasks.tasks.items c.in_ok-tasks.ensures c.requires.legal done)

@@ -1,11 +1,12 @@
-use Rattle.std.proofs.Common.{◌+◌, take}
-use Rattle.std.proofs.lemmas.List.{take_more}
-use Rattle.sweep_workers.proofs.PartLemmas.{part-next}
+use Rattle.std.proofs.Common.{◌≡◌, List, sym, subst}
+use Rattle.lemma_book.specs.declared.entry.Task.{Task}
+use Rattle.sweep_workers.specs.Asked.{IsPart}
+use Rattle.sweep_workers.proofs.AnswerLemmas.{if-ok}
+use Rattle.sweep_workers.proofs.PartLemmas.{part-all}
 use Rattle.sweep_workers.proofs.rounds.chosen.Goals as goal
 
-pub loop-k-preserved : goal.loop-k-preserved
-loop-k-preserved c =
-    let k = c.loop-k.k in
+pub returns-then-is_empty-clause-part : goal.returns-then-is_empty-clause-part
+returns-then-is_empty-clause-part c =
     let due = c.args.due.now in
-    part-next c.loop-k.now.items (take k due) c.push_marked.new.now.items (take (k + 1) due) _ c.loop-k.invariant
-    c.in_ok-push_marked.ensures (take_more due k _ c.loop-k-test.true)
+    if-ok c.from_slice.result (λ v. v.items ≡ due) (λ v. IsPart v.items due) c.from_slice.ensures.items
+    (λ v same. subst (λ (ts : List Task). IsPart ts due) (sym same) (part-all due))

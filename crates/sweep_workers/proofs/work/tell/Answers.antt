@@ -5,9 +5,10 @@ use Rattle.lemma_book.specs.Entry.{Entries, place_on}
 use Rattle.cone_query.specs.Query.{SeesAll}
 use Rattle.board_lock.specs.Pass.{OfferedOne}
 use Rattle.sweep_workers.specs.Asked.{question_in, subject_in}
+use Rattle.sweep_workers.specs.Answered.{OpensTwoRoots}
 use Rattle.sweep_workers.specs.Working.{Told}
 use Rattle.sweep_workers.proofs.AnswerLemmas.{on-ok}
-use Rattle.sweep_workers.proofs.WorkLemmas.{claim-settled, claim-sees, told-of}
+use Rattle.sweep_workers.proofs.WorkLemmas.{claim-opens, claim-settled, claim-sees, told-of}
 use Rattle.sweep_workers.proofs.work.tell.Goals as goal
 
 pub note_settled-requires-clause-settled : goal.note_settled-requires-clause-settled
@@ -20,9 +21,11 @@ note_settled-requires-clause-settled g c =
 pub returns-in-Some-clause-told : goal.returns-in-Some-clause-told
 returns-in-Some-clause-told g c =
     on-ok c.note_settled.result (OfferedOne c.claim_of-claim.result c.args.pass.now c.note_settled.new.self (Already c.in-Some.place))
-    (Told (question_in c.args.asked) c.args.pass.now c.note_settled.new.self) c.note_settled.ensures.ok
-    (λ offered. told-of (question_in c.args.asked) c.args.pass.now c.note_settled.new.self c.claim_of-claim.result (Already c.in-Some.place)
-    c.claim_of-claim.ensures.about (claim-sees c.args.pass.now.known c.claim_of-claim.result c.claim_of-claim.ensures.equal) offered)
+    (Told c.args.net.now (question_in c.args.asked) c.args.pass.now c.note_settled.new.self) c.note_settled.ensures.ok
+    (λ offered. told-of c.args.net.now (question_in c.args.asked) c.args.pass.now c.note_settled.new.self c.claim_of-claim.result
+    (Already c.in-Some.place) c.claim_of-claim.ensures.about
+    (claim-sees c.args.pass.now.known c.claim_of-claim.result c.claim_of-claim.ensures.equal)
+    (claim-opens c.args.net.now c.args.pass.now.known.entries c.claim_of-claim.result c.claim_of-claim.ensures.equal) offered)
 
 pub answer-requires-clause-open : goal.answer-requires-clause-open
 answer-requires-clause-open g c κs lives =
@@ -31,5 +34,8 @@ answer-requires-clause-open g c κs lives =
 
 pub returns-in-Ok-clause-told : goal.returns-in-Ok-clause-told
 returns-in-Ok-clause-told g c =
-    told-of (question_in c.args.asked) c.args.pass.now c.offer.new.self c.in_ok-entry-in-None.entry c.in-Ok._offered c.in_ok-entry-in-None.ensures.about
-    (subst (λ (b : Entries). SeesAll b c.in_ok-entry-in-None.entry) c.seen-in-None.ensures c.in_ok-entry-in-None.ensures.seen) c.in-Ok.ensures.ok
+    told-of c.args.net.now (question_in c.args.asked) c.args.pass.now c.offer.new.self c.in_ok-entry-in-None.entry c.in-Ok._offered
+    c.in_ok-entry-in-None.ensures.about
+    (subst (λ (b : Entries). SeesAll b c.in_ok-entry-in-None.entry) c.seen-in-None.ensures c.in_ok-entry-in-None.ensures.seen)
+    (subst (λ (b : Entries). OpensTwoRoots c.args.net.now b.entries c.in_ok-entry-in-None.entry) c.seen-in-None.ensures
+    c.in_ok-entry-in-None.ensures.roots) c.in-Ok.ensures.ok
