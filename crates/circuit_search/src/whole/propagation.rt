@@ -42,6 +42,7 @@ impl Watches {
         trail: &mut Trail,
         code: u32,
     ) -> Result<u32, AllocError> {
+        self.note_visit(code);
         let mut place = self.start(code);
         let mut end = place.saturating_add(self.len(code));
         let start = place;

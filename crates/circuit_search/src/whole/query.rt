@@ -56,7 +56,7 @@ impl Whole {
         if self.trail.level() == 1 {
             return self.show(codes, conflict);
         }
-        if *left == 0 {
+        if *left == 0 || self.is_spent() {
             return Ok(Some(Answer::Open));
         }
         *left -= 1;

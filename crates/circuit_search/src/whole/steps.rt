@@ -13,7 +13,7 @@ use std::alloc::{AllocError, Global};
 
 impl Whole {
     /// The entry of an output whose codes are equal by these clauses: that the second is true where the first
-    /// is, and that the first is where the second is.
+    /// is, and that the first is where the second is. None where it has more steps than a budget allows.
     pub(crate) fn out(
         &mut self,
         alloc: Global,
@@ -21,6 +21,7 @@ impl Whole {
         equalities: &Equalities,
         output: u32,
         cases: (u32, u32),
+        budget: u64,
     ) -> Result<Option<Entry>, AllocError>
         ensures { IfOk result (λ o. IfSome o (SettlesOutput output)) }
     {
@@ -41,7 +42,11 @@ impl Whole {
         add_step(alloc, &[equal, first], &one, &mut steps)?;
         let two = [before, there, Ref::Axiom(xor, 1)];
         add_step(alloc, &[equal], &two, &mut steps)?;
-        let steps = Listed::of(equalities.proof(alloc, &steps)?);
+        let steps = equalities.proof(alloc, &steps)?;
+        if steps.len() as u64 > budget.saturating_add(2) {
+            return Ok(None);
+        }
+        let steps = Listed::of(steps);
         Ok(Some(Entry::Out { output, steps }))
     }
 

@@ -35,6 +35,8 @@ const NOWHERE: Span = Span {
 pub(crate) struct Watches {
     spans: Vec<Span>,
     pool: Vec<Watch>,
+    /// How many watches were visited.
+    visited: u64,
 }
 
 impl Watches {
@@ -43,6 +45,7 @@ impl Watches {
         Watches {
             spans: Vec::new(alloc),
             pool: Vec::new(alloc),
+            visited: 0,
         }
     }
 
@@ -50,6 +53,17 @@ impl Watches {
     pub(crate) fn clear(&mut self) {
         self.spans.clear();
         self.pool.clear();
+    }
+
+    /// How many watches were visited; those that are forgotten count too.
+    pub(crate) fn visited(&self) -> u64 {
+        self.visited
+    }
+
+    /// Counts the watches of a code that is visited.
+    #[inline(always)]
+    pub(crate) fn note_visit(&mut self, code: u32) {
+        self.visited = self.visited.wrapping_add(u64::from(self.len(code)));
     }
 
     /// Forgets all watches, but not the codes.
