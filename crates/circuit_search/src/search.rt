@@ -177,7 +177,7 @@ impl Search {
         ensures { self.new.dropped ≡ self.old.dropped }
     {
         if self.engine.catch_up(net, book) {
-            self.whole.forget();
+            self.whole.begin_anew();
         }
     }
 

@@ -4,6 +4,7 @@ ghost use Rattle.circuit_search.specs.Answer.{SettlesOutput};
 use crate::caps::Caps;
 use crate::equalities::Equalities;
 use crate::equating::has_constraints;
+use crate::luck::Luck;
 use crate::merges::{Merges, lit_code};
 use crate::table::{at, count, mark};
 use crate::whole::analysis::Analysis;
@@ -39,6 +40,9 @@ const WORK: u64 = 20000;
 const CONFLICT: u64 = 500;
 
 const NODE: u64 = 10;
+
+/// How far the search for an output's two codes goes before any pair is searched.
+const DIRECT: u32 = 800;
 
 /// How far the search for one equality goes, and then those for what is left.
 const PASSES: [u32; 2] = [1000, 10000];
@@ -89,6 +93,8 @@ pub(crate) struct Whole {
     learned: u64,
     /// The work at which the output's search ends.
     limit: u64,
+    /// When an output is searched before the pairs of its cone.
+    direct: Luck,
 }
 
 /// What was found out of two codes.
@@ -124,6 +130,7 @@ impl Whole {
             lessons: 0,
             learned: 0,
             limit: 0,
+            direct: Luck::new(),
         }
     }
 
@@ -143,6 +150,12 @@ impl Whole {
         self.analysis.clear();
         self.explained = 0;
         self.lessons = 0;
+    }
+
+    /// Forgets all of another book.
+    pub(crate) fn begin_anew(&mut self) {
+        self.forget();
+        self.direct = Luck::new();
     }
 
     /// What was done so far, in watches visited.
@@ -201,15 +214,18 @@ impl Whole {
         equalities: &mut Equalities,
         codes: (u32, u32),
     ) -> Result<Found, AllocError> {
+        if self.direct.is_due() {
+            let found = self.compare(net, merges, equalities, codes, DIRECT)?;
+            self.direct.note(is_settled(found));
+            if is_settled(found) {
+                return Ok(found);
+            }
+        }
         for most in PASSES {
             self.equate(alloc, net, merges, equalities, codes, most)?;
             let found = self.compare(net, merges, equalities, codes, most)?;
-            match found {
-                Found::Open => {}
-                _ => return Ok(found),
-            }
-            if self.is_spent() {
-                return Ok(Found::Open);
+            if is_settled(found) || self.is_spent() {
+                return Ok(found);
             }
         }
         self.compare(net, merges, equalities, codes, u32::MAX)
@@ -298,9 +314,8 @@ impl Whole {
         let found = self.compare_cone(codes, &mut left)?;
         let visits = u64::from(count(self.cone.len())).saturating_mul(NODE);
         self.limit = self.limit.saturating_sub(visits);
-        match found {
-            Found::Open => {}
-            _ => self.allow_more(before),
+        if is_settled(found) {
+            self.allow_more(before);
         }
         Ok(found)
     }
@@ -352,6 +367,14 @@ impl Whole {
         }
         let input = Listed::of(input);
         Ok(Some(Entry::OutApart { output, input }))
+    }
+}
+
+/// Whether something was found.
+fn is_settled(found: Found) -> bool {
+    match found {
+        Found::Open => false,
+        _ => true,
     }
 }
 
