@@ -10,7 +10,7 @@ use crate::table::{at, count, mark};
 use crate::whole::analysis::Analysis;
 use crate::whole::nodes::Nodes;
 use crate::whole::order::Order;
-use crate::whole::query::Answer;
+use crate::whole::query::{Answer, ROOM};
 use crate::whole::restarts::Restarts;
 use crate::whole::store::{Name, Store};
 use crate::whole::trail::Trail;
@@ -30,6 +30,7 @@ mod restarts;
 mod steps;
 mod store;
 mod trail;
+mod trim;
 mod watches;
 
 /// How much work a search for an output may do in vain for each clause of its budget, counted in watches visited. The
@@ -41,8 +42,10 @@ const CONFLICT: u64 = 500;
 
 const NODE: u64 = 10;
 
-/// How far the search for an output's two codes goes before any pair is searched.
+/// How far the search for an output's two codes goes before so many pairs of its cone are searched.
 const DIRECT: u32 = 800;
+
+const MANY: usize = 5;
 
 /// How far the search for one equality goes, and then those for what is left.
 const PASSES: [u32; 2] = [1000, 10000];
@@ -65,6 +68,8 @@ pub(crate) struct Whole {
     variables: u32,
     store: Store,
     watches: Watches,
+    /// Those of clauses that a proof doesn't need yet, while it is trimmed.
+    spare: Watches,
     trail: Trail,
     order: Order,
     restarts: Restarts,
@@ -87,8 +92,9 @@ pub(crate) struct Whole {
     keys: Vec<u64>,
     /// How many codes of level 0 have their units as reasons.
     explained: u32,
-    /// How many clauses were learned since some were dropped.
+    /// How many clauses were learned since some were dropped, and after how many some are.
     lessons: u32,
+    room: u32,
     /// How many clauses were learned from conflicts; what is forgotten counts too.
     learned: u64,
     /// The work at which the output's search ends.
@@ -114,6 +120,7 @@ impl Whole {
             variables: 0,
             store: Store::new(alloc),
             watches: Watches::new(alloc),
+            spare: Watches::new(alloc),
             trail: Trail::new(alloc),
             order: Order::new(alloc),
             restarts: Restarts::new(),
@@ -128,6 +135,7 @@ impl Whole {
             keys: Vec::new(alloc),
             explained: 0,
             lessons: 0,
+            room: ROOM,
             learned: 0,
             limit: 0,
             direct: Luck::new(),
@@ -150,6 +158,7 @@ impl Whole {
         self.analysis.clear();
         self.explained = 0;
         self.lessons = 0;
+        self.room = ROOM;
     }
 
     /// Forgets all of another book.
@@ -214,7 +223,7 @@ impl Whole {
         equalities: &mut Equalities,
         codes: (u32, u32),
     ) -> Result<Found, AllocError> {
-        if self.direct.is_due() {
+        if self.has_many(net, merges, equalities, codes)? && self.direct.is_due() {
             let found = self.compare(net, merges, equalities, codes, DIRECT)?;
             self.direct.note(is_settled(found));
             if is_settled(found) {
@@ -229,6 +238,19 @@ impl Whole {
             }
         }
         self.compare(net, merges, equalities, codes, u32::MAX)
+    }
+
+    /// Whether many pairs are open in a cone.
+    fn has_many(
+        &mut self,
+        net: &Net,
+        merges: &Merges,
+        equalities: &Equalities,
+        codes: (u32, u32),
+    ) -> Result<bool, AllocError> {
+        self.enter(net, merges, equalities, codes)?;
+        self.list_open(merges, equalities, u32::MAX)?;
+        Ok(self.open.len() >= MANY)
     }
 
     /// Searches for why the open pairs in a cone are equal, from the inputs up, but for those that failed with

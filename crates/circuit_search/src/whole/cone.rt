@@ -5,7 +5,6 @@ use crate::trail::{FALSE, FREE};
 use crate::whole::Whole;
 use crate::whole::store::Name;
 use crate::whole::trail::Trail;
-use crate::whole::watches::Watch;
 use netlist::Net;
 use std::alloc::AllocError;
 
@@ -173,21 +172,7 @@ impl Whole {
 
     /// Has a clause watched by its first two codes.
     pub(crate) fn watch(&mut self, place: u32) -> Result<(), AllocError> {
-        let first = self.store.code(place);
-        let second = self.store.code(place.wrapping_add(1));
-        let is_two = self.store.size_of(place) == 2;
-        let one = Watch {
-            clause: place,
-            blocker: second,
-            is_two,
-        };
-        let two = Watch {
-            clause: place,
-            blocker: first,
-            is_two,
-        };
-        self.watches.push(first, one)?;
-        self.watches.push(second, two)
+        self.watches.watch(&self.store, place)
     }
 
     /// Gives the levels above this one up. Variables of the cone can be chosen again.

@@ -34,6 +34,26 @@ impl Watches {
         Ok(NONE)
     }
 
+    /// The same by other watches too, of which one code's are visited whenever these force nothing any more.
+    pub(crate) fn propagate_with(
+        &mut self,
+        others: &mut Watches,
+        store: &mut Store,
+        trail: &mut Trail,
+    ) -> Result<u32, AllocError> {
+        for place in 0..u32::MAX {
+            let conflict = self.propagate(store, trail)?;
+            if conflict != NONE || place >= trail.len() {
+                return Ok(conflict);
+            }
+            let conflict = others.visit_all(store, trail, trail.lit(place) ^ 1)?;
+            if conflict != NONE {
+                return Ok(conflict);
+            }
+        }
+        Ok(NONE)
+    }
+
     /// Visits the watches of a code that is false now. One that moves leaves its place to the last one.
     #[inline(always)]
     fn visit_all(

@@ -11,9 +11,13 @@ use lits::{Clause, ClauseErr, Hints, Listed, Lit, Node, Ref, Side, Step};
 use netlist::Net;
 use std::alloc::{AllocError, Global};
 
+/// A proof isn't trimmed where it has over so many times the steps that it may have.
+const TRIMMED: u64 = 4;
+
 impl Whole {
     /// The entry of an output whose codes are equal by these clauses: that the second is true where the first
-    /// is, and that the first is where the second is. None where it has more steps than a budget allows.
+    /// is, and that the first is where the second is. Where it has more steps than the budget allows it is trimmed, and
+    /// there is none where that isn't enough.
     pub(crate) fn out(
         &mut self,
         alloc: Global,
@@ -25,8 +29,30 @@ impl Whole {
     ) -> Result<Option<Entry>, AllocError>
         ensures { IfOk result (λ o. IfSome o (SettlesOutput output)) }
     {
-        let Some(first) = net.output(Side::A, output) else {
+        let most = budget.saturating_add(2);
+        let mut steps = self.proof(alloc, net, equalities, output, cases)?;
+        if is_worth_trimming(&steps, most) {
+            self.trim(cases)?;
+            steps = self.proof(alloc, net, equalities, output, cases)?;
+        }
+        if steps.len() as u64 > most {
             return Ok(None);
+        }
+        let steps = Listed::of(steps);
+        Ok(Some(Entry::Out { output, steps }))
+    }
+
+    /// The steps by which these clauses show the two codes of an output equal, with those of the equalities.
+    fn proof(
+        &mut self,
+        alloc: Global,
+        net: &Net,
+        equalities: &Equalities,
+        output: u32,
+        cases: (u32, u32),
+    ) -> Result<Vec<Step>, AllocError> {
+        let Some(first) = net.output(Side::A, output) else {
+            return Ok(Vec::new(alloc));
         };
         self.shown = equalities.len();
         let mut steps = self.steps(alloc, net, cases)?;
@@ -42,12 +68,7 @@ impl Whole {
         add_step(alloc, &[equal, first], &one, &mut steps)?;
         let two = [before, there, Ref::Axiom(xor, 1)];
         add_step(alloc, &[equal], &two, &mut steps)?;
-        let steps = equalities.proof(alloc, &steps)?;
-        if steps.len() as u64 > budget.saturating_add(2) {
-            return Ok(None);
-        }
-        let steps = Listed::of(steps);
-        Ok(Some(Entry::Out { output, steps }))
+        equalities.proof(alloc, &steps)
     }
 
     /// Has the equalities take why a node is equal to a code, by these clauses. What they rest on is named as a
@@ -146,7 +167,7 @@ impl Whole {
     ) -> Result<(), AllocError> {
         let record = self.store.record(number);
         let mut lits = Vec::new(alloc);
-        for code in self.store.codes(record.start) {
+        for code in self.store.codes_of(number) {
             let position = self.nodes.get(*code / 2).position;
             lits.push(lit_at(net, position.wrapping_mul(2) | (*code & 1)))?;
         }
@@ -181,6 +202,12 @@ impl Whole {
     fn place(&self, number: u32) -> u32 {
         self.shown.saturating_add(self.store.record(number).order)
     }
+}
+
+/// Whether steps are too many, but not by so much that trimming them is in vain.
+fn is_worth_trimming(steps: &[Step], most: u64) -> bool {
+    let many = steps.len() as u64;
+    many > most && many / TRIMMED <= most
 }
 
 /// Puts the step last that adds a clause. One with a complementary pair, which is none, adds no step.

@@ -139,6 +139,13 @@ impl Trail {
         }
     }
 
+    /// Makes a code true for this reason, if it is free.
+    pub(crate) fn take(&mut self, code: u32, reason: u32) {
+        if self.value(code) == FREE {
+            self.assign(code, reason);
+        }
+    }
+
     /// Makes a code true for no reason, if it is free.
     pub(crate) fn choose(&mut self, code: u32) {
         if self.value(code) == FREE {

@@ -1,4 +1,5 @@
 use crate::table::count;
+use crate::whole::store::Store;
 use std::alloc::{AllocError, Global};
 
 /// That a clause watches a code. Where the blocker, another code of it, is true, the clause isn't read; nor is
@@ -134,6 +135,45 @@ impl Watches {
         self.set(span.start.wrapping_add(span.len), watch);
         self.set_len(code, span.len.wrapping_add(1));
         Ok(())
+    }
+
+    /// Has a clause watched by its first two codes.
+    pub(crate) fn watch(&mut self, store: &Store, clause: u32) -> Result<(), AllocError> {
+        let first = store.code(clause);
+        let second = store.code(clause.wrapping_add(1));
+        let is_two = store.size_of(clause) == 2;
+        let one = Watch {
+            clause,
+            blocker: second,
+            is_two,
+        };
+        let two = Watch {
+            clause,
+            blocker: first,
+            is_two,
+        };
+        self.push(first, one)?;
+        self.push(second, two)
+    }
+
+    /// Has a clause watched no more.
+    pub(crate) fn unwatch(&mut self, store: &Store, clause: u32) {
+        self.remove(store.code(clause), clause);
+        self.remove(store.code(clause.wrapping_add(1)), clause);
+    }
+
+    /// Takes the watch of a clause out of a code's list.
+    fn remove(&mut self, code: u32, clause: u32) {
+        let span = self.span(code);
+        let end = span.start.saturating_add(span.len);
+        for place in span.start..end {
+            if self.get(place).clause == clause {
+                let last = self.get(end.saturating_sub(1));
+                self.set(place, last);
+                self.set_len(code, span.len.saturating_sub(1));
+                return;
+            }
+        }
     }
 
     /// Moves a code's list to the pool's end, with twice the room, and puts a watch last in it.
