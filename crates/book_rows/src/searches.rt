@@ -5,10 +5,11 @@ ghost use Rattle.lemma_book.specs.Book.{IsLegal};
 use crate::bounds::circuit;
 use crate::lemmas::{SPENT, book_of};
 use crate::pairs::{Case, check, expect, net_of, two_xors};
-use circuit_search::{Caps, Search, Shared, Sieve};
+use circuit_search::{Caps, Search, Shared};
 use lemma_book::{Book, Entry, Task};
 use lits::{Lit, Node, Side};
 use netlist::{And, Net};
+use pattern_filter::PatternFilter;
 use std::alloc::Global;
 use std::process::Abort;
 use worked_circuits::{and, one_gate, two_input_circuit};
@@ -80,7 +81,7 @@ fn found_of_output(rt: &impl Abort, alloc: Global, net: &Net, search: &mut Searc
 
 /// Whether a pattern shows the outputs to differ, and on what.
 fn found_of_patterns(rt: &impl Abort, alloc: Global, net: &Net) -> &'static str {
-    let mut sieve = Sieve::new(alloc, 1, 1);
+    let mut sieve = PatternFilter::new(alloc, 1, 1);
     let book = Book::new(alloc, 1, 1);
     match sieve.difference(alloc, net, &book).expect(rt, "memory") {
         Some(input) => which_is_true(input.as_slice()),

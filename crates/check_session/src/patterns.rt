@@ -11,10 +11,10 @@ ghost use Rattle.check_session.specs.Pool.{HasBitsFor, HasBitsOf, IsFirstApart, 
 
 use crate::admitted::admitted_row;
 use crate::rare::rare_difference;
-use circuit_search::Sieve;
 use lemma_book::Book;
 use lits::{Listed, Side};
 use netlist::Net;
+use pattern_filter::PatternFilter;
 use std::alloc::{AllocError, Global};
 use word_sim::{Pool, Sigs, signatures};
 
@@ -34,7 +34,7 @@ pub(crate) fn own_difference(
     alloc: Global,
     net: &Net,
     book: &Book,
-    sieve: &mut Sieve,
+    sieve: &mut PatternFilter,
     pool: &mut Pool,
 ) -> Result<Option<Difference>, AllocError>
     requires legal { IsLegal net.now book.now }
@@ -86,7 +86,7 @@ fn own_input(
     alloc: Global,
     net: &Net,
     book: &Book,
-    sieve: &mut Sieve,
+    sieve: &mut PatternFilter,
     pool: &Pool,
 ) -> Result<Option<Vec<bool>>, AllocError>
     requires legal { IsLegal net.now book.now }

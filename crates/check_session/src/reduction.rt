@@ -11,11 +11,11 @@ use crate::laws::{is_swept, means};
 use crate::options::Options;
 use crate::session::Session;
 use crate::sweep::workers;
-use circuit_search::Sieve;
 use desk_port::Gate;
 use fraig_write::mirror;
 use lemma_book::Book;
 use netlist::{Circuit, Net};
+use pattern_filter::PatternFilter;
 use std::alloc::{AllocError, Global};
 use std::sync::{Mutex, Wait};
 use std::thread::Threads;
@@ -109,7 +109,7 @@ fn swept_book<T: Threads + Wait + Sync, G: Gate + Sync>(
     let pool = pool_or_first(alloc, net, options, None)?;
     let mut book = Book::new(alloc, options.sweep_budget, options.out_budget);
     strash_pass::run(alloc, net, &mut book)?;
-    let sieve = Mutex::new(Sieve::new(alloc, options.seed, options.words));
+    let sieve = Mutex::new(PatternFilter::new(alloc, options.seed, options.words));
     let mut workers = workers(alloc, options.workers)?;
     let begun = Swept { book, pool, sieve };
     let swept = sweep_by(

@@ -16,11 +16,11 @@ use crate::laws::{is_swept, is_within, means};
 use crate::options::Options;
 use crate::patterns::{Difference, difference_in, own_difference};
 use crate::verdict::Verdict;
-use circuit_search::Sieve;
 use lemma_book::laws::entries_are_true;
 use lemma_book::{Book, Entry};
 use lits::Listed;
 use netlist::Net;
+use pattern_filter::PatternFilter;
 use solver_watch::WatchSolver;
 use std::alloc::{AllocError, Global};
 use std::sync::{Arc, Mutex, Wait};
@@ -109,7 +109,7 @@ fn verdict_of_own<T: Threads + Wait + Sync, G: Watch + Sync>(
         IsFound net.now options (record { book = begun; pool = pool }) (Some c.pool) c.book c.verdict) }
 {
     let mut pool = pool;
-    let mut sieve = Sieve::new(alloc, options.seed, options.words);
+    let mut sieve = PatternFilter::new(alloc, options.seed, options.words);
     match own_difference(alloc, net, &merged, &mut sieve, &mut pool)? {
         Some(difference) => verdict_at_once(alloc, net, options, begun, pool, difference),
         None => {

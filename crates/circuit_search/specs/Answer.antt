@@ -2,29 +2,9 @@
 use Rattle.std.specs.Prelude.{◌≡◌, ◌⊎◌, ◌+◌, ◌-◌, ◌^◌, min, ℕ, Option, None, Some, ⊤}
 use Rattle.netlist.specs.Net.{AigPair}
 use Rattle.lemma_book.specs.declared.entry.Entry.{Entry}
-use Rattle.lemma_book.specs.declared.entry.Task.{Task}
-use Rattle.lemma_book.specs.Entry.{Entries, Question, OfPair, OfOutput, Answer, Open, question_of, answer_of}
+use Rattle.lemma_book.specs.Entry.{Entries}
 use Rattle.lemma_book.specs.Good.{IsGood}
-
--- the answer is about the pair, and doesn't leave it open
-abbrev pub IsOfPair : Task → Question → Answer → Type 0
-IsOfPair task q (Open seen log) = ⊥
-IsOfPair task (OfOutput j) a = ⊥
-IsOfPair task (OfPair node lit) a = (node ≡ task.node) × (lit ≡ task.lit)
-
--- the answer is about the output, and doesn't leave it open
-abbrev pub IsOfOutput : ℕ → Question → Answer → Type 0
-IsOfOutput output q (Open seen log) = ⊥
-IsOfOutput output (OfPair node lit) a = ⊥
-IsOfOutput output (OfOutput j) a = j ≡ output
-
--- the entry merges the pair's node to its literal, or has an input on which they differ
-abbrev pub SettlesPair : Task → Entry → Type 0
-SettlesPair task e = IsOfPair task (question_of e) (answer_of e)
-
--- the entry says that the output is equal, or has an input on which it differs
-abbrev pub SettlesOutput : ℕ → Entry → Type 0
-SettlesOutput output e = IsOfOutput output (question_of e) (answer_of e)
+pub use Rattle.search_parts.specs.Settles.{SettlesOutput, SettlesPair}
 
 -- a search gives up, or finds an entry that is good over the book and settles what was asked
 abbrev pub Finds : (Entry → Type 0) → AigPair → Entries → Option Entry → Type 0

@@ -22,42 +22,12 @@
 //! patterns, over `cone.rt`, `roots.rt` and `inputs.rt`.
 #![tactic(auto)]
 
-pub use caps::Caps;
 pub use judged::apart;
 pub use search::Search;
+pub use search_parts::Caps;
 pub use shared::Shared;
-pub use sieve::Sieve;
 
-mod analysis;
-mod assumptions;
-mod caps;
-mod clauses;
-mod cone;
-mod draws;
-mod engine;
-mod equalities;
-mod equating;
-mod inputs;
 mod judged;
-mod justify;
-mod lessons;
-mod loading;
-mod log;
-mod luck;
-mod merges;
-mod propagation;
-mod proposal;
-mod reason;
-mod roots;
-mod round;
+mod proposer;
 mod search;
 mod shared;
-mod sieve;
-mod steps;
-mod sums;
-mod table;
-mod trail;
-mod variables;
-mod visits;
-mod watches;
-mod whole;

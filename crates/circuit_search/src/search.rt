@@ -3,20 +3,18 @@ ghost use Rattle.lemma_book.specs.Book.{IsLegal};
 ghost use Rattle.lemma_book.specs.Good.{IsGood};
 ghost use Rattle.circuit_search.specs.Answer.{CountsDropped, CountsRefused, Finds, SettlesOutput, SettlesPair};
 
-use crate::caps::Caps;
-use crate::engine::Engine;
 use crate::judged::judged;
+use crate::proposer::Proposer;
 use crate::shared::Shared;
-use crate::whole::Whole;
 use lemma_book::{Book, Entry, Judge, Task};
 use netlist::Net;
+use search_parts::Caps;
 use std::alloc::{AllocError, Global};
 
 /// Searches a net for why two nodes, or the two literals of an output, are equal or not. It keeps its memory
 /// from query to query.
 pub struct Search {
-    engine: Engine,
-    whole: Whole,
+    proposer: Proposer,
     judge: Judge,
     dropped: u64,
 }
@@ -25,8 +23,7 @@ pub struct Search {
 impl Drop for Search {
     fn drop(self) {
         let Search {
-            engine: _,
-            whole: _,
+            proposer: _,
             judge: _,
             dropped: _,
         } = self;
@@ -39,8 +36,7 @@ impl Search {
         ensures { IfOk result (λ s. s.dropped ≡ 0) }
     {
         Ok(Search {
-            engine: Engine::of(alloc, net)?,
-            whole: Whole::new(alloc),
+            proposer: Proposer::of(alloc, net)?,
             judge: Judge::new(alloc),
             dropped: 0,
         })
@@ -56,7 +52,7 @@ impl Search {
     /// How many clauses its queries learned, each from a conflict. It is a count for the reader: nothing is
     /// claimed of it.
     pub fn conflicts(&self) -> u64 {
-        self.engine.learned.saturating_add(self.whole.learned())
+        self.proposer.conflicts()
     }
 
     /// Searches for an entry about a pair: that node and literal have one value, or an input on which they
@@ -74,10 +70,9 @@ impl Search {
         ensures counted { IfOk result (CountsDropped self.old.dropped self.new.dropped) }
         ensures err { OnErr result (self.new.dropped ≡ self.old.dropped) }
     {
-        self.catch_up(net, book);
-        let caps = self.engine.caps_for(net, task, caps);
-        self.engine.most_steps = book.sweep_budget().saturating_add(2);
-        match self.engine.pair(alloc, net, task, caps)? {
+        self.proposer.catch_up(net, book);
+        let steps = book.sweep_budget().saturating_add(2);
+        match self.proposer.pair(alloc, net, task, caps, steps)? {
             Some(entry) => self.judged(alloc, net, book, entry),
             None => Ok(None),
         }
@@ -97,8 +92,8 @@ impl Search {
         ensures counted { IfOk result (CountsDropped self.old.dropped self.new.dropped) }
         ensures err { OnErr result (self.new.dropped ≡ self.old.dropped) }
     {
-        self.catch_up(net, book);
-        match self.engine.output_shortly(alloc, net, output, caps)? {
+        self.proposer.catch_up(net, book);
+        match self.proposer.output_shortly(alloc, net, output, caps)? {
             Some(entry) => self.judged(alloc, net, book, entry),
             None => Ok(None),
         }
@@ -115,14 +110,7 @@ impl Search {
     ) -> Result<(), AllocError>
         ensures { self.new.dropped ≡ self.old.dropped }
     {
-        let all = &mut shared.equalities;
-        self.engine.equalities.exchange(alloc, all)?;
-        if shared.is_searched {
-            return Ok(());
-        }
-        shared.is_searched = true;
-        self.engine.equate_open(alloc, net, caps)?;
-        self.engine.equalities.exchange(alloc, all)
+        self.proposer.exchange(alloc, net, shared, caps)
     }
 
     /// Searches for an entry about an output: that both circuits give it one value, or an input on which they
@@ -140,44 +128,10 @@ impl Search {
         ensures counted { IfOk result (CountsDropped self.old.dropped self.new.dropped) }
         ensures err { OnErr result (self.new.dropped ≡ self.old.dropped) }
     {
-        self.catch_up(net, book);
-        match self.proposed(alloc, net, output, caps)? {
+        self.proposer.catch_up(net, book);
+        match self.proposer.output(alloc, net, output, caps)? {
             Some(entry) => self.judged(alloc, net, book, entry),
             None => Ok(None),
-        }
-    }
-
-    /// The entry that is proposed for an output: the lazy search's, else that of the whole cone's.
-    fn proposed(
-        &mut self,
-        alloc: Global,
-        net: &Net,
-        output: u32,
-        caps: Caps,
-    ) -> Result<Option<Entry>, AllocError>
-        ensures found { IfOk result (λ o. IfSome o (SettlesOutput output)) }
-        ensures counted { self.new.dropped ≡ self.old.dropped }
-    {
-        if let Some(entry) = self.engine.output_by_equalities(alloc, net, output, caps)? {
-            return Ok(Some(entry));
-        }
-        let merges = &self.engine.merges;
-        let equalities = &mut self.engine.equalities;
-        if let Some(entry) = self
-            .whole
-            .output(alloc, net, merges, equalities, output, caps)?
-        {
-            return Ok(Some(entry));
-        }
-        self.engine.output_owed(alloc, net, output, caps)
-    }
-
-    /// Reads what is new in the book.
-    fn catch_up(&mut self, net: &Net, book: &Book)
-        ensures { self.new.dropped ≡ self.old.dropped }
-    {
-        if self.engine.catch_up(net, book) {
-            self.whole.begin_anew();
         }
     }
 

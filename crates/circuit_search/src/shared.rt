@@ -1,4 +1,4 @@
-use crate::equalities::Equalities;
+use shared_equalities::Equalities;
 use std::alloc::Global;
 
 /// What the searches of one check share: the equalities that they found of pairs that the book leaves open, so that

@@ -7,9 +7,9 @@ ghost use Rattle.sweep_workers.specs.Asked.{IsAskable, question_in, questions};
 use crate::asked::{Asked, subject_in};
 use crate::watch::Watch;
 use crate::worker::Worker;
-use circuit_search::Sieve;
 use lemma_book::{Book, Entry};
 use netlist::Net;
+use pattern_filter::PatternFilter;
 use std::alloc::{AllocError, Global};
 use std::sync::{Mutex, Wait};
 use unit_prop::Refuter;
@@ -43,7 +43,7 @@ pub(crate) fn settle_alone<T: Wait, R: Refuter + Send, G: Watch>(
     net: &Net,
     book: Book,
     tasks: &[Asked],
-    sieve: &Mutex<Sieve>,
+    sieve: &Mutex<PatternFilter>,
     gate: &G,
     worker: &mut Worker<R>,
     effort: u64,
@@ -75,7 +75,7 @@ fn answer_in<T: Wait, R: Refuter + Send>(
     alloc: Global,
     net: &Net,
     book: &mut Book,
-    sieve: &Mutex<Sieve>,
+    sieve: &Mutex<PatternFilter>,
     worker: &mut Worker<R>,
     asked: Asked,
 ) -> Result<u64, AllocError>

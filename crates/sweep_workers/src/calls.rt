@@ -7,10 +7,10 @@ use crate::open_outputs::outputs_by;
 use crate::rounds::{Swept, sweep_by};
 use crate::watch::Unwatched;
 use crate::worker::{Worker, shared_memory};
-use circuit_search::Sieve;
 use desk_port::Gate;
 use lemma_book::Book;
 use netlist::Net;
+use pattern_filter::PatternFilter;
 use std::alloc::{AllocError, Global};
 use std::sync::{Arc, Mutex, Wait};
 use std::thread::Threads;
@@ -39,7 +39,7 @@ pub fn sweep<T: Threads + Wait + Sync, R: Refuter + Send, G: Gate + Sync>(
     ensures reduced { IfOk result (λ r. IsReduced net.now r.0.entries r.1.patterns) }
     ensures refuters { IfOk result (λ r. length r.2.items ≡ length refuters.items) }
 {
-    let sieve = Mutex::new(Sieve::new(alloc, SEED, 0));
+    let sieve = Mutex::new(PatternFilter::new(alloc, SEED, 0));
     let mut workers = workers_of(alloc, refuters)?;
     let swept = Swept { book, pool, sieve };
     let Swept {
@@ -72,7 +72,7 @@ pub fn outputs<T: Threads + Wait + Sync, R: Refuter + Send, G: Gate + Sync>(
     ensures settles { IfOk result (λ r. SettlesOutputs net.now book r.0) }
     ensures refuters { IfOk result (λ r. length r.1.items ≡ length refuters.items) }
 {
-    let sieve = Mutex::new(Sieve::new(alloc, SEED, 0));
+    let sieve = Mutex::new(PatternFilter::new(alloc, SEED, 0));
     let mut workers = workers_of(alloc, refuters)?;
     let (book, _sieve) = outputs_by(
         rt,

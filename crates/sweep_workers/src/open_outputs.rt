@@ -8,9 +8,9 @@ use crate::asked::Asked;
 use crate::round::round;
 use crate::watch::{Part, Watch};
 use crate::worker::Worker;
-use circuit_search::Sieve;
 use lemma_book::Book;
 use netlist::Net;
+use pattern_filter::PatternFilter;
 use std::alloc::{AllocError, Global};
 use std::sync::{Mutex, Wait};
 use std::thread::Threads;
@@ -22,10 +22,10 @@ pub fn outputs_by<T: Threads + Wait + Sync, R: Refuter + Send, G: Watch + Sync>(
     alloc: Global,
     net: &Net,
     book: Book,
-    sieve: Mutex<Sieve>,
+    sieve: Mutex<PatternFilter>,
     gate: &G,
     workers: &mut [Worker<R>],
-) -> Result<(Book, Mutex<Sieve>), AllocError>
+) -> Result<(Book, Mutex<PatternFilter>), AllocError>
     requires legal { IsLegal net.now book }
     requires some { 1 ≤ length workers.old }
     ensures { IfOk result (λ r. SettlesOutputs net.now book r.0) }

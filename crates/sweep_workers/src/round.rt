@@ -13,9 +13,9 @@ use crate::watch::Watch;
 use crate::work::Round;
 use crate::worker::Worker;
 use board_lock::{Board, Pass};
-use circuit_search::Sieve;
 use lemma_book::Book;
 use netlist::Net;
+use pattern_filter::PatternFilter;
 use std::alloc::{AllocError, Global};
 use std::sync::{Mutex, Wait};
 use std::thread::Threads;
@@ -29,10 +29,10 @@ pub(crate) fn round<T: Threads + Wait + Sync, R: Refuter + Send, G: Watch + Sync
     net: &Net,
     book: Book,
     tasks: Vec<Asked>,
-    sieve: Mutex<Sieve>,
+    sieve: Mutex<PatternFilter>,
     gate: &G,
     workers: &mut [Worker<R>],
-) -> Result<(Book, Mutex<Sieve>), AllocError>
+) -> Result<(Book, Mutex<PatternFilter>), AllocError>
     requires legal { IsLegal net.now book }
     requires askable { AllByRecursion (IsAskable net.now) tasks.items }
     requires some { 1 ≤ length workers.old }
@@ -65,10 +65,10 @@ fn share_out<T: Threads + Wait + Sync, R: Refuter + Send, G: Watch + Sync>(
     net: &Net,
     book: Book,
     tasks: Vec<Asked>,
-    sieve: Mutex<Sieve>,
+    sieve: Mutex<PatternFilter>,
     gate: &G,
     workers: &mut [Worker<R>],
-) -> Result<(Book, Mutex<Sieve>), AllocError>
+) -> Result<(Book, Mutex<PatternFilter>), AllocError>
     requires legal { IsLegal net.now book }
     requires askable { AllByRecursion (IsAskable net.now) tasks.items }
     requires asked { 1 ≤ length tasks.items }
@@ -98,7 +98,7 @@ fn settle_round<T: Threads + Wait + Sync, R: Refuter + Send, G: Watch + Sync>(
     gate: &G,
     pass: Pass,
     workers: &mut [Worker<R>],
-) -> Result<(Book, Mutex<Sieve>), AllocError>
+) -> Result<(Book, Mutex<PatternFilter>), AllocError>
     requires round { IsRound net.now round.board round.tasks.items }
     requires works { Works round.board (questions round.tasks.items) pass }
     requires whole { IsWholePass pass }

@@ -10,9 +10,9 @@ use crate::inputs::join_inputs;
 use crate::round::round;
 use crate::watch::{Part, Watch};
 use crate::worker::Worker;
-use circuit_search::Sieve;
 use lemma_book::{Book, Task};
 use netlist::Net;
+use pattern_filter::PatternFilter;
 use sig_classes::{KeptClasses, laws};
 use std::alloc::{AllocError, Global};
 use std::sync::{Mutex, Wait};
@@ -25,7 +25,7 @@ use word_sim::Pool;
 pub struct Swept {
     pub book: Book,
     pub pool: Pool,
-    pub sieve: Mutex<Sieve>,
+    pub sieve: Mutex<PatternFilter>,
 }
 
 /// Settles the pairs of nodes that no pattern tells apart, round after round, until simulation has no

@@ -8,8 +8,8 @@ use crate::asked::{Asked, claim_of, subject_in};
 use crate::watch::Watch;
 use crate::worker::Worker;
 use board_lock::{Board, Pass};
-use circuit_search::Sieve;
 use netlist::Net;
+use pattern_filter::PatternFilter;
 use std::alloc::{AllocError, Global};
 use std::sync::{Mutex, Wait};
 use unit_prop::Refuter;
@@ -19,7 +19,7 @@ use unit_prop::Refuter;
 pub(crate) struct Round {
     pub(crate) board: Board,
     pub(crate) tasks: Vec<Asked>,
-    pub(crate) sieve: Mutex<Sieve>,
+    pub(crate) sieve: Mutex<PatternFilter>,
 }
 
 /// Draws tasks and settles them, until there are no more.

@@ -9,12 +9,13 @@ ghost use Rattle.cone_query.specs.Query.{IsGate, SeesAll, task_of};
 ghost use Rattle.sweep_workers.specs.Asked.{IsAskable, question_in, subject_in};
 
 use crate::asked::Asked;
-use circuit_search::{Caps, Search, Shared, Sieve, apart};
+use circuit_search::{Caps, Search, Shared, apart};
 use cone_query::Queries;
 use equal_outputs::equal_output;
 use lemma_book::{Book, Entry, Judge, Task};
 use lits::{Lit, Node, Side, Step};
 use netlist::Net;
+use pattern_filter::PatternFilter;
 use std::alloc::{AllocError, Global};
 use std::sync::{Arc, Mutex, Wait};
 use unit_prop::Refuter;
@@ -136,7 +137,7 @@ impl<R: Refuter + Send> Worker<R> {
         rt: &T,
         alloc: Global,
         net: &Net,
-        sieve: &Mutex<Sieve>,
+        sieve: &Mutex<PatternFilter>,
         seen: &Book,
         asked: Asked,
     ) -> Result<Entry, AllocError>
@@ -159,7 +160,7 @@ impl<R: Refuter + Send> Worker<R> {
         rt: &T,
         alloc: Global,
         net: &Net,
-        sieve: &Mutex<Sieve>,
+        sieve: &Mutex<PatternFilter>,
         seen: &Book,
         task: &Task,
     ) -> Result<Entry, AllocError>
@@ -184,7 +185,7 @@ impl<R: Refuter + Send> Worker<R> {
         rt: &T,
         alloc: Global,
         net: &Net,
-        sieve: &Mutex<Sieve>,
+        sieve: &Mutex<PatternFilter>,
         seen: &Book,
         task: &Task,
     ) -> Result<Entry, AllocError>
@@ -346,7 +347,7 @@ fn told_apart<T: Wait>(
     rt: &T,
     alloc: Global,
     net: &Net,
-    sieve: &Mutex<Sieve>,
+    sieve: &Mutex<PatternFilter>,
     seen: &Book,
     judge: &mut Judge,
     task: &Task,
@@ -362,7 +363,7 @@ fn told_apart<T: Wait>(
 }
 
 /// Lets the sieve take the input of a counterexample.
-fn note<T: Wait>(rt: &T, sieve: &Mutex<Sieve>, entry: &Entry) -> Result<(), AllocError> {
+fn note<T: Wait>(rt: &T, sieve: &Mutex<PatternFilter>, entry: &Entry) -> Result<(), AllocError> {
     match entry {
         Entry::Apart { input, .. } => sieve.lock(rt).note(input.as_slice()),
         _ => Ok(()),
