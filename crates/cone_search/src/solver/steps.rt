@@ -11,8 +11,8 @@ use search_parts::{at, count};
 use shared_equalities::{Equalities, Equality, Finder};
 use std::alloc::{AllocError, Global};
 
-/// A proof isn't trimmed where it has over so many times the steps that it may have.
-const TRIMMED: u64 = 4;
+/// What part of its steps a proof has to lose at most where it is trimmed: hardly one loses more.
+const TRIMMED: u64 = 5;
 
 impl ConeSolver {
     /// The entry of an output whose codes are equal by these clauses: that the second is true where the first
@@ -207,7 +207,7 @@ impl ConeSolver {
 /// Whether steps are too many, but not by so much that trimming them is in vain.
 fn is_worth_trimming(steps: &[Step], most: u64) -> bool {
     let many = steps.len() as u64;
-    many > most && many / TRIMMED <= most
+    many > most && many.saturating_sub(many / TRIMMED) <= most
 }
 
 /// Puts the step last that adds a clause. One with a complementary pair, which is none, adds no step.

@@ -283,15 +283,15 @@ impl Store {
         part(&self.words, clause, self.size_of(clause))
     }
 
+    /// All words, for a scan of many clauses.
+    #[inline(always)]
+    pub(crate) fn words(&mut self) -> &mut [u32] {
+        self.words.as_mut_slice()
+    }
+
     /// The code at a place.
     #[inline(always)]
     pub(crate) fn code(&self, place: u32) -> u32 {
         at(&self.words, place)
-    }
-
-    /// Writes a code at a place.
-    #[inline(always)]
-    pub(crate) fn set_code(&mut self, place: u32, code: u32) {
-        put(&mut self.words, place, code);
     }
 }

@@ -70,6 +70,12 @@ impl Trail {
         at(&self.values, code)
     }
 
+    /// The values of all codes.
+    #[inline(always)]
+    pub(crate) fn values(&self) -> &[u32] {
+        self.values.as_slice()
+    }
+
     /// Why a variable has its value, if it has one.
     #[inline(always)]
     pub(crate) fn cause(&self, var: u32) -> Cause {

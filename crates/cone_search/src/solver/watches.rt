@@ -116,6 +116,14 @@ impl Watches {
         }
     }
 
+    /// The watches from a place of the pool up to another.
+    #[inline(always)]
+    pub(crate) fn part(&mut self, start: u32, end: u32) -> &mut [Watch] {
+        let end = self.pool.len().min(end as usize);
+        let start = end.min(start as usize);
+        &mut self.pool[start..end]
+    }
+
     /// Writes a watch at a place of the pool.
     #[inline(always)]
     pub(crate) fn set(&mut self, place: u32, watch: Watch) {
