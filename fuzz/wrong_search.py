@@ -3,8 +3,8 @@
 
 Usage: wrong_search.py [--runs N] [--seed N] [--jobs N] [--edit NAME ..]
 
-For each file `wrong_search/NAME.edit` (its lines as in a must-fail edit) a program over a copy of the crates, in which `circuit_search`
-is changed so, checks the same random pairs, and so does one that isn't changed. Edits whose names begin with `whole` are of the search
+For each file `wrong_search/NAME.edit` (its lines as in a must-fail edit, its file by its place in `crates`) a program over a copy of the
+crates, in which `circuit_search` or a crate below it is changed so, checks the same random pairs, and so does one that isn't changed. Edits whose names begin with `whole` are of the search
 of whole cones: pairs of nodes have a budget of one clause there, and the lazy search is given no output, so that all that is left open
 comes to it. Those whose names begin with `short` are of its caps: outputs have a budget of 20 clauses besides, so that some stay undecided.
 Those whose names begin with `shared` are of the equalities that workers share: there two workers check each pair, so that
@@ -31,9 +31,9 @@ from rounds import SEED
 
 EDITS = Path(__file__).resolve().parent / "wrong_search"
 LAZY = [
-    ("self.engine.output_shortly(alloc, net, output, caps)?", "None::<Entry>"),
-    ("self.engine.output_by_equalities(alloc, net, output, caps)?", "None::<Entry>"),
-    ("self.engine.equate_open(alloc, net, caps)?;", ""),
+    ("search.rt", "self.proposer.output_shortly(alloc, net, output, caps)?", "None::<Entry>"),
+    ("proposer.rt", "self.output_by_equalities(alloc, net, output, caps)?", "None::<Entry>"),
+    ("proposer.rt", "self.equate_open(alloc, net, caps)?;", ""),
 ]
 BUDGET = ("sweep_budget: 1000", "sweep_budget: 1")
 SHORT = ("out_budget: 100000", "out_budget: 20")
@@ -102,13 +102,13 @@ def parts_of(name):
 def places(name):
     """How many times the old text of an edit stands in its file."""
     file, old, _ = parts_of(name)
-    return (TOP / "crates" / "circuit_search" / file).read_text().count(old)
+    return (TOP / "crates" / file).read_text().count(old)
 
 
 def changed(crates, name):
     """Makes the edit in the copy."""
     file, old, new = parts_of(name)
-    replaced(crates / "circuit_search" / file, old, new)
+    replaced(crates / file, old, new)
 
 
 def kind(name):
@@ -125,8 +125,8 @@ def answers(name, lines):
     """What the program with this edit, or with none, says of the pairs."""
 
     def change(crates):
-        for old, new in LAZY if kind(name) else []:
-            replaced(crates / "circuit_search" / "src/search.rt", old, new)
+        for file, old, new in LAZY if kind(name) else []:
+            replaced(crates / "circuit_search" / "src" / file, old, new)
         if name != as_it_is(kind(name)):
             changed(crates, name)
 

@@ -3,7 +3,8 @@ ghost use Rattle.search_parts.specs.Settles.{SettlesOutput};
 
 use crate::solver::analysis::Analysis;
 use crate::solver::nodes::Nodes;
-use crate::solver::query::{Answer, UNIT};
+use crate::solver::query::{Answer, ROOM};
+use crate::solver::restarts::Restarts;
 use crate::solver::store::{Name, Store};
 use crate::solver::trail::Trail;
 use crate::solver::watches::Watches;
@@ -11,7 +12,7 @@ use lemma_book::Entry;
 use lits::{Listed, Side};
 use merged_net::{Merges, has_constraints, lit_code};
 use netlist::Net;
-use search_parts::{ActivityHeap, Caps, Luby, at, count, mark};
+use search_parts::{ActivityHeap, Backoff, Caps, at, count, mark};
 use shared_equalities::Equalities;
 use std::alloc::{AllocError, Global};
 
@@ -20,25 +21,29 @@ mod cone;
 mod nodes;
 mod propagation;
 mod query;
+mod restarts;
 mod steps;
 mod store;
 mod trail;
+mod trim;
 mod watches;
 
-/// How many conflicts an output's search may have in vain: what shows a pair equal counts for nothing, since
-/// it stays. With 2,000 the query took 5.0 seconds where 1.5 are enough for a product of 8 bits in a field, and
-/// 2.2 for 0.7 on a parity of 1,024 bits, a chain and a tree. Multipliers of 6 and 7 bits take 1.1 to 1.8 times
-/// as long as with 2,000, since the proofs that are found here are longer than those of the query.
-const VAIN: u64 = 20000;
+/// How much work a search for an output may do in vain for each clause of its budget, counted in watches visited. The
+/// query behind it takes about as long for a clause, so a search in vain at most doubles an output's time.
+const WORK: u64 = 20000;
+
+/// The work of a conflict's analysis, and that of a node that comes into a cone.
+const CONFLICT: u64 = 500;
+
+const NODE: u64 = 10;
+
+/// How far the search for an output's two codes goes before so many pairs of its cone are searched.
+const DIRECT: u32 = 800;
+
+const MANY: usize = 5;
 
 /// How far the search for one equality goes, and then those for what is left.
 const PASSES: [u32; 2] = [1000, 10000];
-
-/// How many nodes of cones are visited in the time of a conflict.
-const VISITS: u64 = 1000;
-
-/// How many outputs may fail before the search isn't asked any more.
-const MISSES: u32 = 2;
 
 /// A search of whole cones that keeps what it learns from pair to pair, and equalities from output to output.
 ///
@@ -58,9 +63,11 @@ pub struct ConeSolver {
     variables: u32,
     store: Store,
     watches: Watches,
+    /// Those of clauses that a proof doesn't need yet, while it is trimmed.
+    spare: Watches,
     trail: Trail,
     order: ActivityHeap,
-    restarts: Luby,
+    restarts: Restarts,
     analysis: Analysis,
     /// The number of the query.
     query: u32,
@@ -80,12 +87,15 @@ pub struct ConeSolver {
     keys: Vec<u64>,
     /// How many codes of level 0 have their units as reasons.
     explained: u32,
-    /// How many clauses were learned since some were dropped.
+    /// How many clauses were learned since some were dropped, and after how many some are.
     lessons: u32,
-    /// How many outputs failed.
-    misses: u32,
+    room: u32,
     /// How many clauses were learned from conflicts; what is forgotten counts too.
     learned: u64,
+    /// The work at which the output's search ends.
+    limit: u64,
+    /// When an output is searched before the pairs of its cone.
+    direct: Backoff,
 }
 
 /// What was found out of two codes.
@@ -105,9 +115,10 @@ impl ConeSolver {
             variables: 0,
             store: Store::new(alloc),
             watches: Watches::new(alloc),
+            spare: Watches::new(alloc),
             trail: Trail::new(alloc),
             order: ActivityHeap::new(alloc),
-            restarts: Luby::new(UNIT),
+            restarts: Restarts::new(),
             analysis: Analysis::new(alloc),
             query: 0,
             shown: 0,
@@ -119,8 +130,10 @@ impl ConeSolver {
             keys: Vec::new(alloc),
             explained: 0,
             lessons: 0,
-            misses: 0,
+            room: ROOM,
             learned: 0,
+            limit: 0,
+            direct: Backoff::new(),
         }
     }
 
@@ -140,12 +153,24 @@ impl ConeSolver {
         self.analysis.clear();
         self.explained = 0;
         self.lessons = 0;
+        self.room = ROOM;
     }
 
     /// Forgets all of another book.
     pub fn begin_anew(&mut self) {
         self.forget();
-        self.misses = 0;
+        self.direct = Backoff::new();
+    }
+
+    /// What was done so far, in watches visited.
+    fn work(&self) -> u64 {
+        let analysed = self.learned.saturating_mul(CONFLICT);
+        self.watches.visited().saturating_add(analysed)
+    }
+
+    /// Whether the output's search has done all the work that it may.
+    pub(crate) fn is_spent(&self) -> bool {
+        self.work() >= self.limit
     }
 
     /// The entry that is proposed for an output.
@@ -163,24 +188,15 @@ impl ConeSolver {
         let Some(codes) = codes_of(net, output) else {
             return Ok(None);
         };
-        if self.misses >= MISSES {
-            return Ok(None);
-        }
         self.prepare(net)?;
-        match self.settle(
-            alloc,
-            net,
-            merges,
-            equalities,
-            codes,
-            caps.conflicts.min(VAIN),
-        )? {
-            Found::Equal(there, back) => self.out(alloc, net, equalities, output, (there, back)),
-            Found::Apart => self.out_apart(alloc, net, merges, output),
-            Found::Open => {
-                self.misses = self.misses.saturating_add(1);
-                Ok(None)
+        self.limit = self.work().saturating_add(work_of(caps.conflicts));
+        match self.settle(alloc, net, merges, equalities, codes)? {
+            Found::Equal(there, back) => {
+                let cases = (there, back);
+                self.out(alloc, net, equalities, output, cases, caps.conflicts)
             }
+            Found::Apart => self.out_apart(alloc, net, merges, output),
+            Found::Open => Ok(None),
         }
     }
 
@@ -193,7 +209,7 @@ impl ConeSolver {
     }
 
     /// Asks whether two codes have one value, after the pairs that are open in their cone: with few conflicts
-    /// for each, and then again with more for those that are left.
+    /// for each, again with more for those that are left, and last with all that is left for the two codes.
     fn settle(
         &mut self,
         alloc: Global,
@@ -201,21 +217,35 @@ impl ConeSolver {
         merges: &Merges,
         equalities: &mut Equalities,
         codes: (u32, u32),
-        conflicts: u64,
     ) -> Result<Found, AllocError> {
-        let mut left = conflicts;
-        for most in PASSES {
-            self.equate(alloc, net, merges, equalities, codes, most, &mut left)?;
-            let found = self.compare(net, merges, equalities, codes, most, &mut left)?;
-            match found {
-                Found::Open => {}
-                _ => return Ok(found),
-            }
-            if left == 0 {
-                return Ok(Found::Open);
+        if self.has_many(net, merges, equalities, codes)? && self.direct.is_due() {
+            let found = self.compare(net, merges, equalities, codes, DIRECT)?;
+            self.direct.note(is_settled(found));
+            if is_settled(found) {
+                return Ok(found);
             }
         }
-        Ok(Found::Open)
+        for most in PASSES {
+            self.equate(alloc, net, merges, equalities, codes, most)?;
+            let found = self.compare(net, merges, equalities, codes, most)?;
+            if is_settled(found) || self.is_spent() {
+                return Ok(found);
+            }
+        }
+        self.compare(net, merges, equalities, codes, u32::MAX)
+    }
+
+    /// Whether many pairs are open in a cone.
+    fn has_many(
+        &mut self,
+        net: &Net,
+        merges: &Merges,
+        equalities: &Equalities,
+        codes: (u32, u32),
+    ) -> Result<bool, AllocError> {
+        self.enter(net, merges, equalities, codes)?;
+        self.list_open(merges, equalities, u32::MAX)?;
+        Ok(self.open.len() >= MANY)
     }
 
     /// Searches for why the open pairs in a cone are equal, from the inputs up, but for those that failed with
@@ -228,16 +258,15 @@ impl ConeSolver {
         equalities: &mut Equalities,
         codes: (u32, u32),
         most: u32,
-        left: &mut u64,
     ) -> Result<(), AllocError> {
         self.enter(net, merges, equalities, codes)?;
         self.list_open(merges, equalities, most)?;
         for place in 0..count(self.open.len()) {
             let position = at(&self.open, place);
             if let Some(target) = merges.open(position) {
-                self.equate_pair(alloc, net, merges, equalities, position, target, most, left)?;
+                self.equate_pair(alloc, net, merges, equalities, position, target, most)?;
             }
-            if *left == 0 {
+            if self.is_spent() {
                 return Ok(());
             }
         }
@@ -273,10 +302,9 @@ impl ConeSolver {
         position: u32,
         target: u32,
         most: u32,
-        left: &mut u64,
     ) -> Result<(), AllocError> {
         let code = position.wrapping_mul(2);
-        match self.compare(net, merges, equalities, (code, target), most, left)? {
+        match self.compare(net, merges, equalities, (code, target), most)? {
             Found::Equal(there, back) => {
                 let var = self.code(code)? / 2;
                 self.note_equal(var, target);
@@ -287,8 +315,8 @@ impl ConeSolver {
         }
     }
 
-    /// Asks whether two codes of positions have one value, with so many conflicts of those that are left. What
-    /// it takes in vain is taken from these, and so is a conflict for each thousand nodes of its cone.
+    /// Asks whether two codes of positions have one value, with so many conflicts. Work that shows something
+    /// counts for nothing, since what it shows stays.
     fn compare(
         &mut self,
         net: &Net,
@@ -296,19 +324,23 @@ impl ConeSolver {
         equalities: &Equalities,
         codes: (u32, u32),
         most: u32,
-        left: &mut u64,
     ) -> Result<Found, AllocError> {
-        let granted = u64::from(most).min(*left);
-        let mut few = granted;
+        let before = self.work();
+        let mut left = u64::from(most);
         self.enter(net, merges, equalities, codes)?;
-        let found = self.compare_cone(codes, &mut few)?;
-        let visits = u64::from(count(self.cone.len())) / VISITS;
-        let spent = match found {
-            Found::Open => granted.saturating_sub(few).saturating_add(visits),
-            _ => visits,
-        };
-        *left = left.saturating_sub(spent);
+        let found = self.compare_cone(codes, &mut left)?;
+        let visits = u64::from(count(self.cone.len())).saturating_mul(NODE);
+        self.limit = self.limit.saturating_sub(visits);
+        if is_settled(found) {
+            self.allow_more(before);
+        }
         Ok(found)
+    }
+
+    /// Allows as much more work as was done since this was all.
+    fn allow_more(&mut self, before: u64) {
+        let done = self.work().saturating_sub(before);
+        self.limit = self.limit.saturating_add(done);
     }
 
     /// Asks whether two codes have one value, whose cone is there.
@@ -353,6 +385,19 @@ impl ConeSolver {
         let input = Listed::of(input);
         Ok(Some(Entry::OutApart { output, input }))
     }
+}
+
+/// Whether something was found.
+fn is_settled(found: Found) -> bool {
+    match found {
+        Found::Open => false,
+        _ => true,
+    }
+}
+
+/// How much work the search for an output of this budget may do in vain.
+fn work_of(budget: u64) -> u64 {
+    budget.saturating_mul(WORK)
 }
 
 /// The codes of both circuits' output.

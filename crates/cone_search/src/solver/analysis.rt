@@ -108,6 +108,31 @@ impl Analysis {
         self.lits.extend_from_slice(&[codes.0, codes.1])?;
         self.meet(codes.0 / 2)?;
         self.meet(codes.1 / 2)?;
+        self.follow_all(store, trail, conflict)
+    }
+
+    /// The hints by which a clause that is false shows another one, of which all codes were assumed to be false.
+    pub(crate) fn once_more(
+        &mut self,
+        store: &mut Store,
+        trail: &Trail,
+        clause: u32,
+        conflict: u32,
+    ) -> Result<(), AllocError> {
+        self.restart();
+        for code in store.codes(clause) {
+            self.meet(*code / 2)?;
+        }
+        self.follow_all(store, trail, conflict)
+    }
+
+    /// The hints by which a clause is false, down to what is met already.
+    fn follow_all(
+        &mut self,
+        store: &mut Store,
+        trail: &Trail,
+        conflict: u32,
+    ) -> Result<(), AllocError> {
         self.follow(store, trail, conflict, NONE)?;
         for _ in 0..u64::MAX {
             let Some(var) = self.pending.pop() else {
@@ -191,6 +216,36 @@ impl Analysis {
                 self.used.push(place)?;
                 let reason = trail.cause(code / 2).reason;
                 self.follow(store, trail, reason, trail.level())?;
+            }
+        }
+        Ok(())
+    }
+
+    /// Counts those variables too, as ones by which the clause was found, that the reasons of its codes have. They are
+    /// as near to the conflict (Liang, Ganesh, Poupart and Czarnecki 2016).
+    pub(crate) fn climb_once_more(
+        &mut self,
+        store: &Store,
+        trail: &Trail,
+    ) -> Result<(), AllocError> {
+        self.unmeet(self.climbed);
+        for place in 0..count(self.lits.len()) {
+            let var = at(&self.lits, place) / 2;
+            let reason = trail.cause(var).reason;
+            if reason != NONE {
+                self.meet_all(store, trail, reason)?;
+            }
+        }
+        self.climbed = self.met.len();
+        Ok(())
+    }
+
+    /// Meets the variables of a clause above level 0.
+    fn meet_all(&mut self, store: &Store, trail: &Trail, clause: u32) -> Result<(), AllocError> {
+        for code in store.codes(clause) {
+            let var = *code / 2;
+            if trail.cause(var).level > 0 {
+                self.meet(var)?;
             }
         }
         Ok(())

@@ -1,7 +1,6 @@
 use crate::solver::ConeSolver;
 use crate::solver::store::Name;
 use crate::solver::trail::Trail;
-use crate::solver::watches::Watch;
 use merged_net::{Merges, Source};
 use netlist::Net;
 use search_parts::{FALSE, FREE, at, count, put};
@@ -172,21 +171,7 @@ impl ConeSolver {
 
     /// Has a clause watched by its first two codes.
     pub(crate) fn watch(&mut self, place: u32) -> Result<(), AllocError> {
-        let first = self.store.code(place);
-        let second = self.store.code(place.wrapping_add(1));
-        let is_two = self.store.size_of(place) == 2;
-        let one = Watch {
-            clause: place,
-            blocker: second,
-            is_two,
-        };
-        let two = Watch {
-            clause: place,
-            blocker: first,
-            is_two,
-        };
-        self.watches.push(first, one)?;
-        self.watches.push(second, two)
+        self.watches.watch(&self.store, place)
     }
 
     /// Gives the levels above this one up. Variables of the cone can be chosen again.

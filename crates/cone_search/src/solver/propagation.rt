@@ -1,7 +1,7 @@
 use crate::solver::store::Store;
 use crate::solver::trail::Trail;
 use crate::solver::watches::{Watch, Watches};
-use search_parts::{FALSE, FREE, NONE, TRUE};
+use search_parts::{FALSE, NONE, TRUE, at, put};
 use std::alloc::AllocError;
 
 /// What becomes of a watch of a code that is false.
@@ -10,8 +10,16 @@ enum Held {
     Stays,
     /// It moves to this code.
     Moves(u32, Watch),
-    /// Its clause is false.
-    Fails(u32),
+    /// All other codes of its clause are false but this one, which may be false too.
+    Forces(u32, u32),
+}
+
+/// What a scan of watches comes to, and behind how many of them.
+#[derive(Clone, Copy)]
+enum Met {
+    Nothing,
+    Moves(u32, u32, Watch),
+    Forces(u32, u32, u32),
 }
 
 impl Watches {
@@ -33,93 +41,115 @@ impl Watches {
         Ok(NONE)
     }
 
+    /// The same by other watches too, of which one code's are visited whenever these force nothing any more.
+    pub(crate) fn propagate_with(
+        &mut self,
+        others: &mut Watches,
+        store: &mut Store,
+        trail: &mut Trail,
+    ) -> Result<u32, AllocError> {
+        for place in 0..u32::MAX {
+            let conflict = self.propagate(store, trail)?;
+            if conflict != NONE || place >= trail.len() {
+                return Ok(conflict);
+            }
+            let conflict = others.visit_all(store, trail, trail.lit(place) ^ 1)?;
+            if conflict != NONE {
+                return Ok(conflict);
+            }
+        }
+        Ok(NONE)
+    }
+
     /// Visits the watches of a code that is false now. One that moves leaves its place to the last one.
-    #[inline(always)]
     fn visit_all(
         &mut self,
         store: &mut Store,
         trail: &mut Trail,
         code: u32,
     ) -> Result<u32, AllocError> {
-        let mut place = self.start(code);
-        let mut end = place.saturating_add(self.len(code));
-        let start = place;
+        self.note_visit(code);
+        let start = self.start(code);
+        let mut place = start;
+        let mut end = start.saturating_add(self.len(code));
         for _ in 0..u64::MAX {
-            if place >= end {
-                break;
-            }
-            match self.hold(store, trail, code, place) {
-                Held::Stays => place = place.wrapping_add(1),
-                Held::Moves(found, watch) => {
+            match scan(self.part(place, end), store.words(), trail.values(), code) {
+                Met::Nothing => break,
+                Met::Moves(passed, found, watch) => {
+                    place = place.saturating_add(passed);
                     end = end.saturating_sub(1);
                     let last = self.get(end);
                     self.set(place, last);
                     self.push(found, watch)?;
                 }
-                Held::Fails(clause) => {
-                    self.set_len(code, end.saturating_sub(start));
-                    return Ok(clause);
+                Met::Forces(passed, clause, other) => {
+                    place = place.saturating_add(passed).saturating_add(1);
+                    if trail.value(other) == FALSE {
+                        self.set_len(code, end.saturating_sub(start));
+                        return Ok(clause);
+                    }
+                    trail.assign(other, clause);
                 }
             }
         }
         self.set_len(code, end.saturating_sub(start));
         Ok(NONE)
     }
-
-    /// Visits one watch: its clause is true by its blocker or its other watched code, or another code of it
-    /// that isn't false is watched, or the other watched code becomes true.
-    #[inline(always)]
-    fn hold(&mut self, store: &mut Store, trail: &mut Trail, code: u32, place: u32) -> Held {
-        let watch = self.get(place);
-        let value = trail.value(watch.blocker);
-        if value == TRUE {
-            return Held::Stays;
-        }
-        if watch.is_two {
-            return force(trail, watch.clause, watch.blocker, value);
-        }
-        let clause = watch.clause;
-        let other = store.code(clause) ^ store.code(clause.wrapping_add(1)) ^ code;
-        let value = trail.value(other);
-        let moved = Watch {
-            blocker: other,
-            ..watch
-        };
-        if value == TRUE {
-            self.set(place, moved);
-            return Held::Stays;
-        }
-        let found = find(store, trail, clause, code, other);
-        if found == NONE {
-            return force(trail, clause, other, value);
-        }
-        Held::Moves(found, moved)
-    }
 }
 
-/// Has a clause of which all other codes are false make this one true.
+/// Goes over watches of a code that is false, up to one that doesn't stay as it is.
 #[inline(always)]
-fn force(trail: &mut Trail, clause: u32, code: u32, value: u32) -> Held {
-    if value == FALSE {
-        return Held::Fails(clause);
+fn scan(list: &mut [Watch], words: &mut [u32], values: &[u32], code: u32) -> Met {
+    let mut passed: u32 = 0;
+    for watch in list.iter_mut() {
+        if at(values, watch.blocker) != TRUE {
+            match hold(watch, words, values, code) {
+                Held::Stays => {}
+                Held::Moves(found, moved) => return Met::Moves(passed, found, moved),
+                Held::Forces(clause, other) => return Met::Forces(passed, clause, other),
+            }
+        }
+        passed = passed.wrapping_add(1);
     }
-    if value == FREE {
-        trail.assign(code, clause);
+    Met::Nothing
+}
+
+/// Visits one watch whose blocker isn't true: its clause is true by its other watched code, or another code of it
+/// that isn't false is watched, or it forces the other watched code.
+#[inline(always)]
+fn hold(watch: &mut Watch, words: &mut [u32], values: &[u32], code: u32) -> Held {
+    let clause = watch.clause;
+    if watch.is_two {
+        return Held::Forces(clause, watch.blocker);
     }
-    Held::Stays
+    let other = at(words, clause) ^ at(words, clause.wrapping_add(1)) ^ code;
+    let moved = Watch {
+        clause,
+        blocker: other,
+        is_two: false,
+    };
+    if at(values, other) == TRUE {
+        *watch = moved;
+        return Held::Stays;
+    }
+    let found = find(words, values, clause, code, other);
+    if found == NONE {
+        return Held::Forces(clause, other);
+    }
+    Held::Moves(found, moved)
 }
 
 /// Finds a code of a clause, behind the two that are watched, that isn't false, and has it watched in place of
 /// this one, beside the other one.
 #[inline(always)]
-fn find(store: &mut Store, trail: &Trail, clause: u32, code: u32, other: u32) -> u32 {
-    let end = clause.saturating_add(store.size_of(clause));
+fn find(words: &mut [u32], values: &[u32], clause: u32, code: u32, other: u32) -> u32 {
+    let end = clause.saturating_add(at(words, clause.wrapping_sub(1)));
     for place in clause.saturating_add(2)..end {
-        let found = store.code(place);
-        if trail.value(found) != FALSE {
-            store.set_code(clause, other);
-            store.set_code(clause.wrapping_add(1), found);
-            store.set_code(place, code);
+        let found = at(words, place);
+        if at(values, found) != FALSE {
+            put(words, clause, other);
+            put(words, clause.wrapping_add(1), found);
+            put(words, place, code);
             return found;
         }
     }

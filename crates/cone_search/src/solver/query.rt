@@ -1,11 +1,9 @@
 use crate::solver::ConeSolver;
 use crate::solver::cone::bring_free;
+use crate::solver::restarts::Restarts;
 use crate::solver::store::Name;
-use search_parts::{FALSE, Luby, NONE, TRUE};
+use search_parts::{FALSE, NONE, TRUE, at, count};
 use std::alloc::AllocError;
-
-/// The clauses that are learned before the first restart, and the unit of the later ones.
-pub(crate) const UNIT: u64 = 64;
 
 /// What a query of two codes ends with.
 #[derive(Clone, Copy)]
@@ -22,7 +20,7 @@ impl ConeSolver {
     /// Asks whether one of two codes is true on all inputs.
     pub(crate) fn ask(&mut self, codes: (u32, u32), left: &mut u64) -> Result<Answer, AllocError> {
         self.back(0)?;
-        self.restarts = Luby::new(UNIT);
+        self.restarts = Restarts::new();
         for _ in 0..u64::MAX {
             if let Some(answer) = self.round(codes, left)? {
                 return Ok(answer);
@@ -57,13 +55,13 @@ impl ConeSolver {
         if self.trail.level() == 1 {
             return self.show(codes, conflict);
         }
-        if *left == 0 {
+        if *left == 0 || self.is_spent() {
             return Ok(Some(Answer::Open));
         }
         *left -= 1;
         self.learned = self.learned.saturating_add(1);
-        self.learn(conflict)?;
-        if self.restarts.count() {
+        let rank = self.learn(conflict)?;
+        if self.restarts.count(rank) {
             self.restart()?;
         }
         Ok(None)
@@ -99,10 +97,12 @@ impl ConeSolver {
         Ok(Some(Answer::Possible))
     }
 
-    /// Learns from a conflict: keeps the clause, goes back to where it forces a code, and makes that true.
-    fn learn(&mut self, conflict: u32) -> Result<(), AllocError> {
+    /// Learns from a conflict: keeps the clause, goes back to where it forces a code, and makes that true. Tells how
+    /// many levels the clause spans.
+    fn learn(&mut self, conflict: u32) -> Result<u32, AllocError> {
         let level = self.analysis.learn(&mut self.store, &self.trail, conflict)?;
         let rank = self.analysis.rank(&self.trail);
+        self.analysis.climb_once_more(&self.store, &self.trail)?;
         for var in self.analysis.climbed() {
             self.order.bump(*var);
         }
@@ -115,12 +115,13 @@ impl ConeSolver {
             rank,
         )?;
         self.lessons = self.lessons.saturating_add(1);
-        self.attach(place)
+        self.attach(place)?;
+        Ok(rank)
     }
 
     /// Goes back to what is assumed, or behind that where clauses are to be dropped.
     fn restart(&mut self) -> Result<(), AllocError> {
-        if self.lessons < ROOM {
+        if self.lessons < self.room {
             return self.back(1);
         }
         self.back(0)
@@ -141,7 +142,7 @@ impl ConeSolver {
             }
         }
         self.explained = self.trail.len();
-        if self.lessons >= ROOM {
+        if self.lessons >= self.room {
             self.reduce()?;
         }
         Ok(())
@@ -164,11 +165,11 @@ impl ConeSolver {
     }
 
     /// Drops half of the clauses that were learned, span many levels and weren't met of late (Audemard and Simon
-    /// 2009).
+    /// 2009). Each time a few more are learned before that.
     fn reduce(&mut self) -> Result<(), AllocError> {
         self.keys.clear();
-        for number in 0..self.store.len() {
-            self.weigh(number)?;
+        for place in 0..self.store.listed() {
+            self.weigh(self.store.listed_at(place))?;
         }
         self.keys.as_mut_slice().sort_unstable();
         let left = self.keys.len() / 2;
@@ -178,14 +179,31 @@ impl ConeSolver {
             }
         }
         self.lessons = 0;
+        self.room = self.room.saturating_add(MORE);
+        self.close_gaps()?;
         self.watch_anew()
+    }
+
+    /// Closes the gaps of what is dropped. The reasons of level 0, where nothing is dropped, move with the others.
+    fn close_gaps(&mut self) -> Result<(), AllocError> {
+        self.listed.clear();
+        for code in self.trail.since(0) {
+            let reason = self.trail.cause(*code / 2).reason;
+            self.listed.push(self.store.number(reason))?;
+        }
+        self.store.close_gaps()?;
+        for place in 0..count(self.listed.len()) {
+            let reason = self.store.record(at(&self.listed, place)).start;
+            self.trail.explain(self.trail.lit(place) / 2, reason);
+        }
+        Ok(())
     }
 
     /// Lists a clause among those that may be dropped: by its levels, then by its age.
     fn weigh(&mut self, number: u32) -> Result<(), AllocError> {
         let record = self.store.record(number);
         let rank = self.store.rank(record.start);
-        if !record.is_live || rank <= 2 {
+        if rank <= 2 {
             return Ok(());
         }
         if self.store.take_use(record.start) && rank <= 6 {
@@ -198,18 +216,20 @@ impl ConeSolver {
     /// Has all clauses watched that are left.
     fn watch_anew(&mut self) -> Result<(), AllocError> {
         self.watches.empty();
-        for number in 0..self.store.len() {
-            let record = self.store.record(number);
-            if record.is_live && self.store.size_of(record.start) > 1 {
-                self.watch(record.start)?;
+        for place in 0..self.store.listed() {
+            let clause = self.store.record(self.store.listed_at(place)).start;
+            if self.store.size_of(clause) > 1 {
+                self.watch(clause)?;
             }
         }
         Ok(())
     }
 }
 
-/// How many clauses are learned before some are dropped.
-const ROOM: u32 = 2000;
+/// How many clauses are learned before some are dropped, and how many more each time.
+pub(crate) const ROOM: u32 = 2000;
+
+const MORE: u32 = 300;
 
 /// What stands above a clause's number in its key.
 const WORD: u64 = 1 << 32;

@@ -11,9 +11,13 @@ use search_parts::{at, count};
 use shared_equalities::{Equalities, Equality, Finder};
 use std::alloc::{AllocError, Global};
 
+/// What part of its steps a proof has to lose at most where it is trimmed: hardly one loses more.
+const TRIMMED: u64 = 5;
+
 impl ConeSolver {
     /// The entry of an output whose codes are equal by these clauses: that the second is true where the first
-    /// is, and that the first is where the second is.
+    /// is, and that the first is where the second is. Where it has more steps than the budget allows it is trimmed, and
+    /// there is none where that isn't enough.
     pub(crate) fn out(
         &mut self,
         alloc: Global,
@@ -21,11 +25,34 @@ impl ConeSolver {
         equalities: &Equalities,
         output: u32,
         cases: (u32, u32),
+        budget: u64,
     ) -> Result<Option<Entry>, AllocError>
         ensures { IfOk result (λ o. IfSome o (SettlesOutput output)) }
     {
-        let Some(first) = net.output(Side::A, output) else {
+        let most = budget.saturating_add(2);
+        let mut steps = self.proof(alloc, net, equalities, output, cases)?;
+        if is_worth_trimming(&steps, most) {
+            self.trim(cases)?;
+            steps = self.proof(alloc, net, equalities, output, cases)?;
+        }
+        if steps.len() as u64 > most {
             return Ok(None);
+        }
+        let steps = Listed::of(steps);
+        Ok(Some(Entry::Out { output, steps }))
+    }
+
+    /// The steps by which these clauses show the two codes of an output equal, with those of the equalities.
+    fn proof(
+        &mut self,
+        alloc: Global,
+        net: &Net,
+        equalities: &Equalities,
+        output: u32,
+        cases: (u32, u32),
+    ) -> Result<Vec<Step>, AllocError> {
+        let Some(first) = net.output(Side::A, output) else {
+            return Ok(Vec::new(alloc));
         };
         self.shown = equalities.len();
         let mut steps = self.steps(alloc, net, cases)?;
@@ -41,8 +68,7 @@ impl ConeSolver {
         add_step(alloc, &[equal, first], &one, &mut steps)?;
         let two = [before, there, Ref::Axiom(xor, 1)];
         add_step(alloc, &[equal], &two, &mut steps)?;
-        let steps = Listed::of(equalities.proof(alloc, &steps)?);
-        Ok(Some(Entry::Out { output, steps }))
+        equalities.proof(alloc, &steps)
     }
 
     /// Has the equalities take why a node is equal to a code, by these clauses. What they rest on is named as a
@@ -90,7 +116,7 @@ impl ConeSolver {
     }
 
     /// Lists and numbers the clauses that two of them lead to, in order.
-    fn reach(&mut self, cases: (u32, u32)) -> Result<(), AllocError> {
+    pub(crate) fn reach(&mut self, cases: (u32, u32)) -> Result<(), AllocError> {
         self.query = self.query.wrapping_add(1);
         self.listed.clear();
         self.pending.clear();
@@ -141,7 +167,7 @@ impl ConeSolver {
     ) -> Result<(), AllocError> {
         let record = self.store.record(number);
         let mut lits = Vec::new(alloc);
-        for code in self.store.codes(record.start) {
+        for code in self.store.codes_of(number) {
             let position = self.nodes.get(*code / 2).position;
             lits.push(lit_at(net, position.wrapping_mul(2) | (*code & 1)))?;
         }
@@ -176,6 +202,12 @@ impl ConeSolver {
     fn place(&self, number: u32) -> u32 {
         self.shown.saturating_add(self.store.record(number).order)
     }
+}
+
+/// Whether steps are too many, but not by so much that trimming them is in vain.
+fn is_worth_trimming(steps: &[Step], most: u64) -> bool {
+    let many = steps.len() as u64;
+    many > most && many.saturating_sub(many / TRIMMED) <= most
 }
 
 /// Puts the step last that adds a clause. One with a complementary pair, which is none, adds no step.

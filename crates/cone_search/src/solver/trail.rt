@@ -70,6 +70,12 @@ impl Trail {
         at(&self.values, code)
     }
 
+    /// The values of all codes.
+    #[inline(always)]
+    pub(crate) fn values(&self) -> &[u32] {
+        self.values.as_slice()
+    }
+
     /// Why a variable has its value, if it has one.
     #[inline(always)]
     pub(crate) fn cause(&self, var: u32) -> Cause {
@@ -135,6 +141,13 @@ impl Trail {
         let var = var as usize;
         if var < self.causes.len() {
             self.causes[var].reason = reason;
+        }
+    }
+
+    /// Makes a code true for this reason, if it is free.
+    pub(crate) fn take(&mut self, code: u32, reason: u32) {
+        if self.value(code) == FREE {
+            self.assign(code, reason);
         }
     }
 

@@ -1,3 +1,4 @@
+use crate::solver::store::Store;
 use search_parts::count;
 use std::alloc::{AllocError, Global};
 
@@ -35,6 +36,8 @@ const NOWHERE: Span = Span {
 pub(crate) struct Watches {
     spans: Vec<Span>,
     pool: Vec<Watch>,
+    /// How many watches were visited.
+    visited: u64,
 }
 
 impl Watches {
@@ -43,6 +46,7 @@ impl Watches {
         Watches {
             spans: Vec::new(alloc),
             pool: Vec::new(alloc),
+            visited: 0,
         }
     }
 
@@ -50,6 +54,17 @@ impl Watches {
     pub(crate) fn clear(&mut self) {
         self.spans.clear();
         self.pool.clear();
+    }
+
+    /// How many watches were visited; those that are forgotten count too.
+    pub(crate) fn visited(&self) -> u64 {
+        self.visited
+    }
+
+    /// Counts the watches of a code that is visited.
+    #[inline(always)]
+    pub(crate) fn note_visit(&mut self, code: u32) {
+        self.visited = self.visited.wrapping_add(u64::from(self.len(code)));
     }
 
     /// Forgets all watches, but not the codes.
@@ -101,6 +116,14 @@ impl Watches {
         }
     }
 
+    /// The watches from a place of the pool up to another.
+    #[inline(always)]
+    pub(crate) fn part(&mut self, start: u32, end: u32) -> &mut [Watch] {
+        let end = self.pool.len().min(end as usize);
+        let start = end.min(start as usize);
+        &mut self.pool[start..end]
+    }
+
     /// Writes a watch at a place of the pool.
     #[inline(always)]
     pub(crate) fn set(&mut self, place: u32, watch: Watch) {
@@ -120,6 +143,45 @@ impl Watches {
         self.set(span.start.wrapping_add(span.len), watch);
         self.set_len(code, span.len.wrapping_add(1));
         Ok(())
+    }
+
+    /// Has a clause watched by its first two codes.
+    pub(crate) fn watch(&mut self, store: &Store, clause: u32) -> Result<(), AllocError> {
+        let first = store.code(clause);
+        let second = store.code(clause.wrapping_add(1));
+        let is_two = store.size_of(clause) == 2;
+        let one = Watch {
+            clause,
+            blocker: second,
+            is_two,
+        };
+        let two = Watch {
+            clause,
+            blocker: first,
+            is_two,
+        };
+        self.push(first, one)?;
+        self.push(second, two)
+    }
+
+    /// Has a clause watched no more.
+    pub(crate) fn unwatch(&mut self, store: &Store, clause: u32) {
+        self.remove(store.code(clause), clause);
+        self.remove(store.code(clause.wrapping_add(1)), clause);
+    }
+
+    /// Takes the watch of a clause out of a code's list.
+    fn remove(&mut self, code: u32, clause: u32) {
+        let span = self.span(code);
+        let end = span.start.saturating_add(span.len);
+        for place in span.start..end {
+            if self.get(place).clause == clause {
+                let last = self.get(end.saturating_sub(1));
+                self.set(place, last);
+                self.set_len(code, span.len.saturating_sub(1));
+                return;
+            }
+        }
     }
 
     /// Moves a code's list to the pool's end, with twice the room, and puts a watch last in it.
