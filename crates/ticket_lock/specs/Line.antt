@@ -3,7 +3,7 @@
 use Rattle.std.specs.Prelude.{◌≡◌, ℕ, ◌+◌, ◌<◌, ◌≤◌, Bool, true, cond, List}
 use mathlib.Core.Option.{some}
 use lib.ListN.{get_elem?}
-use Rattle.board_lock.specs.Totals.{total, Each}
+use Rattle.ticket_lock.specs.Totals.{total, Each}
 
 -- how a view stands in the line, and how many turns it has left
 pub record Stand : Type 0 where

@@ -3,7 +3,7 @@ use Rattle.std.proofs.Common.{◌≡◌, ◌≢◌, ℕ, zero, suc, ◌+◌, ◌
 use mathlib.Core.Option.{some, some-injective, some-ne-none}
 use lib.ListN.{get_elem?}
 use Rattle.atomic_table.proofs.Lists.{at_set, at_snoc}
-use Rattle.board_lock.specs.Totals.{total, Each}
+use Rattle.ticket_lock.specs.Totals.{total, Each}
 
 module _ {V : Type 0} where
   -- ---- one element changes, or one more comes

@@ -3,9 +3,9 @@ use Rattle.std.proofs.Common.{◌≡◌, ◌≢◌, ℕ, ◌+◌, Bool, true, fa
 use mathlib.Core.Option.{some}
 use lib.ListN.{get_elem?}
 use Rattle.atomic_table.proofs.Lists.{at_set}
-use Rattle.board_lock.specs.Totals.{total}
-use Rattle.board_lock.specs.Line.{Stand, waiting, holding, InLine, Line}
-use Rattle.board_lock.proofs.TotalLemmas.{total-set, total-alone, each-set, Stays}
+use Rattle.ticket_lock.specs.Totals.{total}
+use Rattle.ticket_lock.specs.Line.{Stand, waiting, holding, InLine, Line}
+use Rattle.ticket_lock.proofs.TotalLemmas.{total-set, total-alone, each-set, Stays}
 
 -- who neither waits nor holds stands in no line
 abbrev IsOut : Stand → Type 0
