@@ -1,5 +1,5 @@
 -- The board at its end, and at its start.
-use Rattle.std.proofs.Common.{◌≡◌, ℕ, ◌+◌, ◌^◌, List, [], ◌∷◌, map, sym, ap, ◌∙◌, subst, arith}
+use Rattle.std.proofs.Common.{◌≡◌, ℕ, ◌+◌, ◌^◌, List, [], map, sym, ap, ◌∙◌, subst, arith}
 use Rattle.std.proofs.lemmas.List.{nil_from_length}
 use Rattle.atomic_table.specs.Seated.{TableId}
 use Rattle.lemma_book.specs.Entry.{Entries}
@@ -64,12 +64,9 @@ closes root t v h n pass is idle ended =
 
 -- ---- and at its start
 
-pub opens : (root : Root) (book : Entries) (slots : List Story) → root.opening ≡ book
-    → slots ≡ record { book = book; turns = []; missed = 0 } ∷ [] → IsLegal root.net book
-    → (slot : Story) × (slots ≡ slot ∷ []) × Begins (Claimed root) slot (first_of root)
-opens root book slots opening is legal =
-    let h : Story = record { book = root.opening; turns = []; missed = 0 } in (
-      h,
-      is ∙ ap (λ (b : Entries). record { book = b; turns = []; missed = 0 } ∷ []) (sym opening),
-      begins root (subst (IsLegal root.net) (sym opening) legal),
-    )
+pub opens : (root : Root) (book : Entries) (h : Story) → root.opening ≡ book → h ≡ record { book = book; turns = []; missed = 0 }
+    → IsLegal root.net book → Begins (Claimed root) h (first_of root)
+opens root book h opening is legal =
+    subst (λ (x : Story). Begins (Claimed root) x (first_of root))
+    (ap (λ (b : Entries). record { book = b; turns = []; missed = 0 }) opening ∙ sym is)
+    (begins root (subst (IsLegal root.net) (sym opening) legal))

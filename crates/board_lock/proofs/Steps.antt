@@ -32,7 +32,7 @@ begins root legal = let m : Party = member 0 (0 ∷ []) (first_of root) in recor
 }
 
 pub draws : (root : Root) (m : Party) → Draws (Claimed root) m (drew_by m) (IsAbove m)
-draws root m id served n h passes at old = let w : Party = owning m (drew m.own n) in (
+draws root m id served n h passes at apart old = let w : Party = owning m (drew m.own n) in (
   record {
     counts = record {
       turns = total-keep turns passes id m w at refl ∙ old.counts.turns;
@@ -52,7 +52,7 @@ draws root m id served n h passes at old = let w : Party = owning m (drew m.own 
 )
 
 pub parts : (root : Root) (m : Party) → 1 ≤ length m.numbers → Parts (Claimed root) m (λ o. o) new_of
-parts root m own id served n new h passes at old =
+parts root m own id served n new h passes at apart old =
     let l : Party = owning m m.own in
     let r : Party = member new (new ∷ []) (new_of m.own) in
     let was = old.knows id m at in

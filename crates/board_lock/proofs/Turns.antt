@@ -15,7 +15,7 @@ use Rattle.board_lock.proofs.AnswerLemmas.{answers-set, answers-note}
 use Rattle.board_lock.proofs.StoryLemmas.{are_so-append, tale-after, tale-missed, starts-after, are_so-after, is_so-after, learned-after}
 
 pub learns : (root : Root) (net : AigPair) (m : Party) → net ≡ root.net → 1 ≤ times m.number m.numbers → Learns (Claimed root) m (Sees net m)
-learns root net m over own id served n h passes at few old = record {
+learns root net m over own id served n h passes at apart few old = record {
   few = let c = old.tale.count in omega arith;
   legal = subst (λ (x : AigPair). IsLegal x h.book) (sym over) old.tale.legal;
   begins = (old.knows id m at).known (times-length m.number m.numbers own);

@@ -101,23 +101,10 @@ fn lock_about(alloc: Global, about: &About, book: Book) -> Result<(Lock, Place),
     ensures place { IfOk result (λ t. (t.1.table_id ≡ t.0.table.shared.table_id) × (t.1.me ≡ (opener about.now, []))) }
     ensures err { IfErr result (λ b. b ≡ book) }
 {
-    let slots = slots_of(alloc, book)?;
-    match Lock::open(alloc, slots, about) {
+    match Lock::open(alloc, History::of(alloc, book), about) {
         Ok(laid) => Ok(laid),
-        Err(slots) => Err(book_in(slots)),
+        Err(history) => Err(history.into_parts().0),
     }
-}
-
-/// The slot with the book's one history. Where memory is refused the book comes back.
-fn slots_of(alloc: Global, book: Book) -> Result<Vec<History>, Book>
-    ensures slots { IfOk result (λ s. s.items ≡ record { book = book; turns = []; missed = 0 } ∷ []) }
-    ensures err { IfErr result (λ b. b ≡ book) }
-{
-    let Ok(mut slots) = Vec::with_capacity(alloc, 1) else {
-        return Err(book);
-    };
-    slots.push_reserved(History::of(alloc, book));
-    Ok(slots)
 }
 
 /// Copies of the net and of the book. The table is told them when it is made, and keeps neither: the first pass
@@ -129,15 +116,4 @@ fn about(alloc: Global, net: &Net, book: &Book) -> Result<About, AllocError>
         net: net.copy(alloc)?,
         opening: book.copy(alloc)?,
     })
-}
-
-/// The book of the one history.
-fn book_in(mut slots: Vec<History>) -> Book
-    requires { 1 ≤ length slots.items }
-    ensures { (h : Story) → slots.items ≡ h ∷ [] → result ≡ h.book }
-{
-    let Some(history) = slots.pop() else {
-        unreachable!()
-    };
-    history.into_parts().0
 }

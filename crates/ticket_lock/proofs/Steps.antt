@@ -15,7 +15,7 @@ use Rattle.ticket_lock.specs.Rule.{Kept, stand_of, shelf, left, splits, numbered
 use Rattle.ticket_lock.proofs.TotalLemmas.{total-keep, total-cut, total-le, each-set, each-from, from-cut}
 use Rattle.ticket_lock.proofs.TimesLemmas.{once-last}
 use Rattle.ticket_lock.proofs.LineLemmas.{line-set, line-keep, line-quiet}
-use Rattle.ticket_lock.proofs.MemberLemmas.{map-keep, map-cut, turns-set, numbers-set, given-most}
+use Rattle.ticket_lock.proofs.MemberLemmas.{map-keep, map-cut, apart, turns-set, numbers-set, given-most}
 
 -- who holds the slot took what lies in it
 abbrev pub HoldsIt : {S U : Type 0} → S → View S U → Type 0
@@ -63,7 +63,7 @@ module _ {S U : Type 0} (claim : Account S U → Type 0) where
       let most = given-most kept.served kept.given kept.drawn kept.split s.views kept.line kept.turns in
       let m : Member U = member_of v in
       let w : View S U = drew v (after m kept.drawn) in
-      let drawn = draws id kept.served kept.drawn kept.slot (map member_of s.views) (at_map member_of s.views id v at) kept.claimed in (
+      let drawn = draws id kept.served kept.drawn kept.slot (map member_of s.views) (at_map member_of s.views id v at) (apart kept.split s.views kept.numbers) kept.claimed in (
         w,
         keeps,
         tt,
@@ -112,14 +112,14 @@ module _ {S U : Type 0} (claim : Account S U → Type 0) where
         (refl, let b = kept.turns.left in let m = total-le left s.views id v at in omega arith),
       )
 
-  pub cut_goes : (id turns number : ℕ) (v : View S U) (c : List (ℕ × S)) (keep give : U → U) → IsCutting number (v, c) → turns ≤ v.left → Parts claim (member_of v) keep give
+  pub cut_goes : (id turns : ℕ) (v : View S U) (c : List (ℕ × S)) (keep give : U → U) → IsCutting (v, c) → turns ≤ v.left → Parts claim (member_of v) keep give
       → Splits (Kept claim) id v (kept_of keep turns v) (cut_of give turns v)
-  cut_goes id n number v c keep give cutting few parts s kept at =
+  cut_goes id n v c keep give cutting few parts s kept at =
       let l : View S U = kept_of keep n v in
       let r : View S U = cut_of give n v in
       let vs : List (View S U) = set s.views id l ++ r ∷ [] in
-      let split = parts id kept.served kept.drawn number kept.slot (map member_of s.views) (at_map member_of s.views id v at) kept.claimed in
-      let new : member_of r ≡ member number (number ∷ []) (give v.own) = ap (λ (h : List ℕ). member_of (cut_of give n (record v { held = h }))) cutting.held in
+      let split = parts id kept.served kept.drawn cutting.number kept.slot (map member_of s.views) (at_map member_of s.views id v at) (apart kept.split s.views kept.numbers) kept.claimed in
+      let new : member_of r ≡ member cutting.number (cutting.number ∷ []) (give v.own) = ap (λ (h : List ℕ). member_of (cut_of give n (record v { held = h }))) cutting.held in
       record {
         served = kept.served;
         given = kept.given;

@@ -69,7 +69,7 @@ module _ {S U : Type 0} (claim : Account S U → Type 0) where
             slot = kept.slot;
             is = refl;
             fact =
-                learns id kept.served kept.drawn kept.slot (map member_of s.views) (at_map member_of s.views id v at)
+                learns id kept.served kept.drawn kept.slot (map member_of s.views) (at_map member_of s.views id v at) (apart kept.split s.views kept.numbers)
                 (let l = kept.turns.left in let m = total-le left s.views id v at in let some_left = line.turn waits in omega arith) kept.claimed;
           },
         )

@@ -28,7 +28,7 @@ module _ {S U : Type 0} (claim : Account S U → Type 0) where
   -- a pass that comes in learns a fact of what lies in the slot
   abbrev pub Learns : Member U → (S → Type 0) → Type 0
   Learns m fact = (id served drawn : ℕ) (slot : S) (passes : List (Member U)) → get_elem? passes id ≡ some m
-      → served < 2 ^ 62 → claim (account served drawn slot passes) → fact slot
+      → AreApart passes → served < 2 ^ 62 → claim (account served drawn slot passes) → fact slot
 
   -- a turn is over in which a pass found `old` in the slot and left `new`, and after which the user keeps u of it
   abbrev pub Ends : Member U → S → S → U → Type 0 → Type 0
@@ -39,13 +39,13 @@ module _ {S U : Type 0} (claim : Account S U → Type 0) where
   -- a pass drew the next number
   abbrev pub Draws : Member U → (ℕ → U) → (ℕ → Type 0) → Type 0
   Draws m after told = (id served drawn : ℕ) (slot : S) (passes : List (Member U)) → get_elem? passes id ≡ some m
-      → claim (account served drawn slot passes)
+      → AreApart passes → claim (account served drawn slot passes)
       → claim (account served (drawn + 1) slot (set passes id (owning m (after drawn)))) × told drawn
 
   -- a pass was cut in two, and the new one has a number of its own
   abbrev pub Parts : Member U → (U → U) → (U → U) → Type 0
   Parts m keep give = (id served drawn n : ℕ) (slot : S) (passes : List (Member U)) → get_elem? passes id ≡ some m
-      → claim (account served drawn slot passes)
+      → AreApart passes → claim (account served drawn slot passes)
       → claim (account served drawn slot (set passes id (owning m (keep m.own)) ++ member n (n ∷ []) (give m.own) ∷ []))
 
   -- a pass took in another, of which u is left

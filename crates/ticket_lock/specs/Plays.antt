@@ -47,7 +47,8 @@ module _ {S U : Type 0} where
     pub free : me.1 ≡ []
 
   -- it holds a number for a new one
-  pub record IsCutting (number : ℕ) (me : Sat S U) : Type 0 where
+  pub record IsCutting (me : Sat S U) : Type 0 where
+    pub number : ℕ
     pub waits : me.0.waits ≡ false
     pub holds : me.0.holds ≡ false
     pub held : me.0.held ≡ number ∷ []

@@ -1,5 +1,5 @@
 //! The lock: its steps are those of one table with four words and one slot.
-ghost use Rattle.std.specs.Prelude.{◌≡◌, ℕ, ◌+◌, ◌^◌, ◌<◌, ◌≤◌, [], ◌∷◌, MatchBool, IfOk, IfErr};
+ghost use Rattle.std.specs.Prelude.{◌≡◌, ℕ, ◌+◌, ◌^◌, ◌<◌, ◌≤◌, [], ◌∷◌, length, MatchBool, IfOk, IfErr};
 ghost use Rattle.ticket_lock.specs.Views.{IsIdle, IsIn, member_of, in_line, past, drew, numbering, kept_of, cut_of, both_of, opener};
 ghost use Rattle.ticket_lock.specs.Claims.{Begins, Learns, Ends, Draws, Parts, Merges, Sums, Ended};
 ghost use Rattle.ticket_lock.specs.Plays.{Took, CameIn, IsInLine, IsCutting};
@@ -36,21 +36,25 @@ pub struct TicketLock<S: Drop, U, K, C: Claim<S, U, K>> {
 }
 
 impl<S: Drop, U, K, C: Claim<S, U, K>> TicketLock<S, U, K, C> {
-    /// A lock over a value, and the first pass's place, which has all 2^62 turns. Where memory is refused the
+    /// A lock over a value, and the place of the first pass, which has all 2^62 turns. Where memory is refused the
     /// value comes back.
     pub fn open(
         alloc: Global,
-        slots: Vec<S>,
+        value: S,
         about: &K,
-    ) -> Result<(TicketLock<S, U, K, C>, Place<S, U>), Vec<S>>
-        requires { (slot : S) × (slots.items ≡ slot ∷ []) × Begins (C.holds about.now) slot (C.first about.now) }
+    ) -> Result<(TicketLock<S, U, K, C>, Place<S, U>), S>
+        requires { Begins (C.holds about.now) value (C.first about.now) }
         ensures lock { IfOk result (λ r. r.0.table.shared.key ≡ about.now) }
         ensures place { IfOk result (λ r. (r.1.table_id ≡ r.0.table.shared.table_id) × (r.1.me ≡ (opener C.blank (C.first about.now), []))) }
-        ensures err { IfErr result (λ s. s.items ≡ slots.items) }
+        ensures err { IfErr result (λ v. v ≡ value) }
     {
+        let Ok(mut slots) = Vec::with_capacity(alloc, 1) else {
+            return Err(value);
+        };
+        slots.push_reserved(value);
         match Table::new(alloc, &[0, 0, 0, 0], slots, about) {
             Ok((table, place)) => Ok((TicketLock { table }, place)),
-            Err(refused) => Err(refused.slots),
+            Err(refused) => Err(only(refused.slots)),
         }
     }
 
@@ -196,7 +200,7 @@ impl<S: Drop, U, K, C: Claim<S, U, K>> TicketLock<S, U, K, C> {
         ensures cut { result.1.me ≡ (cut_of M.right turns (numbering place.old.me.0 result.0), []) }
     {
         let number = self.number(place);
-        let cut = self.cut_by::<M, Brand>(place, number, turns);
+        let cut = self.cut_by::<M, Brand>(place, turns);
         (number, cut)
     }
 
@@ -211,15 +215,10 @@ impl<S: Drop, U, K, C: Claim<S, U, K>> TicketLock<S, U, K, C> {
         self.table.shared.fetch_add::<Number>(place, 3, 1) + 1
     }
 
-    fn cut_by<M: Split<U>, N: Amount>(
-        &self,
-        place: &mut Place<S, U>,
-        _number: u64,
-        turns: u64,
-    ) -> Place<S, U>
+    fn cut_by<M: Split<U>, N: Amount>(&self, place: &mut Place<S, U>, turns: u64) -> Place<S, U>
         requires told { turns ≡ N.amount }
         requires own { place.old.table_id ≡ self.now.table.shared.table_id }
-        requires cutting { IsCutting _number place.old.me }
+        requires cutting { IsCutting place.old.me }
         requires few { turns ≤ place.old.me.0.left }
         requires parts { Parts (C.holds self.now.table.shared.key) (member_of place.old.me.0) M.left M.right }
         ensures same { (place.new.table_id ≡ place.old.table_id) × (result.table_id ≡ place.old.table_id) }
@@ -246,4 +245,15 @@ fn pause(steps: u32) {
     for _ in 0..steps {
         spin_loop();
     }
+}
+
+/// The one value.
+fn only<S: Drop>(mut values: Vec<S>) -> S
+    requires { 1 ≤ length values.items }
+    ensures { (v : S) → values.items ≡ v ∷ [] → result ≡ v }
+{
+    let Some(value) = values.pop() else {
+        unreachable!()
+    };
+    value
 }

@@ -8,6 +8,6 @@ split_seat-requires g c =
     let l = c.args.self.now in (
       c.requires.own,
       rw l.sized.0 (omega arith),
-      cut_goes (g.C.Claim.holds l.table.shared.key) p.id g.N.Amount.amount c.args._number p.me.0 p.me.1 g.M.Split.left g.M.Split.right
+      cut_goes (g.C.Claim.holds l.table.shared.key) p.id g.N.Amount.amount p.me.0 p.me.1 g.M.Split.left g.M.Split.right
           c.requires.cutting (rw (sym c.requires.told) c.requires.few) c.requires.parts,
     )
