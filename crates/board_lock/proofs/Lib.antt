@@ -1,9 +1,5 @@
-mod TotalLemmas
 mod GatherLemmas
-mod LineLemmas
-mod TimesLemmas
 mod StoryLemmas
-mod CountLemmas
 mod AnswerLemmas
 mod Steps
 mod Turns

@@ -16,7 +16,7 @@ use Rattle.sweep_core.proofs.Facts.{settled-below, starts-self}
 use Rattle.board_lock.specs.declared.view.Said.{Said}
 use Rattle.board_lock.specs.declared.view.Said.TheVariants.{At, Already, Known}
 use Rattle.board_lock.specs.declared.view.Note.{Note}
-use Rattle.board_lock.specs.declared.view.View.{View}
+use Rattle.board_lock.specs.declared.view.Own.{Own}
 use Rattle.board_lock.specs.Story.{Story, Root, what_of, turn_of, IsAnswer, IsSo, AreSo, book_after, story_after, story_missed}
 use Rattle.board_lock.specs.Rule.{Tale}
 use Rattle.board_lock.specs.Views.{learned}
@@ -80,10 +80,10 @@ is_so-after net book (At i e) h = get-last book.entries i e h.0
 is_so-after net book (Already i e) h = h
 is_so-after net book (Known n) h = omega arith
 
-pub learned-after : (v : View) (s : Said) → StartsWith v.taken.book v.known → StartsWith (book_after v.taken.book s) (learned v s)
-learned-after v (At i e) h = starts-longer v.taken.book v.known e h
-learned-after v (Already i e) h = h
-learned-after v (Known n) h = starts-self v.taken.book
+pub learned-after : (o : Own) (h : Story) (s : Said) → StartsWith h.book o.known → StartsWith (book_after h.book s) (learned o h s)
+learned-after o h (At i e) k = starts-longer h.book o.known e k
+learned-after o h (Already i e) k = k
+learned-after o h (Known n) k = starts-self h.book
 
 legal-after : (net : AigPair) (book : Entries) (s : Said) → IsAnswer net book s → IsLegal net book → IsLegal net (book_after book s)
 legal-after net book (At i e) h l = legal-last net book e l h.1

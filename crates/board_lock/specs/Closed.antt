@@ -1,15 +1,11 @@
 -- The record of a board that was closed.
-use Rattle.std.specs.Prelude.{◌≡◌, ℕ, ◌+◌, ◌^◌, ◌≤◌, List, [], ◌∷◌, map}
-use mathlib.Core.Option.{some}
-use Rattle.atomic_table.specs.Table.{State}
+use Rattle.std.specs.Prelude.{◌≡◌, ℕ, ◌≤◌, List, map}
 use Rattle.lemma_book.specs.declared.turn.Turn.{Turn}
 use Rattle.lemma_book.specs.Entry.{Entries}
 use Rattle.lemma_book.specs.Book.{IsLegal, StartsWith}
 use Rattle.lemma_book.specs.Machine.{Replays}
-use Rattle.board_lock.specs.declared.view.View.{View}
 use Rattle.board_lock.specs.Totals.{times, once_below}
-use Rattle.board_lock.specs.Story.{Story, Root, under, turn_of, AreSo}
-use Rattle.board_lock.specs.Rule.{made}
+use Rattle.board_lock.specs.Story.{Root, under, turn_of, AreSo}
 use Rattle.board_lock.specs.Pass.{Held}
 
 -- one legal history: the book is legal, the turns lead to it from the opening book, and it begins with all that the pass
@@ -24,27 +20,3 @@ pub record IsClosed (root : Root) (pass : Held) (book : Entries) (turns : List T
   pub draws : (x : ℕ) → times x pass.draws ≡ once_below x drawn
   pub missed_is : missed ≡ pass.missed
   pub numbers : (p : ℕ) → times p pass.numbers ≤ 1
-
--- the same of the table: no turn is left to another view
-abbrev pub IsWhole : View → Type 0
-IsWhole v = v.left + made v ≡ 2 ^ 62
-
-pub record IsAll (root : Root) (v : View) (drawn : ℕ) (h : Story) : Type 0 where
-  pub legal : IsLegal root.net h.book
-  pub replays : Replays root.opening h.turns h.book
-  pub known : StartsWith h.book v.known
-  pub so : AreSo h.book v.notes
-  pub turns : (p : ℕ) → under p h.turns ≡ under p (map turn_of v.notes)
-  pub draws : (x : ℕ) → times x v.draws ≡ once_below x drawn
-  pub missed : h.missed ≡ v.missed
-  pub numbers : (p : ℕ) → times p v.numbers ≤ 1
-
-pub record Ended (root : Root) (v : View) (s : State Story View) : Type 0 where
-  pub served : ℕ
-  pub given : ℕ
-  pub drawn : ℕ
-  pub split : ℕ
-  pub story : Story
-  pub words : s.words ≡ served ∷ given ∷ drawn ∷ split ∷ []
-  pub home : s.homes ≡ some story ∷ []
-  pub all : IsAll root v drawn story

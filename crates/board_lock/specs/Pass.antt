@@ -9,10 +9,10 @@ use Rattle.lemma_book.specs.Book.{IsLegal, StartsWith, answer_to}
 use Rattle.board_lock.specs.declared.view.Said.{Said}
 use Rattle.board_lock.specs.declared.view.Said.TheVariants.{Known}
 use Rattle.board_lock.specs.declared.view.Note.{Note}
-use Rattle.board_lock.specs.declared.view.View.{View}
+use Rattle.ticket_lock.specs.Views.{IsIdle}
 use Rattle.board_lock.specs.Totals.{AllBelow}
 use Rattle.board_lock.specs.Story.{Root, AreSo, said_of, note_of}
-use Rattle.board_lock.specs.Views.{IsIdle, longer, opener}
+use Rattle.board_lock.specs.Views.{View, longer, opener}
 use Rattle.board_lock.specs.Plays.{Place}
 
 -- a pass: the table that it belongs to, its number, the book as it knows it, the turns it has left, the numbers that it has
@@ -32,13 +32,13 @@ abbrev pub held_of : TableId → View → Held
 held_of t v = record {
   table = t;
   number = v.number;
-  known = v.known;
+  known = v.own.known;
   left = v.left;
   numbers = v.numbers;
-  draws = v.draws;
+  draws = v.own.draws;
   splits = v.splits;
-  missed = v.missed;
-  notes = v.notes;
+  missed = v.own.missed;
+  notes = v.own.notes;
 }
 
 -- a board: its table, what it is about, and how many tasks there are to be drawn
@@ -48,13 +48,11 @@ pub record Post : Type 0 where
   pub tasks : ℕ
 
 -- a pass between two calls
-pub record IsPass (place : TableId) (me : Place) (number : ℕ) (seen : Entries) (left : ℕ) : Type 0 where
+pub record IsPass (me : Place) (number : ℕ) (seen : Entries) (left : ℕ) : Type 0 where
   pub number_is : number ≡ me.0.number
-  pub words : place.words ≡ 4
-  pub slots : place.slots ≡ 1
   pub idle : IsIdle me.0
   pub free : me.1 ≡ []
-  pub seen_is : seen ≡ me.0.known
+  pub seen_is : seen ≡ me.0.own.known
   pub left_is : left ≡ me.0.left
 
 -- ---- the calls

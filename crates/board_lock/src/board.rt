@@ -18,27 +18,23 @@ use std::marker::Model;
 
 /// A book that many threads share, and how many tasks there are to be drawn.
 ///
-/// The table has four words, the turns that were ended, the tickets that were given, the draws and the
-/// splits, and one slot with the book and the turns.
+/// In the lock's slot lie the book and the turns. The numbers that the lock draws are those of the tasks.
 #[derive(Drop)]
 pub struct Board {
-    pub(crate) table: Lock,
+    pub(crate) lock: Lock,
     pub(crate) tasks: u64,
 }
 
 impl Model for Board {
-    ghost use Rattle.std.specs.Prelude.{◌≡◌};
     ghost use Rattle.board_lock.specs.Pass.{Post};
 
     ghost Value = { Post };
 
     ghost view = { λ b. record {
-      table = b.table.shared.table_id;
-      root = b.table.shared.key;
+      table = b.lock.table.shared.table_id;
+      root = b.lock.table.shared.key;
       tasks = b.tasks;
     } };
-
-    ghost invariant = { λ b. (b.table.shared.table_id.words ≡ 4) × (b.table.shared.table_id.slots ≡ 1) };
 }
 
 /// What was done on a board: the turns in order, how many were missed, and how many numbers were drawn.
@@ -67,11 +63,11 @@ impl Board {
         let Ok(about) = about(alloc, net, &book) else {
             return Err((book, AllocError));
         };
-        match table_about(alloc, &about, book) {
-            Ok((table, place)) => {
+        match lock_about(alloc, &about, book) {
+            Ok((lock, place)) => {
                 let About { net: _, opening } = about;
                 let pass = Pass::of(place, 0, opening, 1 << 62);
-                Ok((Board { table, tasks }, pass))
+                Ok((Board { lock, tasks }, pass))
             }
             Err(book) => Err((book, AllocError)),
         }
@@ -84,11 +80,8 @@ impl Board {
         requires whole { IsWholePass pass }
         ensures { IsClosed self.root pass result.0 result.1.turns result.1.missed result.1.drawn }
     {
-        let Board { table, tasks: _ } = self;
-        let mut closed = table.close_with(pass.into_place());
-        let history = closed.take(0);
-        let drawn = closed.word(2);
-        closed.free();
+        let Board { lock, tasks: _ } = self;
+        let (history, drawn) = lock.close(pass.into_place());
         let (book, turns, missed) = history.into_parts();
         let record = Record {
             turns: Listed::of(turns),
@@ -99,34 +92,19 @@ impl Board {
     }
 }
 
-/// The table with the book's one history, which has no turn yet, and the first seat at it. Where memory is
-/// refused the book comes back.
-fn table_about(alloc: Global, about: &About, book: Book) -> Result<(Lock, Place), Book>
+/// The lock over the book's one history, which has no turn yet, and the place of the first pass. Where memory
+/// is refused the book comes back.
+fn lock_about(alloc: Global, about: &About, book: Book) -> Result<(Lock, Place), Book>
     requires legal { IsLegal about.now.net book }
     requires opening { about.now.opening ≡ book }
-    ensures table { IfOk result (λ t. (t.0.shared.table_id.words ≡ 4) × (t.0.shared.table_id.slots ≡ 1)
-        × (t.0.shared.key ≡ about.now)) }
-    ensures place { IfOk result (λ t. (t.1.table_id ≡ t.0.shared.table_id) × (t.1.id ≡ 0)
-        × (t.1.me ≡ (opener about.now, []))) }
+    ensures lock { IfOk result (λ t. t.0.table.shared.key ≡ about.now) }
+    ensures place { IfOk result (λ t. (t.1.table_id ≡ t.0.table.shared.table_id) × (t.1.me ≡ (opener about.now, []))) }
     ensures err { IfErr result (λ b. b ≡ book) }
 {
-    let slots = slots_of(alloc, book)?;
-    match Lock::new(alloc, &[0, 0, 0, 0], slots, about) {
+    match Lock::open(alloc, History::of(alloc, book), about) {
         Ok(laid) => Ok(laid),
-        Err(refused) => Err(book_in(refused.slots)),
+        Err(history) => Err(history.into_parts().0),
     }
-}
-
-/// The slot with the book's one history. Where memory is refused the book comes back.
-fn slots_of(alloc: Global, book: Book) -> Result<Vec<History>, Book>
-    ensures slots { IfOk result (λ s. s.items ≡ record { book = book; turns = []; missed = 0 } ∷ []) }
-    ensures err { IfErr result (λ b. b ≡ book) }
-{
-    let Ok(mut slots) = Vec::with_capacity(alloc, 1) else {
-        return Err(book);
-    };
-    slots.push_reserved(History::of(alloc, book));
-    Ok(slots)
 }
 
 /// Copies of the net and of the book. The table is told them when it is made, and keeps neither: the first pass
@@ -138,15 +116,4 @@ fn about(alloc: Global, net: &Net, book: &Book) -> Result<About, AllocError>
         net: net.copy(alloc)?,
         opening: book.copy(alloc)?,
     })
-}
-
-/// The book of the one history.
-fn book_in(mut slots: Vec<History>) -> Book
-    requires { 1 ≤ length slots.items }
-    ensures { (h : Story) → slots.items ≡ h ∷ [] → result ≡ h.book }
-{
-    let Some(history) = slots.pop() else {
-        unreachable!()
-    };
-    history.into_parts().0
 }

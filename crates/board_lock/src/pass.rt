@@ -4,7 +4,7 @@ ghost use Rattle.lemma_book.specs.Entry.{settled_at};
 ghost use Rattle.lemma_book.specs.declared.refused.Offered.TheVariants.{Already};
 ghost use Rattle.lemma_book.specs.Good.{IsGood};
 ghost use Rattle.lemma_book.specs.Book.{IsFrom};
-ghost use Rattle.board_lock.specs.Views.{IsIdle};
+ghost use Rattle.ticket_lock.specs.Views.{IsIdle};
 ghost use Rattle.board_lock.specs.Pass.{DrewOne, SplitOff, Refreshed, OfferedOne, joined, missed_one, IsPass, held_of, Spends, Shares, Gains};
 
 use crate::board::Board;
@@ -35,13 +35,13 @@ impl Model for Pass {
 
     ghost view = { λ p. held_of p.place.table_id p.place.me.0 };
 
-    ghost invariant = { λ p. IsPass p.place.table_id p.place.me p.number p.seen p.left };
+    ghost invariant = { λ p. IsPass p.place.me p.number p.seen p.left };
 }
 
 impl Pass {
     /// The pass of a seat, by what its view says of it.
     pub(crate) fn of(place: Place, number: u64, seen: Book, left: u64) -> Pass
-        requires { IsPass place.table_id place.me number seen left }
+        requires { IsPass place.me number seen left }
         ensures { result ≡ held_of place.table_id place.me.0 }
     {
         Pass {
@@ -82,7 +82,7 @@ impl Pass {
         ensures drew { DrewOne board.now.tasks self.old self.new result }
         ensures spent { Spends self.old self.new }
     {
-        let number = turn::draw(&board.table, &mut self.place);
+        let number = turn::draw(&board.lock, &mut self.place);
         self.left -= 1;
         if number < board.tasks {
             Some(number)
@@ -105,7 +105,7 @@ impl Pass {
             seen,
             left,
         } = other;
-        turn::glue(&board.table, &mut self.place, place);
+        turn::join(&board.lock, &mut self.place, place);
         self.left += left;
         if self.seen.len() <= seen.len() {
             self.seen = seen;
@@ -122,8 +122,7 @@ impl Pass {
         ensures err { OnErr result (self.new ≡ self.old) }
     {
         let seen = self.seen.copy(alloc)?;
-        let number = turn::number(&board.table, &mut self.place) + 1;
-        let place = turn::cut_by::<Brand>(&board.table, &mut self.place, turns);
+        let (number, place) = turn::split(&board.lock, &mut self.place, turns);
         self.left = self.left - 1 - turns;
         Ok(Pass::of(place, number, seen, turns))
     }
@@ -142,18 +141,16 @@ impl Pass {
         ensures err { OnErr result (self.new ≡ missed_one self.old) }
         ensures spent { Spends self.old self.new }
     {
-        turn::come_in(rt, &board.table, &mut self.place);
-        let mut history = turn::take(alloc, &board.table, &mut self.place);
+        turn::come_in(rt, &board.lock, &mut self.place);
+        let mut history = turn::take(alloc, &board.lock, &mut self.place);
+        self.left -= 1;
         match history.look(alloc, &mut self.seen, self.number) {
             Ok(known) => {
-                turn::leave_known::<Brand>(&board.table, &mut self.place, history, known);
-                self.left -= 1;
+                turn::leave_known::<Brand>(&board.lock, &mut self.place, history, known);
                 Ok(known)
             }
             Err(AllocError) => {
-                history.miss();
-                turn::miss(&board.table, &mut self.place, history);
-                self.left -= 1;
+                turn::miss(&board.lock, &mut self.place, history);
                 Err(AllocError)
             }
         }
@@ -218,19 +215,17 @@ impl Pass {
         ensures err { OnErr result (self.new ≡ missed_one self.old) }
         ensures spent { Spends self.old self.new }
     {
-        turn::come_in(rt, &board.table, &mut self.place);
-        let mut history = turn::take(alloc, &board.table, &mut self.place);
+        turn::come_in(rt, &board.lock, &mut self.place);
+        let mut history = turn::take(alloc, &board.lock, &mut self.place);
+        self.left -= 1;
         match history.note_settled(self.number, entry, place) {
             Ok(()) => {
                 let settled = Offered::Already(place);
-                turn::leave_offered::<N>(&board.table, &mut self.place, history, settled);
-                self.left -= 1;
+                turn::leave_offered::<N>(&board.lock, &mut self.place, history, settled);
                 Ok(())
             }
             Err(AllocError) => {
-                history.miss();
-                turn::miss(&board.table, &mut self.place, history);
-                self.left -= 1;
+                turn::miss(&board.lock, &mut self.place, history);
                 Err(AllocError)
             }
         }
@@ -254,18 +249,16 @@ impl Pass {
         ensures err { IfErr result (λ e. (e.0 ≡ entry) × (self.new ≡ missed_one self.old)) }
         ensures spent { Spends self.old self.new }
     {
-        turn::come_in(rt, &board.table, &mut self.place);
-        let mut history = turn::take(alloc, &board.table, &mut self.place);
+        turn::come_in(rt, &board.lock, &mut self.place);
+        let mut history = turn::take(alloc, &board.lock, &mut self.place);
+        self.left -= 1;
         match history.append(alloc, net, self.seen.len(), self.number, entry) {
             Ok(offered) => {
-                turn::leave_offered::<N>(&board.table, &mut self.place, history, offered);
-                self.left -= 1;
+                turn::leave_offered::<N>(&board.lock, &mut self.place, history, offered);
                 Ok(offered)
             }
             Err(refused) => {
-                history.miss();
-                turn::miss(&board.table, &mut self.place, history);
-                self.left -= 1;
+                turn::miss(&board.lock, &mut self.place, history);
                 Err(refused)
             }
         }

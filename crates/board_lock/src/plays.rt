@@ -1,37 +1,36 @@
-//! The rule of the board's table, and what each kind of step on it tells.
-ghost use Rattle.std.specs.Prelude.{ℕ, []};
+//! What the board claims of its lock, and what each kind of step tells a pass.
+ghost use Rattle.std.specs.Prelude.{[]};
 ghost use Rattle.netlist.specs.Net.{AigPair};
 ghost use Rattle.lemma_book.specs.declared.entry.Entry.{Entry};
 ghost use Rattle.lemma_book.specs.declared.entry.Entry.TheVariants.{Out};
 ghost use Rattle.board_lock.specs.declared.view.Note.{Note};
-ghost use Rattle.board_lock.specs.Rule.{Kept};
-ghost use Rattle.board_lock.specs.Views.{opener, kept_of, cut_of, both_of, spent};
-ghost use Rattle.board_lock.specs.Plays.{Ticketed, Looked, Released, Missed, Drawn, Numbered, no_note, no_net};
+ghost use Rattle.board_lock.specs.Story.{no_story};
+ghost use Rattle.board_lock.specs.Rule.{Claimed, made};
+ghost use Rattle.board_lock.specs.Views.{first_of, new_of, both_of, spent};
+ghost use Rattle.board_lock.specs.Plays.{Sees, noted_by, AreNoted, missed_by, drew_by, IsAbove, no_note, no_net};
 
 use crate::about::About;
 use crate::history::History;
-use crate::view::View;
-use atomic_table::{Join, Play, Seat, Split, Table, TableRule};
-use std::alloc::Global;
+use crate::view::Own;
 use std::marker::{Brand, PhantomData};
+use ticket_lock::{Claim, Drawing, Ending, Join, Lesson, Split, TicketLock};
 
+/// The claim of a board: its lock's slot has one legal history, which passes know.
 pub struct Law;
 
-impl TableRule<History, View, About> for Law {
-    ghost holds = { Kept };
+impl Claim<History, Own, About> for Law {
+    ghost holds = { Claimed };
 
-    ghost first = { opener };
+    ghost first = { first_of };
+
+    ghost made = { made };
+
+    ghost blank = { no_story };
 }
 
-pub type Lock = Table<History, View, About, Law, Global>;
+pub type Lock = TicketLock<History, Own, About, Law>;
 
-pub type Place = Seat<History, View>;
-
-pub struct Ticket;
-
-impl Play<History, View> for Ticket {
-    ghost then = { Ticketed };
-}
+pub type Place = ticket_lock::Place<History, Own>;
 
 /// Which net a board is about: a step tells of the book that it is legal over the net.
 pub trait Over {
@@ -44,26 +43,8 @@ impl Over for Brand {
 
 pub struct Look<N: Over>(PhantomData<N>);
 
-impl<N: Over> Play<History, View> for Look<N> {
-    ghost then = { Looked N.net };
-}
-
-pub struct Draw;
-
-impl Play<History, View> for Draw {
-    ghost then = { Drawn };
-}
-
-pub struct Number;
-
-impl Play<History, View> for Number {
-    ghost then = { Numbered };
-}
-
-pub struct Miss;
-
-impl Play<History, View> for Miss {
-    ghost then = { Missed };
+impl<N: Over> Lesson<History, Own> for Look<N> {
+    ghost fact = { Sees N.net };
 }
 
 /// What a turn is noted as.
@@ -75,10 +56,20 @@ impl Noting for Brand {
     ghost note = { no_note };
 }
 
-pub struct Leave<N: Noting>(PhantomData<N>);
+pub struct Noted<N: Noting>(PhantomData<N>);
 
-impl<N: Noting> Play<History, View> for Leave<N> {
-    ghost then = { Released N.note };
+impl<N: Noting> Ending<History, Own> for Noted<N> {
+    ghost after = { noted_by N.note };
+
+    ghost told = { AreNoted N.note };
+}
+
+pub struct Missed;
+
+impl Ending<History, Own> for Missed {
+    ghost after = { missed_by };
+
+    ghost told = { λ _ _. Unit {0} };
 }
 
 /// Which entry is offered.
@@ -90,26 +81,25 @@ impl Asked for Brand {
     ghost entry = { Out 0 [] };
 }
 
-/// How many turns a new pass gets.
-pub trait Amount {
-    ghost amount: { ℕ };
+pub struct Task;
+
+impl Drawing<Own> for Task {
+    ghost after = { drew_by };
+
+    ghost told = { IsAbove };
 }
 
-impl Amount for Brand {
-    ghost amount = { 0 };
-}
+pub struct Cut;
 
-pub struct Cut<N: Amount>(PhantomData<N>);
+impl Split<Own> for Cut {
+    ghost left = { λ o. o };
 
-impl<N: Amount> Split<View> for Cut<N> {
-    ghost left = { kept_of N.amount };
-
-    ghost right = { cut_of N.amount };
+    ghost right = { new_of };
 }
 
 pub struct Glue;
 
-impl Join<View> for Glue {
+impl Join<Own> for Glue {
     ghost both = { both_of };
 
     ghost spent = { spent };

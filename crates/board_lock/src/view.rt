@@ -1,4 +1,3 @@
-use crate::history::History;
 use lemma_book::{Book, Entry};
 use std::collections::LinkedList;
 
@@ -15,22 +14,12 @@ pub struct Note {
     pub said: Said,
 }
 
-/// What a pass knows, in proofs alone: no value of it is made.
+/// What a board keeps of a pass, in proofs alone: no value of it is made.
 ///
-/// `waits` and `holds` say how it stands in line, `taken` what it took out of the slot, `held` a number that
-/// was drawn for a new pass. `numbers`, `draws`, `splits`, `missed` and `notes` are its own and those of the
-/// passes that it took over.
-pub struct View {
-    pub waits: bool,
-    pub holds: bool,
-    pub ticket: u64,
-    pub taken: History,
-    pub left: u64,
-    pub number: u64,
-    pub numbers: LinkedList<u64>,
-    pub held: LinkedList<u64>,
+/// `draws`, `missed` and `notes` are the pass's own and those of the passes that it took over, `known` is the book as
+/// it knows it.
+pub struct Own {
     pub draws: LinkedList<u64>,
-    pub splits: u64,
     pub missed: u64,
     pub notes: LinkedList<Note>,
     pub known: Book,

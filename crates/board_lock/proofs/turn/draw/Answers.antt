@@ -1,12 +1,6 @@
-use Rattle.std.proofs.Common.{arith}
-use Rattle.board_lock.proofs.Steps.{draws_go}
+use Rattle.ticket_lock.specs.Views.{member_of}
+use Rattle.board_lock.proofs.Steps.{draws}
 use Rattle.board_lock.proofs.turn.draw.Goals as goal
 
-pub fetch_add-requires : goal.fetch_add-requires
-fetch_add-requires c =
-    let p = c.args.place.now in (
-      c.requires.fit.same,
-      rw c.requires.fit.words (omega arith),
-      rw c.requires.fit.slots
-          (draws_go c.args.lock.now.shared.key p.id p.me.0 p.me.1 c.requires.idle.0.waits c.requires.idle.0.holds c.requires.left),
-    )
+pub draw-requires-clause-draws : goal.draw-requires-clause-draws
+draw-requires-clause-draws c = draws c.args.lock.now.table.shared.key (member_of c.args.place.now.me.0)

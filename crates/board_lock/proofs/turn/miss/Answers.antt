@@ -1,18 +1,10 @@
-use Rattle.std.proofs.Common.{◌∙◌, arith}
-use Rattle.board_lock.specs.Story.{no_story}
-use Rattle.board_lock.proofs.Turns.{slot_held, slot_has, missed_seat}
+use Rattle.std.proofs.Common.{ap, ◌∙◌}
+use Rattle.ticket_lock.specs.Views.{member_of}
+use Rattle.board_lock.specs.Story.{story_missed}
+use Rattle.board_lock.proofs.Turns.{missed}
 use Rattle.board_lock.proofs.turn.miss.Goals as goal
 
-pub exchange-requires : goal.exchange-requires
-exchange-requires c = (c.requires.fit.same, slot_held c.args.place.now.me.1 no_story c.requires.inside.1)
-
-pub fetch_add-requires : goal.fetch_add-requires
-fetch_add-requires c =
-    let p = c.args.place.now in
-    let q = c.exchange.new.seat in
-    let me = slot_has p.me.0 p.me.1 no_story c.args.history q.me c.requires.inside.1 c.exchange.ensures.3 in (
-      c.exchange.ensures.0 ∙ c.requires.fit.same,
-      rw c.requires.fit.words (omega arith),
-      rw c.requires.fit.slots
-          (missed_seat c.args.lock.now.shared.key q.id q.me p.me.0 c.args.history me c.requires.inside.0 c.requires.missed),
-    )
+pub leave-requires-clause-ends : goal.leave-requires-clause-ends
+leave-requires-clause-ends c =
+    let v = c.args.place.now.me.0 in
+    missed c.args.lock.now.table.shared.key (member_of v) v.taken c.miss.new.self (c.miss.ensures ∙ ap story_missed c.requires.missed.0)

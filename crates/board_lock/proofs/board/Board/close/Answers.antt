@@ -1,19 +1,20 @@
-use Rattle.std.proofs.Common.{ap, sym, ◌∙◌}
-use Rattle.std.specs.Slots.{slots_items}
-use lib.ListN.{get_elem?}
+use Rattle.std.proofs.Common.{sym, ap, ◌∙◌}
 use Rattle.board_lock.specs.Pass.{Post}
-use Rattle.board_lock.proofs.PassLemmas.{closes}
+use Rattle.board_lock.proofs.Ends.{sums, whole_view, closes}
 use Rattle.board_lock.proofs.board.Board.close.Goals as goal
+
+pub close-history-requires-clause-sums : goal.close-history-requires-clause-sums
+close-history-requires-clause-sums c = sums c.self.inside.lock.table.shared.key
+
+pub close-history-requires-clause-whole : goal.close-history-requires-clause-whole
+close-history-requires-clause-whole c =
+    let p = c.into_place.result in
+    whole_view p.table_id p.me.0 c.args.pass c.into_place.ensures.held c.requires.whole
 
 pub returns : goal.returns
 returns c =
     let p = c.into_place in
-    let e = p.ensures in
-    let v = c.close_with-closed.ensures.values in
-    let k = c.take-history.ensures in
     let i = c.into_parts-book.ensures in
-    let word = ap (λ w. get_elem? (slots_items w) 2) (sym k.others.3) ∙ c.word-drawn.ensures in
-    let z =
-    closes c.self.inside.table.shared.key p.result.id p.result.me p.result.table_id _ _ c.word-drawn.result c.take-history.result c.args.pass
-    e.held e.idle c.requires.whole v.2 word k.value in
-    rw (i.book, c.of.ensures ∙ i.turns, i.missed, sym (ap (λ (b : Post). b.root) c.self.view_is)) z
+    rw (i.book, c.of.ensures ∙ i.turns, i.missed, sym (ap (λ (b : Post). b.root) c.self.view_is))
+    (closes c.self.inside.lock.table.shared.key p.result.table_id p.result.me.0 _ _ c.args.pass p.ensures.held p.ensures.idle
+    c.close-history.ensures)

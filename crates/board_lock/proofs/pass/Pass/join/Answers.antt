@@ -6,14 +6,14 @@ pub invariant_of-self : goal.invariant_of-self
 invariant_of-self c =
     let v = c.self.inside in
     let u = c.other.inside in
-    joined_pass v.place.table_id u.place.table_id c.glue.new.place.table_id v.place.me u.place.me c.glue.new.place.me v.number u.number v.left u.left
-    v.seen u.seen u.seen c.self.invariant c.other.invariant c.glue.ensures.same c.glue.ensures.both
+    joined_pass v.place.me u.place.me c.join.new.place.me v.number u.number v.left u.left
+    v.seen u.seen u.seen c.self.invariant c.other.invariant c.join.ensures.both
     (sym (longer-right v.seen u.seen (let t = c.if-len.true in omega arith)))
 
 pub invariant_of-self-else-len : goal.invariant_of-self-else-len
 invariant_of-self-else-len c =
     let v = c.self.inside in
     let u = c.other.inside in
-    joined_pass v.place.table_id u.place.table_id c.glue.new.place.table_id v.place.me u.place.me c.glue.new.place.me v.number u.number v.left u.left
-    v.seen u.seen v.seen c.self.invariant c.other.invariant c.glue.ensures.same c.glue.ensures.both
+    joined_pass v.place.me u.place.me c.join.new.place.me v.number u.number v.left u.left
+    v.seen u.seen v.seen c.self.invariant c.other.invariant c.join.ensures.both
     (sym (longer-left v.seen u.seen (let t = c.if-len.false in omega arith)))

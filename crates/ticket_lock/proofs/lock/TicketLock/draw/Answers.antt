@@ -1,0 +1,15 @@
+use Rattle.std.proofs.Common.{arith}
+use Rattle.ticket_lock.proofs.Steps.{draws_go}
+use Rattle.ticket_lock.proofs.lock.TicketLock.draw.Goals as goal
+
+pub fetch_add-requires : goal.fetch_add-requires
+fetch_add-requires g c =
+    let p = c.args.place.now in
+    let l = c.args.self.now in
+    let idle = c.requires.idle in (
+      c.requires.own,
+      rw l.sized.0 (omega arith),
+      rw l.sized.1
+          (draws_go (g.C.Claim.holds l.table.shared.key) p.id p.me.0 p.me.1 g.D.Drawing.after g.D.Drawing.told idle.0.waits idle.0.holds
+          c.requires.left c.requires.draws),
+    )

@@ -1,0 +1,6 @@
+pub mod Totals
+pub mod Line
+pub mod Views
+pub mod Claims
+pub mod Plays
+pub mod Rule
