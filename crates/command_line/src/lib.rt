@@ -16,8 +16,8 @@ pub use asked::{
     Asked, BUDGET_LIMIT, CheckWords, FraigWords, LratWords, SelfWords, WORDS_LIMIT, WORKERS_LIMIT,
 };
 pub use laws::{
-    given_numbers, left_names, plain_words, reduced_is_apart, saved_is_apart, witness_is_apart,
-    words_are_one_of,
+    given_numbers, left_names, plain_checks, plain_words, reduced_is_apart, saved_is_apart,
+    witness_is_apart, words_are_one_of,
 };
 pub use reading::{Refusal, read};
 
