@@ -63,15 +63,6 @@ new_first (x ∷ rows) r id same none = go (bytes_eq x.id id) none (new_first ro
     go true none rest = cc
     go false none rest = rest none
 
-pub not_found : (rows : List Row) (id : Text) → has_row id rows ≡ false → first_of id rows ≡ None
-not_found [] id none = refl
-not_found (x ∷ rows) id none = go (bytes_eq x.id id) none (not_found rows id)
-  where
-    go : (b : Bool) → (b || has_row id rows) ≡ false → (has_row id rows ≡ false → first_of id rows ≡ None)
-        → in_row (cond b (Some x) (find (λ (y : Row). bytes_eq y.id id) rows)) ≡ None
-    go true none rest = cc
-    go false none rest = rest none
-
 -- ---- defaults
 
 abbrev row_by_default : Rule → List Text → Row
