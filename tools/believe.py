@@ -2,7 +2,8 @@
 """How much a reader must believe: the lines of definitions that a promise of docs/MODEL.md's first page reaches.
 
     tools/believe.py                     what MODEL.md says: each promise, EQUIVALENT without the written files, and that of `fraig`
-    tools/believe.py --list IsEquivalent the definitions that it reaches, file by file (IsReducedTo: those of `fraig`)
+    tools/believe.py --list IsEquivalent the definitions that it reaches, file by file (IsReducedTo: those of `fraig`;
+                                         MeansEquivalent: those of plain words)
     tools/believe.py --check             fails where MODEL.md has other numbers
 
 Counted are the definitions of this repository (crates/NAME/specs), each whole, and beside them the types of the code that they
@@ -24,8 +25,15 @@ FORMATS = 'SpellsAiger'
 REDUCED_HOME = 'cec_top/specs/Reduced'
 REDUCED = 'IsReducedTo'
 BOOK = ('IsLegal', 'IsSwept', 'IsSweptAlone', 'IsReducedCircuit')
-SAID = ('EQUIVALENT without the written files {}, of which {} are the two forms of AIGER, and with them {}; DIFFERENT {}; '
-        'UNDECIDED {}; VERIFIED {}; EQUIVALENT of `fraig` {}, and without what it says of the book {}.')
+# The page of plain words: what a verdict means, what a run shows of it, and which words are plain. What a desk shows isn't counted,
+# here as elsewhere.
+PLAIN_HOME = 'cec_top/specs/Plain'
+PLAIN = (('MeansEquivalent', PLAIN_HOME), ('RunMeans', PLAIN_HOME), ('PlainCheck', 'command_line/specs/PlainWords'))
+PLAIN_FILES = ('LeavesProof', 'RefutesMiter')
+DESK = ('DeskState',)
+SAID = ('EQUIVALENT of plain words {} without the written files, of which {} are the two forms of AIGER, and {} with them; '
+        'EQUIVALENT of all words {} and {}; DIFFERENT {}; UNDECIDED {}; VERIFIED {}; EQUIVALENT of `fraig` {}, and without what it '
+        'says of the book {}.')
 
 NAME = r"[A-Za-z_][\w'-]*"
 SIGNED = re.compile(rf"^(?:(?:abbrev|unfoldable|pub) )*(?:record |data )?(◌\S+◌|{NAME}) *(?::|\(|\{{)")
@@ -186,22 +194,31 @@ def lines(seen, kind='def'):
     return sum(len(body) for at, body in seen.items() if at[0] == kind)
 
 
+def plain(files, stops):
+    """The lines of the page of plain words, and of all that it reaches."""
+    seen = {}
+    for root, home in PLAIN:
+        seen.update(reach(files, root, (*stops, *DESK), home))
+    return lines(seen)
+
+
 def main(args):
     files = load()
     if args[:1] == ['--list']:
-        homes = [home for home in (HOME, REDUCED_HOME) if args[1] in files[home].defs]
+        homes = [home for home in (HOME, REDUCED_HOME, PLAIN_HOME) if args[1] in files[home].defs]
         if not homes:
-            print(f'{args[1]} is no definition of {HOME} or {REDUCED_HOME}')
+            print(f'{args[1]} is no definition of {HOME}, {REDUCED_HOME} or {PLAIN_HOME}')
             return 1
         seen = reach(files, args[1], home=homes[0])
         for kind, where, name in sorted(k for k in seen if seen[k]):
             print(f'{len(seen[(kind, where, name)]):4} {where} {name}')
         return 0
     without = lines(reach(files, 'IsEquivalent', (*FILES, *BESIDES)))
-    formats = without - lines(reach(files, 'IsEquivalent', (*FILES, *BESIDES, FORMATS)))
+    of_plain = plain(files, PLAIN_FILES)
+    formats = of_plain - plain(files, (*PLAIN_FILES, FORMATS))
     stops = {'IsEquivalent': BESIDES, 'IsDifferent': BESIDES}
     reduced = [lines(reach(files, REDUCED, without_these, REDUCED_HOME)) for without_these in ((), BOOK)]
-    said = SAID.format(without, formats, *(lines(reach(files, root, stops.get(root, ()))) for root in PROMISES), *reduced)
+    said = SAID.format(of_plain, formats, plain(files, ()), without, *(lines(reach(files, root, stops.get(root, ()))) for root in PROMISES), *reduced)
     print(said)
     if args[:1] == ['--check']:
         with open(os.path.join(TOP, 'docs', 'MODEL.md'), encoding='utf-8') as f:

@@ -26,3 +26,4 @@ mod FraigLemmas
 mod RefusedLemmas
 mod StoppedLemmas
 mod ReducedLemmas
+mod PlainLemmas

@@ -43,13 +43,13 @@ use Rattle.cec_top.proofs.WordsLemmas.{once-code}
 zero-text : decimal 0 ≡ codes "0"
 zero-text = decimal_digit 0 (omega arith)
 
-cnf-first : (prefix : List ℕ) → cnf_name prefix 0 ≡ prefix ++ codes ".0.cnf"
+pub cnf-first : (prefix : List ℕ) → cnf_name prefix 0 ≡ prefix ++ codes ".0.cnf"
 cnf-first prefix =
     ap (λ (d : List ℕ). prefix ++ codes "." ++ d ++ codes ".cnf") zero-text
     ∙ append_assoc (prefix ++ codes ".") (codes "0") (codes ".cnf")
     ∙ append_assoc prefix (codes ".") (codes "0" ++ codes ".cnf")
 
-proof-first : (prefix : List ℕ) → proof_name prefix 0 ≡ prefix ++ codes ".0.lrat"
+pub proof-first : (prefix : List ℕ) → proof_name prefix 0 ≡ prefix ++ codes ".0.lrat"
 proof-first prefix =
     ap (λ (d : List ℕ). prefix ++ codes "." ++ d ++ codes ".lrat") zero-text
     ∙ append_assoc (prefix ++ codes ".") (codes "0") (codes ".lrat")

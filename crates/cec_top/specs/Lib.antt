@@ -14,6 +14,7 @@ pub mod Answers
 pub mod Steps
 pub mod FraigSteps
 pub mod Complete
+pub mod Plain
 pub mod Refused
 pub mod Reduced
 pub mod Stopped

@@ -1,8 +1,9 @@
 //! What a run promises, each law the contract of a function that does nothing when it runs.
-ghost use Rattle.std.specs.Prelude.{◌≡◌, ◌≢◌, ◌≤◌, ◌⊎◌, ℕ, false, List, None, Some};
+ghost use Rattle.std.specs.Prelude.{◌≡◌, ◌≢◌, ◌≤◌, ◌⊎◌, ℕ, false, List, Option, None, Some};
 ghost use Rattle.desk_port.specs.Desk.{DeskState, Files};
 ghost use Rattle.endings.specs.Status.{code_of};
 ghost use Rattle.endings.specs.declared.status.Status.{Status};
+ghost use Rattle.command_line.specs.PlainWords.{PlainCheck};
 ghost use Rattle.command_line.specs.Words.{CheckCommand, FraigCommand, LratCommand, SelfCommand, CheckIt, FraigIt, LratIt, SelfIt, Asks};
 ghost use Rattle.lemma_book.specs.Book.{IsLegal};
 ghost use Rattle.check_session.specs.Finding.{Finding, Finds};
@@ -12,6 +13,7 @@ ghost use Rattle.cec_top.specs.Check.{IsProof};
 ghost use Rattle.cec_top.specs.Complete.{CanCheck, CanVerify, NoFault, IsAmple, HasVerdict};
 ghost use Rattle.cec_top.specs.Headline.{IsEquivalent, IsDifferent, IsUndecided, IsVerified, Shows};
 ghost use Rattle.cec_top.specs.Headline.{AreEquivalent, AreDifferent, AreUndecided, OfWorkload};
+ghost use Rattle.cec_top.specs.Plain.{MeansDifferent, MeansEquivalent, MeansUndecided, RunMeans};
 ghost use Rattle.cec_top.specs.Reduced.{CanReduce, IsReducedTo, MakesNothing, MakesPart, RefusesCircuit};
 ghost use Rattle.cec_top.specs.Refused.{Refuses};
 ghost use Rattle.cec_top.specs.SelfCheck.{own_how};
@@ -19,6 +21,26 @@ ghost use Rattle.cec_top.specs.Stopped.{Stopped};
 
 use lemma_book::Book;
 use netlist::Net;
+
+/// What each verdict means where the words are plain, `check A B` with no option or with `--out` and options that
+/// are numbers: `specs/Plain.antt`. It follows from `verdicts`, which speaks of all options.
+pub fn plain_verdicts()
+    ensures equivalent { (words : List (List ℕ)) (a b : List ℕ) (out : Option (List ℕ))
+        (old new : DeskState) (status : Status) (kept : List Kept) →
+        PlainCheck a b out words → Answers words old new status kept
+        → code_of status ≡ 0 → RunMeans (MeansEquivalent a b out) old new }
+    ensures different { (words : List (List ℕ)) (a b : List ℕ) (out : Option (List ℕ))
+        (old new : DeskState) (status : Status) (kept : List Kept) →
+        PlainCheck a b out words → Answers words old new status kept
+        → code_of status ≡ 1 → RunMeans (MeansDifferent a b out) old new }
+    ensures undecided { (words : List (List ℕ)) (a b : List ℕ) (out : Option (List ℕ))
+        (old new : DeskState) (status : Status) (kept : List Kept) →
+        PlainCheck a b out words → Answers words old new status kept
+        → code_of status ≡ 2 → RunMeans (MeansUndecided a b out) old new }
+{
+    command_line::plain_checks();
+    verdicts();
+}
 
 /// What each verdict promises, by the exit status: `specs/Headline.antt`.
 pub fn verdicts()

@@ -3,12 +3,15 @@
 //! `run` reads two circuits, checks them, writes the CNF of their miter beside a proof and says the verdict,
 //! and goes on so as an edit script asks for it: each line edits the circuits or has them checked again. Or
 //! it makes two circuits itself and checks those; or it checks such a proof. Or it reduces a circuit, and
-//! writes what is left of it with a proof that both compute the same. What each verdict promises
-//! is on one page, `specs/Headline.antt`, and `laws::verdicts` shows it from the contract of `run`, which
+//! writes what is left of it with a proof that both compute the same.
+//!
+//! What a verdict means of the words `check A B` is on one page, `specs/Plain.antt`, by the law
+//! `laws::plain_verdicts`: begin there. What each verdict promises whatever the options is
+//! `specs/Headline.antt`, and `laws::verdicts` shows it from the contract of `run`, which
 //! says what each status means: `specs/Answers.antt`. That of a reduced circuit is `specs/Reduced.antt`, by
 //! `laws::reductions`. What is warned of a file or a script's line that is
-//! refused, and what stands then, is in `specs/Refused.antt`, by the same law. When a run has to come to a
-//! verdict is in `specs/Complete.antt`, and `laws::completeness` shows it.
+//! refused, and what stands then, is in `specs/Refused.antt`, by the law `laws::verdicts`. When a run has to come
+//! to a verdict is in `specs/Complete.antt`, and `laws::completeness` shows it.
 //!
 //! Definitions on which the answers stand: `specs/Script.antt` (what an edit script asks for),
 //! `specs/Check.antt` (one check, from what it found to its files and its verdict, and checks one after

@@ -11,3 +11,5 @@ mod AnswerLemmas
 mod CaseLemmas
 mod PlainLemmas
 mod RangeLemmas
+mod PlainRowLemmas
+mod PlainCheckLemmas

@@ -38,22 +38,22 @@ met-plain c (option id) position word h plain = simp (no_end word plain, no_flag
 met-plain c positional position word h plain = simp (no_end word plain, no_flag word plain) refl
 
 -- the walk after a plain word, and its fault
-abbrev after_plain : List Rule → Walk → Text → Walk
+abbrev pub after_plain : List Rule → Walk → Text → Walk
 after_plain c w word = after_step c word w (plain_word c w.waiting word w.held).0 (plain_word c w.waiting word w.held).1
 
-abbrev plain_fault : Shape → Walk → Text → Kinds
+abbrev pub plain_fault : Shape → Walk → Text → Kinds
 plain_fault s w word = step_fault s w.position (plain_word s.rules w.waiting word w.held).0 (plain_word s.rules w.waiting word w.held).1
 
 -- the walk where no `--` and no command was met
-abbrev going : Walk → Walk
+abbrev pub going : Walk → Walk
 going w = record w { is_trailing = false; stopped = None }
 
-walked-plain : (c : List Rule) (w : Walk) (word : Text) → IsPlain word → w ≡ going w → walked c [] w word ≡ after_plain c w word
+pub walked-plain : (c : List Rule) (w : Walk) (word : Text) → IsPlain word → w ≡ going w → walked c [] w word ≡ after_plain c w word
 unfolding walked
 walked-plain c w word plain same = subst (λ (v : Walk). walked c [] v word ≡ after_plain c v word) (sym same)
     (ap (λ (met : Held × Step). after_step c word (going w) met.0 met.1) (met-plain c w.waiting w.position word w.held plain))
 
-fault-plain : (s : Shape) (w : Walk) (word : Text) → IsPlain word → w ≡ going w → turn_fault s [] w word ≡ plain_fault s w word
+pub fault-plain : (s : Shape) (w : Walk) (word : Text) → IsPlain word → w ≡ going w → turn_fault s [] w word ≡ plain_fault s w word
 fault-plain s w word plain same = subst (λ (v : Walk). turn_fault s [] v word ≡ plain_fault s v word) (sym same) (at w.waiting)
   where
     at : (waiting : Waiting) → turn_fault s [] (record (going w) { waiting = waiting }) word ≡ plain_fault s (record (going w) { waiting = waiting }) word

@@ -5,3 +5,4 @@ pub mod Words
 pub mod Answers
 pub mod Parsing
 pub mod Plain
+pub mod PlainWords

@@ -1,6 +1,7 @@
-ghost use Rattle.std.specs.Prelude.{◌≡◌, ◌≢◌, ◌⊎◌, ◌↔◌, ℕ, List, [], ◌∷◌, Some, codes, false, true};
+ghost use Rattle.std.specs.Prelude.{◌≡◌, ◌≢◌, ◌⊎◌, ◌↔◌, ℕ, List, [], ◌∷◌, Option, Some, codes, false, true};
 ghost use Rattle.command_line.specs.Commands.{budget_option, most_seed, seed_option, sweep_budget_option, words_option, workers_option};
 ghost use Rattle.command_line.specs.Plain.{AskCheck, AskFraig, IsInRange, IsPlain, SetsFlag, SetsFraigNumber, SetsName, SetsNumber, SetsText, Writes, kind_name};
+ghost use Rattle.command_line.specs.PlainWords.{IsPlainCheck, PlainCheck};
 ghost use Rattle.command_line.specs.declared.asked.TheConstants.{BUDGET_LIMIT, WORDS_LIMIT, WORKERS_LIMIT};
 ghost use Rattle.command_line.specs.Saved.{IsFirstUnder, IsLeftUnder, is_first_under, is_left_under};
 ghost use Rattle.command_line.specs.Words.{AreRefused, AskAmiss, Asks, CheckCommand, CheckIt, FraigCommand, FraigIt, LratIt, Misnames, SavesOver, WritesOver, WitnessOver, WitnessSaved, Request, SelfIt, WantHelp, WantInfo, WantVersion, misnamed_pairing, plain_check, plain_fraig};
@@ -132,4 +133,14 @@ pub fn plain_words()
         Asks (program ∷ codes "lrat" ∷ cnf ∷ proof ∷ []) (LratIt (record { cnf = cnf; proof = proof })) }
     ensures own { (program word : List ℕ) (kind : Kind) (n : ℕ) → Writes 1 MOST_BITS word n →
         Asks (program ∷ codes "self" ∷ kind_name kind ∷ word ∷ []) (SelfIt (record { kind = kind; n = n })) }
+{}
+
+/// Plain words, where they ask for anything, ask for a check of their two files that writes under the
+/// prefix of `--out` alone, and for no help and no version: they read and write no other file.
+pub fn plain_checks()
+    ensures asked { (words : List (List ℕ)) (a b : List ℕ) (out : Option (List ℕ)) (r : Request) →
+        PlainCheck a b out words → Asks words r →
+        (c : CheckCommand) × (r ≡ CheckIt c) × IsPlainCheck a b out c }
+    ensures uninformed { (words : List (List ℕ)) (a b : List ℕ) (out : Option (List ℕ)) →
+        PlainCheck a b out words → ¬ WantInfo words }
 {}

@@ -4,7 +4,8 @@
 //! for that, or with what is wrong with them. All commands, arguments and options stand in one table, from
 //! which the parser and help are made. The law `words_are_one_of` says that words are exactly one of these,
 //! and `plain_words` what words ask for as a user writes them (`specs/Plain.antt`): it anchors the
-//! definition by `clap`'s walk.
+//! definition by `clap`'s walk. The law `plain_checks` says of `check A B`, with any of six options in any
+//! order, that it asks for no other file than these two and those of `--out` (`specs/PlainWords.antt`).
 //!
 //! Definitions: `specs/Words.antt` (what words ask for, by `clap`'s own definition of what it takes and what
 //! it finds), `specs/Commands.antt` (the commands), `specs/Answers.antt` (what `read` may answer);
@@ -16,8 +17,8 @@ pub use asked::{
     Asked, BUDGET_LIMIT, CheckWords, FraigWords, LratWords, SelfWords, WORDS_LIMIT, WORKERS_LIMIT,
 };
 pub use laws::{
-    given_numbers, left_names, plain_words, reduced_is_apart, saved_is_apart, witness_is_apart,
-    words_are_one_of,
+    given_numbers, left_names, plain_checks, plain_words, reduced_is_apart, saved_is_apart,
+    witness_is_apart, words_are_one_of,
 };
 pub use reading::{Refusal, read};
 
