@@ -12,7 +12,7 @@ use lemma_book::Entry;
 use lits::{Listed, Side};
 use merged_net::{Merges, has_constraints, lit_code};
 use netlist::Net;
-use search_parts::{ActivityHeap, Backoff, Caps, at, count, mark};
+use search_parts::{ActivityHeap, Caps, at, count, mark};
 use shared_equalities::Equalities;
 use std::alloc::{AllocError, Global};
 
@@ -36,11 +36,6 @@ const WORK: u64 = 20000;
 const CONFLICT: u64 = 500;
 
 const NODE: u64 = 10;
-
-/// How far the search for an output's two codes goes before so many pairs of its cone are searched.
-const DIRECT: u32 = 800;
-
-const MANY: usize = 5;
 
 /// How far the search for one equality goes, and then those for what is left.
 const PASSES: [u32; 2] = [1000, 10000];
@@ -94,8 +89,6 @@ pub struct ConeSolver {
     learned: u64,
     /// The work at which the output's search ends.
     limit: u64,
-    /// When an output is searched before the pairs of its cone.
-    direct: Backoff,
 }
 
 /// What was found out of two codes.
@@ -133,7 +126,6 @@ impl ConeSolver {
             room: ROOM,
             learned: 0,
             limit: 0,
-            direct: Backoff::new(),
         }
     }
 
@@ -159,7 +151,6 @@ impl ConeSolver {
     /// Forgets all of another book.
     pub fn begin_anew(&mut self) {
         self.forget();
-        self.direct = Backoff::new();
     }
 
     /// What was done so far, in watches visited.
@@ -218,13 +209,6 @@ impl ConeSolver {
         equalities: &mut Equalities,
         codes: (u32, u32),
     ) -> Result<Found, AllocError> {
-        if self.has_many(net, merges, equalities, codes)? && self.direct.is_due() {
-            let found = self.compare(net, merges, equalities, codes, DIRECT)?;
-            self.direct.note(is_settled(found));
-            if is_settled(found) {
-                return Ok(found);
-            }
-        }
         for most in PASSES {
             self.equate(alloc, net, merges, equalities, codes, most)?;
             let found = self.compare(net, merges, equalities, codes, most)?;
@@ -233,19 +217,6 @@ impl ConeSolver {
             }
         }
         self.compare(net, merges, equalities, codes, u32::MAX)
-    }
-
-    /// Whether many pairs are open in a cone.
-    fn has_many(
-        &mut self,
-        net: &Net,
-        merges: &Merges,
-        equalities: &Equalities,
-        codes: (u32, u32),
-    ) -> Result<bool, AllocError> {
-        self.enter(net, merges, equalities, codes)?;
-        self.list_open(merges, equalities, u32::MAX)?;
-        Ok(self.open.len() >= MANY)
     }
 
     /// Searches for why the open pairs in a cone are equal, from the inputs up, but for those that failed with

@@ -169,7 +169,8 @@ impl ConeSolver {
     fn reduce(&mut self) -> Result<(), AllocError> {
         self.keys.clear();
         for place in 0..self.store.listed() {
-            self.weigh(self.store.listed_at(place))?;
+            let number = self.store.listed_at(place);
+            self.weigh(number)?;
         }
         self.keys.as_mut_slice().sort_unstable();
         let left = self.keys.len() / 2;

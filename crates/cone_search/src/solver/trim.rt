@@ -42,7 +42,8 @@ impl ConeSolver {
             }
         }
         for place in 0..count(self.listed.len()) {
-            self.watch_spare(at(&self.listed, place))?;
+            let number = at(&self.listed, place);
+            self.watch_spare(number)?;
         }
         Ok(())
     }
@@ -109,7 +110,8 @@ impl ConeSolver {
     fn need_hints(&mut self, number: u32) -> Result<(), AllocError> {
         let hints = self.store.record(number).hints;
         for place in hints.start..hints.start.saturating_add(hints.len) {
-            self.need(self.store.hint(place))?;
+            let hint = self.store.hint(place);
+            self.need(hint)?;
         }
         Ok(())
     }
