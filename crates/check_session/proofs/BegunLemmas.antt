@@ -16,6 +16,8 @@ use Rattle.lemma_book.proofs.Facts.{output-unsettled}
 use Rattle.check_session.specs.declared.options.Options.{Options}
 use Rattle.check_session.specs.Pool.{Extends, IsPoolOf, first_pool}
 use Rattle.check_session.specs.Begun.{is_equal, with_inputs}
+use Rattle.check_session.specs.Outputs.{is_pair_or_out}
+use Rattle.sweep_workers.specs.Swept.{is_of_pair}
 use Rattle.check_session.proofs.PoolLemmas.{extends-twice}
 use Rattle.check_session.proofs.OutputLemmas.{is_on-subject, off-subject, on-subject}
 
@@ -60,41 +62,83 @@ starts-last old new e put = record {
   out = ap (λ (b : Entries). b.out_budget) put;
 }
 
--- ---- entries that say that values are equal
+-- ---- entries that say of no output that it differs or is open
 
-all-equal : (e : Entry) (es : List Entry) → list_all is_equal (e ∷ es) ≡ true → (is_equal e ≡ true) × (list_all is_equal es ≡ true)
-all-equal e es all = go (is_equal e) refl all
+-- those that say that values are equal are such, and those about pairs of nodes
+equal-plain : (e : Entry) → is_equal e ≡ true → is_pair_or_out e ≡ true
+equal-plain (Merge node lit steps) equal = refl
+equal-plain (Apart node lit input) equal = refl
+equal-plain (Spent node lit seen log) equal = refl
+equal-plain (Out j steps) equal = refl
+equal-plain (OutApart j input) equal = cc
+equal-plain (OutSpent j seen log) equal = cc
+
+pair-plain : (e : Entry) → is_of_pair e ≡ true → is_pair_or_out e ≡ true
+pair-plain (Merge node lit steps) pair = refl
+pair-plain (Apart node lit input) pair = refl
+pair-plain (Spent node lit seen log) pair = refl
+pair-plain (Out j steps) pair = refl
+pair-plain (OutApart j input) pair = cc
+pair-plain (OutSpent j seen log) pair = cc
+
+-- one and the others
+all-first : (test : Entry → Bool) (e : Entry) (es : List Entry) → list_all test (e ∷ es) ≡ true → (test e ≡ true) × (list_all test es ≡ true)
+all-first test e es all = go (test e) refl all
   where
-    go : (b : Bool) → is_equal e ≡ b → (is_equal e && list_all is_equal es) ≡ true → (is_equal e ≡ true) × (list_all is_equal es ≡ true)
+    go : (b : Bool) → test e ≡ b → (test e && list_all test es) ≡ true → (test e ≡ true) × (list_all test es ≡ true)
     go true is all = (is, rw is at all)
     go false is all = let t : false ≡ true = rw is at all in cc
 
-equal-apart : (e : Entry) → is_equal e ≡ true → is_apart e ≡ false
-equal-apart (Merge node lit steps) equal = refl
-equal-apart (Apart node lit input) equal = cc
-equal-apart (Spent node lit seen log) equal = cc
-equal-apart (Out j steps) equal = refl
-equal-apart (OutApart j input) equal = cc
-equal-apart (OutSpent j seen log) equal = cc
+all-both : (test : Entry → Bool) (e : Entry) (es : List Entry) → test e ≡ true → list_all test es ≡ true → list_all test (e ∷ es) ≡ true
+all-both test e es first rest = rw first rest
 
--- they tell no input
-none-apart : (es : List Entry) (k : ℕ) → list_all is_equal es ≡ true → has_apart es k ≡ false
+pub plain-equal : (es : List Entry) → list_all is_equal es ≡ true → list_all is_pair_or_out es ≡ true
+plain-equal [] all = refl
+plain-equal (e ∷ es) all =
+    let parts = all-first is_equal e es all in
+    all-both is_pair_or_out e es (equal-plain e parts.0) (plain-equal es parts.1)
+
+plain-pairs : (es : List Entry) → list_all is_of_pair es ≡ true → list_all is_pair_or_out es ≡ true
+plain-pairs [] all = refl
+plain-pairs (e ∷ es) all =
+    let parts = all-first is_of_pair e es all in
+    all-both is_pair_or_out e es (pair-plain e parts.0) (plain-pairs es parts.1)
+
+-- so are those that pairs of nodes stand behind
+pub plain-behind : (es fs : List Entry) → list_all is_pair_or_out es ≡ true → list_all is_of_pair fs ≡ true → list_all is_pair_or_out (es ++ fs) ≡ true
+plain-behind [] fs all pairs = plain-pairs fs pairs
+plain-behind (e ∷ es) fs all pairs =
+    let parts = all-first is_pair_or_out e es all in
+    all-both is_pair_or_out e (es ++ fs) parts.0 (plain-behind es fs parts.1 pairs)
+
+plain-apart : (e : Entry) → is_pair_or_out e ≡ true → is_apart e ≡ false
+plain-apart (Merge node lit steps) plain = refl
+plain-apart (Apart node lit input) plain = refl
+plain-apart (Spent node lit seen log) plain = refl
+plain-apart (Out j steps) plain = refl
+plain-apart (OutApart j input) plain = cc
+plain-apart (OutSpent j seen log) plain = cc
+
+-- they tell no input on which an output differs
+none-apart : (es : List Entry) (k : ℕ) → list_all is_pair_or_out es ≡ true → has_apart es k ≡ false
 none-apart [] k all = refl
-none-apart (e ∷ es) k all = go (is_on (Output k) e) refl (all-equal e es all) (none-apart es k)
+none-apart (e ∷ es) k all = go (is_on (Output k) e) refl (all-first is_pair_or_out e es all) (none-apart es k)
   where
-    go : (b : Bool) → is_on (Output k) e ≡ b → (is_equal e ≡ true) × (list_all is_equal es ≡ true)
-        → (list_all is_equal es ≡ true → has_apart es k ≡ false) → has_apart (e ∷ es) k ≡ false
-    go true is both rest = rw is (equal-apart e both.0)
+    go : (b : Bool) → is_on (Output k) e ≡ b → (is_pair_or_out e ≡ true) × (list_all is_pair_or_out es ≡ true)
+        → (list_all is_pair_or_out es ≡ true → has_apart es k ≡ false) → has_apart (e ∷ es) k ≡ false
+    go true is both rest = rw is (plain-apart e both.0)
     go false is both rest = rw is (rest both.1)
 
 -- where they are true there is none about an output that differs
-pub differs-unsettled : (net : AigPair) (j : ℕ) (input : List Bool) (es : List Entry) → DiffersOn net j input → list_all is_equal es ≡ true
+pub differs-unsettled : (net : AigPair) (j : ℕ) (input : List Bool) (es : List Entry) → DiffersOn net j input → list_all is_pair_or_out es ≡ true
     → AllByRecursion (IsTrue net) es → about es j ≡ None
 differs-unsettled net j input [] differs all true_all = refl
 differs-unsettled net j input (Merge node lit steps ∷ es) differs all true_all =
     differs-unsettled net j input es differs all true_all.1
-differs-unsettled net j input (Apart node lit bits ∷ es) differs all true_all = cc
-differs-unsettled net j input (Spent node lit seen log ∷ es) differs all true_all = cc
+differs-unsettled net j input (Apart node lit bits ∷ es) differs all true_all =
+    differs-unsettled net j input es differs all true_all.1
+differs-unsettled net j input (Spent node lit seen log ∷ es) differs all true_all =
+    differs-unsettled net j input es differs all true_all.1
 differs-unsettled net j input (Out k steps ∷ es) differs all true_all =
     go (is_on (Output j) (Out k steps)) refl (differs-unsettled net j input es differs all true_all.1)
   where
@@ -109,7 +153,7 @@ differs-unsettled net j input (OutApart k bits ∷ es) differs all true_all = cc
 differs-unsettled net j input (OutSpent k seen log ∷ es) differs all true_all = cc
 
 -- so an entry that tells an input settles nothing twice
-pub apart-unsettled : (net : AigPair) (j : ℕ) (input : List Bool) (es : List Entry) → DiffersOn net j input → list_all is_equal es ≡ true
+pub apart-unsettled : (net : AigPair) (j : ℕ) (input : List Bool) (es : List Entry) → DiffersOn net j input → list_all is_pair_or_out es ≡ true
     → AllByRecursion (IsTrue net) es → settled_at es (OutApart j input) ≡ None
 apart-unsettled net j input es differs all true_all = output-unsettled es j (differs-unsettled net j input es differs all true_all)
 
@@ -126,7 +170,7 @@ about-apart net j input es none =
     rw (find-append (is_on (Output j)) es (OutApart j input ∷ []), none, last) refl
 
 -- and no lesser output has one that tells an input
-pub lesser-apart : (j : ℕ) (input : List Bool) (es : List Entry) → list_all is_equal es ≡ true → (k : ℕ) → k < j
+pub lesser-apart : (j : ℕ) (input : List Bool) (es : List Entry) → list_all is_pair_or_out es ≡ true → (k : ℕ) → k < j
     → has_apart (es ++ OutApart j input ∷ []) k ≡ false
 lesser-apart j input es all k less =
     let off : is_on (Output k) (OutApart j input) ≡ false = off-subject (Output k) (OutApart j input) other in

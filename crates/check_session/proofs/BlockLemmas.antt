@@ -12,6 +12,7 @@ use Rattle.sweep_workers.specs.Swept.{IsPoolFor}
 use Rattle.check_session.specs.declared.patterns.Difference.{Difference}
 use Rattle.check_session.specs.Pool.{IsFirstApart, NoneApart, tells_apart}
 use Rattle.check_session.specs.Blocks.{IsFirstIn, lesser}
+use Rattle.check_session.proofs.PoolLemmas.{find-halves}
 
 -- ---- a block among all patterns
 
@@ -118,9 +119,18 @@ module _ (patterns : List (List Bool)) (b : ℕ) where
           least = λ k less. none-both k (one.least k less) (two.least k (grind (arith, nat_tests, is, less)));
         }
 
--- no pattern before the first block
-pub none-before : (net : AigPair) (patterns : List (List Bool)) → IsFirstIn net (before 0 patterns) None
-none-before net patterns j below = refl
+-- no pattern tells an output apart before the block in which those begin that were not seen
+pub none-before : (net : AigPair) (patterns : List (List Bool)) (seen : ℕ) → NoneApart net (take seen patterns)
+    → IsFirstIn net (before (seen / 256) patterns) None
+none-before net patterns seen none j below =
+    let test = tells_apart net j in
+    sym (ap (λ (ps : List (List Bool)). find test ps) (take-take (256 * (seen / 256)) seen patterns (omega arith)))
+    ∙ (find-halves test (256 * (seen / 256)) (take seen patterns) (none j below)).0
+
+-- nor in all of them, where all were seen
+pub none-left : (net : AigPair) (patterns : List (List Bool)) (seen : ℕ) → length patterns ≤ seen → NoneApart net (take seen patterns)
+    → IsFirstIn net patterns None
+none-left net patterns seen all none = subst (λ (ps : List (List Bool)). NoneApart net ps) (take_all seen patterns all) none
 
 -- behind the last block are no more
 pub all-blocks : (net : AigPair) (patterns : List (List Bool)) (b : ℕ) (found : Option Difference) → length patterns ≤ 256 * b

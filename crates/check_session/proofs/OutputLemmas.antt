@@ -1,6 +1,6 @@
 -- What a book says of its outputs.
 use Rattle.std.proofs.Common.{◌≡◌, ◌≢◌, ℕ, zero, suc, ◌+◌, ◌<◌, ◌≤◌, Bool, true, false, List, [], ◌∷◌, ◌++◌, length, filter, add-one, inl, inr, Option, Some, None, refl, sym, ap, ◌∙◌, subst, arith}
-use Rattle.std.specs.List.{range_with_len}
+use Rattle.std.specs.List.{AllByRecursion, range_with_len}
 use Rattle.std.specs.Prelude.{⊤}
 use Rattle.std.proofs.Math.Nat.{eq-or-lt_of_le}
 use Rattle.std.proofs.lemmas.List.Elements.{filter-append}
@@ -16,6 +16,7 @@ use Rattle.lemma_book.specs.Entry.{has_out, has_spent, has_apart}
 use Rattle.lemma_book.specs.Good.{IsGood, Already}
 use Rattle.lemma_book.proofs.Facts.{exact-subject, same-subject_self}
 use Rattle.lemma_book.specs.Book.{book_after}
+use Rattle.sweep_workers.specs.Answered.{OpensTwoRoots}
 use Rattle.sweep_workers.specs.Swept.{AreSettled}
 use Rattle.check_session.specs.Finding.{Finds}
 use Rattle.check_session.specs.declared.verdict.Verdict.{Verdict}
@@ -109,7 +110,8 @@ filter-none p a (suc n) j none from below = go (p a) refl none (λ rest past. fi
           | inr past ↦ rest (rw is at none) (omega arith)
         ]
 
-module _ (net : AigPair) (es : List Entry) (settled : AreSettled net es) (seen : SeeMerges es) (open_list : List ℕ)
+module _ (net : AigPair) (es : List Entry) (settled : AreSettled net es) (seen : SeeMerges es)
+    (roots : AllByRecursion (OpensTwoRoots net es) es) (open_list : List ℕ)
     (open_is : open_list ≡ filter (has_spent es) (range_with_len 0 (length net.a.outputs)))
     (none : (k : ℕ) → k < length net.a.outputs → has_apart es k ≡ false) where
   -- where no output differs the book shows that all are equal, or which are open
@@ -123,6 +125,7 @@ module _ (net : AigPair) (es : List Entry) (settled : AreSettled net es) (seen :
         some_open = λ e. let t : (j ∷ js) ≡ [] = sym is ∙ (open_is ∙ e) in cc;
         others = λ k below spent. out-else es k (settled k below) (none k below) spent;
         seen = seen;
+        roots = roots;
       }
 
 -- the input of the entry on an output

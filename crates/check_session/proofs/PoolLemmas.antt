@@ -68,7 +68,7 @@ find-neither : (test : List Bool → Bool) (xs ys : List (List Bool)) → find t
 find-neither test xs ys first second =
     find-append test xs ys ∙ ap (λ (o : Option (List Bool)). option_or o (find test ys)) first ∙ second
 
-find-halves : (test : List Bool → Bool) (n : ℕ) (xs : List (List Bool)) → find test xs ≡ None
+pub find-halves : (test : List Bool → Bool) (n : ℕ) (xs : List (List Bool)) → find test xs ≡ None
     → (find test (take n xs) ≡ None) × (find test (drop n xs) ≡ None)
 find-halves test n xs none =
     let whole : find test (take n xs ++ drop n xs) ≡ None = ap (find test) (take-append-drop n xs) ∙ none in

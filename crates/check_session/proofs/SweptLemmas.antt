@@ -1,7 +1,8 @@
 -- What a sweep, and what is settled of the outputs behind it, leave.
-use Rattle.std.proofs.Common.{◌≡◌, ◌≢◌, ℕ, zero, suc, ◌+◌, ◌≤◌, append_assoc, Bool, true, false, ◌||◌, List, [], ◌∷◌, ◌++◌, length, drop, Option, Some, None, inl, inr, refl, sym, ap, ◌∙◌, subst, arith, Result, Ok, Err, IfOk}
+use Rattle.std.proofs.Common.{◌≡◌, ◌≢◌, ℕ, zero, suc, ◌+◌, ◌≤◌, append_assoc, Bool, true, false, ◌||◌, List, [], ◌∷◌, ◌++◌, length, take, drop, Option, Some, None, inl, inr, refl, sym, ap, ◌∙◌, subst, arith, Result, Ok, Err, IfOk}
 use Rattle.std.specs.List.{AllByRecursion, list_all, list_any}
 use Rattle.std.proofs.lemmas.List.{append-nil}
+use Rattle.std.proofs.Math.Seq.{take-append_seam}
 use Rattle.std.proofs.lemmas.Bool.{and_parts}
 use Rattle.std.proofs.lemmas.Bool.Decides.{nat_tests}
 use Rattle.std.specs.Option.{option_and_then}
@@ -22,21 +23,24 @@ use Rattle.lemma_book.specs.Agreement.{IsTrue}
 use Rattle.lemma_book.proofs.Facts.{root-unsettled}
 use Rattle.sig_classes.specs.Leader.{IsReduced, IsSwept}
 use Rattle.strash_pass.specs.Strash.{AddsMerges, AreStructural, ArePlain, IsMerge}
-use Rattle.sweep_workers.specs.Answered.{sees_first}
-use Rattle.sweep_workers.specs.Swept.{IsPoolFor, Sweeps, apart_inputs, is_of_output, is_of_pair}
+use Rattle.sweep_workers.specs.Answered.{OpensTwoRoots, sees_first}
+use Rattle.sweep_workers.specs.Swept.{IsPoolFor, SettlesOutputs, Sweeps, apart_inputs, is_of_output}
+use Rattle.check_session.specs.declared.counts.Work.{Work}
+use Rattle.check_session.specs.declared.patterns.Difference.{Difference}
 use Rattle.check_session.specs.declared.options.Options.{Options}
 use Rattle.check_session.specs.declared.sweep.Checked.{Checked}
 use Rattle.check_session.specs.declared.verdict.Verdict.{Verdict}
 use Rattle.check_session.specs.declared.verdict.Verdict.TheVariants as verdict
 use Rattle.check_session.specs.Finding.{Finding, Equivalent, Different, Undecided, Finds, Means, SeesMerges}
-use Rattle.check_session.specs.Outputs.{SeeMerges, ListsOpen, finding_of}
+use Rattle.check_session.specs.Outputs.{SeeMerges, finding_of, is_pair_or_out}
 use Rattle.check_session.specs.Pool.{Extends, IsAmongOrJoins, IsFirstApart, IsPoolOf, NoneApart, first_pool}
 use Rattle.check_session.specs.Begun.{Begun, GoesOn, MayBegin, is_equal}
-use Rattle.check_session.specs.Check.{IsSweptFor, IsWithinFor, IsFound}
-use Rattle.check_session.specs.Sweep.{AddsStructure, IsSettledFrom}
+use Rattle.check_session.specs.Check.{IsSweptFor, IsSettled, IsFound}
+use Rattle.check_session.specs.Sweep.{AddsStructure, IsSweptFrom}
+use Rattle.check_session.specs.Telling.{AsksOutputs, TellsDifference}
 use Rattle.check_session.proofs.OutputLemmas.{off-subject}
-use Rattle.check_session.proofs.PoolLemmas.{extends-twice}
-use Rattle.check_session.proofs.BegunLemmas.{about-apart, differs-unsettled, lesser-apart, starts-twice}
+use Rattle.check_session.proofs.PoolLemmas.{extends-same, extends-twice}
+use Rattle.check_session.proofs.BegunLemmas.{about-apart, differs-unsettled, lesser-apart, starts-last, starts-twice}
 
 -- ---- merges that the structure shows
 
@@ -66,32 +70,23 @@ adds-none net book plain =
 
 -- ---- what open outputs saw
 
-merges-pairs : (es : List Entry) → AllByRecursion IsMerge es → list_all is_of_pair es ≡ true
-merges-pairs [] all = refl
-merges-pairs (Merge node lit steps ∷ es) all = merges-pairs es all.1
-merges-pairs (Apart node lit input ∷ es) all = absurd all.0
-merges-pairs (Spent node lit seen log ∷ es) all = absurd all.0
-merges-pairs (Out j steps ∷ es) all = absurd all.0
-merges-pairs (OutApart j input ∷ es) all = absurd all.0
-merges-pairs (OutSpent j seen log ∷ es) all = absurd all.0
+plain-seen : (whole es : List Entry) → list_all is_pair_or_out es ≡ true → AllByRecursion (SeesMerges whole) es
+plain-seen whole [] all = tt
+plain-seen whole (Merge node lit steps ∷ es) all = (tt, plain-seen whole es all)
+plain-seen whole (Apart node lit input ∷ es) all = (tt, plain-seen whole es all)
+plain-seen whole (Spent node lit seen log ∷ es) all = (tt, plain-seen whole es all)
+plain-seen whole (Out j steps ∷ es) all = (tt, plain-seen whole es all)
+plain-seen whole (OutApart j input ∷ es) all = cc
+plain-seen whole (OutSpent j seen log ∷ es) all = cc
 
-pairs-seen : (whole es : List Entry) → list_all is_of_pair es ≡ true → AllByRecursion (SeesMerges whole) es
-pairs-seen whole [] all = tt
-pairs-seen whole (Merge node lit steps ∷ es) all = (tt, pairs-seen whole es all)
-pairs-seen whole (Apart node lit input ∷ es) all = (tt, pairs-seen whole es all)
-pairs-seen whole (Spent node lit seen log ∷ es) all = (tt, pairs-seen whole es all)
-pairs-seen whole (Out j steps ∷ es) all = cc
-pairs-seen whole (OutApart j input ∷ es) all = cc
-pairs-seen whole (OutSpent j seen log ∷ es) all = cc
-
-equals-seen : (whole es : List Entry) → list_all is_equal es ≡ true → AllByRecursion (SeesMerges whole) es
-equals-seen whole [] all = tt
-equals-seen whole (Merge node lit steps ∷ es) all = (tt, equals-seen whole es all)
-equals-seen whole (Apart node lit input ∷ es) all = cc
-equals-seen whole (Spent node lit seen log ∷ es) all = cc
-equals-seen whole (Out j steps ∷ es) all = (tt, equals-seen whole es all)
-equals-seen whole (OutApart j input ∷ es) all = cc
-equals-seen whole (OutSpent j seen log ∷ es) all = cc
+plain-opens : (net : AigPair) (whole es : List Entry) → list_all is_pair_or_out es ≡ true → AllByRecursion (OpensTwoRoots net whole) es
+plain-opens net whole [] all = tt
+plain-opens net whole (Merge node lit steps ∷ es) all = (tt, plain-opens net whole es all)
+plain-opens net whole (Apart node lit input ∷ es) all = (tt, plain-opens net whole es all)
+plain-opens net whole (Spent node lit seen log ∷ es) all = (tt, plain-opens net whole es all)
+plain-opens net whole (Out j steps ∷ es) all = (tt, plain-opens net whole es all)
+plain-opens net whole (OutApart j input ∷ es) all = cc
+plain-opens net whole (OutSpent j seen log ∷ es) all = cc
 
 any-drop : (n : ℕ) (es : List Entry) → list_any is_merge es ≡ false → list_any is_merge (drop n es) ≡ false
 any-drop zero es none = none
@@ -135,24 +130,20 @@ outputs-seen front outs (e ∷ es) none sees =
     let parts = and_parts (sees_first (length front) e) (list_all (sees_first (length front)) es) sees in
     (output-seen front outs e none parts.0, outputs-seen front outs es none parts.1)
 
--- where a check began with entries that say that values are equal, each open output saw all merges
-pub settled-seen : (net : AigPair) (old : Begun) (new : Entries) (patterns : Patterns) → list_all is_equal old.book.entries ≡ true
-    → IsSettledFrom net old new patterns → SeeMerges new.entries
-settled-seen net old new patterns equal s =
-    let merges = structure-merges net old.book s.sweep.merged s.sweep.structure in
-    let pairs = s.sweep.pairs in
-    let outs = s.outputs.added in
-    let whole = s.swept.entries ++ outs in
-    let merged : AllByRecursion (SeesMerges whole) s.sweep.merged.entries =
-    subst (λ (es : List Entry). AllByRecursion (SeesMerges whole) es) (sym merges.entries)
-    (all-append (SeesMerges whole) old.book.entries merges.added (equals-seen whole old.book.entries equal)
-    (pairs-seen whole merges.added (merges-pairs merges.added merges.merges))) in
-    let swept : AllByRecursion (SeesMerges whole) s.swept.entries =
-    subst (λ (es : List Entry). AllByRecursion (SeesMerges whole) es) (sym pairs.begins)
-    (all-append (SeesMerges whole) s.sweep.merged.entries pairs.added merged (pairs-seen whole pairs.added pairs.kinds)) in
-    subst (λ (es : List Entry). SeeMerges es) (sym s.outputs.begins)
-    (all-append (SeesMerges whole) s.swept.entries outs swept
-    (outputs-seen s.swept.entries outs outs (no-merges outs s.outputs.kinds) s.outputs.seen))
+-- behind entries that leave no output open, each open output saw all merges, and its two literals have two roots
+module _ (net : AigPair) (swept new : Entries) (plain : list_all is_pair_or_out swept.entries ≡ true) (asked : SettlesOutputs net swept new) where
+  pub asked-seen : SeeMerges new.entries
+  asked-seen =
+      let outs = asked.added in
+      let whole = swept.entries ++ outs in
+      subst (λ (es : List Entry). SeeMerges es) (sym asked.begins)
+      (all-append (SeesMerges whole) swept.entries outs (plain-seen whole swept.entries plain)
+      (outputs-seen swept.entries outs outs (no-merges outs asked.kinds) asked.seen))
+
+  pub asked-opens : AllByRecursion (OpensTwoRoots net new.entries) new.entries
+  asked-opens =
+      subst (λ (es : List Entry). AllByRecursion (OpensTwoRoots net new.entries) es) (sym asked.begins)
+      (all-append (OpensTwoRoots net new.entries) swept.entries asked.added (plain-opens net new.entries swept.entries plain) asked.roots)
 
 -- ---- roots
 
@@ -243,6 +234,44 @@ swept-for net es Equivalent swept = swept
 swept-for net es (Different j input) swept = inl swept
 swept-for net es Undecided swept = swept
 
+-- ---- a difference that is told
+
+-- what is told of it, over a book and patterns that tell of no output else
+pub tells-difference : (net : AigPair) (book new : Entries) (pool : Patterns) (d : Difference) (told : List Bool) (work : Work)
+    → IsFirstApart net pool.patterns d.output d.input → list_all is_pair_or_out book.entries ≡ true → AllByRecursion (IsTrue net) book.entries → DiffersOn net d.output d.input
+    → new ≡ with_last book (OutApart d.output d.input) → IsLegal net new → told ≡ d.input
+    → ((f : Finding) → Finds net new.entries f → Means net new.entries f)
+    → TellsDifference net book pool d (record { pool = pool; book = new; verdict = verdict.Different d.output told; work = work })
+tells-difference net book new pool d told work first plain true_all differs put legal same means = record {
+  first = first;
+  pool_is = refl;
+  book_is = put;
+  verdict_is = ap (λ (bits : List Bool). verdict.Different d.output bits) same;
+  legal = legal;
+  finds = finds;
+  means = means (Different d.output d.input) finds;
+}
+  where
+    finds : Finds net new.entries (Different d.output d.input)
+    finds =
+        subst (λ (b : Entries). Finds net b.entries (Different d.output d.input)) (sym put) (
+          about-apart net d.output d.input book.entries (differs-unsettled net d.output d.input book.entries differs plain true_all),
+          lesser-apart d.output d.input book.entries plain,
+        )
+
+settled-told : (net : AigPair) (o : Options) (book : Entries) (pool : Patterns) (d : Difference) (c : Checked)
+    → book.sweep_budget ≡ o.sweep_budget → book.out_budget ≡ o.out_budget → TellsDifference net book pool d c
+    → IsSettled net o.sweep_budget o.out_budget c.book (Different d.output d.input)
+settled-told net o book pool d c sweep_is budget_is tells = record {
+  sweep_is = ap (λ (b : Entries). b.sweep_budget) tells.book_is ∙ sweep_is;
+  budget_is = ap (λ (b : Entries). b.out_budget) tells.book_is ∙ budget_is;
+  legal = tells.legal;
+  finds = tells.finds;
+  means = tells.means;
+  swept = inr (record { before = book.entries; is = ap (λ (b : Entries). b.entries) tells.book_is });
+  within = tt;
+}
+
 -- ---- by the sweep
 
 -- ---- behind merges that the structure shows
@@ -297,102 +326,153 @@ found-merged (Ok c) net o old merged before pool same adds may found =
     (found old adds (subst (λ (p : Patterns). MayBegin net o (record { book = old; pool = p })) (sym same) may))
 found-merged (Err e) net o old merged before pool same adds may found = tt
 
--- what a sweep and the queries about the outputs find
-pub found-by_sweep : (net : AigPair) (o : Options) (begun : Begun) (last : Entries) (seen : Patterns) (v : Verdict)
-    → MayBegin net o begun → NoneApart net begun.pool.patterns → IsSettledFrom net begun last seen → IsPoolFor net seen
-    → IsReduced net last.entries seen.patterns → Finds net last.entries (finding_of v) → ListsOpen net last.entries v
-    → ((f : Finding) → Finds net last.entries f → Means net last.entries f)
-    → ((f : Finding) → Finds net last.entries f → IsWithinFor net last.out_budget f)
-    → ((es : List Entry) (ps : List (List Bool)) → AllByRecursion (λ bits. length bits ≡ length net.a.inputs) ps
-    → IsReduced net es ps → IsSwept net es)
-    → IsFound net o begun (Some seen) last v
-found-by_sweep net o begun last seen v may none s fits reduced finds opens means within sweeps = record {
-  settled = record {
-    sweep_is = s.outputs.sweep_budget ∙ pairs.sweep_budget ∙ s.sweep.structure.merges.sweep ∙ may.book.sweep_is;
-    budget_is = s.outputs.out_budget ∙ pairs.out_budget ∙ s.sweep.structure.merges.out ∙ may.book.budget_is;
-    legal = s.outputs.legal;
-    finds = finds;
-    means = means (finding_of v) finds;
-    swept = swept-for net last.entries (finding_of v) (sweeps last.entries seen.patterns fits.whole reduced);
-    within = within (finding_of v) finds;
-  };
-  open_are = opens;
-  patterns = seen;
-  pool_is = refl;
-  pool_of = record {
-    fits = fits;
-    begins = extends-twice (first_pool net o) begun.pool seen may.pool.begins (record { added = apart_inputs pairs.added; is = pairs.patterns });
-  };
-  begun_of = may.pool;
-  way = inr (record { none = none; settled = s; reduced = reduced });
-}
-  where
-    pairs : Sweeps net s.sweep.merged s.swept begun.pool seen
-    pairs = s.sweep.pairs
+-- the patterns that a sweep began with tell no output apart still
+pub none-known : (net : AigPair) (merged swept : Entries) (pool seen : Patterns) (known : ℕ) → Sweeps net merged swept pool seen
+    → known ≡ length pool.patterns → NoneApart net pool.patterns → NoneApart net (take known seen.patterns)
+none-known net merged swept pool seen known pairs count none =
+    subst (λ (ps : List (List Bool)). NoneApart net ps)
+    (sym (ap (λ (n : ℕ). take n seen.patterns) count
+    ∙ (ap (take (length pool.patterns)) pairs.patterns ∙ take-append_seam pool.patterns (apart_inputs pairs.added)))) none
 
--- and the book and the patterns go on
-pub goes_on-sweep : (net : AigPair) (begun : Begun) (last : Entries) (seen : Patterns) → IsSettledFrom net begun last seen
-    → GoesOn begun last seen
-goes_on-sweep net begun last seen s = record {
-  entries =
-      starts-twice begun.book s.sweep.merged last
-      (starts-merged begun.book s.sweep.merged (structure-merges net begun.book s.sweep.merged s.sweep.structure))
-      (starts-twice s.sweep.merged s.swept last (record {
+-- what a sweep leaves, where these merges stood before it and nothing of an output was said
+module _ (net : AigPair) (o : Options) (old merged swept : Entries) (pool seen : Patterns) (adds : AddsStructure net old merged)
+    (pairs : Sweeps net merged swept pool seen) where
+  abbrev begun : Begun
+  begun = record { book = old; pool = pool }
+
+  from : IsSweptFrom net begun swept seen
+  from = record { merged = merged; structure = adds; pairs = pairs }
+
+  longer : Extends pool seen
+  longer = record { added = apart_inputs pairs.added; is = pairs.patterns }
+
+  starts : StartsWith swept old
+  starts =
+      starts-twice old merged swept (starts-merged old merged (structure-merges net old merged adds)) (record {
         rest = pairs.added;
         entries = pairs.begins;
         sweep = pairs.sweep_budget;
         out = pairs.out_budget;
       })
-      (record {
-        rest = s.outputs.added;
-        entries = s.outputs.begins;
-        sweep = s.outputs.sweep_budget;
-        out = s.outputs.out_budget;
-      }));
-  patterns = record { added = apart_inputs pairs.added; is = pairs.patterns };
-}
-  where
-    pairs : Sweeps net s.sweep.merged s.swept begun.pool seen
-    pairs = s.sweep.pairs
+
+  -- the book and the patterns go on, with an output's entries behind them
+  pub goes_on-told : (d : Difference) (c : Checked) → TellsDifference net swept seen d c → GoesOn begun c.book c.pool
+  goes_on-told d c tells = record {
+    entries = starts-twice old swept c.book starts (starts-last swept c.book (OutApart d.output d.input) tells.book_is);
+    patterns = extends-twice pool seen c.pool longer (extends-same seen c.pool tells.pool_is);
+  }
+
+  pub goes_on-asked : (c : Checked) → AsksOutputs net swept seen c → GoesOn begun c.book c.pool
+  goes_on-asked c asks = record {
+    entries = starts-twice old swept c.book starts (record {
+      rest = asks.outputs.added;
+      entries = asks.outputs.begins;
+      sweep = asks.outputs.sweep_budget;
+      out = asks.outputs.out_budget;
+    });
+    patterns = extends-twice pool seen c.pool longer (extends-same seen c.pool asks.pool_is);
+  }
+
+  module _ (may : MayBegin net o begun) (fits : IsPoolFor net seen) (reduced : IsReduced net swept.entries seen.patterns) where
+    pool-of : IsPoolOf net o seen
+    pool-of = record { fits = fits; begins = extends-twice (first_pool net o) pool seen may.pool.begins longer }
+
+    sweep-is : swept.sweep_budget ≡ o.sweep_budget
+    sweep-is = pairs.sweep_budget ∙ adds.merges.sweep ∙ may.book.sweep_is
+
+    budget-is : swept.out_budget ≡ o.out_budget
+    budget-is = pairs.out_budget ∙ adds.merges.out ∙ may.book.budget_is
+
+    -- what a pattern tells that joined
+    pub found-told : (d : Difference) (c : Checked) → NoneApart net pool.patterns → TellsDifference net swept seen d c
+        → IsFound net o begun (Some c.pool) c.book c.verdict
+    found-told d c none tells =
+        subst (λ (p : Patterns). IsFound net o begun (Some p) c.book c.verdict) (sym tells.pool_is)
+        (subst (λ (v : Verdict). IsFound net o begun (Some seen) c.book v) (sym tells.verdict_is) (record {
+          settled = settled-told net o swept seen d c sweep-is budget-is tells;
+          open_are = tt;
+          patterns = seen;
+          pool_is = refl;
+          pool_of = pool-of;
+          begun_of = may.pool;
+          way = inr (inl (record {
+            output = d.output;
+            input = d.input;
+            finding_is = refl;
+            none = none;
+            first = tells.first;
+            swept = swept;
+            sweep = from;
+            reduced = reduced;
+            book_is = tells.book_is;
+          }));
+        }))
+
+    -- what the queries about the outputs find, where no pattern tells one apart
+    pub found-asked : (c : Checked) → AsksOutputs net swept seen c
+        → ((es : List Entry) (ps : List (List Bool)) → AllByRecursion (λ bits. length bits ≡ length net.a.inputs) ps
+        → IsReduced net es ps → IsSwept net es)
+        → IsFound net o begun (Some c.pool) c.book c.verdict
+    found-asked c asks sweeps =
+        subst (λ (p : Patterns). IsFound net o begun (Some p) c.book c.verdict) (sym asks.pool_is) (record {
+          settled = record {
+            sweep_is = asks.outputs.sweep_budget ∙ sweep-is;
+            budget_is = asks.outputs.out_budget ∙ budget-is;
+            legal = asks.outputs.legal;
+            finds = asks.finds;
+            means = asks.means;
+            swept = swept-for net c.book.entries (finding_of c.verdict) (sweeps c.book.entries seen.patterns fits.whole last);
+            within = asks.within;
+          };
+          open_are = asks.open_are;
+          patterns = seen;
+          pool_is = refl;
+          pool_of = pool-of;
+          begun_of = may.pool;
+          way = inr (inr (record {
+            none = asks.none;
+            settled = record { swept = swept; sweep = from; outputs = asks.outputs };
+            reduced = last;
+          }));
+        })
+      where
+        last : IsReduced net c.book.entries seen.patterns
+        last =
+            subst (λ (es : List Entry). IsReduced net es seen.patterns) (sym asks.outputs.begins)
+            (reduced-more net swept.entries asks.outputs.added seen.patterns asks.outputs.kinds reduced)
 
 -- ---- at once
 
 -- what a pattern shows at once, which may have joined those that a check began with
-pub found-at_once : (net : AigPair) (o : Options) (begun pool : Patterns) (first last : Entries) (j : ℕ) (input told : List Bool)
-    → IsPoolOf net o begun → IsAmongOrJoins net begun.patterns pool.patterns input
-    → MayBegin net o (record { book = first; pool = pool }) → AllByRecursion (IsTrue net) first.entries
-    → DiffersOn net j input → IsFirstApart net pool.patterns j input
-    → last ≡ with_last first (OutApart j input) → IsLegal net last → told ≡ input
-    → ((f : Finding) → Finds net last.entries f → Means net last.entries f)
-    → IsFound net o (record { book = first; pool = begun }) (Some pool) last (verdict.Different j told)
-found-at_once net o begun pool first last j input told of from ready true_all differs apart put legal same means =
-    subst (λ (bits : List Bool). IsFound net o (record { book = first; pool = begun }) (Some pool) last (verdict.Different j bits)) (sym same) (record {
-      settled = record {
-        sweep_is = ap (λ (b : Entries). b.sweep_budget) put ∙ ready.book.sweep_is;
-        budget_is = ap (λ (b : Entries). b.out_budget) put ∙ ready.book.budget_is;
-        legal = legal;
-        finds = finds;
-        means = means (Different j input) finds;
-        swept = inr (record { before = first.entries; is = entries-are });
-        within = tt;
-      };
+pub found-at_once : (net : AigPair) (o : Options) (begun pool : Patterns) (first : Entries) (d : Difference) (c : Checked)
+    → IsPoolOf net o begun → IsAmongOrJoins net begun.patterns pool.patterns d.input
+    → MayBegin net o (record { book = first; pool = pool }) → TellsDifference net first pool d c
+    → IsFound net o (record { book = first; pool = begun }) (Some c.pool) c.book c.verdict
+found-at_once net o begun pool first d c of from ready tells =
+    subst (λ (p : Patterns). IsFound net o (record { book = first; pool = begun }) (Some p) c.book c.verdict) (sym tells.pool_is)
+    (subst (λ (v : Verdict). IsFound net o (record { book = first; pool = begun }) (Some pool) c.book v) (sym tells.verdict_is) (record {
+      settled = settled-told net o first pool d c ready.book.sweep_is ready.book.budget_is tells;
       open_are = tt;
       patterns = pool;
       pool_is = refl;
       pool_of = ready.pool;
       begun_of = of;
-      way = inl (record { output = j; input = input; finding_is = refl; first = apart; from = from; entries_are = entries-are });
-    })
-  where
-    entries-are : last.entries ≡ first.entries ++ OutApart j input ∷ []
-    entries-are = ap (λ (b : Entries). b.entries) put
+      way = inl (record {
+        output = d.output;
+        input = d.input;
+        finding_is = refl;
+        first = tells.first;
+        from = from;
+        entries_are = ap (λ (b : Entries). b.entries) tells.book_is;
+      });
+    }))
 
-    finds : Finds net last.entries (Different j input)
-    finds =
-        subst (λ (es : List Entry). Finds net es (Different j input)) (sym entries-are) (
-          about-apart net j input first.entries (differs-unsettled net j input first.entries differs ready.equal true_all),
-          lesser-apart j input first.entries ready.equal,
-        )
+pub goes_on-at_once : (net : AigPair) (book : Entries) (pool : Patterns) (d : Difference) (c : Checked) → TellsDifference net book pool d c
+    → GoesOn (record { book = book; pool = pool }) c.book c.pool
+goes_on-at_once net book pool d c tells = record {
+  entries = starts-last book c.book (OutApart d.output d.input) tells.book_is;
+  patterns = extends-same pool c.pool tells.pool_is;
+}
 
 -- ---- where patterns joined before anything was found
 

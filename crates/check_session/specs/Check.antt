@@ -7,7 +7,7 @@ use Rattle.netlist.specs.Miter.{variables_of}
 use Rattle.word_sim.specs.Patterns.{Patterns}
 use Rattle.lemma_book.specs.declared.entry.Entry.{Entry}
 use Rattle.lemma_book.specs.declared.entry.Entry.TheVariants.{OutApart}
-use Rattle.lemma_book.specs.Entry.{Entries}
+use Rattle.lemma_book.specs.Entry.{Entries, with_last}
 use Rattle.lemma_book.specs.Book.{IsLegal}
 use Rattle.book_file.specs.Loaded.{IsLoaded}
 use Rattle.netlist_edits.specs.declared.edit.Edit.{Edit}
@@ -19,7 +19,7 @@ use Rattle.check_session.specs.Finding.{Finding, Equivalent, Different, Undecide
 use Rattle.check_session.specs.Outputs.{ListsOpen, finding_of}
 use Rattle.check_session.specs.Pool.{IsPoolOf, IsFirstApart, IsAmongOrJoins, NoneApart}
 use Rattle.check_session.specs.Begun.{Begun, GoesOn, IsBookOf, begun_from}
-use Rattle.check_session.specs.Sweep.{IsSettledFrom}
+use Rattle.check_session.specs.Sweep.{IsSettledFrom, IsSweptFrom}
 
 -- the numbers are in their ranges
 pub record AreInRange (o : Options) : Type 0 where
@@ -142,16 +142,30 @@ pub record IsAtOnce (net : AigPair) (begun : Begun) (patterns : List (List Bool)
   pub from : IsAmongOrJoins net begun.pool.patterns patterns input
   pub entries_are : entries ≡ begun.book.entries ++ OutApart output input ∷ []
 
--- by the sweep: no pattern that the check began with tells an output apart. Behind what the check began with the book has first the
--- merges of the structure, then what was settled of pairs of nodes, then what was settled of outputs, each of which has its entry; the
--- patterns that joined are the inputs on which such pairs differ. The book is reduced over all patterns.
+-- by the sweep: no pattern that the check leaves tells an output apart, and so none that it began with. Behind what the check began with the
+-- book has first the merges of the structure, then what was settled of pairs of nodes, then what was settled of outputs, each of which has its
+-- entry; the patterns that joined are the inputs on which such pairs differ. The book is reduced over all patterns.
 pub record IsBySweep (net : AigPair) (begun : Begun) (patterns : Patterns) (book : Entries) : Type 0 where
-  pub none : NoneApart net begun.pool.patterns
+  pub none : NoneApart net patterns.patterns
   pub settled : IsSettledFrom net begun book patterns
   pub reduced : IsReduced net book.entries patterns.patterns
 
+-- in the sweep: no pattern that the check began with tells an output apart, and one that joined does. The book and the patterns are first as by
+-- the sweep, before any output is asked about; then the least output that a pattern tells apart is told with the first such pattern, by the
+-- last entry.
+pub record IsInSweep (net : AigPair) (begun : Begun) (patterns : Patterns) (book : Entries) (f : Finding) : Type 0 where
+  pub output : ℕ
+  pub input : List Bool
+  pub finding_is : f ≡ Different output input
+  pub none : NoneApart net begun.pool.patterns
+  pub first : IsFirstApart net patterns.patterns output input
+  pub swept : Entries
+  pub sweep : IsSweptFrom net begun swept patterns
+  pub reduced : IsReduced net swept.entries patterns.patterns
+  pub book_is : book ≡ with_last swept (OutApart output input)
+
 -- What a check found: its book shows the verdict, which names the outputs that it leaves open; over the patterns that the
--- session keeps it was found at once or by the sweep. These patterns, and those that the check began with, begin with the
+-- session keeps it was found at once, in the sweep or by it. These patterns, and those that the check began with, begin with the
 -- ones that the seed draws.
 pub record IsFound (net : AigPair) (o : Options) (begun : Begun) (pool : Option Patterns) (book : Entries) (v : Verdict) : Type 0 where
   pub settled : IsSettled net o.sweep_budget o.out_budget book (finding_of v)
@@ -161,7 +175,7 @@ pub record IsFound (net : AigPair) (o : Options) (begun : Begun) (pool : Option 
   pub pool_of : IsPoolOf net o patterns
   pub begun_of : IsPoolOf net o begun.pool
   pub way : IsAtOnce net begun patterns.patterns book.entries (finding_of v)
-      ⊎ IsBySweep net begun patterns book
+      ⊎ (IsInSweep net begun patterns book (finding_of v) ⊎ IsBySweep net begun patterns book)
 
 -- the numbers are in range; the pair is what the edits make of that of the last check, over which the book is legal under the
 -- budgets; the patterns are for the pair; and where something is found the book is that of a settled check

@@ -7,6 +7,7 @@ use Rattle.netlist.specs.Net.{AigPair, DiffersOn, AgreesOn, Agree, Differ}
 use Rattle.netlist.specs.Miter.{miter_of}
 use Rattle.lemma_book.specs.declared.entry.Entry.{Entry}
 use Rattle.lemma_book.specs.declared.entry.Entry.TheVariants.{OutApart}
+use Rattle.sweep_workers.specs.Answered.{OpensTwoRoots}
 use Rattle.lemma_book.specs.Entry.{Question, OfOutput, Answer, Open, question_of, answer_of, about, has_out, has_spent, has_apart, is_merge, outputs_of}
 
 pub data Finding : Type 0 where
@@ -29,11 +30,13 @@ SeesMerges entries e = HasSeen entries (question_of e) (answer_of e)
 abbrev pub open_outputs : AigPair → List Entry → List ℕ
 open_outputs net entries = filter (has_spent entries) (outputs_of net)
 
--- some output is open, and each other output is shown equal
+-- some output is open, and each other output is shown equal; an open one's query saw all merges, and over them its two literals have
+-- two roots
 pub record FindsOpen (net : AigPair) (entries : List Entry) : Type 0 where
   pub some_open : open_outputs net entries ≢ []
   pub others : (j : ℕ) → j < length net.a.outputs → has_spent entries j ≡ false → has_out entries j ≡ true
   pub seen : AllByRecursion (SeesMerges entries) entries
+  pub roots : AllByRecursion (OpensTwoRoots net entries) entries
 
 -- The entries show the finding, in whatever order they stand: all outputs are shown equal; or an output has an input on
 -- which it differs, and no smaller output has one; or some are open, and each other output is shown equal.

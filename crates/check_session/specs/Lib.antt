@@ -5,6 +5,7 @@ pub mod Blocks
 pub mod Begun
 pub mod Sweep
 pub mod Check
+pub mod Telling
 pub mod Counts
 pub mod Files
 pub mod MiterText

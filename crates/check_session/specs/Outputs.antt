@@ -1,13 +1,17 @@
 -- What the entries of all outputs tell.
-use Rattle.std.specs.Prelude.{◌≡◌, ℕ, false, ⊤, Option, None, Some, List, [], ◌∷◌, ◌++◌, filter}
+use Rattle.std.specs.Prelude.{◌≡◌, ℕ, Bool, false, ◌||◌, ⊤, Option, None, Some, List, [], ◌∷◌, ◌++◌, filter}
 use Rattle.std.specs.List.{AllByRecursion}
 use Rattle.netlist.specs.Net.{AigPair}
 use Rattle.lemma_book.specs.declared.entry.Entry.TheVariants.{OutApart}
 use Rattle.lemma_book.specs.declared.entry.Entry.{Entry}
-use Rattle.lemma_book.specs.Entry.{about, has_apart, has_spent}
+use Rattle.lemma_book.specs.Entry.{about, answer_of, asks_pair, has_apart, has_spent, question_of, says_equal}
 use Rattle.check_session.specs.declared.verdict.Verdict.{Verdict}
 use Rattle.check_session.specs.declared.verdict.Verdict.TheVariants as verdict
 use Rattle.check_session.specs.Finding.{Finding, Equivalent, Different, Undecided, SeesMerges, open_outputs}
+
+-- the entry is about two nodes, or says that an output is equal: of no output it says that it differs or is open
+abbrev pub is_pair_or_out : Entry → Bool
+is_pair_or_out e = asks_pair (question_of e) || says_equal (answer_of e)
 
 -- each open output's query saw all merges
 abbrev pub SeeMerges : List Entry → Type 0

@@ -1,4 +1,4 @@
-ghost use Rattle.std.specs.Prelude.{◌≡◌, ◌≤◌, ◌<◌, ◌*◌, ◌&&◌, Some, [], length, Bool, List, IfOk, IfSome, OnOk, MatchOption, bit_and, bit_xor};
+ghost use Rattle.std.specs.Prelude.{◌≡◌, ◌≤◌, ◌<◌, ◌*◌, ◌&&◌, Some, [], length, take, Bool, List, IfOk, IfSome, OnOk, MatchOption, bit_and, bit_xor};
 ghost use Rattle.std.specs.List.{slice_index_or};
 ghost use Rattle.lits.specs.declared.literal.Lit.{Lit};
 ghost use Rattle.lemma_book.specs.Book.{IsLegal};
@@ -111,8 +111,6 @@ pub(crate) fn join(pool: &mut Pool, input: &[bool]) -> Result<(), AllocError>
 
 /// The least output that a pattern of the pool tells apart, with the first such pattern. A pattern tells only
 /// where it is admitted.
-///
-/// A few words of patterns are simulated at once, so that memory doesn't grow with what joined the pool.
 pub(crate) fn difference_in(
     alloc: Global,
     net: &Net,
@@ -121,8 +119,28 @@ pub(crate) fn difference_in(
     requires { IsPoolFor net.now pool.now }
     ensures { IfOk result (IsFirstIn net.now pool.now.patterns) }
 {
+    difference_behind(alloc, net, pool, 0)
+}
+
+/// The same where so many first patterns tell none apart, which aren't looked at again.
+///
+/// A few words of patterns are simulated at once, so that memory doesn't grow with what joined the pool.
+pub(crate) fn difference_behind(
+    alloc: Global,
+    net: &Net,
+    pool: &Pool,
+    seen: u64,
+) -> Result<Option<Difference>, AllocError>
+    requires fits { IsPoolFor net.now pool.now }
+    requires none { NoneApart net.now (take seen pool.now.patterns) }
+    ensures { IfOk result (IsFirstIn net.now pool.now.patterns) }
+{
+    if pool.patterns() <= seen {
+        return Ok(None);
+    }
+    let words = pool.words();
     let mut first = None;
-    for block in 0..pool.words().div_ceil(BLOCK) {
+    for block in (seen / 256) as u32..words.div_ceil(BLOCK) {
         let part = part_at(alloc, pool, block)?;
         let other = difference_of(alloc, net, &part)?;
         first = lesser(first, other);

@@ -1,20 +1,22 @@
-ghost use Rattle.std.specs.Prelude.{◌≡◌, ◌≤◌, Some, length, IfOk, OnOk};
+ghost use Rattle.std.specs.Prelude.{◌≡◌, ◌≤◌, Some, true, length, IfOk, OnOk};
+ghost use Rattle.std.specs.List.{list_all};
 ghost use Rattle.word_sim.specs.Patterns.{Patterns};
 ghost use Rattle.lemma_book.specs.Book.{IsLegal};
 ghost use Rattle.lemma_book.specs.Entry.{Entries, with_last};
 ghost use Rattle.lemma_book.specs.Good.{IsGood};
-ghost use Rattle.sig_classes.specs.Leader.{IsReduced};
 ghost use Rattle.strash_pass.specs.Strash.{ArePlain};
 ghost use Rattle.sweep_workers.specs.Swept.{IsPoolFor};
 ghost use Rattle.check_session.specs.Begun.{GoesOn, MayBegin};
 ghost use Rattle.check_session.specs.Check.{AreInRange, IsFound};
+ghost use Rattle.check_session.specs.Outputs.{is_pair_or_out};
 ghost use Rattle.check_session.specs.Pool.{IsAmongOrJoins, IsFirstApart, IsPoolOf, NoneApart};
-ghost use Rattle.check_session.specs.Sweep.{AddsStructure, IsSettledFrom};
+ghost use Rattle.check_session.specs.Sweep.{AddsStructure};
+ghost use Rattle.check_session.specs.Telling.{AsksOutputs, TellsDifference};
 
 use crate::counts::Work;
 use crate::laws::{is_swept, is_within, means};
 use crate::options::Options;
-use crate::patterns::{Difference, difference_in, own_difference};
+use crate::patterns::{Difference, difference_behind, difference_in, own_difference};
 use crate::verdict::Verdict;
 use lemma_book::laws::entries_are_true;
 use lemma_book::{Book, Entry};
@@ -141,9 +143,27 @@ fn verdict_at_once(
         → IsAmongOrJoins net.now begun.patterns pool.patterns difference.input
         → IsFound net.now options (record { book = book; pool = begun }) (Some c.pool) c.book c.verdict) }
 {
+    let work = Work::none(book.len());
+    verdict_told(alloc, net, book, pool, difference, work)
+}
+
+/// Tells a difference that a pattern shows behind entries that tell none, and leave no output open.
+fn verdict_told(
+    alloc: Global,
+    net: &Net,
+    book: Book,
+    pool: Pool,
+    difference: Difference,
+    work: Work,
+) -> Result<Checked, AllocError>
+    requires legal { IsLegal net.now book }
+    requires entries { list_all is_pair_or_out book.entries ≡ true }
+    requires fits { IsPoolFor net.now pool }
+    requires first { IsFirstApart net.now pool.patterns difference.output difference.input }
+    ensures { IfOk result (TellsDifference net.now book pool difference) }
+{
     // So the book has no entry of an output that differs.
     entries_are_true(net, &book);
-    let work = Work::none(book.len());
     let mut book = book;
     let Difference { output, input } = difference;
     let told = Listed::of(Vec::from_slice(alloc, input.as_slice())?);
@@ -161,7 +181,12 @@ fn verdict_at_once(
     })
 }
 
-/// The verdict of the sweep and of what is asked about the outputs, behind merges that the structure shows.
+/// The verdict of the sweep, behind merges that the structure shows: what a pattern shows that joined in the
+/// sweep, or else what is found of the outputs.
+///
+/// The inputs on which pairs of nodes differ were looked at for these pairs alone. One that tells an output apart
+/// spares the queries about the outputs, which may spend their budgets: so no verdict leaves an output open that
+/// a known pattern tells apart.
 fn verdict_of_sweep<T: Threads + Wait + Sync, G: Watch + Sync>(
     rt: &T,
     alloc: Global,
@@ -180,14 +205,46 @@ fn verdict_of_sweep<T: Threads + Wait + Sync, G: Watch + Sync>(
         → MayBegin net.now options (record { book = old; pool = begun.pool })
         → IsFound net.now options (record { book = old; pool = begun.pool }) (Some c.pool) c.book c.verdict) }
 {
+    is_swept(net);
     let behind_structure = begun.book.len();
+    let known = begun.pool.patterns();
     let mut workers = workers(alloc, options.workers)?;
-    let (book, pool) = settled(rt, alloc, net, gate, begun, workers.as_mut_slice())?;
+    let swept = sweep_by(rt, alloc, net, begun, gate, workers.as_mut_slice())?;
+    match difference_behind(alloc, net, &swept.pool, known)? {
+        Some(difference) => {
+            let work = Work::of(behind_structure, workers.as_slice());
+            let Swept { book, pool, .. } = swept;
+            verdict_told(alloc, net, book, pool, difference, work)
+        }
+        None => {
+            let workers = workers.as_mut_slice();
+            verdict_of_outputs(rt, alloc, net, gate, swept, workers, behind_structure)
+        }
+    }
+}
+
+/// What is found of the outputs, behind what a sweep settled of pairs, where no pattern tells one apart.
+fn verdict_of_outputs<T: Threads + Wait + Sync, G: Watch + Sync>(
+    rt: &T,
+    alloc: Global,
+    net: &Net,
+    gate: &G,
+    swept: Swept,
+    workers: &mut [Worker<WatchSolver>],
+    behind_structure: u64,
+) -> Result<Checked, AllocError>
+    requires legal { IsLegal net.now swept.book }
+    requires entries { list_all is_pair_or_out swept.book.entries ≡ true }
+    requires none { NoneApart net.now swept.pool.patterns }
+    requires some { 1 ≤ length workers.old }
+    ensures { IfOk result (AsksOutputs net.now swept.book swept.pool) }
+{
+    let Swept { book, pool, sieve } = swept;
+    let (book, _sieve) = outputs_by(rt, alloc, net, book, sieve, gate, workers)?;
     let verdict = Verdict::of(alloc, net, &book)?;
     means(net, &book);
     is_within(net, &book);
-    is_swept(net);
-    let work = Work::of(behind_structure, workers.as_slice());
+    let work = Work::of(behind_structure, workers);
     Ok(Checked {
         pool,
         book,
@@ -207,29 +264,6 @@ pub(crate) fn workers(alloc: Global, many: u32) -> Result<Vec<Worker<WatchSolver
         workers.push(Worker::new(alloc, number, WatchSolver::new(alloc)?, shared))?;
     }
     Ok(workers)
-}
-
-/// Lets workers settle the pairs that simulation leaves, and then the outputs, behind merges that the structure
-/// shows. Gives the book and the patterns.
-fn settled<T: Threads + Wait + Sync, G: Watch + Sync>(
-    rt: &T,
-    alloc: Global,
-    net: &Net,
-    gate: &G,
-    begun: Swept,
-    workers: &mut [Worker<WatchSolver>],
-) -> Result<(Book, Pool), AllocError>
-    requires legal { IsLegal net.now begun.book }
-    requires pool { IsPoolFor net.now begun.pool }
-    requires some { 1 ≤ length workers.old }
-    ensures from { IfOk result (λ r. (old : Entries) → AddsStructure net.now old begun.book
-        → IsSettledFrom net.now (record { book = old; pool = begun.pool }) r.0 r.1) }
-    ensures fits { IfOk result (λ r. IsPoolFor net.now r.1) }
-    ensures reduced { IfOk result (λ r. IsReduced net.now r.0.entries r.1.patterns) }
-{
-    let Swept { book, pool, sieve } = sweep_by(rt, alloc, net, begun, gate, workers)?;
-    let (book, _sieve) = outputs_by(rt, alloc, net, book, sieve, gate, workers)?;
-    Ok((book, pool))
 }
 
 /// Puts a good entry last.

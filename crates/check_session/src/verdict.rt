@@ -1,6 +1,8 @@
 ghost use Rattle.std.specs.Prelude.{◌≡◌, ◌<◌, None, IfOk};
+ghost use Rattle.std.specs.List.{AllByRecursion};
 ghost use Rattle.lemma_book.specs.Book.{IsLegal};
 ghost use Rattle.check_session.specs.Finding.{Finds};
+ghost use Rattle.sweep_workers.specs.Answered.{OpensTwoRoots};
 ghost use Rattle.sweep_workers.specs.Swept.{AreSettled};
 ghost use Rattle.check_session.specs.Outputs.{ListsOpen, Looks, SeeMerges, finding_of, verdict_of};
 
@@ -28,6 +30,7 @@ impl Verdict {
         requires legal { IsLegal net.now book.now }
         requires settled { AreSettled net.now book.now.entries }
         requires seen { SeeMerges book.now.entries }
+        requires roots { AllByRecursion (OpensTwoRoots net.now book.now.entries) book.now.entries }
         ensures finds { IfOk result (λ v. Finds net.now book.now.entries (finding_of v)) }
         ensures open { IfOk result (ListsOpen net.now book.now.entries) }
     {

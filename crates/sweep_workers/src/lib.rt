@@ -11,7 +11,7 @@
 //! tasks on a board each number was drawn once, and the entry that its worker offered is in the book, or one
 //! that settles it. After `sweep` the book is reduced over the patterns, to which the counterexamples'
 //! inputs were added; after `outputs` each output has an entry. A query of either that spent its budget saw at
-//! least the book before.
+//! least the book before, and an output that it leaves open has two roots.
 //!
 //! `sweep_by` and `outputs_by` are the same two calls for who keeps the workers in between. A `Watch` is told how far
 //! they are, and has no effect in any contract.

@@ -1,43 +1,62 @@
-use Rattle.check_session.proofs.SweptLemmas.{adds-none, found-by_sweep, goes_on-sweep, settled-seen}
+use Rattle.std.proofs.Common.{List, true, sym, subst}
+use Rattle.std.specs.List.{list_all}
+use Rattle.std.proofs.lemmas.Result.{IfOk-weaker}
+use Rattle.lemma_book.specs.declared.entry.Entry.{Entry}
+use Rattle.check_session.specs.Outputs.{is_pair_or_out}
+use Rattle.check_session.proofs.BegunLemmas.{plain-behind, plain-equal}
+use Rattle.check_session.proofs.SweptLemmas.{adds-none, found-asked, found-told, goes_on-asked, goes_on-told, none-known}
 use Rattle.check_session.proofs.sweep.verdict_of_sweep.Goals as goal
 
-pub of-requires-clause-seen : goal.of-requires-clause-seen
-of-requires-clause-seen g c =
-    let net = c.args.net.now in
+pub difference_behind-requires-clause-none : goal.difference_behind-requires-clause-none
+difference_behind-requires-clause-none g c =
+    let begun = c.args.begun in
+    none-known c.args.net.now begun.book c.in_ok-swept.swept.book begun.pool c.in_ok-swept.swept.pool c.patterns-known.result
+    c.in_ok-swept.ensures.sweeps c.patterns-known.ensures.count c.requires.none
+
+pub verdict_told-requires-clause-entries : goal.verdict_told-requires-clause-entries
+verdict_told-requires-clause-entries g c =
+    let sweeps = c.in_ok-swept.ensures.sweeps in
     let book = c.args.begun.book in
-    settled-seen net (record { book = book; pool = c.args.begun.pool }) _ _ c.requires.begun.equal
-    (c.in_ok-book.ensures.from book (adds-none net book c.requires.plain))
+    subst (λ (es : List Entry). list_all is_pair_or_out es ≡ true) (sym sweeps.begins)
+    (plain-behind book.entries sweeps.added (plain-equal book.entries c.requires.begun.equal) sweeps.kinds)
+
+pub returns-in-Some-clause-goes_on : goal.returns-in-Some-clause-goes_on
+returns-in-Some-clause-goes_on g c =
+    let net = c.args.net.now in
+    let begun = c.args.begun in
+    IfOk-weaker c.verdict_told.result _ _
+    (λ x tells. goes_on-told net c.args.options begun.book begun.book c.in_ok-swept.swept.book begun.pool c.in_ok-swept.swept.pool
+    (adds-none net begun.book c.requires.plain) c.in_ok-swept.ensures.sweeps _ x tells) c.verdict_told.ensures
+
+pub returns-in-Some-clause-found : goal.returns-in-Some-clause-found
+returns-in-Some-clause-found g c =
+    let net = c.args.net.now in
+    let begun = c.args.begun in
+    let swept = c.in_ok-swept.swept in
+    IfOk-weaker c.verdict_told.result _ _
+    (λ x tells old adds may. found-told net c.args.options old begun.book swept.book begun.pool swept.pool adds c.in_ok-swept.ensures.sweeps
+    may c.in_ok-swept.ensures.pool c.in_ok-swept.ensures.reduced _ x c.requires.none tells) c.verdict_told.ensures
+
+pub verdict_of_outputs-requires-clause-entries : goal.verdict_of_outputs-requires-clause-entries
+verdict_of_outputs-requires-clause-entries g c κs within =
+    let sweeps = c.in_ok-swept.ensures.sweeps in
+    let book = c.args.begun.book in
+    subst (λ (es : List Entry). list_all is_pair_or_out es ≡ true) (sym sweeps.begins)
+    (plain-behind book.entries sweeps.added (plain-equal book.entries c.requires.begun.equal) sweeps.kinds)
 
 pub returns-clause-goes_on : goal.returns-clause-goes_on
 returns-clause-goes_on g c =
     let net = c.args.net.now in
-    let book = c.args.begun.book in
-    goes_on-sweep net (record { book = book; pool = c.args.begun.pool }) _ _
-    (c.in_ok-book.ensures.from book (adds-none net book c.requires.plain))
+    let begun = c.args.begun in
+    IfOk-weaker c.verdict_of_outputs.result _ _
+    (λ x asks. goes_on-asked net c.args.options begun.book begun.book c.in_ok-swept.swept.book begun.pool c.in_ok-swept.swept.pool
+    (adds-none net begun.book c.requires.plain) c.in_ok-swept.ensures.sweeps x asks) c.verdict_of_outputs.ensures
 
 pub returns-clause-found : goal.returns-clause-found
 returns-clause-found g c =
-    λ old adds may.
-    found-by_sweep c.args.net.now c.args.options (record { book = old; pool = c.args.begun.pool }) _ _ c.in_ok-verdict.verdict may
-    c.requires.none (c.in_ok-book.ensures.from old adds) c.in_ok-book.ensures.fits c.in_ok-book.ensures.reduced
-    c.in_ok-verdict.ensures.finds c.in_ok-verdict.ensures.open c.means.ensures c.is_within.ensures c.is_swept.ensures
-
-pub of-requires-clause-legal : goal.of-requires-clause-legal
-of-requires-clause-legal g c =
-    let book = c.args.begun.book in
-    (c.in_ok-book.ensures.from book (adds-none c.args.net.now book c.requires.plain)).outputs.legal
-
-pub of-requires-clause-settled : goal.of-requires-clause-settled
-of-requires-clause-settled g c =
-    let book = c.args.begun.book in
-    (c.in_ok-book.ensures.from book (adds-none c.args.net.now book c.requires.plain)).outputs.settled
-
-pub means-requires : goal.means-requires
-means-requires g c =
-    let book = c.args.begun.book in
-    (c.in_ok-book.ensures.from book (adds-none c.args.net.now book c.requires.plain)).outputs.legal
-
-pub is_within-requires : goal.is_within-requires
-is_within-requires g c =
-    let book = c.args.begun.book in
-    (c.in_ok-book.ensures.from book (adds-none c.args.net.now book c.requires.plain)).outputs.legal
+    let net = c.args.net.now in
+    let begun = c.args.begun in
+    let swept = c.in_ok-swept.swept in
+    IfOk-weaker c.verdict_of_outputs.result _ _
+    (λ x asks old adds may. found-asked net c.args.options old begun.book swept.book begun.pool swept.pool adds c.in_ok-swept.ensures.sweeps
+    may c.in_ok-swept.ensures.pool c.in_ok-swept.ensures.reduced x asks c.is_swept.ensures) c.verdict_of_outputs.ensures

@@ -23,7 +23,7 @@ returns-clause-finds c =
     let es = c.args.book.now.entries in
     let end : c.loop-output.output ≡ length net.a.outputs = omega (arith, c.outputs-output-end.ensures.count) in
     subst (λ (v : Verdict). Finds net es (finding_of v)) (sym c.of_open.ensures)
-    (finds-rest net es c.requires.settled c.requires.seen c.loop-output.open.items
+    (finds-rest net es c.requires.settled c.requires.seen c.requires.roots c.loop-output.open.items
     (subst (λ (n : ℕ). c.loop-output.open.items ≡ filter (has_spent es) (range_with_len 0 n)) end c.loop-output.invariant.open_is)
     (λ k below. c.loop-output.invariant.none k (omega (arith, end))))
 
