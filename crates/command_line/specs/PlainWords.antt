@@ -1,5 +1,5 @@
--- The words of a plain check: `check`, the names of two files, and options that only say how long the check works and where it
--- leaves its CNF and its proof.
+-- The words of a plain check: `check`, the names of two files, and options that only say how the check works and where it leaves
+-- its CNF and its proof.
 use Rattle.std.specs.Prelude.{◌≡◌, ℕ, false, Contains, List, [], ◌∷◌, Option, Some, None, codes, fold, if◌then◌else◌}
 use Rattle.std.specs.List.{AllByRecursion, flat_map}
 use Rattle.std.specs.Str.{bytes_eq}
@@ -21,7 +21,7 @@ abbrev pub out_of : List (List ℕ × List ℕ) → Option (List ℕ)
 out_of = fold (λ out option. if bytes_eq option.0 (codes "--out") then Some option.1 else out) None
 
 -- The words are the program's name, `check`, the names of the two files, and options, each with its value as the next word. The
--- names don't begin with `-`. An option may stand anywhere among these, and where one stands twice the words are refused.
+-- names don't begin with `-`. Options stand in any order. Where one stands twice the words are refused.
 pub record PlainCheck (a b : List ℕ) (out : Option (List ℕ)) (words : List (List ℕ)) : Type 0 where
   pub program : List ℕ
   pub options : List (List ℕ × List ℕ)
@@ -31,7 +31,8 @@ pub record PlainCheck (a b : List ℕ) (out : Option (List ℕ)) (words : List (
   pub plain : AllByRecursion IsPlainOption options
   pub out_is : out ≡ out_of options
 
--- a check of the two files that writes nothing but what stands under the prefix, reads nothing else and tells nothing else
+-- a check of the two files, paired by position, that reads no other file, writes none except under the prefix, and prints only its
+-- verdict
 pub record IsPlainCheck (a b : List ℕ) (out : Option (List ℕ)) (c : CheckCommand) : Type 0 where
   pub a_is : c.a ≡ a
   pub b_is : c.b ≡ b
