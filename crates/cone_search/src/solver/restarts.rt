@@ -12,8 +12,8 @@ const LEAST: u64 = 5;
 /// What a level counts in the averages.
 const LEVEL: u64 = 1 << 16;
 
-/// When to restart, by turns of two kinds. In the first it is where the latest clauses span a tenth more levels than all
-/// do (Audemard and Simon 2012), so that what goes badly is given up soon; in the second by Luby's sequence.
+/// When to restart, by turns of two kinds. In the first it is where the latest clauses span a tenth more levels than
+/// all do (Audemard and Simon 2012), so that what goes badly is given up soon; in the second by Luby's sequence.
 #[derive(Drop)]
 pub(crate) struct Restarts {
     luby: Luby,
