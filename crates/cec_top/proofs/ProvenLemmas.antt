@@ -1,5 +1,5 @@
 -- A proof that can be checked comes to a verdict, where the desk has no fault and memory suffices.
-use Rattle.std.proofs.Common.{◌≡◌, ℕ, inl, inr, List, [], ◌∷◌, length, Option, Some, None, refl, sym, ap, ◌∙◌, subst, arith}
+use Rattle.std.proofs.Common.{◌≡◌, ℕ, ◌<◌, inl, inr, List, [], ◌∷◌, length, Option, Some, None, refl, sym, ap, ◌∙◌, subst, arith}
 use Rattle.std.specs.Prelude.{◌⊎◌, IfSome, IsSomeAnd}
 use Rattle.std.proofs.lemmas.Option.{none-some, same_Some}
 use Rattle.desk_port.specs.Desk.{DeskState, Files, Rose, HasMore, after_read}
@@ -11,15 +11,22 @@ use Rattle.endings.specs.declared.stop.Stop.{Stop}
 use Rattle.endings.specs.declared.stop.Stop.TheVariants.{CannotRead, TooLong, BadFile, NotAlike, CannotWrite, OutOfMemory}
 use Rattle.endings.specs.Reading.{Input, FileIs, StopsAt, ReadsUpTo, after_reads, limit}
 use Rattle.endings.specs.Stops.{EndsBy}
+use Rattle.endings.specs.Status.{code_of}
 use Rattle.lrat_run.specs.Files.{cnf_fault, proof_fault, clauses_of, clauses_in, cnf_input, proof_input, inputs_of}
 use Rattle.lrat_run.specs.Texts.{verdict_line}
 use Rattle.lrat_run.specs.Answers.{AnswersLrat, Stops}
 use Rattle.command_line.specs.Words.{LratCommand, Request, CheckIt, FraigIt, LratIt, SelfIt, Asks, WantInfo, AreRefused}
 use Rattle.cec_top.specs.declared.kept.Kept.{Kept}
 use Rattle.cec_top.specs.Answers.{Answers}
-use Rattle.cec_top.specs.Complete.{NoFault, IsWithinLimit, CanVerify, HasVerdict}
+use Rattle.cec_top.specs.Complete.{NoFault, IsWithinLimit, CanVerify, HasJudged, HasVerdict}
 use Rattle.cec_top.proofs.CompleteLemmas.{IsExcused, excused-read, too-long, leaves-stops, excused-verdict, at-once}
+use Rattle.cec_top.proofs.HeadlineLemmas.{ends-code}
 use Rattle.cec_top.proofs.WordsLemmas.{lrat_or, same_request}
+
+-- a status that isn't that of a verdict is that of want of memory, where no other is left
+memory-alone : (status : Status) → HasVerdict status → 3 < code_of status → HasJudged status
+memory-alone status (inl below) above = absurd (omega (arith, below, above))
+memory-alone status (inr memory) above = inr memory
 
 -- bytes of a file that is there
 there : (P : List ℕ → Type 0) (o : Option (List ℕ)) → IsSomeAnd o P → (bytes : List ℕ) → o ≡ Some bytes → P bytes
@@ -69,10 +76,11 @@ module _ (c : LratCommand) (old : DeskState) (can : CanVerify c old) where
       told (inl e) = inl e
       told (inr r) = inr (inr r)
 
-  ends-lrat : (new : DeskState) (status : Status) → NoFault old new → EndsBy (c.cnf ∷ c.proof ∷ []) (Stops c.cnf c.proof old) new status → HasVerdict status
-  ends-lrat new status none p = excused-verdict _ old p.mid new p.stop status none p.warns (stops-lrat p.mid p.stop p.cause)
+  ends-lrat : (new : DeskState) (status : Status) → NoFault old new → EndsBy (c.cnf ∷ c.proof ∷ []) (Stops c.cnf c.proof old) new status → HasJudged status
+  ends-lrat new status none p =
+      memory-alone status (excused-verdict _ old p.mid new p.stop status none p.warns (stops-lrat p.mid p.stop p.cause)) (ends-code _ _ new status p)
 
-  pub lrat-complete : (new : DeskState) (status : Status) → NoFault old new → AnswersLrat c.cnf c.proof old new status → HasVerdict status
+  pub lrat-complete : (new : DeskState) (status : Status) → NoFault old new → AnswersLrat c.cnf c.proof old new status → HasJudged status
   lrat-complete new ends.Done none p = inl (omega arith)
   lrat-complete new ends.No none p = inl (omega arith)
   lrat-complete new ends.Undecided none p = absurd p
@@ -85,7 +93,7 @@ module _ (c : LratCommand) (old : DeskState) (can : CanVerify c old) where
 module _ (words : List (List ℕ)) (old new : DeskState) (status : Status) (kept : List Kept)
     (asked : (words : List (List ℕ)) (r : Request) → Asks words r → ¬ (WantInfo words ⊎ AreRefused words))
     (answers : Answers words old new status kept) where
-  pub complete-lrat : (c : LratCommand) → Asks words (LratIt c) → CanVerify c old → NoFault old new → HasVerdict status
+  pub complete-lrat : (c : LratCommand) → Asks words (LratIt c) → CanVerify c old → NoFault old new → HasJudged status
   complete-lrat c asks can none = elim answers [
     | inl p ↦ let t : CheckIt p.command ≡ LratIt c = same_request words (CheckIt p.command) (LratIt c) p.asked asks in cc
     | inr (inl p) ↦
@@ -95,5 +103,6 @@ module _ (words : List (List ℕ)) (old new : DeskState) (status : Status) (kept
     | inr (inr (inr (inl p))) ↦ let t : FraigIt p.command ≡ LratIt c = same_request words (FraigIt p.command) (LratIt c) p.asked asks in cc
     | inr (inr (inr (inr (inl p)))) ↦ absurd (asked words (LratIt c) asks (inl p.wanted))
     | inr (inr (inr (inr (inr (inl p))))) ↦ absurd (asked words (LratIt c) asks (inr p.refused))
-    | inr (inr (inr (inr (inr (inr p))))) ↦ at-once old new status p.ends.stop p.ends.mid p.ends.cause p.ends.warns
+    | inr (inr (inr (inr (inr (inr p))))) ↦
+        memory-alone status (at-once old new status p.ends.stop p.ends.mid p.ends.cause p.ends.warns) (ends-code _ _ new status p.ends)
   ]

@@ -68,3 +68,7 @@ pub record IsAmple (c : CheckCommand) (old : DeskState) : Type 0 where
 -- the run has a verdict, or memory ran out
 abbrev pub HasVerdict : Status → Type 0
 HasVerdict status = (code_of status ≤ 2) ⊎ (code_of status ≡ 7)
+
+-- the run has judged a proof, or memory ran out
+abbrev pub HasJudged : Status → Type 0
+HasJudged status = (code_of status ≤ 1) ⊎ (code_of status ≡ 7)

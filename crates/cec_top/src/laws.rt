@@ -10,7 +10,7 @@ ghost use Rattle.check_session.specs.Finding.{Finding, Finds};
 ghost use Rattle.cec_top.specs.declared.kept.Kept.{Kept};
 ghost use Rattle.cec_top.specs.Answers.{Answers};
 ghost use Rattle.cec_top.specs.Check.{IsProof};
-ghost use Rattle.cec_top.specs.Complete.{CanCheck, CanVerify, NoFault, IsAmple, HasVerdict};
+ghost use Rattle.cec_top.specs.Complete.{CanCheck, CanVerify, NoFault, IsAmple, HasJudged, HasVerdict};
 ghost use Rattle.cec_top.specs.Headline.{IsEquivalent, IsDifferent, IsUndecided, IsVerified, Shows};
 ghost use Rattle.cec_top.specs.Headline.{AreEquivalent, AreDifferent, AreUndecided, OfWorkload};
 ghost use Rattle.cec_top.specs.Plain.{MeansDifferent, MeansEquivalent, MeansUndecided, RunMeans};
@@ -137,7 +137,7 @@ pub fn completeness()
     ensures lrat { (words : List (List ℕ)) (c : LratCommand)
         (old new : DeskState) (status : Status) (kept : List Kept) →
         Asks words (LratIt c) → Answers words old new status kept
-        → CanVerify c old → NoFault old new → HasVerdict status }
+        → CanVerify c old → NoFault old new → HasJudged status }
     ensures own { (words : List (List ℕ)) (c : SelfCommand)
         (old new : DeskState) (status : Status) (kept : List Kept) →
         Asks words (SelfIt c) → Answers words old new status kept

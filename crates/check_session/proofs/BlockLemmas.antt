@@ -1,5 +1,5 @@
 -- What blocks of patterns, one after another, tell of the outputs.
-use Rattle.std.proofs.Common.{◌≡◌, ℕ, ◌+◌, ◌*◌, ◌/◌, ◌<◌, ◌≤◌, nat_lt, Bool, true, false, List, [], ◌∷◌, ◌++◌, length, take, drop, Option, None, Some, refl, sym, ap, ◌∙◌, subst, arith, if◌then◌else◌}
+use Rattle.std.proofs.Common.{◌≡◌, ℕ, ◌+◌, ◌*◌, ◌/◌, ◌≤◌, nat_lt, Bool, true, false, List, ◌++◌, length, take, drop, Option, None, Some, refl, sym, ap, ◌∙◌, subst, arith, if◌then◌else◌}
 use Rattle.std.specs.List.{AllByRecursion, find}
 use Rattle.std.specs.Option.{option_or}
 use Rattle.std.proofs.lemmas.Bool.Decides.{nat_tests}
@@ -7,10 +7,10 @@ use Rattle.std.proofs.lemmas.List.{take-append-drop, take-take, take_all}
 use Rattle.std.proofs.lemmas.List.Folds.{find-append}
 use Rattle.lits.proofs.Facts.{all-append, all-parts}
 use Rattle.netlist.specs.Net.{AigPair}
-use Rattle.word_sim.specs.Patterns.{Patterns, part_from, words_of}
+use Rattle.word_sim.specs.Patterns.{Patterns, part_from}
 use Rattle.sweep_workers.specs.Swept.{IsPoolFor}
 use Rattle.check_session.specs.declared.patterns.Difference.{Difference}
-use Rattle.check_session.specs.Pool.{IsFirstApart, NoneApart, tells_apart}
+use Rattle.check_session.specs.Pool.{NoneApart, tells_apart}
 use Rattle.check_session.specs.Blocks.{IsFirstIn, lesser}
 use Rattle.check_session.proofs.PoolLemmas.{find-halves}
 

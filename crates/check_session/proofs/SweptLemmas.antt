@@ -40,7 +40,7 @@ use Rattle.check_session.specs.Sweep.{AddsStructure, IsSweptFrom}
 use Rattle.check_session.specs.Telling.{AsksOutputs, TellsDifference}
 use Rattle.check_session.proofs.OutputLemmas.{off-subject}
 use Rattle.check_session.proofs.PoolLemmas.{extends-same, extends-twice}
-use Rattle.check_session.proofs.BegunLemmas.{about-apart, differs-unsettled, lesser-apart, starts-last, starts-twice}
+use Rattle.check_session.proofs.BegunLemmas.{about-apart, differs-unsettled, lesser-apart, plain-behind, plain-equal, starts-last, starts-twice}
 
 -- ---- merges that the structure shows
 
@@ -325,6 +325,13 @@ found-merged (Ok c) net o old merged before pool same adds may found =
     subst (λ (p : Patterns). IsFound net o (record { book = old; pool = p }) (Some c.pool) c.book c.verdict) same
     (found old adds (subst (λ (p : Patterns). MayBegin net o (record { book = old; pool = p })) (sym same) may))
 found-merged (Err e) net o old merged before pool same adds may found = tt
+
+-- behind entries that say that values are equal it says of no output that it differs or is open
+pub swept-plain : (net : AigPair) (merged swept : Entries) (pool seen : Patterns) → list_all is_equal merged.entries ≡ true
+    → Sweeps net merged swept pool seen → list_all is_pair_or_out swept.entries ≡ true
+swept-plain net merged swept pool seen equal pairs =
+    subst (λ (es : List Entry). list_all is_pair_or_out es ≡ true) (sym pairs.begins)
+    (plain-behind merged.entries pairs.added (plain-equal merged.entries equal) pairs.kinds)
 
 -- the patterns that a sweep began with tell no output apart still
 pub none-known : (net : AigPair) (merged swept : Entries) (pool seen : Patterns) (known : ℕ) → Sweeps net merged swept pool seen

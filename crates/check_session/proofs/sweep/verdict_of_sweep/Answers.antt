@@ -1,10 +1,5 @@
-use Rattle.std.proofs.Common.{List, true, sym, subst}
-use Rattle.std.specs.List.{list_all}
 use Rattle.std.proofs.lemmas.Result.{IfOk-weaker}
-use Rattle.lemma_book.specs.declared.entry.Entry.{Entry}
-use Rattle.check_session.specs.Outputs.{is_pair_or_out}
-use Rattle.check_session.proofs.BegunLemmas.{plain-behind, plain-equal}
-use Rattle.check_session.proofs.SweptLemmas.{adds-none, found-asked, found-told, goes_on-asked, goes_on-told, none-known}
+use Rattle.check_session.proofs.SweptLemmas.{adds-none, found-asked, found-told, goes_on-asked, goes_on-told, none-known, swept-plain}
 use Rattle.check_session.proofs.sweep.verdict_of_sweep.Goals as goal
 
 pub difference_behind-requires-clause-none : goal.difference_behind-requires-clause-none
@@ -15,10 +10,8 @@ difference_behind-requires-clause-none g c =
 
 pub verdict_told-requires-clause-entries : goal.verdict_told-requires-clause-entries
 verdict_told-requires-clause-entries g c =
-    let sweeps = c.in_ok-swept.ensures.sweeps in
-    let book = c.args.begun.book in
-    subst (λ (es : List Entry). list_all is_pair_or_out es ≡ true) (sym sweeps.begins)
-    (plain-behind book.entries sweeps.added (plain-equal book.entries c.requires.begun.equal) sweeps.kinds)
+    swept-plain c.args.net.now c.args.begun.book c.in_ok-swept.swept.book c.args.begun.pool c.in_ok-swept.swept.pool c.requires.begun.equal
+    c.in_ok-swept.ensures.sweeps
 
 pub returns-in-Some-clause-goes_on : goal.returns-in-Some-clause-goes_on
 returns-in-Some-clause-goes_on g c =
@@ -39,10 +32,8 @@ returns-in-Some-clause-found g c =
 
 pub verdict_of_outputs-requires-clause-entries : goal.verdict_of_outputs-requires-clause-entries
 verdict_of_outputs-requires-clause-entries g c κs within =
-    let sweeps = c.in_ok-swept.ensures.sweeps in
-    let book = c.args.begun.book in
-    subst (λ (es : List Entry). list_all is_pair_or_out es ≡ true) (sym sweeps.begins)
-    (plain-behind book.entries sweeps.added (plain-equal book.entries c.requires.begun.equal) sweeps.kinds)
+    swept-plain c.args.net.now c.args.begun.book c.in_ok-swept.swept.book c.args.begun.pool c.in_ok-swept.swept.pool c.requires.begun.equal
+    c.in_ok-swept.ensures.sweeps
 
 pub returns-clause-goes_on : goal.returns-clause-goes_on
 returns-clause-goes_on g c =
