@@ -1,9 +1,14 @@
+ghost use Rattle.std.specs.Prelude.{◌≡◌, is_some};
+ghost use Rattle.netlist.specs.Net.{position_of};
+
 use lits::{Lit, Node, Side};
 use netlist::{Net, Placed};
 use search_parts::count;
 
 /// The code of a literal, if its node is in the net: twice the node's position, and 1 where it is negated.
-pub fn lit_code(net: &Net, lit: Lit) -> Option<u32> {
+pub fn lit_code(net: &Net, lit: Lit) -> Option<u32>
+    ensures { is_some result ≡ is_some (position_of net.now lit.node) }
+{
     match net.position(lit.node) {
         Some(position) => Some(code_of(Placed {
             position,

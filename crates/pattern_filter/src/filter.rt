@@ -1,3 +1,5 @@
+ghost use Rattle.std.specs.Prelude.{◌≡◌, length, IfOk};
+
 use crate::cone::{Cone, Pair, Row, WORDS, turned_row};
 use crate::draws::DRAWN;
 use crate::inputs::Inputs;
@@ -76,7 +78,9 @@ impl PatternFilter {
         net: &Net,
         book: &Book,
         tasks: &[Task],
-    ) -> Result<Vec<bool>, AllocError> {
+    ) -> Result<Vec<bool>, AllocError>
+        ensures { IfOk result (λ due. length due.items ≡ length tasks.now) }
+    {
         self.roots.catch_up(net, book)?;
         self.asked.clear();
         list_pairs(&mut self.asked, net, self.roots.codes(), tasks)?;
@@ -90,7 +94,9 @@ impl PatternFilter {
     }
 
     /// Of each pair of a round whether it is to be settled in it.
-    fn due(&self, alloc: Global, net: &Net, tasks: &[Task]) -> Result<Vec<bool>, AllocError> {
+    fn due(&self, alloc: Global, net: &Net, tasks: &[Task]) -> Result<Vec<bool>, AllocError>
+        ensures { IfOk result (λ due. length due.items ≡ length tasks.now) }
+    {
         let is_telling = tells(&self.found, &self.asked);
         let mut seen = vec![in alloc; false; 64 * DRAWN as usize]?;
         let mut due = Vec::with_capacity(alloc, tasks.len())?;

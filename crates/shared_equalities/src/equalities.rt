@@ -1,3 +1,5 @@
+ghost use Rattle.std.specs.Prelude.{◌≡◌, ◌++◌, ◌-◌, ◌^◌, [], length, min, OnOk};
+
 use lits::{Hints, Ref, Step};
 use search_parts::{at, count, put};
 use std::alloc::{AllocError, Global};
@@ -61,7 +63,9 @@ pub enum Finder {
 
 impl Equalities {
     /// No equalities, and no tables before the first of them.
-    pub fn new(alloc: Global) -> Equalities {
+    pub fn new(alloc: Global) -> Equalities
+        ensures { result.steps.items ≡ [] }
+    {
         Equalities {
             targets: Vec::new(alloc),
             tried: Vec::new(alloc),
@@ -73,7 +77,9 @@ impl Equalities {
     }
 
     /// Forgets all.
-    pub fn forget(&mut self) {
+    pub fn forget(&mut self)
+        ensures { self.new.steps.items ≡ [] }
+    {
         self.targets.clear();
         self.tried.clear();
         self.steps.clear();
@@ -83,7 +89,9 @@ impl Equalities {
     }
 
     /// How many steps there are.
-    pub fn len(&self) -> u32 {
+    pub fn len(&self) -> u32
+        ensures { result ≡ min (length self.now.steps.items) (2 ^ 32 - 1) }
+    {
         count(self.steps.len())
     }
 
@@ -123,13 +131,17 @@ impl Equalities {
         position: u32,
         equality: Equality,
         mut steps: Vec<Step>,
-    ) -> Result<(), AllocError> {
+    ) -> Result<(), AllocError>
+        ensures { OnOk result (self.new.steps.items ≡ self.old.steps.items ++ steps.items) }
+    {
         self.steps.append(&mut steps)?;
         self.note(place_of(finder, position), equality)
     }
 
     /// Notes what a node is equal to, at a place of the targets.
-    fn note(&mut self, place: u32, equality: Equality) -> Result<(), AllocError> {
+    fn note(&mut self, place: u32, equality: Equality) -> Result<(), AllocError>
+        ensures { self.new.steps.items ≡ self.old.steps.items }
+    {
         let room = (place as usize).saturating_add(1);
         if room > self.targets.len() {
             self.targets.resize(room, None)?;
@@ -140,7 +152,9 @@ impl Equalities {
     }
 
     /// Says what target stands at a place.
-    fn set_target(&mut self, place: u32, target: Option<Equality>) {
+    fn set_target(&mut self, place: u32, target: Option<Equality>)
+        ensures { self.new.steps.items ≡ self.old.steps.items }
+    {
         let place = place as usize;
         if place < self.targets.len() {
             self.targets[place] = target;

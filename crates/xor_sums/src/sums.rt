@@ -1,3 +1,5 @@
+ghost use Rattle.std.specs.Prelude.{◌≡◌, ◌++◌, ◌∷◌, [], OnOk};
+
 use crate::exclusive::Exclusive;
 use crate::plan::{Move, Plan};
 use search_parts::NONE;
@@ -136,7 +138,9 @@ impl Sums {
     }
 
     /// The clause that is to be shown.
-    pub fn goal(&self) -> &[u32] {
+    pub fn goal(&self) -> &[u32]
+        ensures { result.now ≡ self.now.goal.items }
+    {
         self.goal.as_slice()
     }
 
@@ -151,7 +155,9 @@ impl Sums {
     }
 
     /// Shows the clause with this code more, first.
-    pub fn begin_case(&mut self, code: u32) -> Result<(), AllocError> {
+    pub fn begin_case(&mut self, code: u32) -> Result<(), AllocError>
+        ensures { OnOk result (self.new.goal.items ≡ self.old.goal.items ++ code ∷ []) }
+    {
         self.goal.push(code)?;
         Ok(())
     }
