@@ -119,6 +119,7 @@ fn tables_are_read_and_written_anywhere(rt: HostRuntime) {
     expect(&rt, "one was written", table == [5, 9, 7]);
     expect(&rt, "read", at(&table, 2) == 7 && at(&table, 3) == 0);
     expect(&rt, "a part", part(&table, 1, 9) == [9, 7].as_slice());
+    expect(&rt, "two", part(&table, 0, 2) == [5, 9].as_slice());
     expect(&rt, "no part", part(&table, 4, 1).is_empty());
     let mut marks = [false; 2];
     let (first, again) = (mark(&mut marks, 1, true), mark(&mut marks, 1, false));

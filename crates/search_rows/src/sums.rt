@@ -59,13 +59,30 @@ fn has_plan(rt: &impl Abort, alloc: Global, ends: (u32, u32), gates: &[Gate], mo
     sums.make_plan(most).expect(rt, "memory")
 }
 
-/// The sum of 3 and 4 is 0 as soon as 1 and 2 are put in for both. It has two clauses, and each is shown by the
-/// two cases of variable 1: four steps. Three gates over other variables never come to the sum that is asked for.
+/// Variables 6 and 8 are both the sum of 1, 2 and 3.
+static THREE_TERMS: [Gate; 4] = [(5, 2, 4), (6, 10, 6), (7, 4, 6), (8, 2, 14)];
+
+/// Whether there is an order of so many steps, and none of fewer.
+fn takes(rt: &impl Abort, alloc: Global, ends: (u32, u32), gates: &[Gate], steps: u64) -> bool {
+    has_plan(rt, alloc, ends, gates, steps) && !has_plan(rt, alloc, ends, gates, steps - 1)
+}
+
+/// Of the first, by hand: 3 and 4 are equal as soon as 1 and 2 are put in for both. That has two clauses, and each is
+/// shown by both cases of variable 1: four steps.
+///
+/// Of the second: the first join, of two gates, has four terms and isn't said. With a third gate it has three, which is
+/// less for what these have than any other: its four clauses take two cases each, and with the last gate the two
+/// clauses of 6 and 8 take two: twelve steps.
+///
+/// Of the third a script that goes through all orders printed 16 as the fewest. Three gates over other variables never
+/// come to the sum that is asked for.
 #[test]
 fn a_plan_takes_as_many_steps_as_it_says(rt: HostRuntime) {
     let alloc = rt.alloc();
-    expect(&rt, "four", has_plan(&rt, alloc, (3, 4), &TWINS, 4));
-    expect(&rt, "three", !has_plan(&rt, alloc, (3, 4), &TWINS, 3));
+    expect(&rt, "four", takes(&rt, alloc, (3, 4), &TWINS, 4));
+    expect(&rt, "twelve", takes(&rt, alloc, (6, 8), &THREE_TERMS, 12));
+    let is_short = has_plan(&rt, alloc, (7, 10), &CHAIN_AND_TREE, 15);
+    expect(&rt, "not under the fewest", !is_short);
     let gates = [(5, 2, 4), (6, 2, 6), (7, 2, 8)];
     expect(&rt, "no order", !has_plan(&rt, alloc, (5, 7), &gates, 1000));
 }
