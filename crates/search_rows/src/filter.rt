@@ -34,6 +34,14 @@ fn sift(
     filter.sift(alloc, net, &book, tasks).expect(rt, "memory")
 }
 
+/// Whether the first input is true.
+fn at_first(input: &[bool]) -> bool {
+    match input {
+        [first, ..] => *first,
+        [] => false,
+    }
+}
+
 /// The AND and i0 without i1 differ exactly where i0 is true. So does the second pair, and one pattern is settled
 /// once in a round; the third pair is equal, and waits while patterns tell pairs apart.
 fn check_three(rt: &impl Abort, alloc: Global, net: &Net) {
@@ -48,7 +56,9 @@ fn check_three(rt: &impl Abort, alloc: Global, net: &Net) {
     for (task, is_told) in tasks.iter().zip([true, true, false]) {
         let input = filter.telling(alloc, net, task).expect(rt, "memory");
         expect(rt, "told", input.is_some() == is_told);
-        expect(rt, "i0", input.is_none_or(|input| input.as_slice()[0]));
+        if let Some(input) = input {
+            expect(rt, "i0", at_first(input.as_slice()));
+        }
     }
     let due = sift(rt, alloc, net, &mut filter, &tasks[2..]);
     expect(rt, "the third", due.as_slice() == [true].as_slice());

@@ -40,7 +40,7 @@ fn found_of(
 /// Whether the query took so many conflicts and decisions.
 fn took(solver: &LazySolver, conflicts: u64, decisions: u64) -> bool {
     let left = solver.left();
-    left.conflicts == 10 - conflicts && left.decisions == 10 - decisions
+    left.conflicts.saturating_add(conflicts) == 10 && left.decisions.saturating_add(decisions) == 10
 }
 
 /// The merge of b5 to not a5. By hand:

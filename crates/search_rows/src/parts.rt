@@ -28,7 +28,7 @@ fn restarts_go_by_lubys_sequence(rt: HostRuntime) {
     for unit in [1, 3, 64] {
         let mut restarts = Luby::new(unit);
         for word in LUBY.split(' ') {
-            let wanted = number(&rt, word) * unit;
+            let wanted = number(&rt, word).saturating_mul(unit);
             expect(&rt, word, gap(&mut restarts) == wanted);
         }
     }
@@ -41,7 +41,7 @@ fn sixty_three_restarts_take_so_many_clauses(rt: HostRuntime) {
     let mut restarts = Luby::new(64);
     let mut learned: u64 = 0;
     for _ in 0..63 {
-        learned += gap(&mut restarts);
+        learned = learned.saturating_add(gap(&mut restarts));
     }
     expect(&rt, "12,288 clauses", learned == 12_288);
 }
@@ -49,17 +49,22 @@ fn sixty_three_restarts_take_so_many_clauses(rt: HostRuntime) {
 /// What is done to a heap: a variable more (`g`), a decay (`d`), 4,600 decays (`D`), a variable put (`p3`) or
 /// met (`b3`), all taken out (`e`), and what comes out first (`o3`, or `o-` where nothing does).
 fn follow(rt: &impl Abort, heap: &mut ActivityHeap, word: &str) {
-    let (kind, rest) = word.split_at(1);
-    let variable: Option<u32> = rest.parse().ok();
-    match (kind, variable) {
-        ("g", _) => heap.grow().expect(rt, "memory"),
-        ("d", _) => heap.decay(),
-        ("D", _) => decay_long(heap),
-        ("e", _) => heap.empty(),
-        ("p", Some(variable)) => heap.put(variable).expect(rt, "memory"),
-        ("b", Some(variable)) => heap.bump(variable),
-        _ => expect(rt, word, heap.pop() == variable),
+    match word.as_bytes() {
+        [b'g'] => heap.grow().expect(rt, "memory"),
+        [b'd'] => heap.decay(),
+        [b'D'] => decay_long(heap),
+        [b'e'] => heap.empty(),
+        [b'p', digit] => heap.put(variable_of(*digit)).expect(rt, "memory"),
+        [b'b', digit] => heap.bump(variable_of(*digit)),
+        [b'o', b'-'] => expect(rt, word, heap.pop().is_none()),
+        [b'o', digit] => expect(rt, word, heap.pop() == Some(variable_of(*digit))),
+        _ => expect(rt, word, false),
     }
+}
+
+/// The variable of a digit.
+fn variable_of(digit: u8) -> u32 {
+    u32::from(digit.saturating_sub(b'0'))
 }
 
 fn decay_long(heap: &mut ActivityHeap) {

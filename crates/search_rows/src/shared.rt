@@ -33,7 +33,7 @@ fn push(rt: &impl Abort, alloc: Global, steps: &mut Vec<Step>, node: Node, hints
 
 /// Finds that the node at a position is equal to a code, by two steps at the end.
 fn find(rt: &impl Abort, alloc: Global, own: &mut Equalities, position: u32, target: u32) {
-    let (there, back) = (own.len(), own.len() + 1);
+    let (there, back) = (own.len(), own.len().saturating_add(1));
     let equality = Equality {
         target,
         there,
@@ -47,7 +47,8 @@ fn find(rt: &impl Abort, alloc: Global, own: &mut Equalities, position: u32, tar
 /// Whether a node is equal to a code by the two steps from a place on.
 fn has(own: &Equalities, position: u32, target: u32, place: u32) -> bool {
     match own.target(Finder::Lazy, position) {
-        Some(found) => (found.target, found.there, found.back) == (target, place, place + 1),
+        Some(found) => (found.target, found.there) == (target, place)
+            && found.back == place.saturating_add(1),
         None => false,
     }
 }

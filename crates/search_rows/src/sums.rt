@@ -1,5 +1,6 @@
 //! Sums of exclusive ORs: in which order gates are added up, and what clauses say the sums between.
 use crate::written::expect;
+use search_parts::{at, count, mark};
 use std::alloc::Global;
 use std::process::Abort;
 use xor_sums::{Exclusive, Move, Sums};
@@ -64,7 +65,8 @@ static THREE_TERMS: [Gate; 4] = [(5, 2, 4), (6, 10, 6), (7, 4, 6), (8, 2, 14)];
 
 /// Whether there is an order of so many steps, and none of fewer.
 fn takes(rt: &impl Abort, alloc: Global, ends: (u32, u32), gates: &[Gate], steps: u64) -> bool {
-    has_plan(rt, alloc, ends, gates, steps) && !has_plan(rt, alloc, ends, gates, steps - 1)
+    has_plan(rt, alloc, ends, gates, steps)
+        && !has_plan(rt, alloc, ends, gates, steps.saturating_sub(1))
 }
 
 /// Of the first, by hand: 3 and 4 are equal as soon as 1 and 2 are put in for both. That has two clauses, and each is
@@ -88,39 +90,37 @@ fn a_plan_takes_as_many_steps_as_it_says(rt: HostRuntime) {
 }
 
 /// Adds up what a move joins, of sums that are bits of variables. A sum is joined once.
-fn follow(rt: &impl Abort, bits: &mut Vec<u32>, joined: &mut [bool; 11], order: Move) {
+fn follow(rt: &impl Abort, bits: &mut Vec<u32>, joined: &mut [bool], order: Move) {
     match order {
         Move::Join(one, two) => {
-            let (one, two) = (one as usize, two as usize);
-            expect(rt, "two", one < two && two < bits.len() && two < 11);
-            expect(rt, "live", !joined[one] && !joined[two]);
-            joined[one] = true;
-            joined[two] = true;
-            let sum = bits[one] ^ bits[two];
+            let (first, second) = (mark(joined, one, true), mark(joined, two, true));
+            expect(rt, "live", one != two && !first && !second);
+            let sum = at(bits, one) ^ at(bits, two);
             bits.push(sum).expect(rt, "memory");
         }
-        Move::Say(sum) => expect(rt, "a sum", (sum as usize) < bits.len()),
+        Move::Say(sum) => expect(rt, "a sum", sum < count(bits.len())),
     }
 }
 
-/// The sums of the chain and the tree, as bits of variables: whether all moves of a plan come to that of 7 and 10,
-/// by one join less than there are gates.
+/// The bit of a variable.
+fn bit(var: u32) -> u32 {
+    1_u32.wrapping_shl(var)
+}
+
+/// The sums of the chain and the tree, as bits of variables: whether all moves of a plan come to that of 7 and 10, by
+/// one join less than there are gates.
 fn comes_to_ends(rt: &impl Abort, alloc: Global, sums: &Sums) -> bool {
     let mut bits = Vec::new(alloc);
     for (var, left, right) in CHAIN_AND_TREE {
-        let sum = (1 << var) | (1 << (left / 2)) | (1 << (right / 2));
+        let sum = bit(var) | bit(left / 2) | bit(right / 2);
         bits.push(sum).expect(rt, "memory");
     }
     let mut joined = [false; 11];
     for place in 0..sums.moves() {
-        follow(
-            rt,
-            &mut bits,
-            &mut joined,
-            sums.order(place).expect(rt, "a move"),
-        );
+        let order = sums.order(place).expect(rt, "a move");
+        follow(rt, &mut bits, &mut joined, order);
     }
-    bits.len() == 11 && bits[10] == (1 << 7) | (1 << 10)
+    bits.len() == 11 && at(&bits, 10) == bit(7) | bit(10)
 }
 
 #[test]
@@ -137,8 +137,8 @@ fn says(rt: &impl Abort, sums: &mut Sums, clauses: &[[u32; 2]; 4]) {
     sums.unite(0, 1).expect(rt, "memory");
     expect(rt, "four", sums.begin_saying(2).expect(rt, "memory") == 4);
     expect(rt, "what goes", sums.inner() == [1, 2].as_slice());
-    for (values, clause) in clauses.iter().enumerate() {
-        let is_said = sums.begin_goal(2, values as u32).expect(rt, "memory");
+    for (values, clause) in (0..4_u32).zip(clauses) {
+        let is_said = sums.begin_goal(2, values).expect(rt, "memory");
         expect(rt, "forbidden", is_said == (*clause != [0, 0]));
         expect(
             rt,
