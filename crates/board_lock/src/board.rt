@@ -31,8 +31,8 @@ impl Model for Board {
     ghost Value = { Post };
 
     ghost view = { λ b. record {
-      table = b.lock.table.shared.table_id;
-      root = b.lock.table.shared.key;
+      table = b.lock.table;
+      root = b.lock.about;
       tasks = b.tasks;
     } };
 }
@@ -97,8 +97,8 @@ impl Board {
 fn lock_about(alloc: Global, about: &About, book: Book) -> Result<(Lock, Place), Book>
     requires legal { IsLegal about.now.net book }
     requires opening { about.now.opening ≡ book }
-    ensures lock { IfOk result (λ t. t.0.table.shared.key ≡ about.now) }
-    ensures place { IfOk result (λ t. (t.1.table_id ≡ t.0.table.shared.table_id) × (t.1.me ≡ (opener about.now, []))) }
+    ensures lock { IfOk result (λ t. t.0.about ≡ about.now) }
+    ensures place { IfOk result (λ t. (t.1.table_id ≡ t.0.table) × (t.1.me ≡ (opener about.now, []))) }
     ensures err { IfErr result (λ b. b ≡ book) }
 {
     match Lock::open(alloc, History::of(alloc, book), about) {

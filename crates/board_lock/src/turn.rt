@@ -19,19 +19,19 @@ use std::sync::Wait;
 
 /// Waits for its turn, and takes the slot.
 pub fn come_in<R: Wait>(rt: &R, lock: &Lock, place: &mut Place)
-    requires own { place.old.table_id ≡ lock.now.table.shared.table_id }
+    requires own { place.old.table_id ≡ lock.now.table }
     requires idle { IsIdle place.old.me.0 × (place.old.me.1 ≡ []) }
     requires left { 1 ≤ place.old.me.0.left }
     ensures same { place.new.table_id ≡ place.old.table_id }
-    ensures came { CameIn (Sees lock.now.table.shared.key.net) place.old.me place.new.me }
+    ensures came { CameIn (Sees lock.now.about.net) place.old.me place.new.me }
 {
     come_over::<Brand, R>(rt, lock, place);
 }
 
 /// The same, over the net that the board is about.
 fn come_over<N: Over, R: Wait>(rt: &R, lock: &Lock, place: &mut Place)
-    requires net { N.net ≡ lock.now.table.shared.key.net }
-    requires own { place.old.table_id ≡ lock.now.table.shared.table_id }
+    requires net { N.net ≡ lock.now.about.net }
+    requires own { place.old.table_id ≡ lock.now.table }
     requires idle { IsIdle place.old.me.0 × (place.old.me.1 ≡ []) }
     requires left { 1 ≤ place.old.me.0.left }
     ensures same { place.new.table_id ≡ place.old.table_id }
@@ -42,7 +42,7 @@ fn come_over<N: Over, R: Wait>(rt: &R, lock: &Lock, place: &mut Place)
 
 /// Takes the history out of the slot.
 pub fn take(alloc: Global, lock: &Lock, place: &mut Place) -> History
-    requires own { place.old.table_id ≡ lock.now.table.shared.table_id }
+    requires own { place.old.table_id ≡ lock.now.table }
     requires there { place.old.me.1 ≡ (0, place.old.me.0.taken) ∷ [] }
     ensures same { place.new.table_id ≡ place.old.table_id }
     ensures taken { result ≡ place.old.me.0.taken }
@@ -53,9 +53,9 @@ pub fn take(alloc: Global, lock: &Lock, place: &mut Place) -> History
 
 /// Puts the history back, and ends the turn, which is noted.
 fn leave<N: Noting>(lock: &Lock, place: &mut Place, history: History)
-    requires own { place.old.table_id ≡ lock.now.table.shared.table_id }
+    requires own { place.old.table_id ≡ lock.now.table }
     requires inside { IsIn place.old.me.0 × (place.old.me.1 ≡ (0, no_story) ∷ []) }
-    requires tells { Tells lock.now.table.shared.key.net place.old.me.0 N.note history }
+    requires tells { Tells lock.now.about.net place.old.me.0 N.note history }
     ensures same { place.new.table_id ≡ place.old.table_id }
     ensures noted { place.new.me ≡ (past place.old.me.0 (noting place.old.me.0.own place.old.me.0.taken N.note), []) }
     ensures so { AreSo (book_after place.old.me.0.taken.book N.note.said)
@@ -67,7 +67,7 @@ fn leave<N: Noting>(lock: &Lock, place: &mut Place, history: History)
 
 /// Puts the history back as it was taken, where the turn is counted as missed, and ends the turn.
 pub fn miss(lock: &Lock, place: &mut Place, mut history: History)
-    requires own { place.old.table_id ≡ lock.now.table.shared.table_id }
+    requires own { place.old.table_id ≡ lock.now.table }
     requires inside { IsIn place.old.me.0 × (place.old.me.1 ≡ (0, no_story) ∷ []) }
     requires missed { (history ≡ place.old.me.0.taken) × (history.missed < 2 ^ 62) }
     ensures same { place.new.table_id ≡ place.old.table_id }
@@ -79,7 +79,7 @@ pub fn miss(lock: &Lock, place: &mut Place, mut history: History)
 
 /// Draws a number.
 pub fn draw(lock: &Lock, place: &mut Place) -> u64
-    requires own { place.old.table_id ≡ lock.now.table.shared.table_id }
+    requires own { place.old.table_id ≡ lock.now.table }
     requires idle { IsIdle place.old.me.0 × (place.old.me.1 ≡ []) }
     requires left { 1 ≤ place.old.me.0.left }
     ensures same { place.new.table_id ≡ place.old.table_id }
@@ -91,7 +91,7 @@ pub fn draw(lock: &Lock, place: &mut Place) -> u64
 
 /// Cuts a pass in two: the new one gets so many turns, and the number that is told.
 pub fn split(lock: &Lock, place: &mut Place, turns: u64) -> (u64, Place)
-    requires own { place.old.table_id ≡ lock.now.table.shared.table_id }
+    requires own { place.old.table_id ≡ lock.now.table }
     requires idle { IsIdle place.old.me.0 × (place.old.me.1 ≡ []) }
     requires few { turns < place.old.me.0.left }
     ensures same { (place.new.table_id ≡ place.old.table_id) × (result.1.table_id ≡ place.old.table_id) }
@@ -103,7 +103,7 @@ pub fn split(lock: &Lock, place: &mut Place, turns: u64) -> (u64, Place)
 
 /// Takes in another pass.
 pub fn join(lock: &Lock, place: &mut Place, other: Place)
-    requires own { (place.old.table_id ≡ lock.now.table.shared.table_id) × (other.table_id ≡ lock.now.table.shared.table_id) }
+    requires own { (place.old.table_id ≡ lock.now.table) × (other.table_id ≡ lock.now.table) }
     requires idle { IsIdle place.old.me.0 × (place.old.me.1 ≡ []) }
     requires other_idle { IsIdle other.me.0 × (other.me.1 ≡ []) }
     ensures same { place.new.table_id ≡ place.old.table_id }
@@ -115,13 +115,16 @@ pub fn join(lock: &Lock, place: &mut Place, other: Place)
 /// Ends a turn that looked at the book.
 pub fn leave_known<N: Noting>(lock: &Lock, place: &mut Place, history: History, known: u64)
     requires told { N.note ≡ known_note place.old.me.0 known }
-    requires own { place.old.table_id ≡ lock.now.table.shared.table_id }
+    requires own { place.old.table_id ≡ lock.now.table }
     requires inside { IsIn place.old.me.0 × (place.old.me.1 ≡ (0, no_story) ∷ []) }
-    requires tells { Tells lock.now.table.shared.key.net place.old.me.0
+    requires tells { Tells lock.now.about.net place.old.me.0
         (known_note place.old.me.0 known) history }
     ensures same { place.new.table_id ≡ place.old.table_id }
-    ensures noted { place.new.me
-        ≡ (past place.old.me.0 (noting place.old.me.0.own place.old.me.0.taken (known_note place.old.me.0 known)), []) }
+    ensures noted { place.new.me ≡ (
+      past place.old.me.0
+          (noting place.old.me.0.own place.old.me.0.taken (known_note place.old.me.0 known)),
+      [],
+    ) }
     ensures so { AreSo place.old.me.0.taken.book
         (place.old.me.0.own.notes ++ known_note place.old.me.0 known ∷ []) }
     ensures known { StartsWith place.old.me.0.taken.book place.old.me.0.own.known }
@@ -131,22 +134,24 @@ pub fn leave_known<N: Noting>(lock: &Lock, place: &mut Place, history: History, 
 
 /// Ends a turn that offered an entry, which is out of hand by now.
 pub fn leave_offered<N: Asked>(lock: &Lock, place: &mut Place, history: History, offered: Offered)
-    requires own { place.old.table_id ≡ lock.now.table.shared.table_id }
+    requires own { place.old.table_id ≡ lock.now.table }
     requires inside { IsIn place.old.me.0 × (place.old.me.1 ≡ (0, no_story) ∷ []) }
-    requires tells { Tells lock.now.table.shared.key.net place.old.me.0
-        (offered_note place.old.me.0 N.entry offered) history }
+    requires tells { Tells lock.now.about.net place.old.me.0 (offered_note place.old.me.0 N.entry offered) history }
     ensures same { place.new.table_id ≡ place.old.table_id }
-    ensures noted { place.new.me
-        ≡ (past place.old.me.0 (noting place.old.me.0.own place.old.me.0.taken (offered_note place.old.me.0 N.entry offered)), []) }
+    ensures noted { place.new.me ≡ (
+      past place.old.me.0
+          (noting place.old.me.0.own place.old.me.0.taken (offered_note place.old.me.0 N.entry offered)),
+      [],
+    ) }
     ensures known { StartsWith place.old.me.0.taken.book place.old.me.0.own.known }
 {
     leave_told::<Brand>(lock, place, history, offered);
 }
 
 fn leave_told<N: Noting>(lock: &Lock, place: &mut Place, history: History, _offered: Offered)
-    requires own { place.old.table_id ≡ lock.now.table.shared.table_id }
+    requires own { place.old.table_id ≡ lock.now.table }
     requires inside { IsIn place.old.me.0 × (place.old.me.1 ≡ (0, no_story) ∷ []) }
-    requires tells { Tells lock.now.table.shared.key.net place.old.me.0 N.note history }
+    requires tells { Tells lock.now.about.net place.old.me.0 N.note history }
     ensures same { place.new.table_id ≡ place.old.table_id }
     ensures noted { place.new.me ≡ (past place.old.me.0 (noting place.old.me.0.own place.old.me.0.taken N.note), []) }
     ensures known { StartsWith place.old.me.0.taken.book place.old.me.0.own.known }

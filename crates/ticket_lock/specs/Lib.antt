@@ -1,5 +1,6 @@
 pub mod Totals
 pub mod Line
+pub mod Lock
 pub mod Views
 pub mod Claims
 pub mod Plays

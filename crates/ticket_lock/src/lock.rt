@@ -1,6 +1,7 @@
 //! The lock: its steps are those of one table with four words and one slot.
 ghost use Rattle.std.specs.Prelude.{◌≡◌, ℕ, ◌+◌, ◌^◌, ◌<◌, ◌≤◌, [], ◌∷◌, length, MatchBool, IfOk, IfErr};
-ghost use Rattle.ticket_lock.specs.Views.{IsIdle, IsIn, member_of, in_line, past, drew, numbering, kept_of, cut_of, both_of, opener};
+ghost use Rattle.ticket_lock.specs.Views.{IsIdle, IsIn, member_of};
+ghost use Rattle.ticket_lock.specs.Views.{in_line, past, drew, numbering, kept_of, cut_of, both_of, opener};
 ghost use Rattle.ticket_lock.specs.Claims.{Begins, Learns, Ends, Draws, Parts, Merges, Sums, Ended};
 ghost use Rattle.ticket_lock.specs.Plays.{Took, CameIn, IsInLine, IsCutting};
 
@@ -10,7 +11,7 @@ use crate::view::View;
 use atomic_table::{Join, Seat, Split, Table};
 use std::alloc::Global;
 use std::hint::spin_loop;
-use std::marker::Brand;
+use std::marker::{Brand, Model};
 use std::sync::Wait;
 use std::thread;
 use std::time::Duration;
@@ -31,8 +32,18 @@ pub type Place<S, U> = Seat<S, View<S, U>>;
 /// drawn and the splits, and one slot.
 #[derive(Drop)]
 pub struct TicketLock<S: Drop, U, K, C: Claim<S, U, K>> {
-    pub table: Table<S, View<S, U>, K, Law<C>, Global>,
-    ghost sized: { (table.shared.table_id.words ≡ 4) × (table.shared.table_id.slots ≡ 1) },
+    table: Table<S, View<S, U>, K, Law<C>, Global>,
+}
+
+impl<S: Drop, U, K, C: Claim<S, U, K>> Model for TicketLock<S, U, K, C> {
+    ghost use Rattle.std.specs.Prelude.{◌≡◌};
+    ghost use Rattle.ticket_lock.specs.Lock.{Lock};
+
+    ghost Value = { Lock K };
+
+    ghost view = { λ l. record { table = l.table.shared.table_id; about = l.table.shared.key } };
+
+    ghost invariant = { λ l. (l.table.shared.table_id.words ≡ 4) × (l.table.shared.table_id.slots ≡ 1) };
 }
 
 impl<S: Drop, U, K, C: Claim<S, U, K>> TicketLock<S, U, K, C> {
@@ -44,8 +55,9 @@ impl<S: Drop, U, K, C: Claim<S, U, K>> TicketLock<S, U, K, C> {
         about: &K,
     ) -> Result<(TicketLock<S, U, K, C>, Place<S, U>), S>
         requires { Begins (C.holds about.now) value (C.first about.now) }
-        ensures lock { IfOk result (λ r. r.0.table.shared.key ≡ about.now) }
-        ensures place { IfOk result (λ r. (r.1.table_id ≡ r.0.table.shared.table_id) × (r.1.me ≡ (opener C.blank (C.first about.now), []))) }
+        ensures lock { IfOk result (λ r. r.0.about ≡ about.now) }
+        ensures place { IfOk result (λ r. (r.1.table_id ≡ r.0.table)
+            × (r.1.me ≡ (opener C.blank (C.first about.now), []))) }
         ensures err { IfErr result (λ v. v ≡ value) }
     {
         let Ok(mut slots) = Vec::with_capacity(alloc, 1) else {
@@ -61,11 +73,11 @@ impl<S: Drop, U, K, C: Claim<S, U, K>> TicketLock<S, U, K, C> {
     /// Ends the lock with the pass that is whole: no other pass has a turn left. Gives what lies in the slot,
     /// and how many numbers were drawn.
     pub fn close(self, place: Place<S, U>) -> (S, u64)
-        requires own { place.table_id ≡ self.table.shared.table_id }
+        requires own { place.table_id ≡ self.table }
         requires idle { IsIdle place.me.0 }
-        requires sums { Sums (C.holds self.table.shared.key) C.made }
+        requires sums { Sums (C.holds self.about) C.made }
         requires whole { (place.me.0.left + place.me.0.splits) + C.made place.me.0.own ≡ 2 ^ 62 }
-        ensures { Ended (C.holds self.table.shared.key) C.made (member_of place.me.0) result.0 result.1 }
+        ensures { Ended (C.holds self.about) C.made (member_of place.me.0) result.0 result.1 }
     {
         let TicketLock { table } = self;
         let mut closed = table.close_with(place);
@@ -77,10 +89,10 @@ impl<S: Drop, U, K, C: Claim<S, U, K>> TicketLock<S, U, K, C> {
 
     /// Waits for its turn, and takes the slot.
     pub fn come_in<L: Lesson<S, U>, R: Wait>(&self, rt: &R, place: &mut Place<S, U>)
-        requires own { place.old.table_id ≡ self.now.table.shared.table_id }
+        requires own { place.old.table_id ≡ self.now.table }
         requires idle { IsIdle place.old.me.0 × (place.old.me.1 ≡ []) }
         requires left { 1 ≤ place.old.me.0.left }
-        requires learns { Learns (C.holds self.now.table.shared.key) (member_of place.old.me.0) (L.fact (member_of place.old.me.0)) }
+        requires learns { Learns (C.holds self.now.about) (member_of place.old.me.0) (L.fact (member_of place.old.me.0)) }
         ensures same { place.new.table_id ≡ place.old.table_id }
         ensures came { CameIn L.fact place.old.me place.new.me }
     {
@@ -128,7 +140,7 @@ impl<S: Drop, U, K, C: Claim<S, U, K>> TicketLock<S, U, K, C> {
 
     /// Takes a ticket.
     fn line_up(&self, place: &mut Place<S, U>) -> u64
-        requires own { place.old.table_id ≡ self.now.table.shared.table_id }
+        requires own { place.old.table_id ≡ self.now.table }
         requires idle { IsIdle place.old.me.0 × (place.old.me.1 ≡ []) }
         requires left { 1 ≤ place.old.me.0.left }
         ensures same { place.new.table_id ≡ place.old.table_id }
@@ -139,9 +151,9 @@ impl<S: Drop, U, K, C: Claim<S, U, K>> TicketLock<S, U, K, C> {
 
     /// Takes the slot if its ticket is served.
     fn look<L: Lesson<S, U>>(&self, place: &mut Place<S, U>, ticket: u64) -> bool
-        requires own { place.old.table_id ≡ self.now.table.shared.table_id }
+        requires own { place.old.table_id ≡ self.now.table }
         requires line { IsInLine ticket place.old.me }
-        requires learns { Learns (C.holds self.now.table.shared.key) (member_of place.old.me.0) (L.fact (member_of place.old.me.0)) }
+        requires learns { Learns (C.holds self.now.about) (member_of place.old.me.0) (L.fact (member_of place.old.me.0)) }
         ensures same { place.new.table_id ≡ place.old.table_id }
         ensures took { MatchBool result (Took L.fact place.old.me place.new.me) (place.new.me ≡ place.old.me) }
     {
@@ -150,7 +162,7 @@ impl<S: Drop, U, K, C: Claim<S, U, K>> TicketLock<S, U, K, C> {
 
     /// Takes the value out of the slot, where another stands in for it till the turn ends.
     pub fn take(&self, place: &mut Place<S, U>, stand_in: S) -> S
-        requires own { place.old.table_id ≡ self.now.table.shared.table_id }
+        requires own { place.old.table_id ≡ self.now.table }
         requires there { place.old.me.1 ≡ (0, place.old.me.0.taken) ∷ [] }
         ensures same { place.new.table_id ≡ place.old.table_id }
         ensures taken { result ≡ place.old.me.0.taken }
@@ -161,13 +173,14 @@ impl<S: Drop, U, K, C: Claim<S, U, K>> TicketLock<S, U, K, C> {
 
     /// Puts a value into the slot, and ends the turn.
     pub fn leave<E: Ending<S, U>>(&self, place: &mut Place<S, U>, value: S)
-        requires own { place.old.table_id ≡ self.now.table.shared.table_id }
+        requires own { place.old.table_id ≡ self.now.table }
         requires inside { IsIn place.old.me.0 × ((stand_in : S) × (place.old.me.1 ≡ (0, stand_in) ∷ [])) }
-        requires ends { Ends (C.holds self.now.table.shared.key) (member_of place.old.me.0) place.old.me.0.taken value
+        requires ends { Ends (C.holds self.now.about) (member_of place.old.me.0) place.old.me.0.taken value
             (E.after (member_of place.old.me.0) place.old.me.0.taken)
             (E.told (member_of place.old.me.0) place.old.me.0.taken) }
         ensures same { place.new.table_id ≡ place.old.table_id }
-        ensures left { place.new.me ≡ (past place.old.me.0 (E.after (member_of place.old.me.0) place.old.me.0.taken), []) }
+        ensures left { place.new.me
+            ≡ (past place.old.me.0 (E.after (member_of place.old.me.0) place.old.me.0.taken), []) }
         ensures told { E.told (member_of place.old.me.0) place.old.me.0.taken }
     {
         drop(self.table.shared.exchange(place, 0, value));
@@ -176,10 +189,10 @@ impl<S: Drop, U, K, C: Claim<S, U, K>> TicketLock<S, U, K, C> {
 
     /// Draws a number. No lock is taken.
     pub fn draw<D: Drawing<U>>(&self, place: &mut Place<S, U>) -> u64
-        requires own { place.old.table_id ≡ self.now.table.shared.table_id }
+        requires own { place.old.table_id ≡ self.now.table }
         requires idle { IsIdle place.old.me.0 × (place.old.me.1 ≡ []) }
         requires left { 1 ≤ place.old.me.0.left }
-        requires draws { Draws (C.holds self.now.table.shared.key) (member_of place.old.me.0)
+        requires draws { Draws (C.holds self.now.about) (member_of place.old.me.0)
             (D.after (member_of place.old.me.0)) (D.told (member_of place.old.me.0)) }
         ensures same { place.new.table_id ≡ place.old.table_id }
         ensures drawn { place.new.me ≡ (drew place.old.me.0 (D.after (member_of place.old.me.0) result), []) }
@@ -191,10 +204,10 @@ impl<S: Drop, U, K, C: Claim<S, U, K>> TicketLock<S, U, K, C> {
     /// Cuts a pass in two: the new one gets so many turns, and a number of its own, which is told. The split
     /// takes one turn more.
     pub fn split<M: Split<U>>(&self, place: &mut Place<S, U>, turns: u64) -> (u64, Place<S, U>)
-        requires own { place.old.table_id ≡ self.now.table.shared.table_id }
+        requires own { place.old.table_id ≡ self.now.table }
         requires idle { IsIdle place.old.me.0 × (place.old.me.1 ≡ []) }
         requires few { turns < place.old.me.0.left }
-        requires parts { Parts (C.holds self.now.table.shared.key) (member_of place.old.me.0) M.left M.right }
+        requires parts { Parts (C.holds self.now.about) (member_of place.old.me.0) M.left M.right }
         ensures same { (place.new.table_id ≡ place.old.table_id) × (result.1.table_id ≡ place.old.table_id) }
         ensures kept { place.new.me ≡ (kept_of M.left turns (numbering place.old.me.0 result.0), []) }
         ensures cut { result.1.me ≡ (cut_of M.right turns (numbering place.old.me.0 result.0), []) }
@@ -206,7 +219,7 @@ impl<S: Drop, U, K, C: Claim<S, U, K>> TicketLock<S, U, K, C> {
 
     /// Draws the number of a new pass.
     fn number(&self, place: &mut Place<S, U>) -> u64
-        requires own { place.old.table_id ≡ self.now.table.shared.table_id }
+        requires own { place.old.table_id ≡ self.now.table }
         requires idle { IsIdle place.old.me.0 × (place.old.me.1 ≡ []) }
         requires left { 1 ≤ place.old.me.0.left }
         ensures same { place.new.table_id ≡ place.old.table_id }
@@ -217,10 +230,10 @@ impl<S: Drop, U, K, C: Claim<S, U, K>> TicketLock<S, U, K, C> {
 
     fn cut_by<M: Split<U>, N: Amount>(&self, place: &mut Place<S, U>, turns: u64) -> Place<S, U>
         requires told { turns ≡ N.amount }
-        requires own { place.old.table_id ≡ self.now.table.shared.table_id }
+        requires own { place.old.table_id ≡ self.now.table }
         requires cutting { IsCutting place.old.me }
         requires few { turns ≤ place.old.me.0.left }
-        requires parts { Parts (C.holds self.now.table.shared.key) (member_of place.old.me.0) M.left M.right }
+        requires parts { Parts (C.holds self.now.about) (member_of place.old.me.0) M.left M.right }
         ensures same { (place.new.table_id ≡ place.old.table_id) × (result.table_id ≡ place.old.table_id) }
         ensures kept { place.new.me ≡ (kept_of M.left turns place.old.me.0, []) }
         ensures cut { result.me ≡ (cut_of M.right turns place.old.me.0, []) }
@@ -230,10 +243,11 @@ impl<S: Drop, U, K, C: Claim<S, U, K>> TicketLock<S, U, K, C> {
 
     /// Takes in another pass.
     pub fn join<M: Join<U>>(&self, place: &mut Place<S, U>, other: Place<S, U>)
-        requires own { (place.old.table_id ≡ self.now.table.shared.table_id) × (other.table_id ≡ self.now.table.shared.table_id) }
+        requires own { (place.old.table_id ≡ self.now.table) × (other.table_id ≡ self.now.table) }
         requires idle { IsIdle place.old.me.0 × (place.old.me.1 ≡ []) }
         requires other_idle { IsIdle other.me.0 × (other.me.1 ≡ []) }
-        requires merges { Merges (C.holds self.now.table.shared.key) (member_of place.old.me.0) (member_of other.me.0) M.both M.spent }
+        requires merges { Merges (C.holds self.now.about) (member_of place.old.me.0) (member_of other.me.0)
+            M.both M.spent }
         ensures same { place.new.table_id ≡ place.old.table_id }
         ensures both { place.new.me ≡ (both_of M.both place.old.me.0 other.me.0, []) }
     {

@@ -3,4 +3,4 @@ use Rattle.board_lock.proofs.Steps.{draws}
 use Rattle.board_lock.proofs.turn.draw.Goals as goal
 
 pub draw-requires-clause-draws : goal.draw-requires-clause-draws
-draw-requires-clause-draws c = draws c.args.lock.now.table.shared.key (member_of c.args.place.now.me.0)
+draw-requires-clause-draws c = draws c.args.lock.now.about (member_of c.args.place.now.me.0)

@@ -7,4 +7,4 @@ use Rattle.board_lock.proofs.turn.miss.Goals as goal
 pub leave-requires-clause-ends : goal.leave-requires-clause-ends
 leave-requires-clause-ends c =
     let v = c.args.place.now.me.0 in
-    missed c.args.lock.now.table.shared.key (member_of v) v.taken c.miss.new.self (c.miss.ensures ∙ ap story_missed c.requires.missed.0)
+    missed c.args.lock.now.about (member_of v) v.taken c.miss.new.self (c.miss.ensures ∙ ap story_missed c.requires.missed.0)

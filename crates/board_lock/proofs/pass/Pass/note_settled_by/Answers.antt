@@ -26,7 +26,7 @@ leave_offered-requires-clause-tells g c =
     let v : View = c.take-history.new.place.me.0 in
     let left = c.take-history.ensures.left in
     let taken : c.take-history.result ≡ came.slot = c.take-history.ensures.taken ∙ ap (λ (m : Place). m.0.taken) came.is in
-    tells-settled c.board.inside.lock.table.shared.key.net v c.take-history.result c.note_settled.new.self c.args.entry.now g.N.Asked.entry
+    tells-settled c.board.inside.lock.about.net v c.take-history.result c.note_settled.new.self c.args.entry.now g.N.Asked.entry
     c.self.inside.number c.args.place
     (c.take-history.ensures.taken ∙ sym (ap (λ (m : Place). m.0.taken) left))
     (c.self.invariant.number_is ∙ sym (ap (λ (m : Place). m.0.number) left ∙ ap (λ (m : Place). m.0.number) came.is))
