@@ -8,9 +8,10 @@ ghost use Rattle.unit_prop.specs.HintScan.{IsNamed};
 ghost use Rattle.unit_prop.specs.Log.{IsBase, is_own, same_name};
 ghost use Rattle.unit_prop.specs.Refuter.{IsOver};
 
-use crate::clauses::{clause, node};
+use crate::clauses::{clause, expect, node, parts};
 use lits::{Clause, ClauseErr, Lit, Literal, Named, Node, Ref};
 use std::alloc::Global;
+use std::process::Abort;
 
 /// Whether the names differ and none is that of an own step.
 pub(crate) fn is_base(base: &[Named]) -> bool
@@ -71,41 +72,38 @@ fn mentions(base: &[Named], lit: Lit) -> bool
 
 /// The base of a text whose clauses end in semicolons. Each has its place as its name, or the name that
 /// stands before it, which is followed by a colon.
-pub(crate) fn base_of(alloc: Global, text: &str) -> Option<Vec<Named>> {
+pub(crate) fn base_of(rt: &impl Abort, alloc: Global, text: &str) -> Vec<Named> {
     let mut base = Vec::new(alloc);
     for part in text.split_terminator(';') {
-        let place = base.len() as u64;
-        base.push(named(alloc, part, place)?).ok()?;
+        let named = named(rt, alloc, part, base.len() as u64);
+        base.push(named).expect(rt, "memory");
     }
-    Some(base)
+    base
 }
 
-fn named(alloc: Global, text: &str, place: u64) -> Option<Named> {
-    match text.split_once(':') {
-        Some((name, lits)) => Some(Named {
-            clause: clause(alloc, lits)?,
-            by: axiom(name.trim())?,
-        }),
-        None => Some(Named {
-            clause: clause(alloc, text)?,
-            by: Ref::Entry(place, 0),
-        }),
-    }
+fn named(rt: &impl Abort, alloc: Global, text: &str, place: u64) -> Named {
+    let (by, lits) = match text.split_once(':') {
+        Some((name, lits)) => (axiom(rt, name.trim()), lits),
+        None => (Ref::Entry(place, 0), text),
+    };
+    let clause = clause(rt, alloc, lits);
+    Named { clause, by }
 }
 
 /// The name of one of a gate's clauses, as `a3.2`.
-fn axiom(name: &str) -> Option<Ref> {
-    let (gate, k) = name.split_once('.')?;
-    Some(Ref::Axiom(node(gate)?, k.parse().ok()?))
+fn axiom(rt: &impl Abort, name: &str) -> Ref {
+    let (gate, k) = parts(rt, name, ".");
+    let gate = node(gate).expect(rt, "a gate");
+    Ref::Axiom(gate, k.parse().expect(rt, "a number"))
 }
 
 /// The names of such clauses.
-pub(crate) fn axioms(alloc: Global, text: &str) -> Option<Vec<Ref>> {
+pub(crate) fn axioms(rt: &impl Abort, alloc: Global, text: &str) -> Vec<Ref> {
     let mut names = Vec::new(alloc);
     for word in text.split_whitespace() {
-        names.push(axiom(word)?).ok()?;
+        names.push(axiom(rt, word)).expect(rt, "memory");
     }
-    Some(names)
+    names
 }
 
 /// A literal over eight variables, drawn from the state.
@@ -123,17 +121,16 @@ fn next_state(state: u32) -> u32 {
 }
 
 /// Puts the clause of the literals last, with its place as its name, unless two of them are opposite.
-fn put_drawn(alloc: Global, base: &mut Vec<Named>, lits: &[Lit]) -> Option<()> {
+fn put_drawn(rt: &impl Abort, alloc: Global, base: &mut Vec<Named>, lits: &[Lit]) {
     let by = Ref::Entry(base.len() as u64, 0);
     match Clause::of(alloc, lits) {
-        Ok(clause) => base.push(Named { clause, by }).ok(),
-        Err(ClauseErr::Tautology) => Some(()),
-        Err(ClauseErr::NoMemory) => None,
+        Ok(clause) => base.push(Named { clause, by }).expect(rt, "memory"),
+        Err(fault) => expect(rt, "a tautology", fault == ClauseErr::Tautology),
     }
 }
 
 /// Up to 38 clauses of three drawn literals over eight variables.
-pub(crate) fn drawn_base(alloc: Global, seed: u32) -> Option<Vec<Named>> {
+pub(crate) fn drawn_base(rt: &impl Abort, alloc: Global, seed: u32) -> Vec<Named> {
     let mut base = Vec::new(alloc);
     let mut state = seed;
     for _ in 0..38 {
@@ -141,7 +138,7 @@ pub(crate) fn drawn_base(alloc: Global, seed: u32) -> Option<Vec<Named>> {
         let second = next_state(first);
         state = next_state(second);
         let lits = [drawn_lit(first), drawn_lit(second), drawn_lit(state)];
-        put_drawn(alloc, &mut base, &lits)?;
+        put_drawn(rt, alloc, &mut base, &lits);
     }
-    Some(base)
+    base
 }

@@ -1,8 +1,8 @@
 //! Queries whose answers are checked outside of the solver.
-ghost use Rattle.std.specs.Prelude.{◌≡◌, true, OnSome};
+ghost use Rattle.std.specs.Prelude.{◌≡◌, true};
 
 use crate::bases::{is_base, is_over};
-use crate::clauses::{check, expect};
+use crate::clauses::expect;
 use crate::flat_bases::flat_of;
 use lits::{Clause, Hints, Lit, Literal, Named, Ref, Step};
 use std::alloc::Global;
@@ -66,58 +66,58 @@ fn is_step(
 }
 
 /// The negations of all literals but one.
-fn negations(alloc: Global, lits: &[Lit], but: Lit) -> Option<Vec<Lit>> {
+fn negations(rt: &impl Abort, alloc: Global, lits: &[Lit], but: Lit) -> Vec<Lit> {
     let mut negations = Vec::new(alloc);
     for lit in lits {
         if *lit != but {
-            negations.push(lit.not()).ok()?;
+            negations.push(lit.not()).expect(rt, "memory");
         }
     }
-    Some(negations)
+    negations
 }
 
 /// Whether the closure of the clauses and of the negations of all literals but one lacks that one and
 /// doesn't clash.
-fn is_open(alloc: Global, clauses: &[Clause<Lit>], lits: &[Lit], lit: Lit) -> Option<bool> {
-    let given = negations(alloc, lits, lit)?;
-    match close_under(alloc, clauses, given.as_slice()).ok()? {
-        Closure::Clash => Some(false),
-        Closure::Free(found) => Some(!found.as_slice().contains(&lit)),
+fn is_open(
+    rt: &impl Abort,
+    alloc: Global,
+    clauses: &[Clause<Lit>],
+    lits: &[Lit],
+    lit: Lit,
+) -> bool {
+    let given = negations(rt, alloc, lits, lit);
+    match close_under(alloc, clauses, given.as_slice()).expect(rt, "memory") {
+        Closure::Clash => false,
+        Closure::Free(found) => !found.as_slice().contains(&lit),
     }
 }
 
 /// Whether the clause of the literals is new over the clauses: it is open for one of its literals.
-fn is_new(alloc: Global, clauses: &[Clause<Lit>], lits: &[Lit]) -> Option<bool> {
+fn is_new(rt: &impl Abort, alloc: Global, clauses: &[Clause<Lit>], lits: &[Lit]) -> bool {
     for lit in lits {
-        if is_open(alloc, clauses, lits, *lit)? {
-            return Some(true);
+        if is_open(rt, alloc, clauses, lits, *lit) {
+            return true;
         }
     }
-    Some(false)
+    false
 }
 
-fn push_copy(clauses: &mut Vec<Clause<Lit>>, clause: &Clause<Lit>) -> Option<()> {
-    clauses.push(clause.copy().ok()?).ok()
-}
-
-/// The clauses of the base.
-fn clauses_of(alloc: Global, base: &[Named]) -> Option<Vec<Clause<Lit>>> {
-    let mut clauses = Vec::new(alloc);
-    for named in base {
-        push_copy(&mut clauses, &named.clause)?;
-    }
-    Some(clauses)
+fn push_copy(rt: &impl Abort, clauses: &mut Vec<Clause<Lit>>, clause: &Clause<Lit>) {
+    let copy = clause.copy().expect(rt, "memory");
+    clauses.push(copy).expect(rt, "memory");
 }
 
 /// Checks that each of the log's clauses is new over those of the base and before it.
-fn check_new(rt: &impl Abort, alloc: Global, base: &[Named], log: &[Step]) -> Option<()> {
-    let mut clauses = clauses_of(alloc, base)?;
-    for step in log {
-        let is_new = is_new(alloc, clauses.as_slice(), step.clause.lits());
-        check(rt, "a new clause", is_new);
-        push_copy(&mut clauses, &step.clause)?;
+fn check_new(rt: &impl Abort, alloc: Global, base: &[Named], log: &[Step]) {
+    let mut clauses = Vec::new(alloc);
+    for named in base {
+        push_copy(rt, &mut clauses, &named.clause);
     }
-    Some(())
+    for step in log {
+        let is_new = is_new(rt, alloc, clauses.as_slice(), step.clause.lits());
+        expect(rt, "a new clause", is_new);
+        push_copy(rt, &mut clauses, &step.clause);
+    }
 }
 
 /// Checks that each step of the log follows by its hints from the base and the steps before it.
@@ -161,12 +161,12 @@ fn check_answer(
     log: &[Step],
     target: &Clause<Lit>,
     answer: &Refuted,
-) -> Option<()> {
+) {
+    check_new(rt, alloc, base, log);
     let mut check = StepCheck::new(alloc);
     let is_right = is_right(&mut check, base, log, target, answer);
     expect(rt, "a right answer", is_right);
     check_steps(rt, &mut check, base, log);
-    check_new(rt, alloc, base, log)
 }
 
 /// The answer of a solver that has the base, which is checked, and the units that are left.
@@ -177,18 +177,18 @@ pub(crate) fn asked<R: Refuter>(
     base: &[Named],
     target: &Clause<Lit>,
     budget: u64,
-) -> Option<(Refuted, u64)>
+) -> (Refuted, u64)
     requires ready { R.Refuter.is_ready solver.old ≡ true }
     requires base { R.Refuter.base_of solver.old ≡ base.now }
-    ensures ready { OnSome result (R.Refuter.is_ready solver.new ≡ true) }
-    ensures base { OnSome result (R.Refuter.base_of solver.new ≡ base.now) }
+    ensures ready { R.Refuter.is_ready solver.new ≡ true }
+    ensures base { R.Refuter.base_of solver.new ≡ base.now }
 {
     expect(rt, "literals of the base", is_over(base, target.lits()));
     expect(rt, "a unit", budget >= 1);
     let mut left = budget;
-    let answer = solver.refute(alloc, target, &mut left).ok()?;
-    check_answer(rt, alloc, base, solver.log(), target, &answer)?;
-    Some((answer, left))
+    let answer = solver.refute(alloc, target, &mut left).expect(rt, "memory");
+    check_answer(rt, alloc, base, solver.log(), target, &answer);
+    (answer, left)
 }
 
 /// Whether so many units and the clauses learned are as many as there were.
@@ -198,9 +198,33 @@ pub(crate) fn is_paid<R: Refuter>(solver: &R, left: u64, units: u64) -> bool {
 
 /// Whether both lists have the same clauses by the same names.
 fn are_same(one: &[Named], other: &[Named]) -> bool {
-    one.len() == other.len()
-        && one.iter().zip(other.iter()).all(|(a, b)| a.by == b.by
-            && a.clause.lits() == b.clause.lits())
+    if one.len() != other.len() {
+        return false;
+    }
+    for place in 0..one.len() {
+        let (a, b) = (&one[place], &other[place]);
+        if a.by != b.by || a.clause.lits() != b.clause.lits() {
+            return false;
+        }
+    }
+    true
+}
+
+/// Has the solver take the base flat. The list that this stands for, which is checked.
+fn started_flat<R: Refuter>(
+    rt: &impl Abort,
+    alloc: Global,
+    solver: &mut R,
+    base: &[Named],
+) -> Vec<Named>
+    ensures ready { R.Refuter.is_ready solver.new ≡ true }
+    ensures base { R.Refuter.base_of solver.new ≡ result.items }
+{
+    let flat = flat_of(rt, alloc, base);
+    let listed = flat.listed(alloc).expect(rt, "memory");
+    expect(rt, "a flat base", is_base(listed.as_slice()));
+    solver.start_flat(alloc, &flat).expect(rt, "memory");
+    listed
 }
 
 /// The verdict and the units that are left where the solver takes the base flat.
@@ -211,19 +235,13 @@ fn solved_flat<R: Refuter>(
     base: &[Named],
     target: &Clause<Lit>,
     budget: u64,
-) -> Option<(Option<bool>, u64)> {
-    let flat = flat_of(alloc, base)?;
-    let listed = flat.listed(alloc).ok()?;
-    expect(
-        rt,
-        "the list that the flat base stands for",
-        are_same(listed.as_slice(), base),
-    );
-    expect(rt, "a flat base", is_base(listed.as_slice()));
-    solver.start_flat(alloc, &flat).ok()?;
+) -> (Option<bool>, u64) {
+    let listed = started_flat(rt, alloc, solver, base);
+    let are_same = are_same(listed.as_slice(), base);
+    expect(rt, "the list that the flat base stands for", are_same);
     expect(rt, "nothing is learned yet", solver.log().is_empty());
-    let (answer, left) = asked(rt, alloc, solver, listed.as_slice(), target, budget)?;
-    Some((verdict(&answer), left))
+    let (answer, left) = asked(rt, alloc, solver, listed.as_slice(), target, budget);
+    (verdict(&answer), left)
 }
 
 /// The same where the solver takes the base first, and forgets what it learned before. Each unit that it
@@ -235,22 +253,19 @@ pub(crate) fn solved<R: Refuter>(
     base: &[Named],
     target: &Clause<Lit>,
     budget: u64,
-) -> Option<(Refuted, u64)>
-    ensures ready { OnSome result (R.Refuter.is_ready solver.new ≡ true) }
-    ensures base { OnSome result (R.Refuter.base_of solver.new ≡ base.now) }
+) -> (Refuted, u64)
+    ensures ready { R.Refuter.is_ready solver.new ≡ true }
+    ensures base { R.Refuter.base_of solver.new ≡ base.now }
 {
-    let from_flat = solved_flat(rt, alloc, solver, base, target, budget)?;
+    let from_flat = solved_flat(rt, alloc, solver, base, target, budget);
     expect(rt, "a base", is_base(base));
-    solver.start(alloc, base).ok()?;
+    solver.start(alloc, base).expect(rt, "memory");
     expect(rt, "nothing is learned", solver.log().is_empty());
-    let (answer, left) = asked(rt, alloc, solver, base, target, budget)?;
+    let (answer, left) = asked(rt, alloc, solver, base, target, budget);
     expect(rt, "a unit for each clause", is_paid(solver, left, budget));
-    expect(
-        rt,
-        "the same from a flat base",
-        from_flat == (verdict(&answer), left),
-    );
-    Some((answer, left))
+    let is_same = from_flat == (verdict(&answer), left);
+    expect(rt, "the same from a flat base", is_same);
+    (answer, left)
 }
 
 /// Whether the target is implied, or none where the budget was spent.

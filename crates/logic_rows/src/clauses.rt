@@ -1,6 +1,7 @@
 //! Literals and clauses of the cases, read from text, and how a test says what isn't so.
 //!
-//! What is read is none where memory runs out, or where a word is no literal.
+//! Where memory runs out, or a word is no literal, the test fails. Nothing is handed on as `None`: a panic drops
+//! nothing, so that a function needs no way out at which all that it holds is dropped.
 ghost use Rattle.std.specs.Prelude.{◌≡◌, true};
 
 use lits::{Clause, Dim, Lit, Literal, Node, Side};
@@ -14,14 +15,9 @@ pub(crate) fn expect(rt: &impl Abort, what: &str, is_so: bool)
     assert!(rt; is_so, "{what}");
 }
 
-/// The same of what may be none, where a case can't be read or tried.
-pub(crate) fn check(rt: &impl Abort, what: &str, is_so: Option<bool>) {
-    expect(rt, what, matches!(is_so, Some(true)));
-}
-
-/// Fails the test unless its cases were read and tried to their end.
-pub(crate) fn finish(rt: &impl Abort, end: Option<()>) {
-    expect(rt, "all cases are read and tried", end.is_some());
+/// The two parts of a text, which stand before and after these words.
+pub(crate) fn parts<'a>(rt: &impl Abort, text: &'a str, between: &str) -> (&'a str, &'a str) {
+    text.split_once(between).expect(rt, "two parts")
 }
 
 /// A literal that a word of a text writes.
@@ -68,29 +64,32 @@ fn plus(node: Node) -> Lit {
 }
 
 /// The literals of the text's words.
-pub(crate) fn literals<L: Word>(alloc: Global, text: &str) -> Option<Vec<L>> {
+pub(crate) fn literals<L: Word>(rt: &impl Abort, alloc: Global, text: &str) -> Vec<L> {
     let mut lits = Vec::new(alloc);
     for word in text.split_whitespace() {
-        lits.push(L::read(word)?).ok()?;
+        let lit = L::read(word).expect(rt, "a literal");
+        lits.push(lit).expect(rt, "memory");
     }
-    Some(lits)
+    lits
 }
 
 /// Whether the literals are those of the text, in order.
-pub(crate) fn are<L: Word>(alloc: Global, lits: &[L], text: &str) -> Option<bool> {
-    Some(lits == literals(alloc, text)?.as_slice())
+pub(crate) fn are<L: Word>(rt: &impl Abort, alloc: Global, lits: &[L], text: &str) -> bool {
+    lits == literals(rt, alloc, text).as_slice()
 }
 
 /// The clause of the text's literals.
-pub(crate) fn clause<L: Word>(alloc: Global, text: &str) -> Option<Clause<L>> {
-    Clause::of(alloc, literals(alloc, text)?.as_slice()).ok()
+pub(crate) fn clause<L: Word>(rt: &impl Abort, alloc: Global, text: &str) -> Clause<L> {
+    let lits = literals(rt, alloc, text);
+    Clause::of(alloc, lits.as_slice()).expect(rt, "a clause")
 }
 
 /// The clauses of the text, each of which ends in a semicolon.
-pub(crate) fn clauses<L: Word>(alloc: Global, text: &str) -> Option<Vec<Clause<L>>> {
+pub(crate) fn clauses<L: Word>(rt: &impl Abort, alloc: Global, text: &str) -> Vec<Clause<L>> {
     let mut clauses = Vec::new(alloc);
     for part in text.split_terminator(';') {
-        clauses.push(clause(alloc, part)?).ok()?;
+        let clause = clause(rt, alloc, part);
+        clauses.push(clause).expect(rt, "memory");
     }
-    Some(clauses)
+    clauses
 }

@@ -10,41 +10,46 @@ ghost use Rattle.flat_base.specs.Flat.{clause_at};
 use flat_base::FlatBase;
 use lits::{Lit, Named, Node};
 use std::alloc::Global;
+use std::process::Abort;
 
 /// The clauses of the list over numbers that their variables get as they come.
-pub(crate) fn flat_of(alloc: Global, base: &[Named]) -> Option<FlatBase> {
+pub(crate) fn flat_of(rt: &impl Abort, alloc: Global, base: &[Named]) -> FlatBase {
     let mut flat = FlatBase::new(alloc);
     for named in base {
-        let codes = codes_of(alloc, &mut flat, named.clause.lits())?;
-        flat.push(named.by, codes.as_slice()).ok()?;
+        push(rt, alloc, &mut flat, named);
     }
-    Some(flat)
+    flat
+}
+
+/// Puts the clause last.
+fn push(rt: &impl Abort, alloc: Global, flat: &mut FlatBase, named: &Named) {
+    let codes = codes_of(rt, alloc, flat, named.clause.lits());
+    flat.push(named.by, codes.as_slice()).expect(rt, "memory");
 }
 
 /// The codes of the literals, whose variables are numbered where they have no numbers.
-fn codes_of(alloc: Global, flat: &mut FlatBase, lits: &[Lit]) -> Option<Vec<u32>>
-    ensures within { IfSome result (λ v. AllByRecursion (IsCode flat.new.nodes) v.items) }
-    ensures lits { IfSome result (λ v. clause_at flat.new.nodes v.items ≡ lits.now) }
+fn codes_of(rt: &impl Abort, alloc: Global, flat: &mut FlatBase, lits: &[Lit]) -> Vec<u32>
+    ensures within { AllByRecursion (IsCode flat.new.nodes) result.items }
+    ensures lits { clause_at flat.new.nodes result.items ≡ lits.now }
 {
     let mut codes = Vec::new(alloc);
     for lit in lits {
-        codes.push(code_of(flat, *lit)?).ok()?;
+        codes.push(code_of(rt, flat, *lit)).expect(rt, "memory");
     }
-    Some(codes)
+    codes
 }
 
 /// The code of the literal, whose variable is numbered where it has no number.
 #[tactic(auto, using(crate::proofs::FlatLemmas::lit_at_number, crate::proofs::FlatLemmas::within_more, crate::proofs::FlatLemmas::kept_more))]
-fn code_of(flat: &mut FlatBase, lit: Lit) -> Option<u32>
-    ensures code { IfSome result (λ c. IsCode flat.new.nodes c) }
-    ensures lit { IfSome result (λ c. lit_at flat.new.nodes c ≡ lit) }
+fn code_of(rt: &impl Abort, flat: &mut FlatBase, lit: Lit) -> u32
+    ensures code { IsCode flat.new.nodes result }
+    ensures lit { lit_at flat.new.nodes result ≡ lit }
     ensures within { (codes : List ℕ) → AllByRecursion (IsCode flat.old.nodes) codes
         → AllByRecursion (IsCode flat.new.nodes) codes }
     ensures kept { (codes : List ℕ) → AllByRecursion (IsCode flat.old.nodes) codes
         → clause_at flat.new.nodes codes ≡ clause_at flat.old.nodes codes }
 {
-    let number = numbered(flat, lit.node)?;
-    Some(2 * number + sign(lit))
+    2 * numbered(rt, flat, lit.node) + sign(lit)
 }
 
 /// One where the literal is negated.
@@ -56,15 +61,15 @@ fn sign(lit: Lit) -> u32
 }
 
 /// The number of the node, which gets the next one where it has none.
-fn numbered(flat: &mut FlatBase, node: Node) -> Option<u32>
-    ensures small { IfSome result (λ n. n < 2 ^ 31) }
-    ensures within { IfSome result (λ n. n < length flat.new.nodes) }
-    ensures at { IfSome result (λ n. slice_index_or flat.new.nodes n Const ≡ node) }
+fn numbered(rt: &impl Abort, flat: &mut FlatBase, node: Node) -> u32
+    ensures small { result < 2 ^ 31 }
+    ensures within { result < length flat.new.nodes }
+    ensures at { slice_index_or flat.new.nodes result Const ≡ node }
     ensures grows { (flat.new.nodes ≡ flat.old.nodes) ⊎ (flat.new.nodes ≡ flat.old.nodes ++ node ∷ []) }
 {
     match number_of(flat.nodes(), node) {
-        Some(number) => Some(number),
-        None => flat.number(node).ok(),
+        Some(number) => number,
+        None => flat.number(node).expect(rt, "memory"),
     }
 }
 

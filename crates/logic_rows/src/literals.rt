@@ -1,4 +1,4 @@
-use crate::clauses::{are, check, clause, expect, literals};
+use crate::clauses::{are, clause, expect, literals, parts};
 use lits::{
     Clause, ClauseErr, Dim, Hints, Listed, Lit, Literal, LiteralSet, Named, Node, Ref, Side, Step,
 };
@@ -6,17 +6,18 @@ use std::alloc::Global;
 use std::process::Abort;
 
 /// Whether the clause of the literals has just these, or is a tautology.
-fn keeps(alloc: Global, lits: &[Dim], kept: &str) -> Option<bool> {
+fn keeps(rt: &impl Abort, alloc: Global, lits: &[Dim], kept: &str) -> bool {
     match Clause::of(alloc, lits) {
-        Ok(clause) => are(alloc, clause.lits(), kept),
-        Err(error) => Some(error == ClauseErr::Tautology && kept == "tautology"),
+        Ok(clause) => are(rt, alloc, clause.lits(), kept),
+        Err(error) => error == ClauseErr::Tautology && kept == "tautology",
     }
 }
 
 /// Whether it is as the line says: literals, an arrow, and those of their clause.
-fn is_clause(alloc: Global, line: &str) -> Option<bool> {
-    let (given, kept) = line.split_once(" => ")?;
-    keeps(alloc, literals(alloc, given)?.as_slice(), kept)
+fn is_clause(rt: &impl Abort, alloc: Global, line: &str) -> bool {
+    let (given, kept) = parts(rt, line, " => ");
+    let given = literals(rt, alloc, given);
+    keeps(rt, alloc, given.as_slice(), kept)
 }
 
 /// The long ones have eighteen literals that differ, and two of them once more; in the last one the last is
@@ -31,7 +32,7 @@ const CLAUSES: &str = "\
 #[test]
 fn clauses_of_literals(rt: HostRuntime) {
     for line in CLAUSES.lines() {
-        check(&rt, line, is_clause(rt.alloc(), line));
+        expect(&rt, line, is_clause(&rt, rt.alloc(), line));
     }
 }
 
@@ -81,20 +82,20 @@ const X: Lit = Lit {
 };
 
 /// The clause of the negated gate, twice, and the first input.
-fn gate_or_input(alloc: Global) -> Option<Clause<Lit>> {
-    clause(alloc, "-b3 0 -b3")
+fn gate_or_input(rt: &impl Abort, alloc: Global) -> Clause<Lit> {
+    clause(rt, alloc, "-b3 0 -b3")
 }
 
-fn is_copied(alloc: Global) -> Option<bool> {
-    let copy = gate_or_input(alloc)?.copy().ok()?;
-    are(alloc, copy.lits(), "-b3 0")
+fn is_copied(rt: &impl Abort, alloc: Global, clause: &Clause<Lit>) -> bool {
+    let copy = clause.copy().expect(rt, "memory");
+    are(rt, alloc, copy.lits(), "-b3 0")
 }
 
 const UNIT: [Lit; 1] = [NOT_GATE];
 
-fn is_unit(alloc: Global) -> Option<bool> {
-    let unit = Clause::from_slice(alloc, &UNIT).ok()?;
-    Some(unit.lits() == UNIT.as_slice())
+fn is_unit(rt: &impl Abort, alloc: Global) -> bool {
+    let unit = Clause::from_slice(alloc, &UNIT).expect(rt, "memory");
+    unit.lits() == UNIT.as_slice()
 }
 
 /// Whether the clause has x, not its negation, and holds by x, not by the gate.
@@ -110,12 +111,12 @@ const NAME: Ref = Ref::Axiom(GATE, 1);
 const HINTS: [Ref; 2] = [NAME, Ref::Own(0)];
 
 /// A step of a named clause, whose first hint is that name.
-fn step_of(alloc: Global, named: Named) -> Option<Step> {
-    let hints = Vec::from_slice(alloc, &[named.by, Ref::Own(0)]).ok()?;
-    Some(Step {
+fn step_of(rt: &impl Abort, alloc: Global, named: Named) -> Step {
+    let hints = Vec::from_slice(alloc, &[named.by, Ref::Own(0)]).expect(rt, "memory");
+    Step {
         clause: named.clause,
         hints: Hints::of(hints),
-    })
+    }
 }
 
 /// Whether the hints are these two.
@@ -123,60 +124,65 @@ fn are_both(hints: &Hints) -> bool {
     hints.len() == 2 && hints.at(0) == HINTS[0] && hints.at(1) == HINTS[1]
 }
 
-fn has_hints(alloc: Global) -> Option<bool> {
-    let clause = gate_or_input(alloc)?;
-    let step = step_of(alloc, Named { clause, by: NAME })?;
-    Some(are_both(&step.hints))
+fn has_hints(rt: &impl Abort, alloc: Global, clause: Clause<Lit>) -> bool {
+    let step = step_of(rt, alloc, Named { clause, by: NAME });
+    are_both(&step.hints)
 }
 
-/// Whether hints stay what they are when they are packed, those that fit in few bytes and those that don't.
-fn are_packed(alloc: Global) -> Option<bool> {
-    let mut small = Hints::of(Vec::from_slice(alloc, &HINTS).ok()?);
-    small.pack(alloc);
-    let mut large = Hints::of(Vec::from_slice(alloc, &[Ref::Entry(1 << 40, 3), HINTS[0]]).ok()?);
-    large.pack(alloc);
-    let names = small.to_vec(alloc).ok()?;
-    Some(are_both(&small) && names.len() == 2 && large.at(0) == Ref::Entry(1 << 40, 3))
+/// The hints, packed.
+fn packed(rt: &impl Abort, alloc: Global, names: &[Ref]) -> Hints {
+    let mut hints = Hints::of(Vec::from_slice(alloc, names).expect(rt, "memory"));
+    hints.pack(alloc);
+    hints
+}
+
+/// Whether hints that fit in few bytes stay what they are when they are packed.
+fn are_packed(rt: &impl Abort, alloc: Global) -> bool {
+    let small = packed(rt, alloc, &HINTS);
+    let names = small.to_vec(alloc).expect(rt, "memory");
+    are_both(&small) && names.len() == 2
+}
+
+/// Whether those that don't fit stay so too.
+fn are_left(rt: &impl Abort, alloc: Global) -> bool {
+    let large = Ref::Entry(1 << 40, 3);
+    let hints = packed(rt, alloc, &[large, HINTS[0]]);
+    hints.len() == 2 && hints.at(0) == large
 }
 
 /// Whether they are as many as a vector.
-fn is_vector(alloc: Global) -> Option<bool> {
-    let hints = Listed::of(Vec::from_slice(alloc, &HINTS).ok()?);
-    Some(!hints.is_empty() && hints.into_vec().len() == 2)
+fn is_vector(rt: &impl Abort, alloc: Global) -> bool {
+    let hints = Listed::of(Vec::from_slice(alloc, &HINTS).expect(rt, "memory"));
+    !hints.is_empty() && hints.into_vec().len() == 2
 }
 
 #[test]
 fn clause_of_nodes(rt: HostRuntime) {
     let alloc = rt.alloc();
-    check(&rt, "a copy", is_copied(alloc));
-    check(&rt, "a unit", is_unit(alloc));
-    check(&rt, "what it has", has_read(alloc));
-    check(&rt, "hints", has_hints(alloc));
-    check(&rt, "packed hints", are_packed(alloc));
-    check(&rt, "as a vector", is_vector(alloc));
-}
-
-fn has_read(alloc: Global) -> Option<bool> {
-    Some(is_read(&gate_or_input(alloc)?))
+    let clause = gate_or_input(&rt, alloc);
+    expect(&rt, "a copy", is_copied(&rt, alloc, &clause));
+    expect(&rt, "what it has", is_read(&clause));
+    expect(&rt, "hints", has_hints(&rt, alloc, clause));
+    expect(&rt, "a unit", is_unit(&rt, alloc));
+    expect(&rt, "packed hints", are_packed(&rt, alloc));
+    expect(&rt, "hints that stay", are_left(&rt, alloc));
+    expect(&rt, "as a vector", is_vector(&rt, alloc));
 }
 
 /// Puts literals that aren't there.
-fn put_all(set: &mut LiteralSet<Dim>, lits: &[Dim]) -> Option<()> {
+fn put_all(rt: &impl Abort, set: &mut LiteralSet<Dim>, lits: &[Dim]) {
     for lit in lits {
-        if set.has(*lit) {
-            return None;
-        }
-        set.push(*lit).ok()?;
+        expect(rt, "a new literal", !set.has(*lit));
+        set.push(*lit).expect(rt, "memory");
     }
-    Some(())
 }
 
 /// The set of three literals that differ.
-fn set_of_three(alloc: Global) -> Option<LiteralSet<Dim>> {
-    let lits = literals(alloc, "5 -2 7")?;
+fn set_of_three(rt: &impl Abort, alloc: Global) -> LiteralSet<Dim> {
+    let lits = literals(rt, alloc, "5 -2 7");
     let mut set = LiteralSet::new(alloc);
-    put_all(&mut set, lits.as_slice())?;
-    Some(set)
+    put_all(rt, &mut set, lits.as_slice());
+    set
 }
 
 /// Whether the set has these literals, 7 in the third place, and not their negations.
@@ -190,9 +196,9 @@ fn has_three(set: &LiteralSet<Dim>) -> bool {
 }
 
 /// Adds a literal that is there, which changes nothing.
-fn is_same(alloc: Global, set: &mut LiteralSet<Dim>) -> Option<bool> {
-    set.add(Dim::new(5, false)).ok()?;
-    are(alloc, set.lits(), "5 -2 7")
+fn is_same(rt: &impl Abort, alloc: Global, set: &mut LiteralSet<Dim>) -> bool {
+    set.add(Dim::new(5, false)).expect(rt, "memory");
+    are(rt, alloc, set.lits(), "5 -2 7")
 }
 
 /// Clears the set; whether it is empty then.
@@ -202,29 +208,28 @@ fn is_cleared(mut set: LiteralSet<Dim>) -> bool {
 }
 
 /// Whether the set of three is what it should be, until it is cleared.
-fn are_three(alloc: Global) -> Option<bool> {
-    let mut set = set_of_three(alloc)?;
-    let is_so = has_three(&set) && is_same(alloc, &mut set)?;
-    Some(is_so && is_cleared(set))
+fn are_three(rt: &impl Abort, alloc: Global) -> bool {
+    let mut set = set_of_three(rt, alloc);
+    let is_so = has_three(&set) && is_same(rt, alloc, &mut set);
+    is_cleared(set) && is_so
 }
 
 /// Whether the set of repeated literals has each once.
-fn is_set(alloc: Global) -> Option<bool> {
-    let lits = literals::<Dim>(alloc, "5 -2 5 2 -2")?;
-    let set = LiteralSet::of(alloc, lits.as_slice()).ok()?;
-    are(alloc, set.lits(), "5 -2 2")
+fn is_set(rt: &impl Abort, alloc: Global) -> bool {
+    let lits = literals::<Dim>(rt, alloc, "5 -2 5 2 -2");
+    let set = LiteralSet::of(alloc, lits.as_slice()).expect(rt, "memory");
+    are(rt, alloc, set.lits(), "5 -2 2")
 }
 
 /// Puts 99 literals that differ into the set, of which each third is negated.
-fn fill(set: &mut LiteralSet<Dim>) -> Option<()> {
+fn fill(rt: &impl Abort, set: &mut LiteralSet<Dim>) {
     set.clear();
     for var in 1..100u32 {
         let lit = Dim::new(var, var % 3 == 0);
         if !set.has(lit) {
-            set.push(lit).ok()?;
+            set.push(lit).expect(rt, "memory");
         }
     }
-    Some(())
 }
 
 /// Whether the set is as it was filled.
@@ -237,18 +242,18 @@ fn is_filled(set: &LiteralSet<Dim>) -> bool {
 }
 
 /// Fills the set twice; whether it is as it was filled each time.
-fn is_refilled(alloc: Global) -> Option<bool> {
+fn is_refilled(rt: &impl Abort, alloc: Global) -> bool {
     let mut set = LiteralSet::new(alloc);
-    fill(&mut set)?;
+    fill(rt, &mut set);
     let is_so = is_filled(&set);
-    fill(&mut set)?;
-    Some(is_so && is_filled(&set))
+    fill(rt, &mut set);
+    is_so && is_filled(&set)
 }
 
 #[test]
 fn literal_sets(rt: HostRuntime) {
     let alloc = rt.alloc();
-    check(&rt, "repeated", is_set(alloc));
-    check(&rt, "three", are_three(alloc));
-    check(&rt, "filled twice", is_refilled(alloc));
+    expect(&rt, "repeated", is_set(&rt, alloc));
+    expect(&rt, "three", are_three(&rt, alloc));
+    expect(&rt, "filled twice", is_refilled(&rt, alloc));
 }

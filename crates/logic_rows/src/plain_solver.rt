@@ -1,7 +1,7 @@
 //! What the cases make of `PlainSolver`. Each stands for any solver and takes its own, as in
 //! `learning_solver`.
 use crate::checks::are_names;
-use crate::clauses::{are, check, finish};
+use crate::clauses::{are, expect};
 use crate::formulas::{CHAINS, SMALL};
 use crate::queries::{
     check_drawn, check_lines, check_model, check_queries, check_spent, check_yes,
@@ -23,60 +23,45 @@ const FIRST_HINTS: [Ref; 6] = [
 
 /// Whether the log has just what the plan learns first, by its definition: the gate, x and y decided false,
 /// then the first clauses that do something.
-fn has_first_step_alone(alloc: Global, log: &[Step]) -> Option<bool> {
+fn has_first_step_alone(rt: &impl Abort, alloc: Global, log: &[Step]) -> bool {
     match log {
         [step] if are_names(&step.hints, &FIRST_HINTS) => {
-            are(alloc, step.clause.lits(), "-d0 a3 0 1")
+            are(rt, alloc, step.clause.lits(), "-d0 a3 0 1")
         }
-        _ => Some(false),
+        _ => false,
     }
 }
 
-fn check_first<R: Refuter>(rt: &impl Abort, alloc: Global, solver: Option<R>) -> Option<()> {
-    let mut solver = solver?;
-    check_spent(rt, alloc, &mut solver)?;
-    let is_first = has_first_step_alone(alloc, solver.log());
-    check(rt, "the first step alone", is_first);
-    Some(())
+fn check_first<R: Refuter>(rt: &impl Abort, alloc: Global, mut solver: R) {
+    check_spent(rt, alloc, &mut solver);
+    let is_first = has_first_step_alone(rt, alloc, solver.log());
+    expect(rt, "the first step alone", is_first);
 }
 
 #[test]
 fn refuter_yes(rt: HostRuntime) {
-    let solver = Some(PlainSolver::new(rt.alloc()));
-    finish(&rt, check_yes(&rt, rt.alloc(), solver));
+    check_yes(&rt, rt.alloc(), PlainSolver::new(rt.alloc()));
 }
 
 #[test]
 fn refuter_no(rt: HostRuntime) {
-    let solver = Some(PlainSolver::new(rt.alloc()));
-    finish(&rt, check_model(&rt, rt.alloc(), solver, true));
+    check_model(&rt, rt.alloc(), PlainSolver::new(rt.alloc()), true);
 }
 
 #[test]
 fn refuter_spent(rt: HostRuntime) {
-    let solver = Some(PlainSolver::new(rt.alloc()));
-    finish(&rt, check_first(&rt, rt.alloc(), solver));
+    check_first(&rt, rt.alloc(), PlainSolver::new(rt.alloc()));
 }
 
 #[test]
 fn log_of_queries(rt: HostRuntime) {
-    let solver = Some(PlainSolver::new(rt.alloc()));
-    finish(&rt, check_queries(&rt, rt.alloc(), solver, true));
+    check_queries(&rt, rt.alloc(), PlainSolver::new(rt.alloc()), true);
 }
 
 #[test]
 fn bases_and_parity_chains(rt: HostRuntime) {
     let alloc = rt.alloc();
-    finish(
-        &rt,
-        check_lines(&rt, alloc, Some(PlainSolver::new(alloc)), SMALL, true),
-    );
-    finish(
-        &rt,
-        check_lines(&rt, alloc, Some(PlainSolver::new(alloc)), CHAINS, true),
-    );
-    finish(
-        &rt,
-        check_drawn(&rt, alloc, Some(PlainSolver::new(alloc)), true),
-    );
+    check_lines(&rt, alloc, PlainSolver::new(alloc), SMALL, true);
+    check_lines(&rt, alloc, PlainSolver::new(alloc), CHAINS, true);
+    check_drawn(&rt, alloc, PlainSolver::new(alloc), true);
 }

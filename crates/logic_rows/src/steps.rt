@@ -2,41 +2,29 @@ ghost use Rattle.unit_prop.specs.HintScan.{IsNamed};
 
 use crate::bases::{axioms, base_of, is_base};
 use crate::checks::are_names;
-use crate::clauses::{Word, are, check, clause, clauses, expect, finish, literals};
+use crate::clauses::{Word, are, clause, clauses, expect, literals, parts};
 use crate::formulas::TWIN_GATES;
 use lits::{Clause, Dim, Lit, Named, Ref, Step};
 use std::alloc::Global;
 use std::process::Abort;
 use unit_prop::{BadStep, Clauses, Closure, StepCheck, Why};
 
-/// What the clauses and the literals that are given close to.
-fn closure(alloc: Global, lists: &str, given: &str) -> Option<Closure<Dim>> {
-    let clauses = clauses(alloc, lists)?;
-    let given = literals(alloc, given)?;
-    unit_prop::close_under(alloc, clauses.as_slice(), given.as_slice()).ok()
-}
-
 /// Whether the closure has the literals that are wanted, or clashes.
-fn is_closed<L: Word>(alloc: Global, found: &Closure<L>, wanted: &str) -> Option<bool> {
+fn is_closed<L: Word>(rt: &impl Abort, alloc: Global, found: &Closure<L>, wanted: &str) -> bool {
     match found {
-        Closure::Clash => Some(wanted == " clash"),
-        Closure::Free(found) => are(alloc, found.as_slice(), wanted),
+        Closure::Clash => wanted == " clash",
+        Closure::Free(found) => are(rt, alloc, found.as_slice(), wanted),
     }
 }
 
 /// Whether it is as the line says: clauses, a bar, literals that are given, an arrow, and their closure.
-fn is_closure(alloc: Global, line: &str) -> Option<bool> {
-    let (question, wanted) = line.split_once("=>")?;
-    let (lists, given) = question.split_once('|')?;
-    is_closed(alloc, &closure(alloc, lists, given)?, wanted)
-}
-
-/// Whether gate B, which is given, closes to the other gate and the inputs.
-fn closes_over_nodes(alloc: Global) -> Option<bool> {
-    let clauses = clauses::<Lit>(alloc, "-b3 1; -b3 0; a3 -0 -1;")?;
-    let given = literals(alloc, "b3")?;
+fn is_closure<L: Word>(rt: &impl Abort, alloc: Global, line: &str) -> bool {
+    let (question, wanted) = parts(rt, line, "=>");
+    let (lists, given) = parts(rt, question, "|");
+    let clauses = clauses::<L>(rt, alloc, lists);
+    let given = literals(rt, alloc, given);
     let found = unit_prop::close_under(alloc, clauses.as_slice(), given.as_slice());
-    is_closed(alloc, &found.ok()?, "b3 1 0 a3")
+    is_closed(rt, alloc, &found.expect(rt, "memory"), wanted)
 }
 
 /// A chain, opposite units, a chain against what is given, opposite literals that are given, one that is
@@ -50,12 +38,16 @@ const CLOSURES: &str = "\
 -1 -2 3; 4 5;| =>
 ";
 
+/// Gate B, which is given, closes to the other gate and the inputs.
+const OVER_NODES: &str = "-b3 1; -b3 0; a3 -0 -1;| b3 => b3 1 0 a3";
+
 #[test]
 fn close_under(rt: HostRuntime) {
     for line in CLOSURES.lines() {
-        check(&rt, line, is_closure(rt.alloc(), line));
+        expect(&rt, line, is_closure::<Dim>(&rt, rt.alloc(), line));
     }
-    check(&rt, "over nodes", closes_over_nodes(rt.alloc()));
+    let is_so = is_closure::<Lit>(&rt, rt.alloc(), OVER_NODES);
+    expect(&rt, "over nodes", is_so);
 }
 
 /// The clauses of a step's hints, by their places from 0.
@@ -75,60 +67,59 @@ impl Clauses<usize, Dim> for Hints<'_> {
     }
 }
 
-fn places(alloc: Global, text: &str) -> Option<Vec<usize>> {
+fn places(rt: &impl Abort, alloc: Global, text: &str) -> Vec<usize> {
     let mut places = Vec::new(alloc);
     for word in text.split_whitespace() {
-        places.push(word.parse().ok()?).ok()?;
+        let place = word.parse().expect(rt, "a place");
+        places.push(place).expect(rt, "memory");
     }
-    Some(places)
+    places
 }
 
-fn why(word: &str) -> Option<Why> {
-    match word {
-        "tautology" => Some(Why::Tautology),
-        "no clause" => Some(Why::NoClause),
-        "after false" => Some(Why::AfterFalse),
-        "satisfied" => Some(Why::Satisfied),
-        "two free" => Some(Why::TwoFree),
-        "not false" => Some(Why::NotFalse),
-        _ => None,
+/// The words that tell why a step is bad.
+fn told(why: Why) -> &'static str {
+    match why {
+        Why::Tautology => "tautology",
+        Why::NoClause => "no clause",
+        Why::AfterFalse => "after false",
+        Why::Satisfied => "satisfied",
+        Why::TwoFree => "two free",
+        Why::NotFalse => "not false",
     }
 }
 
 /// Whether that is the fault, by the place of its hint and why, or there is none.
-fn is_fault(found: Option<BadStep>, text: &str) -> Option<bool> {
+fn is_fault(rt: &impl Abort, found: Option<BadStep>, text: &str) -> bool {
     let Some(bad) = found else {
-        return Some(text == "none");
+        return text == "none";
     };
-    let (hint, words) = text.split_once(' ')?;
-    Some(bad.hint == hint.parse().ok()? && bad.why == why(words)?)
+    let (hint, words) = parts(rt, text, " ");
+    hint.parse() == Ok(bad.hint) && told(bad.why) == words
 }
 
 /// The fault of the step that adds the clause by the hints of the text, behind the clauses that they name.
 fn fault_by(
+    rt: &impl Abort,
     alloc: Global,
     check: &mut StepCheck<Dim>,
     clause: &[Dim],
     text: &str,
-) -> Option<Option<BadStep>> {
-    let (lists, hints) = text.split_once('|')?;
-    let lists = clauses(alloc, lists)?;
-    let hints = places(alloc, hints)?;
+) -> Option<BadStep> {
+    let (lists, hints) = parts(rt, text, "|");
+    let lists = clauses(rt, alloc, lists);
+    let hints = places(rt, alloc, hints);
     let fault = check.fault_of(&Hints(lists.as_slice()), clause, hints.as_slice());
-    fault.ok()
-}
-
-/// The fault of the step of the text, which begins with its clause.
-fn fault_of(alloc: Global, check: &mut StepCheck<Dim>, text: &str) -> Option<Option<BadStep>> {
-    let (clause, hints) = text.split_once('|')?;
-    fault_by(alloc, check, literals(alloc, clause)?.as_slice(), hints)
+    fault.expect(rt, "memory")
 }
 
 /// Whether it is as the line says: a step's clause, the clauses that its hints name, the hints, and the
 /// fault.
-fn has_fault(alloc: Global, check: &mut StepCheck<Dim>, line: &str) -> Option<bool> {
-    let (step, fault) = line.split_once(" => ")?;
-    is_fault(fault_of(alloc, check, step)?, fault)
+fn has_fault(rt: &impl Abort, alloc: Global, check: &mut StepCheck<Dim>, line: &str) -> bool {
+    let (step, fault) = parts(rt, line, " => ");
+    let (clause, hints) = parts(rt, step, "|");
+    let clause = literals(rt, alloc, clause);
+    let found = fault_by(rt, alloc, check, clause.as_slice(), hints);
+    is_fault(rt, found, fault)
 }
 
 /// The empty clause; two gates that compute the same: the first step of their proof, the same without its
@@ -162,11 +153,11 @@ fn is_step(check: &mut StepCheck<Lit>, lits: &[Lit], hints: &[Clause<Lit>]) -> b
 }
 
 /// Whether gate B implies gate A, both the AND of the first two inputs, by their clauses.
-fn implies(alloc: Global) -> Option<bool> {
-    let lits = literals(alloc, "-b3 a3")?;
-    let hints = clauses(alloc, "-b3 1; -b3 0; a3 -0 -1;")?;
+fn implies(rt: &impl Abort, alloc: Global) -> bool {
+    let lits = literals(rt, alloc, "-b3 a3");
+    let hints = clauses(rt, alloc, "-b3 1; -b3 0; a3 -0 -1;");
     let mut check = StepCheck::new(alloc);
-    Some(is_step(&mut check, lits.as_slice(), hints.as_slice()))
+    is_step(&mut check, lits.as_slice(), hints.as_slice())
 }
 
 /// Whether an empty hint shows the empty clause, and nothing shows a unit without a hint.
@@ -178,13 +169,17 @@ fn begins_and_ends(alloc: Global) -> bool {
         && check.end().err() == Some(Why::NotFalse)
 }
 
+/// Tries each line.
+fn check_steps(rt: &impl Abort, alloc: Global, check: &mut StepCheck<Dim>) {
+    for line in STEPS.lines() {
+        expect(rt, line, has_fault(rt, alloc, check, line));
+    }
+}
+
 #[test]
 fn step_check(rt: HostRuntime) {
-    let mut steps = StepCheck::new(rt.alloc());
-    for line in STEPS.lines() {
-        check(&rt, line, has_fault(rt.alloc(), &mut steps, line));
-    }
-    check(&rt, "over nodes", implies(rt.alloc()));
+    check_steps(&rt, rt.alloc(), &mut StepCheck::new(rt.alloc()));
+    expect(&rt, "over nodes", implies(&rt, rt.alloc()));
     expect(&rt, "call by call", begins_and_ends(rt.alloc()));
 }
 
@@ -195,26 +190,33 @@ fn has_hints(step: &Step, lits: &[Lit], hints: &[Ref]) -> bool {
 
 /// Whether the scan of the base finds these hints for the clause, and the step that it shows has them; or it
 /// finds none, and there are none.
-fn finds(alloc: Global, base: &[Named], clause: &Clause<Lit>, hints: &[Ref]) -> Option<bool>
+fn finds(
+    rt: &impl Abort,
+    alloc: Global,
+    base: &[Named],
+    clause: &Clause<Lit>,
+    hints: &[Ref],
+) -> bool
     requires { IsNamed base.now }
 {
-    match unit_prop::scan(alloc, base, clause).ok()? {
+    match unit_prop::scan(alloc, base, clause).expect(rt, "memory") {
         Some(found) => {
-            let step = unit_prop::scanned_step(alloc, base, clause.lits()).ok()?;
-            Some(found.as_slice() == hints && has_hints(&step, clause.lits(), hints))
+            let step = unit_prop::scanned_step(alloc, base, clause.lits());
+            let has_hints = has_hints(&step.expect(rt, "memory"), clause.lits(), hints);
+            has_hints && found.as_slice() == hints
         }
-        None => Some(hints.is_empty()),
+        None => hints.is_empty(),
     }
 }
 
 /// Whether the scan of the base finds the hints that the line has behind an arrow for the clause before it,
 /// or none where there are none.
-fn scans(rt: &impl Abort, alloc: Global, base: &[Named], line: &str) -> Option<bool> {
-    let (lits, hints) = line.split_once("=>")?;
-    let clause = clause(alloc, lits)?;
-    let hints = axioms(alloc, hints)?;
+fn scans(rt: &impl Abort, alloc: Global, base: &[Named], line: &str) -> bool {
     expect(rt, "a base", is_base(base));
-    finds(alloc, base, &clause, hints.as_slice())
+    let (lits, hints) = parts(rt, line, "=>");
+    let clause = clause(rt, alloc, lits);
+    let hints = axioms(rt, alloc, hints);
+    finds(rt, alloc, base, &clause, hints.as_slice())
 }
 
 /// Each gate implies the other; gate A need not be false.
@@ -224,15 +226,10 @@ b3 -a3 => a3.0 a3.1 b3.2
 -a3 =>
 ";
 
-fn scan_all(rt: &impl Abort, alloc: Global) -> Option<()> {
-    let base = base_of(alloc, TWIN_GATES)?;
-    for line in SCANS.lines() {
-        check(rt, line, scans(rt, alloc, base.as_slice(), line));
-    }
-    Some(())
-}
-
 #[test]
 fn hints_of_twin_gates(rt: HostRuntime) {
-    finish(&rt, scan_all(&rt, rt.alloc()));
+    let base = base_of(&rt, rt.alloc(), TWIN_GATES);
+    for line in SCANS.lines() {
+        expect(&rt, line, scans(&rt, rt.alloc(), base.as_slice(), line));
+    }
 }

@@ -1,66 +1,54 @@
 //! Walks of `Trail`, as lines of text: what is done to a trail, and what it has to be then.
-use crate::clauses::{Word, check, clause, finish};
+use crate::clauses::{Word, clause, expect, parts};
 use lits::{Clause, Lit, Literal, Node};
 use std::alloc::Global;
 use std::process::Abort;
 use watch_lists::{Put, Trail, flip};
 
-/// Adds the clause where there are no decisions; whether there are none.
-fn add(trail: &mut Trail, clause: &Clause<Lit>) -> Option<bool> {
-    if trail.level() != 0 {
-        return Some(false);
-    }
-    trail.add(clause).ok()?;
-    Some(true)
+/// Adds the clause, where there are no decisions.
+fn add(rt: &impl Abort, trail: &mut Trail, clause: &Clause<Lit>) {
+    expect(rt, "no decision", trail.level() == 0);
+    trail.add(clause).expect(rt, "memory");
 }
 
 /// Adds the text's clauses.
-fn add_all(alloc: Global, trail: &mut Trail, text: &str) -> Option<bool> {
+fn add_all(rt: &impl Abort, alloc: Global, trail: &mut Trail, text: &str) {
     for part in text.split_terminator(';') {
-        if !add(trail, &clause(alloc, part)?)? {
-            return Some(false);
-        }
+        add(rt, trail, &clause(rt, alloc, part));
     }
-    Some(true)
 }
 
 /// Decides the literal, where propagation negates nothing and it is free; whether it is so.
-fn decide(trail: &mut Trail, word: &str) -> Option<bool> {
-    if trail.propagate().ok()?.is_some() {
-        return Some(false);
+fn decide(rt: &impl Abort, trail: &mut Trail, word: &str) -> bool {
+    if trail.propagate().expect(rt, "memory").is_some() {
+        return false;
     }
-    let code = trail.code(Lit::read(word)?)?;
+    let lit = Lit::read(word).expect(rt, "a literal");
+    let code = trail.code(lit).expect(rt, "a code");
     if !trail.is_free(code) {
-        return Some(false);
+        return false;
     }
-    trail.decide_code(code).ok()?;
-    Some(true)
+    trail.decide_code(code).expect(rt, "memory");
+    true
 }
 
-/// Gives up the levels above this one.
-fn back(trail: &mut Trail, level: &str) -> Option<bool> {
-    trail.back(level.parse().ok()?);
-    Some(true)
-}
-
-/// A literal that is put, its level, and the clause that forced it or a dash.
-fn put(text: &str) -> Option<Put> {
-    let (lit, reason) = text.trim().split_once(' ')?;
-    let (level, by) = reason.split_once(' ')?;
-    Some(Put {
-        lit: Lit::read(lit)?,
-        level: level.parse().ok()?,
-        by: by.parse().ok(),
-    })
+/// Whether it was put so: a literal, its level, and the clause that forced it or a dash.
+fn is_put(rt: &impl Abort, put: &Put, text: &str) -> bool {
+    let (lit, reason) = parts(rt, text.trim(), " ");
+    let (level, by) = parts(rt, reason, " ");
+    Lit::read(lit) == Some(put.lit) && level.parse() == Ok(put.level) && put.by == by.parse().ok()
 }
 
 /// Whether the trail's literals are those of the text.
-fn are_put(alloc: Global, puts: &[Put], text: &str) -> Option<bool> {
-    let mut wanted = Vec::new(alloc);
+fn are_put(rt: &impl Abort, puts: &[Put], text: &str) -> bool {
+    let mut place = 0;
     for part in text.split_terminator(';') {
-        wanted.push(put(part)?).ok()?;
+        if place >= puts.len() || !is_put(rt, &puts[place], part) {
+            return false;
+        }
+        place += 1;
     }
-    Some(puts == wanted.as_slice())
+    place == puts.len()
 }
 
 /// Whether there are two levels, three clauses and three variables.
@@ -100,60 +88,56 @@ fn has_codes(trail: &Trail) -> bool {
 }
 
 /// Whether propagation is quiet, or clashes in one of the first two clauses, as it is said.
-fn propagates(trail: &mut Trail, what: &str) -> Option<bool> {
-    match trail.propagate().ok()? {
-        None => Some(what == "quiet"),
-        Some(number) => Some(what == "clash" && number < 2),
-    }
-}
-
-/// Makes the move of the line; whether it went as it says.
-fn goes(alloc: Global, trail: &mut Trail, line: &str) -> Option<bool> {
-    match line.split_once(' ') {
-        Some((word, text)) => goes_by(alloc, trail, word, text),
-        None => goes_alone(trail, line),
-    }
-}
-
-/// The same of a move with what is behind its word.
-fn goes_by(alloc: Global, trail: &mut Trail, word: &str, text: &str) -> Option<bool> {
-    match word {
-        "new" => begin(alloc, trail),
-        "add" => add_all(alloc, trail, text),
-        "decide" => decide(trail, text),
-        "back" => back(trail, text),
-        "has" => are_put(alloc, trail.lits(), text),
-        _ => None,
-    }
-}
-
-/// The same of a move of one word.
-fn goes_alone(trail: &mut Trail, word: &str) -> Option<bool> {
-    match word {
-        "sizes" => Some(has_sizes(trail)),
-        "codes" => Some(has_codes(trail)),
-        _ => propagates(trail, word),
+fn propagates(rt: &impl Abort, trail: &mut Trail, what: &str) -> bool {
+    match trail.propagate().expect(rt, "memory") {
+        None => what == "quiet",
+        Some(number) => what == "clash" && number < 2,
     }
 }
 
 /// Begins a walk on a new trail.
-fn begin(alloc: Global, trail: &mut Trail) -> Option<bool> {
-    *trail = Trail::new(alloc).ok()?;
-    Some(true)
+fn begin(rt: &impl Abort, alloc: Global, trail: &mut Trail) {
+    *trail = Trail::new(alloc).expect(rt, "memory");
+}
+
+/// Makes the move of the line; whether it went as it says.
+fn goes(rt: &impl Abort, alloc: Global, trail: &mut Trail, line: &str) -> bool {
+    let (word, text) = line.split_once(' ').unwrap_or((line, ""));
+    match word {
+        "has" => are_put(rt, trail.lits(), text),
+        "decide" => decide(rt, trail, text),
+        "quiet" | "clash" => propagates(rt, trail, word),
+        "sizes" => has_sizes(trail),
+        "codes" => has_codes(trail),
+        _ => goes_on(rt, alloc, trail, word, text),
+    }
+}
+
+/// The same of a move that can't go otherwise.
+fn goes_on(rt: &impl Abort, alloc: Global, trail: &mut Trail, word: &str, text: &str) -> bool {
+    match word {
+        "new" => begin(rt, alloc, trail),
+        "add" => add_all(rt, alloc, trail, text),
+        "back" => trail.back(text.parse().expect(rt, "a level")),
+        _ => return false,
+    }
+    true
 }
 
 /// Makes all moves.
-fn walk(rt: &impl Abort, alloc: Global, trail: Option<Trail>) -> Option<()> {
-    let mut trail = trail?;
+fn walk(rt: &impl Abort, alloc: Global, mut trail: Trail) {
     for line in WALKS.lines() {
-        check(rt, line, goes(alloc, &mut trail, line));
+        expect(rt, line, goes(rt, alloc, &mut trail, line));
     }
-    Some(())
 }
 
 #[test]
 fn walks(rt: HostRuntime) {
-    finish(&rt, walk(&rt, rt.alloc(), Trail::new(rt.alloc()).ok()));
+    walk(
+        &rt,
+        rt.alloc(),
+        Trail::new(rt.alloc()).expect(&rt, "memory"),
+    );
 }
 
 /// What a trail has is each literal with its level, and with the clause that forced it.
