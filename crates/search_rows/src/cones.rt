@@ -157,11 +157,11 @@ fn check_trimmed(rt: &impl Abort, alloc: Global, net: &Net, output: u32) -> bool
     }
 }
 
-/// On eight bits a high sum takes clauses that its proof doesn't need.
+/// On 24 bits a high sum takes clauses that its proof doesn't need.
 #[test]
 fn a_proof_has_only_steps_that_it_needs(rt: HostRuntime) {
     let alloc = rt.alloc();
-    let net = adders(alloc, 8).expect(&rt, "a net");
+    let net = adders(alloc, 24).expect(&rt, "a net");
     let mut is_shorter = false;
     for output in 0..net.outputs() {
         is_shorter = check_trimmed(&rt, alloc, &net, output) || is_shorter;
