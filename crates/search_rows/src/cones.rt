@@ -104,9 +104,9 @@ fn a_cone_ends_at_a_merge(rt: HostRuntime) {
     check(&rt, alloc, &net, &book, UNDER_A_MERGE, 0);
 }
 
-/// Two forms of a sum of numbers.
-fn adders(alloc: Global, bits: u32) -> Option<Net> {
-    let (a, b) = make(alloc, Kind::Adder, bits).ok()?;
+/// Two forms of a sum of numbers of 24 bits.
+fn adders(alloc: Global) -> Option<Net> {
+    let (a, b) = make(alloc, Kind::Adder, 24).ok()?;
     let a = aiger_file::read(alloc, a.as_slice()).ok()?;
     let b = aiger_file::read(alloc, b.as_slice()).ok()?;
     Net::of(alloc, a, b).ok()
@@ -161,7 +161,7 @@ fn check_trimmed(rt: &impl Abort, alloc: Global, net: &Net, output: u32) -> bool
 #[test]
 fn a_proof_has_only_steps_that_it_needs(rt: HostRuntime) {
     let alloc = rt.alloc();
-    let net = adders(alloc, 24).expect(&rt, "a net");
+    let net = adders(alloc).expect(&rt, "a net");
     let mut is_shorter = false;
     for output in 0..net.outputs() {
         is_shorter = check_trimmed(&rt, alloc, &net, output) || is_shorter;
