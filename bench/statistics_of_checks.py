@@ -18,7 +18,7 @@ from crates import built, replaced
 USES = ["lits", "desk_port", "netlist", "aiger_file", "lemma_book", "strash_pass", "check_session"]
 CAUSES = ["merge", "apart", "spent", "output"]
 PARTS = ["search", "judge", "cone"]
-COUNTS = ["rounds", "aparts by sieve", "merges by search", "aparts by search", "merges by cone", "aparts by cone", "spents",
+COUNTS = ["rounds", "aparts by the filter", "merges by search", "aparts by search", "merges by cone", "aparts by cone", "spents",
           "outputs by search", "outputs by cone", "entries dropped", "conflicts of the search", "decisions of the search"]
 STEPS = [2, 10, 30, 102]
 FIRST_TIME = len(COUNTS)
@@ -26,7 +26,7 @@ FIRST_STEP = FIRST_TIME + len(CAUSES) * len(PARTS)
 SIZE = FIRST_STEP + len(STEPS) + 3
 
 SEARCH, SESSION, SWEEP = "circuit_search/src/search.rt", "check_session/src/session.rt", "check_session/src/sweep.rt"
-RARE = "check_session/src/rare.rt"
+RARE, PROPOSER = "check_session/src/rare.rt", "circuit_search/src/proposer.rt"
 WORKER, ROUNDS = "sweep_workers/src/worker.rt", "sweep_workers/src/rounds.rt"
 
 # Methods that count in the copy: a worker's times by the kind of entry that it came to, and the steps of what it found.
@@ -77,8 +77,9 @@ impl Search {{
 
     /// A pair that no worker asks about isn't counted.
     pub fn uncounted(&mut self, alloc: Global, net: &Net, book: &Book, task: &Task, caps: Caps) -> Result<Option<Entry>, AllocError> {{
-        self.catch_up(net, book);
-        match self.engine.pair(alloc, net, task, caps)? {{
+        self.proposer.catch_up(net, book);
+        let steps = book.sweep_budget().saturating_add(2);
+        match self.proposer.pair(alloc, net, task, caps, steps)? {{
             Some(entry) => judged(alloc, net, book, &mut self.judge, entry),
             None => Ok(None),
         }}
@@ -160,20 +161,20 @@ CHANGES = [
     (SEARCH, "    pub fn output_shortly(", "    pub fn output_shortly<T: CpuClock>("),
     (SEARCH, "    pub fn exchange(", "    pub fn exchange<T: CpuClock>("),
     (SEARCH, "    fn judged(", "    fn judged<T: CpuClock>("),
-    (SEARCH, "    fn proposed(", "    fn proposed<T: CpuClock>("),
-    (SEARCH, "self.proposed(alloc", "self.proposed(rt, alloc"),
     (SEARCH, "self.judged(alloc", "self.judged(rt, alloc"),
-    (SEARCH, "        match self.engine.pair(alloc, net, task, caps)? {",
-     "        let found = self.engine.pair(alloc, net, task, caps)?;\n"
-     "        self.count(10, caps.conflicts.saturating_sub(self.engine.left.conflicts));\n"
-     "        self.count(11, caps.decisions.saturating_sub(self.engine.left.decisions));\n"
+    (SEARCH, "        match self.proposer.pair(alloc, net, task, caps, steps)? {",
+     "        let found = self.proposer.pair(alloc, net, task, caps, steps)?;\n"
+     "        let left = self.proposer.lazy.left();\n"
+     "        self.count(10, caps.conflicts.saturating_sub(left.conflicts));\n"
+     "        self.count(11, caps.decisions.saturating_sub(left.decisions));\n"
      "        match found {"),
+    (PROPOSER, "    lazy: LazySolver,\n", "    pub(crate) lazy: LazySolver,\n"),
     (SEARCH, "        let judged = judged(alloc, net, book, &mut self.judge, entry)?;\n",
      "        let begun = now(rt);\n        let judged = judged(alloc, net, book, &mut self.judge, entry)?;\n"
      "        self.judging += now(rt) - begun;\n"),
     (RARE, "search.pair(", "search.uncounted("),
     ("circuit_search/src/lib.rt", "pub use search::Search;", "pub use search::{Search, now};"),
-    (WORKER, "use circuit_search::{Caps, Search, Shared, Sieve, apart};", "use circuit_search::{Caps, Search, Shared, Sieve, apart, now};"),
+    (WORKER, "use circuit_search::{Caps, Search, Shared, apart};", "use circuit_search::{Caps, Search, Shared, apart, now};"),
     (WORKER, "search.output_shortly(alloc", "search.output_shortly(rt, alloc"),
     (WORKER, "search.output(alloc", "search.output(rt, alloc"),
     (WORKER, "search.exchange(alloc", "search.exchange(rt, alloc"),
@@ -191,8 +192,8 @@ CHANGES = [
     (SWEEP, "        work,\n    })\n}\n\n/// The verdict of the sweep",
      f"        work,\n        tally: [0; {SIZE}],\n    }})\n}}\n\n/// The verdict of the sweep"),
     (SWEEP, "        work,\n    })\n}\n\n/// So many workers", "        work,\n        tally,\n    })\n}\n\n/// So many workers"),
-    (SWEEP, "    is_swept(net);\n",
-     "    is_swept(net);\n"
+    (SWEEP, "    let work = Work::of(behind_structure, workers);\n",
+     "    let work = Work::of(behind_structure, workers);\n"
      f"    let mut tally = match &workers[0].search {{\n        Some(search) => search.tally,\n        None => [0; {SIZE}],\n    }};\n"
      "    tally[0] = workers[0].rounds;\n    tally[1] = workers[0].sifted;\n"),
     (SESSION, "    work: Work,\n}", f"    work: Work,\n    pub tally: [u64; {SIZE}],\n}}"),
